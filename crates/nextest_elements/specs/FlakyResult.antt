@@ -1,0 +1,28 @@
+-- What becomes of a flaky test.
+use Rattle.std.specs.Prelude.{ℕ, List, [], ◌∷◌, Result, codes}
+use Rattle.nextest_elements.specs.declared.flaky_result.FlakyResult.{FlakyResult}
+use Rattle.nextest_elements.specs.declared.flaky_result.FlakyResult.TheVariants as results
+use Rattle.nextest_elements.specs.Node.{Node}
+use Rattle.nextest_elements.specs.Schema.{Cause, Schema}
+use Rattle.nextest_elements.specs.Leaf.{value, name_at}
+use Rattle.nextest_elements.specs.Spelling.{spelled}
+
+-- what becomes of a flaky test, as it is written
+abbrev pub flaky_result_text : FlakyResult → List ℕ
+flaky_result_text results.Pass = codes "pass"
+flaky_result_text results.Fail = codes "fail"
+
+-- its names
+unfoldable pub flaky_result_names : List (List ℕ × FlakyResult)
+flaky_result_names = spelled flaky_result_text (results.Pass ∷ results.Fail ∷ [])
+
+-- what a refusal says was expected
+unfoldable pub flaky_result_expected : List ℕ
+flaky_result_expected = codes "`pass`, `fail`"
+
+-- what becomes of a flaky test, as a node spells it
+abbrev pub flaky_result_at : Node → Result FlakyResult Cause
+flaky_result_at = name_at flaky_result_names flaky_result_expected
+
+unfoldable pub a_flaky_result : Schema
+a_flaky_result = value flaky_result_at

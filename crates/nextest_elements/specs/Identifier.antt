@@ -1,0 +1,60 @@
+-- Which texts are identifiers.
+use Rattle.std.specs.Prelude.{◌≡◌, ℕ, ◌==◌, Bool, false, ◌||◌, ◌&&◌, IsTrue, List, [], ◌∷◌, ◌++◌, ◌⊎◌, All, codes, drop, nat_eq, encode_utf8_all}
+use Rattle.std.specs.List.{list_all, starts_with, before_first, after_first}
+use Rattle.std.specs.Str.{all_scalars, chars, is_utf8}
+use Rattle.unicode_ident.specs.Ident.{is_xid_start, is_xid_continue}
+
+-- After its first character a part has XID_Continue characters and hyphens.
+abbrev pub ContinuesPart : ℕ → Type 0
+ContinuesPart character = IsTrue (is_xid_continue character) ⊎ (character ≡ 45)
+
+-- A part is an XID_Start character, and then characters that continue a part.
+pub record IsPart (text : List ℕ) : Type 0 where
+  pub first : ℕ
+  pub others : List ℕ
+  pub are_characters : IsTrue (all_scalars (first ∷ others))
+  pub spell : text ≡ encode_utf8_all (first ∷ others)
+  pub starts : IsTrue (is_xid_start first)
+  pub continue : All ContinuesPart others
+
+-- The text is `@tool:`, the name of the tool, a colon and a name, and both names are parts.
+pub record HasToolParts (text tool name : List ℕ) : Type 0 where
+  pub spelled : text ≡ codes "@tool:" ++ tool ++ codes ":" ++ name
+  pub tool_is_part : IsPart tool
+  pub name_is_part : IsPart name
+
+-- The text is an identifier of some tool.
+abbrev pub IsToolIdentifier : List ℕ → Type 0
+IsToolIdentifier text = (tool : List ℕ) × (name : List ℕ) × HasToolParts text tool name
+
+-- An identifier is a part, or an identifier of a tool.
+abbrev pub IsIdentifier : List ℕ → Type 0
+IsIdentifier text = IsPart text ⊎ IsToolIdentifier text
+
+-- The characters begin with an XID_Start character, and the others continue a part.
+abbrev pub are_part_characters : List ℕ → Bool
+are_part_characters [] = false
+are_part_characters (first ∷ others) = is_xid_start first && list_all (λ character. is_xid_continue character || character == 45) others
+
+-- Whether a text is a part.
+unfoldable pub is_part : List ℕ → Bool
+is_part text = is_utf8 text && are_part_characters (chars text)
+
+-- What stands before and after the first colon that follows the six bytes of `@tool:`.
+abbrev pub tool_of : List ℕ → List ℕ
+tool_of text = before_first (λ byte. byte == 58) (drop 6 text)
+
+abbrev pub name_of : List ℕ → List ℕ
+name_of text = after_first (λ byte. byte == 58) (drop 6 text)
+
+-- Whether a text begins as the identifiers of tools do.
+abbrev pub has_tool_prefix : List ℕ → Bool
+has_tool_prefix text = starts_with nat_eq text (codes "@tool:")
+
+-- Whether a text is an identifier of some tool.
+unfoldable pub is_tool_identifier : List ℕ → Bool
+is_tool_identifier text = has_tool_prefix text && (is_part (tool_of text) && is_part (name_of text))
+
+-- Whether a text is an identifier.
+unfoldable pub is_identifier : List ℕ → Bool
+is_identifier text = is_part text || is_tool_identifier text

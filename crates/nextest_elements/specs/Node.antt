@@ -1,0 +1,102 @@
+-- What a tree is, without where it lies in memory.
+use Rattle.std.specs.Prelude.{◌≡◌, ℕ, ℤ, List, [], ◌∷◌, Bool, Option, Some, None}
+use Rattle.std.specs.Ordering.{nat_cmp, match_ordering}
+use Rattle.std.specs.declared.cmp.Ordering.TheVariants.{Less}
+use Rattle.std.specs.Cmp.Lexicographic.{slice_cmp}
+use Rattle.toml.specs.Data.{Data, Items, Members}
+use Rattle.toml.specs.Data as toml
+
+mutual
+  -- a node is a table, or a leaf with its value: an array is one leaf, into which a reader looks by positions
+  pub data Node : Type 0 where
+    table : Entries → Node
+    array : Nodes → Node
+    text : List ℕ → Node
+    int : ℤ → Node
+    bool : Bool → Node
+    opaque : Node
+
+  -- the items of an array, by position
+  pub data Nodes : Type 0 where
+    no_nodes : Nodes
+    node : Node → Nodes → Nodes
+
+  -- the entries of a table: a key, and the node that stands there
+  pub data Entries : Type 0 where
+    no_entries : Entries
+    entry : List ℕ → Node → Entries → Entries
+
+-- what stands at a key
+abbrev pub get : List ℕ → Entries → Option Node
+get k no_entries = None
+get k (entry l n es) = match_ordering (slice_cmp nat_cmp k l) (get k es) (Some n) (get k es)
+
+-- the keys, in the order of the entries
+abbrev pub keys : Entries → List (List ℕ)
+keys no_entries = []
+keys (entry k n es) = k ∷ keys es
+
+-- what the accessors of these names give
+abbrev pub as_table : Node → Option Entries
+as_table (table es) = Some es
+as_table _ = None
+
+abbrev pub as_array : Node → Option Nodes
+as_array (array ns) = Some ns
+as_array _ = None
+
+abbrev pub as_text : Node → Option (List ℕ)
+as_text (text s) = Some s
+as_text _ = None
+
+abbrev pub as_int : Node → Option ℤ
+as_int (int z) = Some z
+as_int _ = None
+
+abbrev pub as_bool : Node → Option Bool
+as_bool (bool b) = Some b
+as_bool _ = None
+
+-- what a table has at a key; nothing else has anything there
+abbrev pub member_of : List ℕ → Node → Option Node
+member_of k (table es) = get k es
+member_of k _ = None
+
+-- the key comes, by its bytes, before all keys of the entries
+abbrev pub IsBefore : List ℕ → Entries → Type 0
+IsBefore k no_entries = Unit {0}
+IsBefore k (entry l n es) = (slice_cmp nat_cmp k l ≡ Less) × IsBefore k es
+
+-- in each table of the node the keys ascend by their bytes
+abbrev mutual
+  pub IsSorted : Node → Type 0
+  IsSorted (table es) = EntriesAreSorted es
+  IsSorted (array ns) = NodesAreSorted ns
+  IsSorted _ = Unit {0}
+
+  pub NodesAreSorted : Nodes → Type 0
+  NodesAreSorted no_nodes = Unit {0}
+  NodesAreSorted (node n ns) = IsSorted n × NodesAreSorted ns
+
+  pub EntriesAreSorted : Entries → Type 0
+  EntriesAreSorted no_entries = Unit {0}
+  EntriesAreSorted (entry k n es) = IsBefore k es × IsSorted n × EntriesAreSorted es
+
+-- what a document's value reads to: a float, a date and a time are opaque
+abbrev mutual
+  pub from_data : Data → Node
+  from_data (toml.string s) = text s
+  from_data (toml.integer z) = int z
+  from_data (toml.float x) = opaque
+  from_data (toml.boolean b) = bool b
+  from_data (toml.datetime dt) = opaque
+  from_data (toml.array ds) = array (from_items ds)
+  from_data (toml.table ms) = table (from_members ms)
+
+  pub from_items : Items → Nodes
+  from_items toml.no_items = no_nodes
+  from_items (toml.item d ds) = node (from_data d) (from_items ds)
+
+  pub from_members : Members → Entries
+  from_members toml.no_members = no_entries
+  from_members (toml.member k d ms) = entry k (from_data d) (from_members ms)

@@ -1,0 +1,6 @@
+-- Values beside the texts that spell them.
+use Rattle.std.specs.Prelude.{ℕ, List, map}
+
+-- each value after the text that spells it
+abbrev pub spelled : {X : Type 0} → (X → List ℕ) → List X → List (List ℕ × X)
+spelled text xs = map (λ x. (text x, x)) xs

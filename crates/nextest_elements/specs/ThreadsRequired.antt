@@ -1,0 +1,43 @@
+-- How many threads a test takes up.
+use Rattle.std.specs.Prelude.{ℕ, List, [], ◌∷◌, Result, Ok, Err, codes}
+use Rattle.std.specs.Fmt.{decimal}
+use Rattle.nextest_elements.specs.declared.threads_required.ThreadsRequired.{ThreadsRequired}
+use Rattle.nextest_elements.specs.declared.threads_required.ThreadsRequired.TheVariants as required
+use Rattle.nextest_elements.specs.Node.{Node, int}
+use Rattle.nextest_elements.specs.Schema.{Cause, Schema}
+use Rattle.nextest_elements.specs.Leaf.{value, name_at}
+use Rattle.nextest_elements.specs.Positive.{positive_at}
+use Rattle.nextest_elements.specs.Spelling.{spelled}
+
+-- how many threads a test takes up, as it is written
+abbrev pub threads_required_text : ThreadsRequired → List ℕ
+threads_required_text (required.Count n) = decimal n
+threads_required_text required.NumCpus = codes "num-cpus"
+threads_required_text required.NumTestThreads = codes "num-test-threads"
+
+-- its names
+unfoldable pub threads_required_names : List (List ℕ × ThreadsRequired)
+threads_required_names = spelled threads_required_text (required.NumCpus ∷ required.NumTestThreads ∷ [])
+
+-- what a refusal says was expected
+unfoldable pub threads_required_expected : List ℕ
+threads_required_expected = codes "a positive number, `num-cpus`, `num-test-threads`"
+
+-- so many threads, if they are a number
+abbrev pub counted : Result ℕ Cause → Result ThreadsRequired Cause
+counted (Ok n) = Ok (required.Count n)
+counted (Err c) = Err c
+
+-- how many threads a test takes up, as a node spells it
+abbrev pub threads_required_at : Node → Result ThreadsRequired Cause
+threads_required_at (int z) = counted (positive_at (int z))
+threads_required_at n = name_at threads_required_names threads_required_expected n
+
+unfoldable pub a_threads_required : Schema
+a_threads_required = value threads_required_at
+
+-- how many threads a test takes up where there are c processors and t test threads
+abbrev pub required_thread_count : ThreadsRequired → ℕ → ℕ → ℕ
+required_thread_count (required.Count n) c t = n
+required_thread_count required.NumCpus c t = c
+required_thread_count required.NumTestThreads c t = t

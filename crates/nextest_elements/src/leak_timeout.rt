@@ -1,0 +1,124 @@
+//! How long what a test started may outlive it.
+ghost use Rattle.std.specs.Prelude.{◌≡◌, Some};
+ghost use Rattle.nextest_elements.specs.Leaf.{Spells};
+ghost use Rattle.nextest_elements.specs.LeakTimeout.{leak_result_text, leak_result_at, a_leak_result, leak_fields, leak_table, leak_timeout, leak_of, IsLeakTimeout};
+
+use crate::element::{Element, Record};
+use crate::fault::{ElementCause, ElementFault};
+use crate::field::{optional, required};
+use crate::key::Key;
+use crate::name::named;
+use crate::nanoseconds::Nanoseconds;
+use crate::table::read_record;
+use crate::tree::Tree;
+use crate::walk::Walk;
+use std::alloc::Global;
+use std::collections::BTreeMap;
+use std::fmt;
+
+/// What a leak makes of a test that passed.
+#[derive(Clone, Copy, Debug, Default, PartialEq, Eq)]
+pub enum LeakTimeoutResult {
+    /// The test passes still.
+    #[default]
+    Pass,
+    /// The test fails.
+    Fail,
+}
+
+/// How long what a test started may outlive it, and what comes of a test where it does.
+#[derive(Clone, Copy, Debug, PartialEq, Eq)]
+pub struct LeakTimeout {
+    /// Nanoseconds from the test's end on, after which the test counts as leaky.
+    pub period: u128,
+    /// What a leak makes of the test.
+    pub result: LeakTimeoutResult,
+}
+
+impl LeakTimeoutResult {
+    #[tactic(auto, unfolding(crate::specs::LeakTimeout::leak_result_text))]
+    fn name(self) -> &'static str
+        ensures { result.now ≡ leak_result_text self }
+    {
+        match self {
+            LeakTimeoutResult::Pass => "pass",
+            LeakTimeoutResult::Fail => "fail",
+        }
+    }
+}
+
+impl fmt::Display for LeakTimeoutResult {
+    ghost output = { λ r. Some (leak_result_text r) };
+
+    fn fmt<W: fmt::Write>(&self, f: &mut fmt::Formatter<W>) -> fmt::Result {
+        f.write_str(self.name())
+    }
+}
+
+impl LeakTimeout {
+    /// The timeout of a period alone.
+    fn of(period: u128) -> LeakTimeout
+        ensures { result ≡ leak_of period }
+    {
+        LeakTimeout {
+            period,
+            result: LeakTimeoutResult::Pass,
+        }
+    }
+}
+
+#[tactic(auto, unfolding(crate::specs::Reads::reading, crate::specs::Reads::spot_of, crate::specs::LeakTimeout::a_leak_result, crate::specs::LeakTimeout::leak_result_names, crate::specs::LeakTimeout::leak_result_expected))]
+impl Element for LeakTimeoutResult {
+    ghost schema = { a_leak_result };
+
+    ghost is_value = { Spells leak_result_at };
+
+    fn read(alloc: Global, tree: &Tree, walk: &mut Walk) -> Result<Self, ElementFault> {
+        let pass = LeakTimeoutResult::Pass;
+        let fail = LeakTimeoutResult::Fail;
+        let names = [(pass.name(), pass), (fail.name(), fail)];
+        named(alloc, tree, walk, &names, "`pass`, `fail`")
+    }
+}
+
+#[tactic(auto, using(crate::proofs::Reading::leaf_there, crate::proofs::Reading::leaf_read))]
+impl Record for LeakTimeout {
+    ghost fields = { leak_fields };
+
+    ghost is_record = { λ es leak. leak ≡ leak_table es };
+
+    fn names() -> &'static [Key] {
+        &[Key::Period, Key::Result]
+    }
+
+    fn read_fields(
+        alloc: Global,
+        members: &BTreeMap<String, Tree>,
+        walk: &mut Walk,
+    ) -> Result<Self, ElementFault> {
+        let Nanoseconds(period) = required(alloc, members, Key::Period, walk)?;
+        let result = optional(alloc, members, Key::Result, walk)?;
+        Ok(LeakTimeout {
+            period,
+            result: result.unwrap_or(LeakTimeoutResult::Pass),
+        })
+    }
+}
+
+#[tactic(auto, unfolding(crate::specs::Reads::reading, crate::specs::Reads::spot_of, crate::specs::Nanoseconds::a_duration))]
+impl Element for LeakTimeout {
+    ghost schema = { leak_timeout };
+
+    ghost is_value = { IsLeakTimeout };
+
+    fn read(alloc: Global, tree: &Tree, walk: &mut Walk) -> Result<Self, ElementFault> {
+        match tree {
+            Tree::Table(members) => read_record(alloc, members, walk),
+            Tree::Text(_) => {
+                let Nanoseconds(period) = Nanoseconds::read(alloc, tree, walk)?;
+                Ok(LeakTimeout::of(period))
+            }
+            _ => Err(walk.fault(alloc, ElementCause::WrongKind)),
+        }
+    }
+}

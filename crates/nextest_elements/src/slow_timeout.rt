@@ -1,0 +1,143 @@
+//! When a test counts as slow, and when it is ended.
+ghost use Rattle.std.specs.Prelude.{◌≡◌, Some};
+ghost use Rattle.nextest_elements.specs.Leaf.{Spells};
+ghost use Rattle.nextest_elements.specs.SlowTimeout.{slow_result_text, slow_result_at, a_slow_result, slow_fields, slow_table, slow_timeout, slow_of, IsSlowTimeout};
+
+use crate::element::{Element, Record};
+use crate::fault::{ElementCause, ElementFault};
+use crate::field::{optional, required};
+use crate::key::Key;
+use crate::name::named;
+use crate::nanoseconds::Nanoseconds;
+use crate::positive::Positive;
+use crate::table::read_record;
+use crate::tree::Tree;
+use crate::walk::Walk;
+use std::alloc::Global;
+use std::collections::BTreeMap;
+use std::fmt;
+
+/// The nanoseconds of the grace period where none is given.
+const USUAL_GRACE_PERIOD: u128 = 10_000_000_000;
+
+/// What comes of a test that is ended for its slowness.
+#[derive(Clone, Copy, Debug, Default, PartialEq, Eq)]
+pub enum SlowTimeoutResult {
+    /// The test fails.
+    #[default]
+    Fail,
+    /// The test passes.
+    Pass,
+}
+
+/// When a test counts as slow, and when it is ended.
+#[derive(Clone, Copy, Debug, PartialEq, Eq)]
+pub struct SlowTimeout {
+    /// Nanoseconds after which a test counts as slow.
+    pub period: u128,
+    /// After how many periods, at least 1, a test is ended. Without it a slow test runs on.
+    pub terminate_after: Option<u64>,
+    /// Nanoseconds that a test has to end itself, before it is killed.
+    pub grace_period: u128,
+    /// What comes of a test that is ended.
+    pub on_timeout: SlowTimeoutResult,
+}
+
+impl SlowTimeoutResult {
+    #[tactic(auto, unfolding(crate::specs::SlowTimeout::slow_result_text))]
+    fn name(self) -> &'static str
+        ensures { result.now ≡ slow_result_text self }
+    {
+        match self {
+            SlowTimeoutResult::Fail => "fail",
+            SlowTimeoutResult::Pass => "pass",
+        }
+    }
+}
+
+impl fmt::Display for SlowTimeoutResult {
+    ghost output = { λ r. Some (slow_result_text r) };
+
+    fn fmt<W: fmt::Write>(&self, f: &mut fmt::Formatter<W>) -> fmt::Result {
+        f.write_str(self.name())
+    }
+}
+
+impl SlowTimeout {
+    /// The timeout of a period alone.
+    fn of(period: u128) -> SlowTimeout
+        ensures { result ≡ slow_of period }
+    {
+        SlowTimeout {
+            period,
+            terminate_after: None,
+            grace_period: USUAL_GRACE_PERIOD,
+            on_timeout: SlowTimeoutResult::Fail,
+        }
+    }
+}
+
+#[tactic(auto, unfolding(crate::specs::Reads::reading, crate::specs::Reads::spot_of, crate::specs::SlowTimeout::a_slow_result, crate::specs::SlowTimeout::slow_result_names, crate::specs::SlowTimeout::slow_result_expected))]
+impl Element for SlowTimeoutResult {
+    ghost schema = { a_slow_result };
+
+    ghost is_value = { Spells slow_result_at };
+
+    fn read(alloc: Global, tree: &Tree, walk: &mut Walk) -> Result<Self, ElementFault> {
+        let fail = SlowTimeoutResult::Fail;
+        let pass = SlowTimeoutResult::Pass;
+        let names = [(fail.name(), fail), (pass.name(), pass)];
+        named(alloc, tree, walk, &names, "`fail`, `pass`")
+    }
+}
+
+#[tactic(auto, using(crate::proofs::Reading::leaf_there, crate::proofs::Reading::leaf_read))]
+impl Record for SlowTimeout {
+    ghost fields = { slow_fields };
+
+    ghost is_record = { λ es slow. slow ≡ slow_table es };
+
+    fn names() -> &'static [Key] {
+        &[
+            Key::Period,
+            Key::TerminateAfter,
+            Key::GracePeriod,
+            Key::OnTimeout,
+        ]
+    }
+
+    fn read_fields(
+        alloc: Global,
+        members: &BTreeMap<String, Tree>,
+        walk: &mut Walk,
+    ) -> Result<Self, ElementFault> {
+        let Nanoseconds(period) = required(alloc, members, Key::Period, walk)?;
+        let terminate_after = optional(alloc, members, Key::TerminateAfter, walk)?;
+        let grace_period = optional(alloc, members, Key::GracePeriod, walk)?;
+        let on_timeout = optional(alloc, members, Key::OnTimeout, walk)?;
+        Ok(SlowTimeout {
+            period,
+            terminate_after: terminate_after.map(|Positive(periods)| periods),
+            grace_period: Nanoseconds::number(grace_period).unwrap_or(USUAL_GRACE_PERIOD),
+            on_timeout: on_timeout.unwrap_or(SlowTimeoutResult::Fail),
+        })
+    }
+}
+
+#[tactic(auto, unfolding(crate::specs::Reads::reading, crate::specs::Reads::spot_of, crate::specs::Nanoseconds::a_duration))]
+impl Element for SlowTimeout {
+    ghost schema = { slow_timeout };
+
+    ghost is_value = { IsSlowTimeout };
+
+    fn read(alloc: Global, tree: &Tree, walk: &mut Walk) -> Result<Self, ElementFault> {
+        match tree {
+            Tree::Table(members) => read_record(alloc, members, walk),
+            Tree::Text(_) => {
+                let Nanoseconds(period) = Nanoseconds::read(alloc, tree, walk)?;
+                Ok(SlowTimeout::of(period))
+            }
+            _ => Err(walk.fault(alloc, ElementCause::WrongKind)),
+        }
+    }
+}

@@ -1,0 +1,33 @@
+//! The priority of a test.
+ghost use Rattle.std.specs.Prelude.{◌≡◌, Ok, pos};
+ghost use Rattle.nextest_elements.specs.TestPriority.{priority_at, a_priority};
+
+use crate::element::Element;
+use crate::fault::{ElementCause, ElementFault};
+use crate::tree::Tree;
+use crate::walk::Walk;
+use std::alloc::Global;
+
+/// The priority of a test, from -100 to 100: higher ones run first. The default is 0.
+#[derive(Clone, Copy, Debug, Default, PartialEq, Eq, PartialOrd, Ord)]
+pub struct TestPriority(pub i8);
+
+#[tactic(auto, unfolding(crate::specs::Reads::reading, crate::specs::Reads::spot_of, crate::specs::TestPriority::a_priority))]
+impl Element for TestPriority {
+    ghost schema = { a_priority };
+
+    ghost is_value = { λ n priority. priority_at n ≡ Ok priority.0 };
+
+    fn read(alloc: Global, tree: &Tree, walk: &mut Walk) -> Result<Self, ElementFault> {
+        match tree {
+            Tree::Int(number) => {
+                let number = *number;
+                if number < -100 || 100 < number {
+                    return Err(walk.fault(alloc, ElementCause::OutOfRange));
+                }
+                Ok(TestPriority(number as i8))
+            }
+            _ => Err(walk.fault(alloc, ElementCause::WrongKind)),
+        }
+    }
+}

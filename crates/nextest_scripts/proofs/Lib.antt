@@ -1,0 +1,2 @@
+pub mod ShellSplits
+pub mod ShellSteps

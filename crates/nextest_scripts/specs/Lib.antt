@@ -1,0 +1,5 @@
+pub mod EnvKey
+pub mod ScriptType
+pub mod ShellReading
+pub mod ShellWords
+pub mod ScriptId

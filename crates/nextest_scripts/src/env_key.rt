@@ -1,0 +1,129 @@
+//! Keys of environment variables that a script may set.
+
+ghost use Rattle.std.specs.Prelude.{◌≡◌, ◌↔◌, IfErr, IsOk};
+ghost use Rattle.nextest_scripts.specs.EnvKey.{IsEnvVarKey, IsFaultOf, is_plain, is_reserved, starts_well};
+
+use std::alloc::{AllocError, Global};
+use thiserror::Error;
+
+/// Why a key is refused.
+#[derive(Debug, Drop, Error)]
+pub enum EnvVarError {
+    /// Its first character is no ASCII letter and no underscore, or there is none.
+    #[error("key `{0}` does not start with a letter or underscore")]
+    InvalidKeyStartChar(String),
+    /// A later character is no ASCII letter, digit or underscore.
+    #[error("key `{0}` does not consist solely of letters, digits, and underscores")]
+    InvalidKey(String),
+    /// It begins with `NEXTEST`.
+    #[error("key `{0}` begins with `NEXTEST`, which is reserved for internal use")]
+    ReservedKey(String),
+    /// There was no memory for the key that the error names.
+    #[error("out of memory")]
+    Memory,
+}
+
+impl From<AllocError> for EnvVarError {
+    ghost use Rattle.nextest_scripts.specs.declared.env_key.EnvVarError.TheVariants.{Memory};
+
+    ghost from_gives = { λ _ e. e ≡ Memory };
+
+    fn from(_error: AllocError) -> Self {
+        EnvVarError::Memory
+    }
+}
+
+/// Tests a key: how it starts, then its other characters, then whether it is reserved.
+///
+/// A good key takes no memory.
+pub fn validate_env_var_key(alloc: Global, key: &str) -> Result<(), EnvVarError>
+    ensures accepted { IsOk result ↔ IsEnvVarKey key.now }
+    ensures refused { IfErr result (IsFaultOf key.now) }
+{
+    if !has_good_start(key) {
+        return Err(EnvVarError::InvalidKeyStartChar(String::from_str(alloc, key)?));
+    }
+    if !has_plain_characters(key) {
+        return Err(EnvVarError::InvalidKey(String::from_str(alloc, key)?));
+    }
+    if begins_reserved(key) {
+        return Err(EnvVarError::ReservedKey(String::from_str(alloc, key)?));
+    }
+    Ok(())
+}
+
+fn has_good_start(key: &str) -> bool
+    ensures { result ≡ starts_well key.now }
+{
+    match key.as_bytes() {
+        [first, ..] => first.is_ascii_alphabetic() || *first == b'_',
+        [] => false,
+    }
+}
+
+fn has_plain_characters(key: &str) -> bool
+    ensures { result ≡ is_plain key.now }
+{
+    key.bytes()
+        .all(|byte| byte.is_ascii_alphanumeric() || byte == b'_')
+}
+
+fn begins_reserved(key: &str) -> bool
+    ensures { result ≡ is_reserved key.now }
+{
+    key.as_bytes().starts_with(b"NEXTEST")
+}
+
+#[cfg(test)]
+mod tests {
+    use super::*;
+    use std::test::Fail;
+
+    const REFUSED: [(&str, &str); 9] = [
+        ("", "key `` does not start with a letter or underscore"),
+        (
+            "0TEST ",
+            "key `0TEST ` does not start with a letter or underscore",
+        ),
+        ("=", "key `=` does not start with a letter or underscore"),
+        (
+            "\u{e9}A",
+            "key `\u{e9}A` does not start with a letter or underscore",
+        ),
+        (
+            "TEST=TEST",
+            "key `TEST=TEST` does not consist solely of letters, digits, and underscores",
+        ),
+        (
+            "A\u{e9}",
+            "key `A\u{e9}` does not consist solely of letters, digits, and underscores",
+        ),
+        (
+            "NEXTEST-",
+            "key `NEXTEST-` does not consist solely of letters, digits, and underscores",
+        ),
+        (
+            "NEXTEST",
+            "key `NEXTEST` begins with `NEXTEST`, which is reserved for internal use",
+        ),
+        (
+            "NEXTEST_NEXTEST",
+            "key `NEXTEST_NEXTEST` begins with `NEXTEST`, which is reserved for internal use",
+        ),
+    ];
+
+    #[test]
+    fn keys(rt: HostRuntime) -> Result<(), Fail> {
+        for good in ["__NEXTEST_TEST", "_", "a", "Z9", "NEXTES", "nextest"] {
+            assert!(rt; validate_env_var_key(rt.alloc(), good).is_ok(), "{good}");
+        }
+        for (key, text) in REFUSED {
+            let Err(error) = validate_env_var_key(rt.alloc(), key) else {
+                panic!(rt; "{key:?} is accepted");
+            };
+            let shown = error.to_string(rt.alloc())?;
+            assert_eq!(rt; shown.as_str(), text);
+        }
+        Ok(())
+    }
+}

@@ -1,0 +1,73 @@
+//! The kinds of scripts.
+
+ghost use Rattle.std.specs.Prelude.{Some};
+
+use std::fmt;
+
+/// What a script is: setup scripts stand before wrappers.
+#[derive(Clone, Copy, Debug, PartialEq, Eq, PartialOrd, Ord, Hash)]
+pub enum ScriptType {
+    /// Runs once, before the tests that want it.
+    Setup,
+    /// Runs round each test that wants it.
+    Wrapper,
+}
+
+impl fmt::Display for ScriptType {
+    ghost use Rattle.nextest_scripts.specs.ScriptType.{script_type_text};
+
+    ghost output = { λ kind. Some (script_type_text kind) };
+
+    fn fmt<W: fmt::Write>(&self, f: &mut fmt::Formatter<W>) -> fmt::Result {
+        match self {
+            ScriptType::Setup => f.write_str("setup"),
+            ScriptType::Wrapper => f.write_str("wrapper"),
+        }
+    }
+}
+
+/// How a profile uses a script.
+#[derive(Clone, Copy, Debug, PartialEq, Eq)]
+pub enum ProfileScriptType {
+    /// As a setup script.
+    Setup,
+    /// Round a test binary while its tests are listed.
+    ListWrapper,
+    /// Round a test while it runs.
+    RunWrapper,
+}
+
+impl fmt::Display for ProfileScriptType {
+    ghost use Rattle.nextest_scripts.specs.ScriptType.{profile_script_type_text};
+
+    ghost output = { λ kind. Some (profile_script_type_text kind) };
+
+    fn fmt<W: fmt::Write>(&self, f: &mut fmt::Formatter<W>) -> fmt::Result {
+        match self {
+            ProfileScriptType::Setup => f.write_str("setup"),
+            ProfileScriptType::ListWrapper => f.write_str("list-wrapper"),
+            ProfileScriptType::RunWrapper => f.write_str("run-wrapper"),
+        }
+    }
+}
+
+#[cfg(test)]
+mod tests {
+    use super::*;
+    use std::test::Fail;
+
+    #[test]
+    fn texts(rt: HostRuntime) -> Result<(), Fail> {
+        let shown = format!(in rt.alloc(); "{} {}", ScriptType::Setup, ScriptType::Wrapper)?;
+        assert_eq!(rt; shown.as_str(), "setup wrapper");
+        let shown = format!(in rt.alloc();
+            "{} {} {}",
+            ProfileScriptType::Setup,
+            ProfileScriptType::ListWrapper,
+            ProfileScriptType::RunWrapper
+        )?;
+        assert_eq!(rt; shown.as_str(), "setup list-wrapper run-wrapper");
+        assert!(rt; ScriptType::Setup < ScriptType::Wrapper);
+        Ok(())
+    }
+}
