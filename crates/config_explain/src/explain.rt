@@ -1,0 +1,163 @@
+//! What the program does, over readers of files and writers of its own choosing.
+use crate::command::{Command, USAGE};
+use crate::files::FileReader;
+use crate::lines::{refusal_text, settings_text};
+use crate::toy::filters::{ToyFilters, ToyTally};
+use crate::toy::platforms::ToySpecs;
+use nextest_config::{
+    CONFIG_PATH, ConfigParseError, ConfigParseErrorKind, ConfigPath, ConfigPaths,
+    DefaultConfigWarnings, EvaluatableProfile, FileInput, NextestConfig, ProfileError,
+    ProfileNotFound,
+};
+use nextest_load::engines::{BinaryQuery, BuildPlatform, BuildPlatforms, ParseContext, TestQuery};
+use std::alloc::{AllocError, Global};
+use std::io::{self, Write};
+
+/// Why the program ends without the lines of a test.
+#[derive(Drop)]
+enum Failure {
+    /// The words are no command.
+    Usage,
+    /// The configuration is refused.
+    Refused(ConfigParseError),
+    /// The configuration has no such profile.
+    NoProfile(ProfileNotFound),
+    /// Want of memory.
+    Memory,
+}
+
+impl From<AllocError> for Failure {
+    fn from(_error: AllocError) -> Failure {
+        Failure::Memory
+    }
+}
+
+/// The triple of the host where none is named.
+const HOST: &str = "x86_64-unknown-linux-gnu";
+
+/// Explains what a configuration gives a test, and answers the exit status: 0, or 2 for a usage fault, 3 for a refused
+/// configuration, 4 where there is no such profile, 5 for want of memory, 6 where a write fails. After a write that
+/// failed nothing more is written.
+pub fn explain<R: FileReader, O: Write, E: Write>(
+    alloc: Global,
+    words: &[String],
+    files: &R,
+    out: &mut O,
+    err: &mut E,
+) -> u8 {
+    match lines(alloc, words, files) {
+        Ok(lines) => ended(out.write_all(lines.as_bytes()), 0),
+        Err(failure) => {
+            let (text, status) = told(alloc, &failure);
+            match text {
+                Ok(text) => ended(err.write_all(text.as_bytes()), status),
+                Err(_) => ended(err.write_all(b"error: out of memory\n"), 5),
+            }
+        }
+    }
+}
+
+/// The status, unless the last write failed.
+fn ended(written: io::Result<()>, status: u8) -> u8 {
+    match written {
+        Ok(()) => status,
+        Err(_) => 6,
+    }
+}
+
+/// What standard error is told of a failure, and the status.
+fn told(alloc: Global, failure: &Failure) -> (Result<String, AllocError>, u8) {
+    match failure {
+        Failure::Usage => (format!(in alloc; "{USAGE}\n"), 2),
+        Failure::Refused(error) => match error.kind() {
+            ConfigParseErrorKind::Memory => (out_of_memory(alloc), 5),
+            _ => (refusal_text(alloc, error), 3),
+        },
+        Failure::NoProfile(error) => (format!(in alloc; "error: {error}\n"), 4),
+        Failure::Memory => (out_of_memory(alloc), 5),
+    }
+}
+
+fn out_of_memory(alloc: Global) -> Result<String, AllocError> {
+    String::from_str(alloc, "error: out of memory\n")
+}
+
+/// The lines of a test.
+fn lines<R: FileReader>(alloc: Global, words: &[String], files: &R) -> Result<String, Failure> {
+    let Some(command) = Command::parse(words) else {
+        return Err(Failure::Usage);
+    };
+    let config = load(alloc, command.root, files)?;
+    let profile = match config.profile(alloc, command.profile) {
+        Ok(profile) => profile,
+        Err(ProfileError::NotFound(error)) => return Err(Failure::NoProfile(error)),
+        Err(ProfileError::Memory) => return Err(Failure::Memory),
+    };
+    let platforms = BuildPlatforms {
+        host: String::from_str(alloc, HOST)?,
+        target: None,
+    };
+    match profile.apply_build_platforms(alloc, &platforms) {
+        Ok(profile) => Ok(lines_of(alloc, &profile, &command)?),
+        Err(_) => Err(Failure::Memory),
+    }
+}
+
+/// The configuration of a workspace.
+fn load<R: FileReader>(
+    alloc: Global,
+    root: &str,
+    files: &R,
+) -> Result<NextestConfig<ToyFilters, ToySpecs>, Failure> {
+    let path = joined(alloc, root, CONFIG_PATH)?;
+    let outcome = files.read(alloc, path.as_str())?;
+    let paths = ConfigPaths {
+        workspace_root: String::from_str(alloc, root)?,
+        shared: FileInput {
+            path: ConfigPath::new(alloc, path.as_str())?,
+            outcome,
+        },
+    };
+    let pcx = ParseContext {
+        filters: &ToyFilters,
+        specs: &ToySpecs,
+    };
+    let mut warnings = DefaultConfigWarnings::new(alloc);
+    NextestConfig::from_sources_with_paths(alloc, &paths, &pcx, &mut warnings).map_err(
+        Failure::Refused,
+    )
+}
+
+/// A path below another: a second part that begins with a slash replaces the first.
+fn joined(alloc: Global, first: &str, second: &str) -> Result<String, AllocError> {
+    if second.starts_with("/") {
+        return String::from_str(alloc, second);
+    }
+    let mut path = String::from_str(alloc, first)?;
+    if !first.is_empty() && !first.ends_with("/") {
+        path.push_str("/")?;
+    }
+    path.push_str(second)?;
+    Ok(path)
+}
+
+/// The lines of the settings that a profile gives the command's test.
+fn lines_of(
+    alloc: Global,
+    profile: &EvaluatableProfile<'_, ToyFilters, ToySpecs>,
+    command: &Command<'_>,
+) -> Result<String, AllocError> {
+    let query = TestQuery {
+        binary_query: BinaryQuery {
+            package_id: "",
+            binary_id: command.binary,
+            kind: "",
+            binary_name: "",
+            platform: BuildPlatform::Target,
+        },
+        test_name: command.test,
+    };
+    let mut tally = ToyTally::new();
+    let settings = profile.settings_with_source_for(command.mode, &query, &mut tally);
+    settings_text(alloc, &settings)
+}

@@ -1,0 +1,36 @@
+//! Where the program's files come from.
+use nextest_config::ReadOutcome;
+use std::alloc::{AllocError, Global};
+use std::rt::Files;
+use std::{fs, io};
+
+/// What reads files: the disk, or a table in memory.
+pub trait FileReader {
+    /// What comes of reading the file at a path.
+    fn read(&self, alloc: Global, path: &str) -> Result<ReadOutcome, AllocError>;
+}
+
+/// The files of the disk.
+#[derive(Drop)]
+pub struct DiskFiles<'rt, R> {
+    pub rt: &'rt R,
+}
+
+impl<R: Files + AllocGlobal> FileReader for DiskFiles<'_, R> {
+    fn read(&self, alloc: Global, path: &str) -> Result<ReadOutcome, AllocError> {
+        match fs::read_to_string(self.rt, path) {
+            Ok(text) => Ok(ReadOutcome::Text(text)),
+            Err(error) => outcome_of(alloc, &error),
+        }
+    }
+}
+
+/// The outcome of a read that failed.
+fn outcome_of(alloc: Global, error: &io::Error) -> Result<ReadOutcome, AllocError> {
+    match error.kind() {
+        io::ErrorKind::NotFound => Ok(ReadOutcome::NotFound),
+        io::ErrorKind::NotADirectory => Ok(ReadOutcome::NotADirectory),
+        io::ErrorKind::OutOfMemory => Err(AllocError),
+        _ => Ok(ReadOutcome::Failed(error.to_string(alloc)?)),
+    }
+}

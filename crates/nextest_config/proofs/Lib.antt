@@ -1,0 +1,11 @@
+pub mod Settled
+pub mod Considered
+pub mod Pass
+pub mod Shown
+pub mod Few
+pub mod Least
+pub mod Named
+pub mod Gathering
+pub mod Seen
+pub mod Rising
+pub mod Natural

@@ -1,0 +1,11 @@
+pub mod Maps
+pub mod Laying
+pub mod Steps
+pub mod Shown
+pub mod Sorted
+pub mod Seeing
+pub mod Compiling
+pub mod Accepting
+pub mod Least
+pub mod Told
+pub mod Naming

@@ -1,0 +1,17 @@
+use Rattle.std.proofs.Common.{◌≡◌, map, ap, ◌∙◌}
+use Rattle.nextest_elements.specs.View.{node_of}
+use Rattle.nextest_load.specs.Files.{file_text}
+use Rattle.nextest_load.specs.Texts.{tree_in}
+use Rattle.nextest_load.proofs.Naming.{layers_are}
+use Rattle.nextest_load.proofs.Told.{exit, found_first}
+use Rattle.nextest_load.proofs.load.load_files.Goals as goal
+
+pub returns-in_err-trees-clause-found : goal.returns-in_err-trees-clause-found
+returns-in_err-trees-clause-found g c = exit _ c.in_err-trees.field-0.0 _ c.from_residual.ensures.1 (found_first _ _ c.in_err-trees.field-0.0 c.in_err-trees.ensures.found)
+
+pub returns-clause-means : goal.returns-clause-means
+returns-clause-means g c =
+    let trees : map node_of c.deref.result.now ≡ map tree_in (map file_text c.args.files.now) = ap (λ ts. map node_of ts) c.deref.ensures.value ∙ c.in_ok-trees.ensures.trees in
+    let fields = rw trees at c.in_ok-profiles.ensures.fields in
+    let layers = layers_are g.F.Filters.meaning g.S.Specs.spec_meaning c.in_ok-trees.layers.items c.reverse.new.self.items _ c.reverse.ensures.items c.in_ok-trees.ensures.layers in
+    rw c.new.ensures (λ i. record { profiles = fields i; layers = layers i; everything = c.all.ensures i })
