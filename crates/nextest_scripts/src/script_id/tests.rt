@@ -49,3 +49,26 @@ fn ids_within_a_run(rt: HostRuntime) -> Result<(), Fail> {
     }
     Ok(())
 }
+
+/// The id within a run, whether or not a growth is refused on the way: a refusal is told by name, and the same call then
+/// gives the ample answer.
+#[test]
+fn again_after_a_refusal(rt: HostRuntime) -> Result<(), Fail> {
+    let alloc = rt.alloc();
+    let db = match ScriptId::new(alloc, "db") {
+        Ok(db) => db,
+        Err(error) => {
+            assert_eq!(rt; error, InvalidConfigScriptName(InvalidIdentifier::Memory));
+            ScriptId::new(alloc, "db")?
+        }
+    };
+    let id = match db.unique_id(alloc, Uuid::from_u128(1), Some(3)) {
+        Ok(id) => id,
+        Err(_) => db.unique_id(alloc, Uuid::from_u128(1), Some(3))?,
+    };
+    assert_eq!(rt;
+        id.as_str(),
+        "00000000-0000-0000-0000-000000000001:db@stress-3"
+    );
+    Ok(())
+}
