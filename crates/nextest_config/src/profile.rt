@@ -309,6 +309,3 @@ impl<'cfg, F: Filters, S: Specs> EvaluatableProfile<'cfg, F, S> {
         )
     }
 }
-
-#[cfg(test)]
-mod tests;

@@ -2,10 +2,10 @@
 use Rattle.std.specs.Prelude.{ℕ, List, [], ◌∷◌, Result, codes}
 use Rattle.nextest_elements.specs.declared.flaky_result.FlakyResult.{FlakyResult}
 use Rattle.nextest_elements.specs.declared.flaky_result.FlakyResult.TheVariants as results
-use Rattle.nextest_elements.specs.Node.{Node}
-use Rattle.nextest_elements.specs.Schema.{Cause, Schema}
-use Rattle.nextest_elements.specs.Leaf.{value, name_at}
-use Rattle.nextest_elements.specs.Spelling.{spelled}
+use Rattle.nextest_tree.specs.Node.{Node}
+use Rattle.nextest_tree.specs.Schema.{Cause, Schema}
+use Rattle.nextest_tree.specs.Leaf.{value, name_at}
+use Rattle.nextest_tree.specs.Spelling.{spelled}
 
 -- what becomes of a flaky test, as it is written
 abbrev pub flaky_result_text : FlakyResult → List ℕ

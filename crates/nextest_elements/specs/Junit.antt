@@ -1,18 +1,18 @@
 -- What a report of tests holds.
 use Rattle.std.specs.Prelude.{ℕ, List, [], ◌∷◌, Result, codes}
-use Rattle.nextest_elements.specs.declared.key.Key.TheVariants.{Path, ReportName, StoreSuccessOutput, StoreFailureOutput, ReportSkipped, FlakyFailStatus}
+use Rattle.nextest_tree.specs.declared.key.Key.TheVariants.{Path, ReportName, StoreSuccessOutput, StoreFailureOutput, ReportSkipped, FlakyFailStatus}
 use Rattle.nextest_elements.specs.declared.junit.ReportSkipPolicy.{ReportSkipPolicy}
 use Rattle.nextest_elements.specs.declared.junit.ReportSkipPolicy.TheVariants as policies
 use Rattle.nextest_elements.specs.declared.junit.JunitFlakyFailStatus.{JunitFlakyFailStatus}
 use Rattle.nextest_elements.specs.declared.junit.JunitFlakyFailStatus.TheVariants as statuses
 use Rattle.nextest_elements.specs.declared.junit.JunitImpl.{JunitImpl}
 use Rattle.nextest_elements.specs.declared.junit.JunitOverride.{JunitOverride}
-use Rattle.nextest_elements.specs.Key.{key_text}
-use Rattle.nextest_elements.specs.Node.{Node, Entries, get}
-use Rattle.nextest_elements.specs.Schema.{Cause, Schema, struct, Fields, may, no_more}
-use Rattle.nextest_elements.specs.Leaf.{value, Spells, name_at, IsText, a_text, bool_at, a_bool}
-use Rattle.nextest_elements.specs.Reads.{IsOptional}
-use Rattle.nextest_elements.specs.Spelling.{spelled}
+use Rattle.nextest_tree.specs.Key.{key_text}
+use Rattle.nextest_tree.specs.Node.{Node, Entries, get}
+use Rattle.nextest_tree.specs.Schema.{Cause, Schema, struct, Fields, may, no_more}
+use Rattle.nextest_tree.specs.Leaf.{value, Spells, name_at, IsText, a_text, bool_at, a_bool}
+use Rattle.nextest_tree.specs.Reads.{IsOptional}
+use Rattle.nextest_tree.specs.Spelling.{spelled}
 
 -- which skipped tests a report lists, as it is written
 abbrev pub report_skip_policy_text : ReportSkipPolicy → List ℕ

@@ -1,15 +1,15 @@
 -- How long what a test started may outlive it.
 use Rattle.std.specs.Prelude.{◌≡◌, ℕ, List, [], ◌∷◌, None, Result, codes}
-use Rattle.nextest_elements.specs.declared.key.Key.TheVariants.{Period, Result as result_key}
+use Rattle.nextest_tree.specs.declared.key.Key.TheVariants.{Period, Result as result_key}
 use Rattle.nextest_elements.specs.declared.leak_timeout.LeakTimeout.{LeakTimeout}
 use Rattle.nextest_elements.specs.declared.leak_timeout.LeakTimeoutResult.{LeakTimeoutResult}
 use Rattle.nextest_elements.specs.declared.leak_timeout.LeakTimeoutResult.TheVariants as results
-use Rattle.nextest_elements.specs.Key.{key_text}
-use Rattle.nextest_elements.specs.Node.{Node, table, Entries, get}
-use Rattle.nextest_elements.specs.Schema.{Cause, Schema, fields, noted, Fields, may, must, no_more}
-use Rattle.nextest_elements.specs.Leaf.{value, Spells, name_at, leaf_or}
-use Rattle.nextest_elements.specs.Nanoseconds.{duration_at, a_duration}
-use Rattle.nextest_elements.specs.Spelling.{spelled}
+use Rattle.nextest_tree.specs.Key.{key_text}
+use Rattle.nextest_tree.specs.Node.{Node, table, Entries, get}
+use Rattle.nextest_tree.specs.Schema.{Cause, Schema, fields, noted, Fields, may, must, no_more}
+use Rattle.nextest_tree.specs.Leaf.{value, Spells, name_at, leaf_or}
+use Rattle.nextest_texts.specs.Nanoseconds.{duration_at, a_duration}
+use Rattle.nextest_tree.specs.Spelling.{spelled}
 
 -- the name of a result, as it is written
 unfoldable pub leak_result_text : LeakTimeoutResult → List ℕ

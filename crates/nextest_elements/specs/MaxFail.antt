@@ -1,13 +1,13 @@
 -- After how many failures a run ends.
 use Rattle.std.specs.Prelude.{◌≡◌, ℕ, List, [], ◌∷◌, Some, None, Result, Ok, Err, codes, if◌then◌else◌}
-use Rattle.nextest_elements.specs.declared.key.Key.TheVariants as fail_keys
+use Rattle.nextest_tree.specs.declared.key.Key.TheVariants as fail_keys
 use Rattle.nextest_elements.specs.declared.max_fail.MaxFail.{MaxFail}
 use Rattle.nextest_elements.specs.declared.max_fail.MaxFail.TheVariants as limits
-use Rattle.nextest_elements.specs.Key.{key_text}
-use Rattle.nextest_elements.specs.Node.{Node, table, int, bool, Entries, get}
-use Rattle.nextest_elements.specs.Schema.{Cause, Schema, any, fields, noted, Fields, may, must, no_more}
-use Rattle.nextest_elements.specs.Leaf.{value, Spells, name_at, a_bool}
-use Rattle.nextest_elements.specs.Reads.{IsOptional}
+use Rattle.nextest_tree.specs.Key.{key_text}
+use Rattle.nextest_tree.specs.Node.{Node, table, int, bool, Entries, get}
+use Rattle.nextest_tree.specs.Schema.{Cause, Schema, any, fields, noted, Fields, may, must, no_more}
+use Rattle.nextest_tree.specs.Leaf.{value, Spells, name_at, a_bool}
+use Rattle.nextest_tree.specs.Reads.{IsOptional}
 use Rattle.nextest_elements.specs.Positive.{positive_at}
 
 -- the one name of a table's `max-fail`

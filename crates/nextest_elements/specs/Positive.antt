@@ -1,8 +1,8 @@
 -- A number from 1.
 use Rattle.std.specs.Prelude.{ℕ, pos, negsuc, nat_lt, Result, Ok, Err, if◌then◌else◌}
-use Rattle.nextest_elements.specs.Node.{Node, int}
-use Rattle.nextest_elements.specs.Schema.{Cause, wrong_kind, out_of_range, Schema}
-use Rattle.nextest_elements.specs.Leaf.{value}
+use Rattle.nextest_tree.specs.Node.{Node, int}
+use Rattle.nextest_tree.specs.Schema.{Cause, wrong_kind, out_of_range, Schema}
+use Rattle.nextest_tree.specs.Leaf.{value}
 
 -- a number above 0
 abbrev pub positive_at : Node → Result ℕ Cause

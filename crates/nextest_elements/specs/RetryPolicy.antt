@@ -1,16 +1,16 @@
 -- How often a test is tried again.
 use Rattle.std.specs.Prelude.{◌≡◌, ℕ, pos, negsuc, List, [], ◌∷◌, Bool, true, false, Option, Some, None, Result, Ok, Err, unwrap_or, nat_lt, codes, if◌then◌else◌}
-use Rattle.nextest_elements.specs.declared.key.Key.TheVariants.{Backoff as backoff_key, Count as count_key, Delay, Jitter, MaxDelay}
+use Rattle.nextest_tree.specs.declared.key.Key.TheVariants.{Backoff as backoff_key, Count as count_key, Delay, Jitter, MaxDelay}
 use Rattle.nextest_elements.specs.declared.retry_policy.Backoff.{Backoff}
 use Rattle.nextest_elements.specs.declared.retry_policy.Backoff.TheVariants as backoffs
 use Rattle.nextest_elements.specs.declared.retry_policy.RetryTable.{RetryTable}
 use Rattle.nextest_elements.specs.declared.retry_policy.RetryPolicy.{RetryPolicy}
 use Rattle.nextest_elements.specs.declared.retry_policy.RetryPolicy.TheVariants as policies
-use Rattle.nextest_elements.specs.Key.{key_text}
-use Rattle.nextest_elements.specs.Node.{Node, table, int, Entries, get}
-use Rattle.nextest_elements.specs.Schema.{Cause, wrong_kind, out_of_range, Schema, fields, noted, Fields, field, may, must, no_more}
-use Rattle.nextest_elements.specs.Leaf.{value, name_at, bool_at, a_bool, leaf_at, leaf_or}
-use Rattle.nextest_elements.specs.Nanoseconds.{duration_at, a_duration}
+use Rattle.nextest_tree.specs.Key.{key_text}
+use Rattle.nextest_tree.specs.Node.{Node, table, int, Entries, get}
+use Rattle.nextest_tree.specs.Schema.{Cause, wrong_kind, out_of_range, Schema, fields, noted, Fields, field, may, must, no_more}
+use Rattle.nextest_tree.specs.Leaf.{value, name_at, bool_at, a_bool, leaf_at, leaf_or}
+use Rattle.nextest_texts.specs.Nanoseconds.{duration_at, a_duration}
 
 -- a number of tries, below 2 ^ 32
 abbrev pub count_at : Node → Result ℕ Cause

@@ -1,16 +1,16 @@
 -- When a test counts as slow, and when it is ended.
 use Rattle.std.specs.Prelude.{◌≡◌, ℕ, List, [], ◌∷◌, None, Result, codes}
-use Rattle.nextest_elements.specs.declared.key.Key.TheVariants.{Period, TerminateAfter, GracePeriod, OnTimeout}
+use Rattle.nextest_tree.specs.declared.key.Key.TheVariants.{Period, TerminateAfter, GracePeriod, OnTimeout}
 use Rattle.nextest_elements.specs.declared.slow_timeout.SlowTimeout.{SlowTimeout}
 use Rattle.nextest_elements.specs.declared.slow_timeout.SlowTimeoutResult.{SlowTimeoutResult}
 use Rattle.nextest_elements.specs.declared.slow_timeout.SlowTimeoutResult.TheVariants as results
-use Rattle.nextest_elements.specs.Key.{key_text}
-use Rattle.nextest_elements.specs.Node.{Node, table, Entries, get}
-use Rattle.nextest_elements.specs.Schema.{Cause, Schema, fields, noted, Fields, may, must, no_more}
-use Rattle.nextest_elements.specs.Leaf.{value, Spells, name_at, leaf_at, leaf_or}
-use Rattle.nextest_elements.specs.Nanoseconds.{duration_at, a_duration}
+use Rattle.nextest_tree.specs.Key.{key_text}
+use Rattle.nextest_tree.specs.Node.{Node, table, Entries, get}
+use Rattle.nextest_tree.specs.Schema.{Cause, Schema, fields, noted, Fields, may, must, no_more}
+use Rattle.nextest_tree.specs.Leaf.{value, Spells, name_at, leaf_at, leaf_or}
+use Rattle.nextest_texts.specs.Nanoseconds.{duration_at, a_duration}
 use Rattle.nextest_elements.specs.Positive.{positive_at, a_positive}
-use Rattle.nextest_elements.specs.Spelling.{spelled}
+use Rattle.nextest_tree.specs.Spelling.{spelled}
 
 -- the name of a result, as it is written
 unfoldable pub slow_result_text : SlowTimeoutResult → List ℕ

@@ -4,10 +4,10 @@ use Rattle.nextest_elements.specs.declared.status_level.StatusLevel.{StatusLevel
 use Rattle.nextest_elements.specs.declared.status_level.StatusLevel.TheVariants as levels
 use Rattle.nextest_elements.specs.declared.status_level.FinalStatusLevel.{FinalStatusLevel}
 use Rattle.nextest_elements.specs.declared.status_level.FinalStatusLevel.TheVariants as final_levels
-use Rattle.nextest_elements.specs.Node.{Node}
-use Rattle.nextest_elements.specs.Schema.{Cause, Schema}
-use Rattle.nextest_elements.specs.Leaf.{value, name_at}
-use Rattle.nextest_elements.specs.Spelling.{spelled}
+use Rattle.nextest_tree.specs.Node.{Node}
+use Rattle.nextest_tree.specs.Schema.{Cause, Schema}
+use Rattle.nextest_tree.specs.Leaf.{value, name_at}
+use Rattle.nextest_tree.specs.Spelling.{spelled}
 
 -- which tests are told of while they run, as it is written
 abbrev pub status_level_text : StatusLevel → List ℕ

@@ -1,19 +1,19 @@
 -- Groups of tests.
 use Rattle.std.specs.Prelude.{◌≡◌, ℕ, List, Result, Ok, Err, codes, if◌then◌else◌}
 use Rattle.std.specs.Str.{bytes_eq}
-use Rattle.nextest_elements.specs.declared.key.Key.TheVariants.{MaxThreads}
+use Rattle.nextest_tree.specs.declared.key.Key.TheVariants.{MaxThreads}
 use Rattle.nextest_elements.specs.declared.test_group.CustomTestGroup.{CustomTestGroup}
 use Rattle.nextest_elements.specs.declared.test_group.TestGroup.{TestGroup}
 use Rattle.nextest_elements.specs.declared.test_group.TestGroup.TheVariants as groups
 use Rattle.nextest_elements.specs.declared.test_group.TestGroupConfig.{TestGroupConfig}
 use Rattle.nextest_elements.specs.declared.test_threads.TestThreads.TheVariants.{NumCpus}
-use Rattle.nextest_elements.specs.Key.{key_text}
-use Rattle.nextest_elements.specs.Node.{Node, text, Entries, get}
-use Rattle.nextest_elements.specs.Schema.{Cause, wrong_kind, bad_value, Schema, struct, Fields, must, no_more}
-use Rattle.nextest_elements.specs.Leaf.{value, leaf_or}
-use Rattle.nextest_elements.specs.Identifier.{is_identifier}
-use Rattle.nextest_elements.specs.IdentifierText.{identifier_text}
-use Rattle.nextest_elements.specs.IdentifierReader.{identifier_expected, IsIdentifierAt}
+use Rattle.nextest_tree.specs.Key.{key_text}
+use Rattle.nextest_tree.specs.Node.{Node, text, Entries, get}
+use Rattle.nextest_tree.specs.Schema.{Cause, wrong_kind, bad_value, Schema, struct, Fields, must, no_more}
+use Rattle.nextest_tree.specs.Leaf.{value, leaf_or}
+use Rattle.nextest_texts.specs.Identifier.{is_identifier}
+use Rattle.nextest_texts.specs.IdentifierText.{identifier_text}
+use Rattle.nextest_texts.specs.IdentifierReader.{identifier_expected, IsIdentifierAt}
 use Rattle.nextest_elements.specs.TestThreads.{test_threads_at, a_test_threads}
 
 -- the text of a custom group

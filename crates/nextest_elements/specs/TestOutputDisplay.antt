@@ -2,10 +2,10 @@
 use Rattle.std.specs.Prelude.{ℕ, List, [], ◌∷◌, Result, codes}
 use Rattle.nextest_elements.specs.declared.test_output_display.TestOutputDisplay.{TestOutputDisplay}
 use Rattle.nextest_elements.specs.declared.test_output_display.TestOutputDisplay.TheVariants as displays
-use Rattle.nextest_elements.specs.Node.{Node}
-use Rattle.nextest_elements.specs.Schema.{Cause, Schema}
-use Rattle.nextest_elements.specs.Leaf.{value, name_at}
-use Rattle.nextest_elements.specs.Spelling.{spelled}
+use Rattle.nextest_tree.specs.Node.{Node}
+use Rattle.nextest_tree.specs.Schema.{Cause, Schema}
+use Rattle.nextest_tree.specs.Leaf.{value, name_at}
+use Rattle.nextest_tree.specs.Spelling.{spelled}
 
 -- when the output of a test is shown, as it is written
 abbrev pub test_output_display_text : TestOutputDisplay → List ℕ

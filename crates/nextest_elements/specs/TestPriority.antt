@@ -1,8 +1,8 @@
 -- The priority of a test.
 use Rattle.std.specs.Prelude.{ℤ, pos, negsuc, int_lt, ◌||◌, Result, Ok, Err, if◌then◌else◌}
-use Rattle.nextest_elements.specs.Node.{Node, int}
-use Rattle.nextest_elements.specs.Schema.{Cause, wrong_kind, out_of_range, Schema}
-use Rattle.nextest_elements.specs.Leaf.{value}
+use Rattle.nextest_tree.specs.Node.{Node, int}
+use Rattle.nextest_tree.specs.Schema.{Cause, wrong_kind, out_of_range, Schema}
+use Rattle.nextest_tree.specs.Leaf.{value}
 
 -- a number from -100 to 100
 abbrev pub priority_at : Node → Result ℤ Cause

@@ -2,9 +2,9 @@
 use Rattle.std.specs.Prelude.{ℕ, pos, negsuc, zero, suc, List, [], ◌∷◌, ◌+◌, ◌-◌, max, Result, Ok, Err, codes}
 use Rattle.nextest_elements.specs.declared.test_threads.TestThreads.{TestThreads}
 use Rattle.nextest_elements.specs.declared.test_threads.TestThreads.TheVariants as threads
-use Rattle.nextest_elements.specs.Node.{Node, int}
-use Rattle.nextest_elements.specs.Schema.{Cause, out_of_range, Schema}
-use Rattle.nextest_elements.specs.Leaf.{value, name_at}
+use Rattle.nextest_tree.specs.Node.{Node, int}
+use Rattle.nextest_tree.specs.Schema.{Cause, out_of_range, Schema}
+use Rattle.nextest_tree.specs.Leaf.{value, name_at}
 
 -- its one name
 unfoldable pub test_threads_names : List (List ℕ × TestThreads)

@@ -3,11 +3,11 @@ use Rattle.std.specs.Prelude.{ℕ, List, [], ◌∷◌, Result, Ok, Err, codes}
 use Rattle.std.specs.Fmt.{decimal}
 use Rattle.nextest_elements.specs.declared.threads_required.ThreadsRequired.{ThreadsRequired}
 use Rattle.nextest_elements.specs.declared.threads_required.ThreadsRequired.TheVariants as required
-use Rattle.nextest_elements.specs.Node.{Node, int}
-use Rattle.nextest_elements.specs.Schema.{Cause, Schema}
-use Rattle.nextest_elements.specs.Leaf.{value, name_at}
+use Rattle.nextest_tree.specs.Node.{Node, int}
+use Rattle.nextest_tree.specs.Schema.{Cause, Schema}
+use Rattle.nextest_tree.specs.Leaf.{value, name_at}
 use Rattle.nextest_elements.specs.Positive.{positive_at}
-use Rattle.nextest_elements.specs.Spelling.{spelled}
+use Rattle.nextest_tree.specs.Spelling.{spelled}
 
 -- how many threads a test takes up, as it is written
 abbrev pub threads_required_text : ThreadsRequired → List ℕ

@@ -1,16 +1,12 @@
 //! The timeouts of benchmarks.
-ghost use Rattle.nextest_elements.specs.Reads.{InTable};
+ghost use Rattle.nextest_tree.specs.Reads.{InTable};
 ghost use Rattle.nextest_elements.specs.Bench.{bench_fields, bench, IsBench, bench_override_fields, bench_override, IsBenchOverride};
 
-use crate::element::{Element, Record};
-use crate::fault::{ElementCause, ElementFault};
-use crate::field::optional;
 use crate::global_timeout::GlobalTimeout;
-use crate::key::Key;
 use crate::slow_timeout::SlowTimeout;
-use crate::table::read_record;
-use crate::tree::Tree;
-use crate::walk::Walk;
+use nextest_tree::{
+    Element, ElementCause, ElementFault, Key, Record, Tree, Walk, optional, read_record,
+};
 use std::alloc::Global;
 use std::collections::BTreeMap;
 
@@ -53,7 +49,7 @@ impl Record for BenchConfig {
     }
 }
 
-#[tactic(auto, unfolding(crate::specs::Reads::reading, crate::specs::Reads::spot_of))]
+#[tactic(auto, unfolding(nextest_tree::specs::Reads::reading, nextest_tree::specs::Reads::spot_of))]
 impl Element for BenchConfig {
     ghost schema = { bench };
 
@@ -87,7 +83,7 @@ impl Record for BenchOverride {
     }
 }
 
-#[tactic(auto, unfolding(crate::specs::Reads::reading, crate::specs::Reads::spot_of))]
+#[tactic(auto, unfolding(nextest_tree::specs::Reads::reading, nextest_tree::specs::Reads::spot_of))]
 impl Element for BenchOverride {
     ghost schema = { bench_override };
 

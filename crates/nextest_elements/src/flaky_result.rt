@@ -1,13 +1,9 @@
 //! What becomes of a flaky test.
 ghost use Rattle.std.specs.Prelude.{Some};
-ghost use Rattle.nextest_elements.specs.Leaf.{Spells};
+ghost use Rattle.nextest_tree.specs.Leaf.{Spells};
 ghost use Rattle.nextest_elements.specs.FlakyResult.{flaky_result_at, flaky_result_text, a_flaky_result};
 
-use crate::element::Element;
-use crate::fault::ElementFault;
-use crate::name::named;
-use crate::tree::Tree;
-use crate::walk::Walk;
+use nextest_tree::{Element, ElementFault, Tree, Walk, named};
 use std::alloc::Global;
 use std::fmt;
 
@@ -20,7 +16,7 @@ pub enum FlakyResult {
     Fail,
 }
 
-#[tactic(auto, unfolding(crate::specs::Reads::reading, crate::specs::Reads::spot_of, crate::specs::FlakyResult::a_flaky_result, crate::specs::FlakyResult::flaky_result_names, crate::specs::FlakyResult::flaky_result_expected))]
+#[tactic(auto, unfolding(nextest_tree::specs::Reads::reading, nextest_tree::specs::Reads::spot_of, crate::specs::FlakyResult::a_flaky_result, crate::specs::FlakyResult::flaky_result_names, crate::specs::FlakyResult::flaky_result_expected))]
 impl Element for FlakyResult {
     ghost schema = { a_flaky_result };
 

@@ -1,12 +1,9 @@
 //! How long a whole run may take.
-ghost use Rattle.nextest_elements.specs.Nanoseconds.{a_duration};
+ghost use Rattle.nextest_texts.specs.Nanoseconds.{a_duration};
 ghost use Rattle.nextest_elements.specs.GlobalTimeout.{IsGlobalTimeout};
 
-use crate::element::Element;
-use crate::fault::ElementFault;
-use crate::nanoseconds::Nanoseconds;
-use crate::tree::Tree;
-use crate::walk::Walk;
+use nextest_texts::Nanoseconds;
+use nextest_tree::{Element, ElementFault, Tree, Walk};
 use std::alloc::Global;
 
 /// How long a whole run may take.

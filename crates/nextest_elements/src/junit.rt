@@ -1,17 +1,12 @@
 //! What a report of tests in the format of JUnit holds.
 ghost use Rattle.std.specs.Prelude.{Some};
-ghost use Rattle.nextest_elements.specs.Leaf.{Spells};
-ghost use Rattle.nextest_elements.specs.Reads.{InTable};
+ghost use Rattle.nextest_tree.specs.Leaf.{Spells};
+ghost use Rattle.nextest_tree.specs.Reads.{InTable};
 ghost use Rattle.nextest_elements.specs.Junit.{report_skip_policy_at, report_skip_policy_text, a_report_skip_policy, junit_flaky_fail_status_at, junit_flaky_fail_status_text, a_junit_flaky_fail_status, a_junit, junit_fields, IsJunit, a_junit_override, junit_override_fields, IsJunitOverride};
 
-use crate::element::{Element, Record};
-use crate::fault::{ElementCause, ElementFault};
-use crate::field::optional;
-use crate::key::Key;
-use crate::name::named;
-use crate::table::read_record;
-use crate::tree::Tree;
-use crate::walk::Walk;
+use nextest_tree::{
+    Element, ElementCause, ElementFault, Key, Record, Tree, Walk, named, optional, read_record,
+};
 use std::alloc::Global;
 use std::collections::BTreeMap;
 use std::fmt;
@@ -26,7 +21,7 @@ pub enum ReportSkipPolicy {
     All,
 }
 
-#[tactic(auto, unfolding(crate::specs::Reads::reading, crate::specs::Reads::spot_of, crate::specs::Junit::a_report_skip_policy, crate::specs::Junit::report_skip_policy_names, crate::specs::Junit::report_skip_policy_expected))]
+#[tactic(auto, unfolding(nextest_tree::specs::Reads::reading, nextest_tree::specs::Reads::spot_of, crate::specs::Junit::a_report_skip_policy, crate::specs::Junit::report_skip_policy_names, crate::specs::Junit::report_skip_policy_expected))]
 impl Element for ReportSkipPolicy {
     ghost schema = { a_report_skip_policy };
 
@@ -62,7 +57,7 @@ pub enum JunitFlakyFailStatus {
     Success,
 }
 
-#[tactic(auto, unfolding(crate::specs::Reads::reading, crate::specs::Reads::spot_of, crate::specs::Junit::a_junit_flaky_fail_status, crate::specs::Junit::junit_flaky_fail_status_names, crate::specs::Junit::junit_flaky_fail_status_expected))]
+#[tactic(auto, unfolding(nextest_tree::specs::Reads::reading, nextest_tree::specs::Reads::spot_of, crate::specs::Junit::a_junit_flaky_fail_status, crate::specs::Junit::junit_flaky_fail_status_names, crate::specs::Junit::junit_flaky_fail_status_expected))]
 impl Element for JunitFlakyFailStatus {
     ghost schema = { a_junit_flaky_fail_status };
 
@@ -135,7 +130,7 @@ pub struct JunitConfig {
     pub flaky_fail_status: JunitFlakyFailStatus,
 }
 
-#[tactic(auto, unfolding(crate::specs::Reads::reading, crate::specs::Reads::spot_of, crate::specs::Junit::a_junit))]
+#[tactic(auto, unfolding(nextest_tree::specs::Reads::reading, nextest_tree::specs::Reads::spot_of, crate::specs::Junit::a_junit))]
 impl Element for JunitImpl {
     ghost schema = { a_junit };
 
@@ -187,7 +182,7 @@ impl Record for JunitImpl {
     }
 }
 
-#[tactic(auto, unfolding(crate::specs::Reads::reading, crate::specs::Reads::spot_of, crate::specs::Junit::a_junit_override))]
+#[tactic(auto, unfolding(nextest_tree::specs::Reads::reading, nextest_tree::specs::Reads::spot_of, crate::specs::Junit::a_junit_override))]
 impl Element for JunitOverride {
     ghost schema = { a_junit_override };
 

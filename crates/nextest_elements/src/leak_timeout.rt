@@ -1,17 +1,13 @@
 //! How long what a test started may outlive it.
 ghost use Rattle.std.specs.Prelude.{◌≡◌, Some};
-ghost use Rattle.nextest_elements.specs.Leaf.{Spells};
+ghost use Rattle.nextest_tree.specs.Leaf.{Spells};
 ghost use Rattle.nextest_elements.specs.LeakTimeout.{leak_result_text, leak_result_at, a_leak_result, leak_fields, leak_table, leak_timeout, leak_of, IsLeakTimeout};
 
-use crate::element::{Element, Record};
-use crate::fault::{ElementCause, ElementFault};
-use crate::field::{optional, required};
-use crate::key::Key;
-use crate::name::named;
-use crate::nanoseconds::Nanoseconds;
-use crate::table::read_record;
-use crate::tree::Tree;
-use crate::walk::Walk;
+use nextest_texts::Nanoseconds;
+use nextest_tree::{
+    Element, ElementCause, ElementFault, Key, Record, Tree, Walk, named, optional, read_record,
+    required,
+};
 use std::alloc::Global;
 use std::collections::BTreeMap;
 use std::fmt;
@@ -67,7 +63,7 @@ impl LeakTimeout {
     }
 }
 
-#[tactic(auto, unfolding(crate::specs::Reads::reading, crate::specs::Reads::spot_of, crate::specs::LeakTimeout::a_leak_result, crate::specs::LeakTimeout::leak_result_names, crate::specs::LeakTimeout::leak_result_expected))]
+#[tactic(auto, unfolding(nextest_tree::specs::Reads::reading, nextest_tree::specs::Reads::spot_of, crate::specs::LeakTimeout::a_leak_result, crate::specs::LeakTimeout::leak_result_names, crate::specs::LeakTimeout::leak_result_expected))]
 impl Element for LeakTimeoutResult {
     ghost schema = { a_leak_result };
 
@@ -81,7 +77,7 @@ impl Element for LeakTimeoutResult {
     }
 }
 
-#[tactic(auto, using(crate::proofs::Reading::leaf_there, crate::proofs::Reading::leaf_read))]
+#[tactic(auto, using(nextest_tree::proofs::Reading::leaf_there, nextest_tree::proofs::Reading::leaf_read))]
 impl Record for LeakTimeout {
     ghost fields = { leak_fields };
 
@@ -105,7 +101,7 @@ impl Record for LeakTimeout {
     }
 }
 
-#[tactic(auto, unfolding(crate::specs::Reads::reading, crate::specs::Reads::spot_of, crate::specs::Nanoseconds::a_duration))]
+#[tactic(auto, unfolding(nextest_tree::specs::Reads::reading, nextest_tree::specs::Reads::spot_of, nextest_texts::specs::Nanoseconds::a_duration))]
 impl Element for LeakTimeout {
     ghost schema = { leak_timeout };
 

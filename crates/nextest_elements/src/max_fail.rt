@@ -1,17 +1,12 @@
 //! After how many failures a run ends.
-ghost use Rattle.nextest_elements.specs.Leaf.{Spells};
+ghost use Rattle.nextest_tree.specs.Leaf.{Spells};
 ghost use Rattle.nextest_elements.specs.MaxFail.{limit_at, a_limit, a_max_fail, max_fail_fields, IsMaxFail, IsMaxFailTable};
 
-use crate::element::{Element, Record};
-use crate::fault::{ElementCause, ElementFault};
-use crate::field::{optional, required};
-use crate::key::Key;
-use crate::name::named;
 use crate::positive::Positive;
-use crate::table::read_record;
-use crate::text::Ignored;
-use crate::tree::Tree;
-use crate::walk::Walk;
+use nextest_tree::{
+    Element, ElementCause, ElementFault, Ignored, Key, Record, Tree, Walk, named, optional,
+    read_record, required,
+};
 use std::alloc::Global;
 use std::collections::BTreeMap;
 
@@ -28,7 +23,7 @@ pub enum MaxFail {
 #[derive(Clone, Copy, Debug, PartialEq, Eq)]
 struct Limit(MaxFail);
 
-#[tactic(auto, unfolding(crate::specs::Reads::reading, crate::specs::Reads::spot_of, crate::specs::Positive::a_positive, crate::specs::MaxFail::a_limit, crate::specs::MaxFail::limit_names, crate::specs::MaxFail::limit_expected))]
+#[tactic(auto, unfolding(nextest_tree::specs::Reads::reading, nextest_tree::specs::Reads::spot_of, crate::specs::Positive::a_positive, crate::specs::MaxFail::a_limit, crate::specs::MaxFail::limit_names, crate::specs::MaxFail::limit_expected))]
 impl Element for Limit {
     ghost use Rattle.std.specs.Prelude.{◌≡◌, Ok};
 
@@ -52,7 +47,7 @@ impl Element for Limit {
     }
 }
 
-#[tactic(auto, unfolding(crate::specs::Reads::reading, crate::specs::Reads::spot_of, crate::specs::Leaf::a_bool, crate::specs::MaxFail::a_max_fail))]
+#[tactic(auto, unfolding(nextest_tree::specs::Reads::reading, nextest_tree::specs::Reads::spot_of, nextest_tree::specs::Leaf::a_bool, crate::specs::MaxFail::a_max_fail))]
 impl Element for MaxFail {
     ghost schema = { a_max_fail };
 

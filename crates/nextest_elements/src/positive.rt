@@ -2,17 +2,14 @@
 ghost use Rattle.std.specs.Prelude.{◌≡◌, Ok};
 ghost use Rattle.nextest_elements.specs.Positive.{positive_at, a_positive};
 
-use crate::element::Element;
-use crate::fault::{ElementCause, ElementFault};
-use crate::tree::Tree;
-use crate::walk::Walk;
+use nextest_tree::{Element, ElementCause, ElementFault, Tree, Walk};
 use std::alloc::Global;
 
 /// A number from 1 as it is read.
 #[derive(Clone, Copy, Debug, PartialEq, Eq)]
 pub struct Positive(pub u64);
 
-#[tactic(auto, unfolding(crate::specs::Reads::reading, crate::specs::Reads::spot_of, crate::specs::Positive::a_positive))]
+#[tactic(auto, unfolding(nextest_tree::specs::Reads::reading, nextest_tree::specs::Reads::spot_of, crate::specs::Positive::a_positive))]
 impl Element for Positive {
     ghost schema = { a_positive };
 

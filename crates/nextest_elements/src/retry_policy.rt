@@ -1,20 +1,16 @@
 //! How often a test is tried again.
 ghost use Rattle.std.specs.Prelude.{◌≡◌, Ok, option_map, IfOk};
-ghost use Rattle.nextest_elements.specs.Node as Node;
-ghost use Rattle.nextest_elements.specs.View.{members_of_trees};
-ghost use Rattle.nextest_elements.specs.Reads.{Gives, reading, spot_of};
+ghost use Rattle.nextest_tree.specs.Node as Node;
+ghost use Rattle.nextest_tree.specs.View.{members_of_trees};
+ghost use Rattle.nextest_tree.specs.Reads.{Gives, reading, spot_of};
 ghost use Rattle.nextest_elements.specs.RetryPolicy.{backoff_at, a_backoff, count_at, a_count, retry, retry_fields, retry_table, policy_of, IsRetry};
-ghost use Rattle.nextest_elements.specs.Leaf.{Spells};
+ghost use Rattle.nextest_tree.specs.Leaf.{Spells};
 
-use crate::element::{Element, Record};
-use crate::fault::{ElementCause, ElementFault};
-use crate::field::{optional, required, wanted};
-use crate::key::Key;
-use crate::name::named;
-use crate::nanoseconds::Nanoseconds;
-use crate::table::read_record;
-use crate::tree::Tree;
-use crate::walk::Walk;
+use nextest_texts::Nanoseconds;
+use nextest_tree::{
+    Element, ElementCause, ElementFault, Key, Record, Tree, Walk, named, optional, read_record,
+    required, wanted,
+};
 use std::alloc::Global;
 use std::collections::BTreeMap;
 
@@ -66,7 +62,7 @@ pub enum RetryPolicy {
     },
 }
 
-#[tactic(auto, unfolding(crate::specs::Reads::reading, crate::specs::Reads::spot_of, crate::specs::RetryPolicy::a_backoff, crate::specs::RetryPolicy::backoff_names, crate::specs::RetryPolicy::backoff_expected))]
+#[tactic(auto, unfolding(nextest_tree::specs::Reads::reading, nextest_tree::specs::Reads::spot_of, crate::specs::RetryPolicy::a_backoff, crate::specs::RetryPolicy::backoff_names, crate::specs::RetryPolicy::backoff_expected))]
 impl Element for Backoff {
     ghost schema = { a_backoff };
 
@@ -81,7 +77,7 @@ impl Element for Backoff {
     }
 }
 
-#[tactic(auto, unfolding(crate::specs::Reads::reading, crate::specs::Reads::spot_of, crate::specs::RetryPolicy::a_count))]
+#[tactic(auto, unfolding(nextest_tree::specs::Reads::reading, nextest_tree::specs::Reads::spot_of, crate::specs::RetryPolicy::a_count))]
 impl Element for RetryCount {
     ghost schema = { a_count };
 
@@ -98,7 +94,7 @@ impl Element for RetryCount {
     }
 }
 
-#[tactic(auto, using(crate::proofs::Reading::leaf_there, crate::proofs::Reading::leaf_read))]
+#[tactic(auto, using(nextest_tree::proofs::Reading::leaf_there, nextest_tree::proofs::Reading::leaf_read))]
 impl Record for RetryTable {
     ghost fields = { retry_fields };
 
@@ -187,7 +183,7 @@ impl RetryPolicy {
     }
 }
 
-#[tactic(auto, unfolding(crate::specs::Reads::reading, crate::specs::Reads::spot_of, crate::specs::RetryPolicy::a_count))]
+#[tactic(auto, unfolding(nextest_tree::specs::Reads::reading, nextest_tree::specs::Reads::spot_of, crate::specs::RetryPolicy::a_count))]
 impl Element for RetryPolicy {
     ghost schema = { retry };
 
@@ -206,7 +202,7 @@ impl Element for RetryPolicy {
 }
 
 /// The policy of a table, or the first fault of it.
-#[tactic(auto, using(crate::proofs::Reading::reading_across), unfolding(crate::specs::Reads::spot_of))]
+#[tactic(auto, using(nextest_tree::proofs::Reading::reading_across), unfolding(nextest_tree::specs::Reads::spot_of))]
 fn retry_of(
     alloc: Global,
     members: &BTreeMap<String, Tree>,

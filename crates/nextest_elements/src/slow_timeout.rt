@@ -1,18 +1,14 @@
 //! When a test counts as slow, and when it is ended.
 ghost use Rattle.std.specs.Prelude.{◌≡◌, Some};
-ghost use Rattle.nextest_elements.specs.Leaf.{Spells};
+ghost use Rattle.nextest_tree.specs.Leaf.{Spells};
 ghost use Rattle.nextest_elements.specs.SlowTimeout.{slow_result_text, slow_result_at, a_slow_result, slow_fields, slow_table, slow_timeout, slow_of, IsSlowTimeout};
 
-use crate::element::{Element, Record};
-use crate::fault::{ElementCause, ElementFault};
-use crate::field::{optional, required};
-use crate::key::Key;
-use crate::name::named;
-use crate::nanoseconds::Nanoseconds;
 use crate::positive::Positive;
-use crate::table::read_record;
-use crate::tree::Tree;
-use crate::walk::Walk;
+use nextest_texts::Nanoseconds;
+use nextest_tree::{
+    Element, ElementCause, ElementFault, Key, Record, Tree, Walk, named, optional, read_record,
+    required,
+};
 use std::alloc::Global;
 use std::collections::BTreeMap;
 use std::fmt;
@@ -77,7 +73,7 @@ impl SlowTimeout {
     }
 }
 
-#[tactic(auto, unfolding(crate::specs::Reads::reading, crate::specs::Reads::spot_of, crate::specs::SlowTimeout::a_slow_result, crate::specs::SlowTimeout::slow_result_names, crate::specs::SlowTimeout::slow_result_expected))]
+#[tactic(auto, unfolding(nextest_tree::specs::Reads::reading, nextest_tree::specs::Reads::spot_of, crate::specs::SlowTimeout::a_slow_result, crate::specs::SlowTimeout::slow_result_names, crate::specs::SlowTimeout::slow_result_expected))]
 impl Element for SlowTimeoutResult {
     ghost schema = { a_slow_result };
 
@@ -91,7 +87,7 @@ impl Element for SlowTimeoutResult {
     }
 }
 
-#[tactic(auto, using(crate::proofs::Reading::leaf_there, crate::proofs::Reading::leaf_read))]
+#[tactic(auto, using(nextest_tree::proofs::Reading::leaf_there, nextest_tree::proofs::Reading::leaf_read))]
 impl Record for SlowTimeout {
     ghost fields = { slow_fields };
 
@@ -124,7 +120,7 @@ impl Record for SlowTimeout {
     }
 }
 
-#[tactic(auto, unfolding(crate::specs::Reads::reading, crate::specs::Reads::spot_of, crate::specs::Nanoseconds::a_duration))]
+#[tactic(auto, unfolding(nextest_tree::specs::Reads::reading, nextest_tree::specs::Reads::spot_of, nextest_texts::specs::Nanoseconds::a_duration))]
 impl Element for SlowTimeout {
     ghost schema = { slow_timeout };
 

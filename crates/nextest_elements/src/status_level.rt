@@ -1,13 +1,9 @@
 //! Which tests are told of.
 ghost use Rattle.std.specs.Prelude.{Some};
-ghost use Rattle.nextest_elements.specs.Leaf.{Spells};
+ghost use Rattle.nextest_tree.specs.Leaf.{Spells};
 ghost use Rattle.nextest_elements.specs.StatusLevel.{status_level_at, status_level_text, a_status_level, final_status_level_at, final_status_level_text, a_final_status_level};
 
-use crate::element::Element;
-use crate::fault::ElementFault;
-use crate::name::named;
-use crate::tree::Tree;
-use crate::walk::Walk;
+use nextest_tree::{Element, ElementFault, Tree, Walk, named};
 use std::alloc::Global;
 use std::fmt;
 
@@ -32,7 +28,7 @@ pub enum StatusLevel {
     All,
 }
 
-#[tactic(auto, unfolding(crate::specs::Reads::reading, crate::specs::Reads::spot_of, crate::specs::StatusLevel::a_status_level, crate::specs::StatusLevel::status_level_names, crate::specs::StatusLevel::status_level_expected))]
+#[tactic(auto, unfolding(nextest_tree::specs::Reads::reading, nextest_tree::specs::Reads::spot_of, crate::specs::StatusLevel::a_status_level, crate::specs::StatusLevel::status_level_names, crate::specs::StatusLevel::status_level_expected))]
 impl Element for StatusLevel {
     ghost schema = { a_status_level };
 
@@ -97,7 +93,7 @@ pub enum FinalStatusLevel {
     All,
 }
 
-#[tactic(auto, unfolding(crate::specs::Reads::reading, crate::specs::Reads::spot_of, crate::specs::StatusLevel::a_final_status_level, crate::specs::StatusLevel::final_status_level_names, crate::specs::StatusLevel::final_status_level_expected))]
+#[tactic(auto, unfolding(nextest_tree::specs::Reads::reading, nextest_tree::specs::Reads::spot_of, crate::specs::StatusLevel::a_final_status_level, crate::specs::StatusLevel::final_status_level_names, crate::specs::StatusLevel::final_status_level_expected))]
 impl Element for FinalStatusLevel {
     ghost schema = { a_final_status_level };
 

@@ -1,20 +1,16 @@
 //! Groups of tests.
 ghost use Rattle.std.specs.Prelude.{◌≡◌, List, Option, ℕ, Some};
-ghost use Rattle.nextest_elements.specs.Schema.{Cause};
-ghost use Rattle.nextest_elements.specs.Leaf.{Spells};
-ghost use Rattle.nextest_elements.specs.Reads.{InTable};
-ghost use Rattle.nextest_elements.specs.IdentifierReader.{identifier_cause, an_identifier};
+ghost use Rattle.nextest_tree.specs.Schema.{Cause};
+ghost use Rattle.nextest_tree.specs.Leaf.{Spells};
+ghost use Rattle.nextest_tree.specs.Reads.{InTable};
+ghost use Rattle.nextest_texts.specs.IdentifierReader.{identifier_cause, an_identifier};
 ghost use Rattle.nextest_elements.specs.TestGroup.{custom_group_text, IsCustomGroup, group_text, test_group_at, a_test_group, group_fields, IsGroupTable, group_config};
 
-use crate::element::{Element, Name, Record};
-use crate::fault::{ElementCause, ElementFault};
-use crate::field::required;
-use crate::identifier::ConfigIdentifier;
-use crate::key::Key;
-use crate::table::read_record;
 use crate::test_threads::TestThreads;
-use crate::tree::Tree;
-use crate::walk::Walk;
+use nextest_texts::ConfigIdentifier;
+use nextest_tree::{
+    Element, ElementCause, ElementFault, Key, Name, Record, Tree, Walk, read_record, required,
+};
 use std::alloc::{AllocError, Global};
 use std::collections::BTreeMap;
 use std::fmt;
@@ -40,7 +36,7 @@ pub struct TestGroupConfig {
 }
 
 impl CustomTestGroup {
-    ghost use Rattle.nextest_elements.specs.IdentifierText.{identifier_text};
+    ghost use Rattle.nextest_texts.specs.IdentifierText.{identifier_text};
 
     /// The identifier of the group.
     pub fn as_identifier(&self) -> &ConfigIdentifier
@@ -134,7 +130,7 @@ impl Name for CustomTestGroup {
     ghost ordered = { λ a b. Prim.search rules };
 }
 
-#[tactic(auto, unfolding(crate::specs::Reads::reading, crate::specs::Reads::spot_of, crate::specs::TestGroup::a_test_group, crate::specs::TestGroup::global_text, crate::specs::IdentifierReader::an_identifier))]
+#[tactic(auto, unfolding(nextest_tree::specs::Reads::reading, nextest_tree::specs::Reads::spot_of, crate::specs::TestGroup::a_test_group, crate::specs::TestGroup::global_text, nextest_texts::specs::IdentifierReader::an_identifier))]
 impl Element for TestGroup {
     ghost schema = { a_test_group };
 
@@ -151,7 +147,7 @@ impl Element for TestGroup {
     }
 }
 
-#[tactic(auto, using(crate::proofs::Reading::leaf_there))]
+#[tactic(auto, using(nextest_tree::proofs::Reading::leaf_there))]
 impl Record for TestGroupConfig {
     ghost fields = { group_fields };
 
@@ -171,7 +167,7 @@ impl Record for TestGroupConfig {
     }
 }
 
-#[tactic(auto, unfolding(crate::specs::Reads::reading, crate::specs::Reads::spot_of))]
+#[tactic(auto, unfolding(nextest_tree::specs::Reads::reading, nextest_tree::specs::Reads::spot_of))]
 impl Element for TestGroupConfig {
     ghost schema = { group_config };
 

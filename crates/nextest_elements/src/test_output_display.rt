@@ -1,13 +1,9 @@
 //! When the output of a test is shown.
 ghost use Rattle.std.specs.Prelude.{Some};
-ghost use Rattle.nextest_elements.specs.Leaf.{Spells};
+ghost use Rattle.nextest_tree.specs.Leaf.{Spells};
 ghost use Rattle.nextest_elements.specs.TestOutputDisplay.{test_output_display_at, test_output_display_text, a_test_output_display};
 
-use crate::element::Element;
-use crate::fault::ElementFault;
-use crate::name::named;
-use crate::tree::Tree;
-use crate::walk::Walk;
+use nextest_tree::{Element, ElementFault, Tree, Walk, named};
 use std::alloc::Global;
 use std::fmt;
 
@@ -24,7 +20,7 @@ pub enum TestOutputDisplay {
     Never,
 }
 
-#[tactic(auto, unfolding(crate::specs::Reads::reading, crate::specs::Reads::spot_of, crate::specs::TestOutputDisplay::a_test_output_display, crate::specs::TestOutputDisplay::test_output_display_names, crate::specs::TestOutputDisplay::test_output_display_expected))]
+#[tactic(auto, unfolding(nextest_tree::specs::Reads::reading, nextest_tree::specs::Reads::spot_of, crate::specs::TestOutputDisplay::a_test_output_display, crate::specs::TestOutputDisplay::test_output_display_names, crate::specs::TestOutputDisplay::test_output_display_expected))]
 impl Element for TestOutputDisplay {
     ghost schema = { a_test_output_display };
 

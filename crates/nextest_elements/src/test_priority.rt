@@ -2,17 +2,14 @@
 ghost use Rattle.std.specs.Prelude.{◌≡◌, Ok, pos};
 ghost use Rattle.nextest_elements.specs.TestPriority.{priority_at, a_priority};
 
-use crate::element::Element;
-use crate::fault::{ElementCause, ElementFault};
-use crate::tree::Tree;
-use crate::walk::Walk;
+use nextest_tree::{Element, ElementCause, ElementFault, Tree, Walk};
 use std::alloc::Global;
 
 /// The priority of a test, from -100 to 100: higher ones run first. The default is 0.
 #[derive(Clone, Copy, Debug, Default, PartialEq, Eq, PartialOrd, Ord)]
 pub struct TestPriority(pub i8);
 
-#[tactic(auto, unfolding(crate::specs::Reads::reading, crate::specs::Reads::spot_of, crate::specs::TestPriority::a_priority))]
+#[tactic(auto, unfolding(nextest_tree::specs::Reads::reading, nextest_tree::specs::Reads::spot_of, crate::specs::TestPriority::a_priority))]
 impl Element for TestPriority {
     ghost schema = { a_priority };
 

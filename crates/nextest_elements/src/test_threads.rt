@@ -1,13 +1,9 @@
 //! How many tests run at a time.
 ghost use Rattle.std.specs.Prelude.{◌≡◌};
-ghost use Rattle.nextest_elements.specs.Leaf.{Spells};
+ghost use Rattle.nextest_tree.specs.Leaf.{Spells};
 ghost use Rattle.nextest_elements.specs.TestThreads.{test_threads_at, a_test_threads};
 
-use crate::element::Element;
-use crate::fault::{ElementCause, ElementFault};
-use crate::name::named;
-use crate::tree::Tree;
-use crate::walk::Walk;
+use nextest_tree::{Element, ElementCause, ElementFault, Tree, Walk, named};
 use std::alloc::Global;
 
 /// How many tests run at a time.
@@ -39,7 +35,7 @@ impl TestThreads {
     }
 }
 
-#[tactic(auto, unfolding(crate::specs::Reads::reading, crate::specs::Reads::spot_of, crate::specs::TestThreads::a_test_threads, crate::specs::TestThreads::test_threads_names, crate::specs::TestThreads::test_threads_expected))]
+#[tactic(auto, unfolding(nextest_tree::specs::Reads::reading, nextest_tree::specs::Reads::spot_of, crate::specs::TestThreads::a_test_threads, crate::specs::TestThreads::test_threads_names, crate::specs::TestThreads::test_threads_expected))]
 impl Element for TestThreads {
     ghost schema = { a_test_threads };
 

@@ -1,14 +1,10 @@
 //! How many threads a test takes up.
 ghost use Rattle.std.specs.Prelude.{◌≡◌, Some};
-ghost use Rattle.nextest_elements.specs.Leaf.{Spells};
+ghost use Rattle.nextest_tree.specs.Leaf.{Spells};
 ghost use Rattle.nextest_elements.specs.ThreadsRequired.{threads_required_at, threads_required_text, a_threads_required};
 
-use crate::element::Element;
-use crate::fault::{ElementCause, ElementFault};
-use crate::name::named;
 use crate::positive::Positive;
-use crate::tree::Tree;
-use crate::walk::Walk;
+use nextest_tree::{Element, ElementCause, ElementFault, Tree, Walk, named};
 use std::alloc::Global;
 use std::fmt;
 
@@ -38,7 +34,7 @@ impl ThreadsRequired {
     }
 }
 
-#[tactic(auto, unfolding(crate::specs::Reads::reading, crate::specs::Reads::spot_of, crate::specs::Positive::a_positive, crate::specs::ThreadsRequired::a_threads_required, crate::specs::ThreadsRequired::threads_required_names, crate::specs::ThreadsRequired::threads_required_expected))]
+#[tactic(auto, unfolding(nextest_tree::specs::Reads::reading, nextest_tree::specs::Reads::spot_of, crate::specs::Positive::a_positive, crate::specs::ThreadsRequired::a_threads_required, crate::specs::ThreadsRequired::threads_required_names, crate::specs::ThreadsRequired::threads_required_expected))]
 impl Element for ThreadsRequired {
     ghost schema = { a_threads_required };
 

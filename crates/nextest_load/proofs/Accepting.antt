@@ -1,8 +1,8 @@
 -- Files with no fault are those that every rule accepts.
 use Rattle.std.proofs.Common.{◌≡◌, ◌⊎◌, inl, inr, ℕ, ◌+◌, List, [], ◌∷◌, ◌++◌, Option, Some, None, Result, Ok, Err, IsSome, MatchResult, option_map, refl, sym, ap, ◌∙◌}
 use Rattle.std.specs.Option.{option_or}
-use Rattle.nextest_elements.specs.Node.{Node}
-use Rattle.nextest_elements.specs.Schema.{first, faults, unknown, unknown_field}
+use Rattle.nextest_tree.specs.Node.{Node}
+use Rattle.nextest_tree.specs.Schema.{first, faults, unknown, unknown_field}
 use Rattle.nextest_load.specs.Accepted.{repository_of, sources_in, read_fault, file_fault, IsRead, IsCompiled, Each, IsAccepted}
 use Rattle.nextest_load.specs.Errors.{Ended, passed, refused, no_memory, odd, error_seen, ended, Found, IsMemory}
 use Rattle.nextest_load.specs.Faults.{Cause, bad_element, not_compiled, CompileCause, CompileFault, least, element_fault, stage_fault, refusal, override_cause, fault_at_index, override_faults, compile_faults, all_found, if_none, at_source, fault_of, source_fault, sources_fault, EachSource}

@@ -6,7 +6,7 @@ use Rattle.std.specs.Cmp.{tied_itself}
 use Rattle.std.specs.Cmp.Lexicographic.{slice_cmp}
 use Rattle.std.specs.Option.{option_map_or}
 use Rattle.std.specs.Ordering.{match_ordering, ordering_reverse}
-use Rattle.nextest_elements.specs.Node.{Node, Entries, no_entries, entry, get}
+use Rattle.nextest_tree.specs.Node.{Node, Entries, no_entries, entry, get}
 use Rattle.nextest_load.specs.Merge.{put, over, entries_over}
 
 abbrev pub cmp : List ℕ → List ℕ → Ordering

@@ -13,7 +13,7 @@ use Rattle.std.proofs.lemmas.Cmp.{nat_list_cmp_total}
 use Rattle.std.proofs.lemmas.List.Elements.{recursion_from_All}
 use Rattle.std.proofs.lemmas.Map.Lookups.{exact_bytes}
 use Rattle.std.proofs.lemmas.Slice.Eq.{bytes_eq-Decides}
-use Rattle.nextest_elements.specs.Schema.{is_one_of}
+use Rattle.nextest_tree.specs.Schema.{is_one_of}
 use Rattle.nextest_load.specs.Faults.{lesser, least}
 
 head_in : (p q : List ℕ) (ps : List (List ℕ)) → p ≡ q → is_one_of (p ∷ ps) q ≡ true

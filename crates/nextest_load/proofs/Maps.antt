@@ -8,10 +8,10 @@ use Rattle.std.specs.Map.{keys_of, lookup, set_value}
 use Rattle.std.specs.Ordering.{match_ordering, ordering_reverse}
 use Rattle.std.specs.BTreeMap.{insert_entry, is_at}
 use Rattle.std.specs.String.{string_cmp}
-use Rattle.nextest_elements.specs.Node.{Node, entry, get}
+use Rattle.nextest_tree.specs.Node.{Node, entry, get}
 use Rattle.nextest_load.specs.Merge.{put}
-use Rattle.nextest_elements.specs.View.{node_of, members_of_trees}
-use Rattle.nextest_elements.specs.declared.tree.Tree.{Tree}
+use Rattle.nextest_tree.specs.View.{node_of, members_of_trees}
+use Rattle.nextest_tree.specs.declared.tree.Tree.{Tree}
 
 abbrev pub Entry : Type 0
 Entry = String Global × Tree

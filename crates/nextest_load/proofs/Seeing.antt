@@ -1,14 +1,14 @@
 -- What the readers' values show of their trees.
 use Rattle.std.proofs.Common.{◌≡◌, ℕ, false, List, [], ◌∷◌, Option, Some, None, option_map, option_and_then, unwrap_or, Result, Ok, String, Global, Vec, string_bytes, refl, sym}
 use Rattle.std.specs.Result.{result_ok}
-use Rattle.nextest_elements.specs.declared.key.Key.TheVariants as keys
+use Rattle.nextest_tree.specs.declared.key.Key.TheVariants as keys
 use Rattle.nextest_elements.specs.declared.test_priority.TestPriority.{TestPriority}
 use Rattle.nextest_elements.specs.declared.retry_policy.RetryPolicy.{RetryPolicy}
 use Rattle.nextest_elements.specs.declared.retry_policy.RetryPolicy.TheVariants as policies
-use Rattle.nextest_elements.specs.Key.{key_text}
-use Rattle.nextest_elements.specs.Node.{Node, table, array, text, int, bool, opaque, Nodes, no_nodes, node, Entries, no_entries, get, as_text, as_array}
-use Rattle.nextest_elements.specs.Reads.{IsOptional, IsList, InTable}
-use Rattle.nextest_elements.specs.Leaf.{IsText}
+use Rattle.nextest_tree.specs.Key.{key_text}
+use Rattle.nextest_tree.specs.Node.{Node, table, array, text, int, bool, opaque, Nodes, no_nodes, node, Entries, no_entries, get, as_text, as_array}
+use Rattle.nextest_tree.specs.Reads.{IsOptional, IsList, InTable}
+use Rattle.nextest_tree.specs.Leaf.{IsText}
 use Rattle.nextest_elements.specs.TestPriority.{priority_at}
 use Rattle.nextest_elements.specs.RetryPolicy.{count_at, IsRetry}
 use Rattle.nextest_load.specs.declared.tables.OverrideTable.{OverrideTable}

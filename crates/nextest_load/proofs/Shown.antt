@@ -2,7 +2,7 @@
 use Rattle.std.proofs.Common.{◌≡◌, ◌⊎◌, inl, inr, ℕ, List, [], ◌∷◌, ◌++◌, Option, Some, None, sym, ap, ◌∙◌, refl}
 use Rattle.std.specs.List.{AllByRecursion}
 use Rattle.std.specs.Option.{option_and_then}
-use Rattle.nextest_elements.specs.Node.{Node, table, Entries, get}
+use Rattle.nextest_tree.specs.Node.{Node, table, Entries, get}
 use Rattle.nextest_load.specs.Merge.{over, merged}
 use Rattle.nextest_load.specs.Shown.{Path, Kind, a_table, a_leaf, node_at, HasLeafAlong, Hides, by_leaf, by_table, IsShown, HasExactly}
 use Rattle.nextest_load.proofs.Laying.{laid_over, get-entries_over}

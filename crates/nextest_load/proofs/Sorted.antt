@@ -4,7 +4,7 @@ use Rattle.std.proofs.lemmas.Cmp.{nat_list_cmp_total}
 use Rattle.std.specs.List.{AllByRecursion}
 use Rattle.std.specs.Option.{option_map_or}
 use Rattle.std.specs.Ordering.{match_ordering}
-use Rattle.nextest_elements.specs.Node.{Node, table, Entries, no_entries, entry, get, IsBefore, IsSorted, EntriesAreSorted}
+use Rattle.nextest_tree.specs.Node.{Node, table, Entries, no_entries, entry, get, IsBefore, IsSorted, EntriesAreSorted}
 use Rattle.nextest_load.specs.Merge.{put, over, entries_over, merged}
 use Rattle.nextest_load.proofs.Laying.{cmp, turned}
 

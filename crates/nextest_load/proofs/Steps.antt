@@ -5,10 +5,10 @@ use Rattle.std.specs.Map.{keys_of, lookup, set_value}
 use Rattle.std.specs.BTreeMap.{insert_entry, is_at}
 use Rattle.std.specs.Option.{option_map_or}
 use Rattle.std.specs.String.{string_cmp}
-use Rattle.nextest_elements.specs.Node.{Node, Entries, entry, get}
+use Rattle.nextest_tree.specs.Node.{Node, Entries, entry, get}
 use Rattle.nextest_load.specs.Merge.{put, over, entries_over}
-use Rattle.nextest_elements.specs.View.{node_of, members_of_trees}
-use Rattle.nextest_elements.specs.declared.tree.Tree.{Tree}
+use Rattle.nextest_tree.specs.View.{node_of, members_of_trees}
+use Rattle.nextest_tree.specs.declared.tree.Tree.{Tree}
 use Rattle.nextest_load.proofs.Laying.{AllBelow, with_last, entries_over-last}
 use Rattle.nextest_load.proofs.Maps.{Entry, below_middle, text_cmp, members-set_value, members-insert_entry, members-lookup}
 

@@ -3,11 +3,11 @@ use Rattle.std.proofs.Common.{◌≡◌, ℕ, List, [], ◌∷◌, Option, Some,
 use Rattle.std.specs.BTreeSet.{contains_text}
 use Rattle.std.specs.Option.{option_or}
 use Rattle.std.proofs.lemmas.Result.{err_from_is_err_and}
-use Rattle.nextest_elements.specs.declared.walk.Walk.{Walk}
-use Rattle.nextest_elements.specs.declared.fault.ElementFault.{ElementFault}
-use Rattle.nextest_elements.specs.Node.{Node}
-use Rattle.nextest_elements.specs.Reads.{Spot, start, spot_of, noting, outcome, reading, told, Fails}
-use Rattle.nextest_elements.specs.Schema.{Fault, Schema, first, faults, unknown, is_one_of}
+use Rattle.nextest_tree.specs.declared.walk.Walk.{Walk}
+use Rattle.nextest_tree.specs.declared.fault.ElementFault.{ElementFault}
+use Rattle.nextest_tree.specs.Node.{Node}
+use Rattle.nextest_tree.specs.Reads.{Spot, start, spot_of, noting, outcome, reading, told, Fails}
+use Rattle.nextest_tree.specs.Schema.{Fault, Schema, first, faults, unknown, is_one_of}
 use Rattle.nextest_load.specs.Errors.{Ended, passed, refused, no_memory, odd, kind_seen, ended_with, seen_at, source_of, error_seen, ended, Found, IsRefusal, Refuses}
 use Rattle.nextest_load.specs.Faults.{bad_element, LoadFault, at_source, element_fault}
 use Rattle.nextest_load.specs.Sources.{SourceSeen}

@@ -1,7 +1,7 @@
 -- Which sources are accepted: one field for each written rule.
 use Rattle.std.specs.Prelude.{◌≡◌, ℕ, List, [], ◌∷◌, Option, Some, None, Result, Ok, IsSome}
 use Rattle.std.specs.Option.{option_or}
-use Rattle.nextest_elements.specs.Schema.{faults, unknown}
+use Rattle.nextest_tree.specs.Schema.{faults, unknown}
 use Rattle.nextest_load.specs.Sources.{SourceSeen, discovered_file, FileSeen, Outcome, text, failed}
 use Rattle.nextest_load.specs.Tables.{root}
 use Rattle.nextest_load.specs.Text.{tree_of}

@@ -1,6 +1,6 @@
 -- What contracts see of a refusal.
 use Rattle.std.specs.Prelude.{◌≡◌, map, Option, Some, None, option_map, Result, Ok, Err, string_bytes}
-use Rattle.nextest_elements.specs.Reads.{told}
+use Rattle.nextest_tree.specs.Reads.{told}
 use Rattle.nextest_load.specs.Sources.{SourceSeen, source_seen, outcome_seen}
 use Rattle.nextest_load.specs.Faults.{not_read, not_document, bad_element, not_compiled, CompileFault, Section, in_override, CompileCause, no_constraints, not_parsed, LoadFault, at_source}
 use Rattle.nextest_load.specs.declared.error.ConfigCompileErrorKind.{ConfigCompileErrorKind}

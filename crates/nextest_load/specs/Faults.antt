@@ -3,8 +3,8 @@ use Rattle.std.specs.Prelude.{◌≡◌, ℕ, ◌+◌, List, [], ◌∷◌, ◌+
 use Rattle.std.specs.Option.{option_or}
 use Rattle.std.specs.Ordering.{nat_cmp, is_lt}
 use Rattle.std.specs.Cmp.Lexicographic.{slice_cmp}
-use Rattle.nextest_elements.specs.Node.{Node}
-use Rattle.nextest_elements.specs.Schema.{Fault, first, faults, unknown, unknown_field}
+use Rattle.nextest_tree.specs.Node.{Node}
+use Rattle.nextest_tree.specs.Schema.{Fault, first, faults, unknown, unknown_field}
 use Rattle.nextest_load.specs.Sources.{SourceSeen, Outcome}
 use Rattle.nextest_load.specs.Tables.{root}
 use Rattle.nextest_load.specs.Text.{tree_of}

@@ -3,7 +3,7 @@ use Rattle.std.specs.Prelude.{ℕ, List, [], ◌∷◌}
 use Rattle.std.specs.Ordering.{nat_cmp, match_ordering}
 use Rattle.std.specs.Cmp.Lexicographic.{slice_cmp}
 use Rattle.std.specs.Option.{option_map_or}
-use Rattle.nextest_elements.specs.Node.{Node, table, Entries, no_entries, entry, get}
+use Rattle.nextest_tree.specs.Node.{Node, table, Entries, no_entries, entry, get}
 
 -- the entries with a node at a key: in place of what stood there, or before the first greater key
 abbrev pub put : List ℕ → Node → Entries → Entries

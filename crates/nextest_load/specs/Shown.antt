@@ -2,7 +2,7 @@
 use Rattle.std.specs.Prelude.{◌≡◌, ◌↔◌, ℕ, List, [], ◌∷◌, ◌++◌, Option, Some, None}
 use Rattle.std.specs.List.{AllByRecursion}
 use Rattle.std.specs.Option.{option_and_then}
-use Rattle.nextest_elements.specs.Node.{Node, table, get}
+use Rattle.nextest_tree.specs.Node.{Node, table, get}
 
 -- a path is the keys from the root on
 abbrev pub Path : Type 0

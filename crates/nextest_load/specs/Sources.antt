@@ -1,6 +1,6 @@
 -- What contracts see of files, outcomes and sources.
 use Rattle.std.specs.Prelude.{ℕ, List, Option, Some, None, string_bytes}
-use Rattle.nextest_elements.specs.IdentifierText.{tool_name_text}
+use Rattle.nextest_texts.specs.IdentifierText.{tool_name_text}
 use Rattle.nextest_load.specs.declared.sources.ConfigPath.{ConfigPath}
 use Rattle.nextest_load.specs.declared.sources.ReadOutcome.{ReadOutcome}
 use Rattle.nextest_load.specs.declared.sources.ReadOutcome.TheVariants as outcomes

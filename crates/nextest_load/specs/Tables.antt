@@ -1,12 +1,12 @@
 -- The tables of a configuration file, as far as they are read today.
 use Rattle.std.specs.Prelude.{◌≡◌, Some, Ok, Vec}
 use Rattle.std.specs.declared.alloc.Global.{Global}
-use Rattle.nextest_elements.specs.declared.key.Key.TheVariants as keys
-use Rattle.nextest_elements.specs.Key.{key_text}
-use Rattle.nextest_elements.specs.Node.{Node, Entries, get}
-use Rattle.nextest_elements.specs.Schema.{Schema, Fields, no_more, may, must, struct, list_of}
-use Rattle.nextest_elements.specs.Reads.{IsOptional, IsList, InArray, InTable}
-use Rattle.nextest_elements.specs.Leaf.{a_text, IsText}
+use Rattle.nextest_tree.specs.declared.key.Key.TheVariants as keys
+use Rattle.nextest_tree.specs.Key.{key_text}
+use Rattle.nextest_tree.specs.Node.{Node, Entries, get}
+use Rattle.nextest_tree.specs.Schema.{Schema, Fields, no_more, may, must, struct, list_of}
+use Rattle.nextest_tree.specs.Reads.{IsOptional, IsList, InArray, InTable}
+use Rattle.nextest_tree.specs.Leaf.{a_text, IsText}
 use Rattle.nextest_elements.specs.TestPriority.{priority_at, a_priority}
 use Rattle.nextest_elements.specs.RetryPolicy.{retry, IsRetry}
 use Rattle.nextest_load.specs.declared.tables.OverrideTable.{OverrideTable}

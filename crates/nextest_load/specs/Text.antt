@@ -1,7 +1,7 @@
 -- The node that a text stands for.
 use Rattle.std.specs.Prelude.{ℕ, List, Option, option_map}
 use Rattle.toml.specs.Parse.{parse_document}
-use Rattle.nextest_elements.specs.Node.{Node, table, from_members}
+use Rattle.nextest_tree.specs.Node.{Node, table, from_members}
 use Rattle.nextest_load.specs.declared.text.TextFault.{TextFault}
 use Rattle.nextest_load.specs.declared.text.TextFault.TheVariants.{NotDocument, Memory}
 

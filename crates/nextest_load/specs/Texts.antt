@@ -1,13 +1,13 @@
 -- What the texts of sources say.
 use Rattle.std.specs.Prelude.{ℕ, ◌+◌, List, [], ◌∷◌, map, reverse, Option, None, option_map, option_and_then, unwrap_or, Result, false, codes, pos}
 use Rattle.std.specs.Result.{result_ok}
-use Rattle.nextest_elements.specs.declared.key.Key.{Key}
-use Rattle.nextest_elements.specs.declared.key.Key.TheVariants as keys
+use Rattle.nextest_tree.specs.declared.key.Key.{Key}
+use Rattle.nextest_tree.specs.declared.key.Key.TheVariants as keys
 use Rattle.nextest_elements.specs.declared.retry_policy.RetryPolicy.{RetryPolicy}
 use Rattle.nextest_elements.specs.declared.retry_policy.RetryPolicy.TheVariants as policies
 use Rattle.nextest_elements.specs.declared.test_priority.TestPriority.{TestPriority}
-use Rattle.nextest_elements.specs.Key.{key_text}
-use Rattle.nextest_elements.specs.Node.{Node, table, int, Nodes, no_nodes, node, no_entries, entry, as_text, as_array, member_of}
+use Rattle.nextest_tree.specs.Key.{key_text}
+use Rattle.nextest_tree.specs.Node.{Node, table, int, Nodes, no_nodes, node, no_entries, entry, as_text, as_array, member_of}
 use Rattle.nextest_elements.specs.TestPriority.{priority_at}
 use Rattle.nextest_elements.specs.RetryPolicy.{count_at, retry_table, policy_of}
 use Rattle.nextest_load.specs.Merge.{over, merged}

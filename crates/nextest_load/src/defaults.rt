@@ -1,7 +1,7 @@
 //! The default table, over which every file is read.
 ghost use Rattle.std.specs.Prelude.{◌≡◌, IfOk};
-ghost use Rattle.nextest_elements.specs.View.{node_of};
-ghost use Rattle.nextest_elements.specs.Node as Node;
+ghost use Rattle.nextest_tree.specs.View.{node_of};
+ghost use Rattle.nextest_tree.specs.Node as Node;
 ghost use Rattle.nextest_load.specs.Texts.{defaults};
 
 use nextest_elements::Tree;

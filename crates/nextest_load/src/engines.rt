@@ -213,6 +213,3 @@ pub struct ParseContext<'e, F, S> {
     pub filters: &'e F,
     pub specs: &'e S,
 }
-
-#[cfg(test)]
-mod tests;

@@ -134,11 +134,11 @@ pub struct ConfigParseError {
     ghost placed: { is_some source ≡ not (is_memory kind) },
 }
 
-#[tactic(auto, unfolding(crate::specs::Errors::error_seen, nextest_elements::specs::Reads::told))]
+#[tactic(auto, unfolding(crate::specs::Errors::error_seen, nextest_tree::specs::Reads::told))]
 impl ConfigParseError {
     ghost use Rattle.std.specs.Prelude.{◌≡◌, option_map, option_and_then, None, not, false, is_some};
-    ghost use Rattle.nextest_elements.specs.IdentifierText.{tool_name_text};
-    ghost use Rattle.nextest_elements.specs.Reads.{told};
+    ghost use Rattle.nextest_texts.specs.IdentifierText.{tool_name_text};
+    ghost use Rattle.nextest_tree.specs.Reads.{told};
     ghost use Rattle.nextest_load.specs.ErrorKinds.{is_memory};
     ghost use Rattle.nextest_load.specs.Errors.{source_of, error_seen, kind_seen, no_memory, refused, odd, Refuses};
     ghost use Rattle.nextest_load.specs.Faults.{at_source, bad_element};

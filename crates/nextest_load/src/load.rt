@@ -2,8 +2,8 @@
 ghost use Rattle.std.specs.Prelude.{◌≡◌, [], ◌∷◌, List, ℕ, IfOk, OnOk, map, option_map, option_and_then, Some, None, ◌⊎◌, MatchResult, reverse};
 ghost use Rattle.std.specs.Option.{option_or};
 ghost use Rattle.std.specs.BTreeSet.{contains_text};
-ghost use Rattle.nextest_elements.specs.Schema.{is_one_of, unknown};
-ghost use Rattle.nextest_elements.specs.View.{node_of};
+ghost use Rattle.nextest_tree.specs.Schema.{is_one_of, unknown};
+ghost use Rattle.nextest_tree.specs.View.{node_of};
 ghost use Rattle.nextest_load.specs.declared.engines.FiltersetKind.TheVariants.{OverrideFilter};
 ghost use Rattle.nextest_load.specs.Accepted.{IsAccepted, repository_of, sources_of, sources_in, read_fault, file_fault};
 ghost use Rattle.nextest_load.specs.Errors.{compile_error_seen, Found, ended, IsMemory};

@@ -1,13 +1,10 @@
 //! One tree of several layers: a higher layer is laid over a lower one, path by path.
 ghost use Rattle.std.specs.Prelude.{◌∷◌, ◌≡◌, map, IfOk};
 ghost use Rattle.std.specs.List.{AllByRecursion};
-ghost use Rattle.nextest_elements.specs.Node.{IsSorted};
-ghost use Rattle.nextest_elements.specs.View.{node_of, items_of_trees, members_of_trees};
+ghost use Rattle.nextest_tree.specs.Node.{IsSorted};
+ghost use Rattle.nextest_tree.specs.View.{node_of, items_of_trees, members_of_trees};
 ghost use Rattle.nextest_load.specs.Merge.{over, entries_over, merged};
 ghost use Rattle.nextest_load.specs.Shown.{HasExactly, IsShown};
-
-#[cfg(test)]
-mod tests;
 
 use nextest_elements::Tree;
 use std::alloc::{AllocError, Global};

@@ -3,7 +3,7 @@
 //! Nothing here reads a file. A caller reads them and hands the outcomes in.
 ghost use Rattle.std.specs.Prelude.{◌≡◌, IfOk, option_map};
 ghost use Rattle.nextest_load.specs.Sources.{path_text, source_seen, kind_seen, tool_of};
-ghost use Rattle.nextest_elements.specs.IdentifierText.{tool_name_text};
+ghost use Rattle.nextest_texts.specs.IdentifierText.{tool_name_text};
 
 use nextest_elements::ToolName;
 use std::alloc::{AllocError, Global};

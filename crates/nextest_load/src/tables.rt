@@ -1,5 +1,5 @@
 //! Readers of the tables of a configuration file, as far as they are read today.
-ghost use Rattle.nextest_elements.specs.Reads.{InTable};
+ghost use Rattle.nextest_tree.specs.Reads.{InTable};
 ghost use Rattle.nextest_load.specs.Tables.{an_override, override_fields, IsOverride, a_profile, profile_fields, IsProfile, profiles, profiles_fields, IsProfiles, root, root_fields, IsRoot};
 
 use nextest_elements::{

@@ -1,12 +1,9 @@
 //! Trees from texts.
 ghost use Rattle.std.specs.Prelude.{◌≡◌, IfOk, IfErr, Some, None};
-ghost use Rattle.nextest_elements.specs.Node.{IsSorted};
-ghost use Rattle.nextest_elements.specs.View.{node_of};
+ghost use Rattle.nextest_tree.specs.Node.{IsSorted};
+ghost use Rattle.nextest_tree.specs.View.{node_of};
 ghost use Rattle.toml.specs.Errors.{IsMemory};
 ghost use Rattle.nextest_load.specs.Text.{IsNotDocument, tree_of};
-
-#[cfg(test)]
-mod tests;
 
 use nextest_elements::Tree;
 use std::alloc::{AllocError, Global};

@@ -258,6 +258,3 @@ fn is_delimiter(c: char) -> bool
 {
     matches!(c, ' ' | '\t' | '\n')
 }
-
-#[cfg(test)]
-mod tests;

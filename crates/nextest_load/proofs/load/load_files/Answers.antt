@@ -1,5 +1,5 @@
 use Rattle.std.proofs.Common.{◌≡◌, map, ap, ◌∙◌}
-use Rattle.nextest_elements.specs.View.{node_of}
+use Rattle.nextest_tree.specs.View.{node_of}
 use Rattle.nextest_load.specs.Files.{file_text}
 use Rattle.nextest_load.specs.Texts.{tree_in}
 use Rattle.nextest_load.proofs.Naming.{layers_are}

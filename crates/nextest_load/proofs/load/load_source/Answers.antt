@@ -1,5 +1,5 @@
 use Rattle.std.proofs.Common.{◌≡◌, ◌∙◌}
-use Rattle.nextest_elements.specs.View.{node_of}
+use Rattle.nextest_tree.specs.View.{node_of}
 use Rattle.std.specs.Option.{option_or}
 use Rattle.nextest_load.specs.declared.engines.FiltersetKind.TheVariants.{OverrideFilter}
 use Rattle.nextest_load.specs.Errors.{Found, error_seen}

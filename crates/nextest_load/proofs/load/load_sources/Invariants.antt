@@ -1,5 +1,5 @@
 use Rattle.std.proofs.Common.{◌≡◌, map, drop, take}
-use Rattle.nextest_elements.specs.View.{node_of}
+use Rattle.nextest_tree.specs.View.{node_of}
 use Rattle.nextest_load.specs.declared.engines.FiltersetKind.TheVariants.{OverrideFilter}
 use Rattle.nextest_load.specs.Faults.{sources_fault}
 use Rattle.nextest_load.specs.Files.{file_text}

@@ -1,6 +1,6 @@
 use Rattle.std.proofs.Common.{◌≡◌, Ok, refl}
-use Rattle.nextest_elements.specs.Reads.{start, spot_of, reading, Fails}
-use Rattle.nextest_elements.specs.View.{node_of}
+use Rattle.nextest_tree.specs.Reads.{start, spot_of, reading, Fails}
+use Rattle.nextest_tree.specs.View.{node_of}
 use Rattle.nextest_load.specs.Sources.{source_seen}
 use Rattle.nextest_load.specs.Tables.{root}
 use Rattle.nextest_load.proofs.Seeing.{root_is}

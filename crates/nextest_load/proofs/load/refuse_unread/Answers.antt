@@ -1,5 +1,5 @@
 use Rattle.std.proofs.Common.{◌≡◌, string_bytes, refl}
-use Rattle.nextest_elements.specs.Reads.{told}
+use Rattle.nextest_tree.specs.Reads.{told}
 use Rattle.nextest_load.proofs.Least.{first_is_least, none_is_least, no_keys}
 use Rattle.nextest_load.proofs.Told.{refusal_found}
 use Rattle.nextest_load.proofs.load.refuse_unread.Goals as goal

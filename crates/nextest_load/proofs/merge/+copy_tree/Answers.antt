@@ -2,7 +2,7 @@ use Rattle.std.proofs.Common.{◌≡◌, [], ◌∷◌, ◌++◌, string_bytes, 
 use Rattle.std.specs.List.Sorted.{IsStrictlySortedBy}
 use Rattle.std.specs.Map.{keys_of}
 use Rattle.std.specs.String.{string_cmp}
-use Rattle.nextest_elements.specs.View.{members_of_trees}
+use Rattle.nextest_tree.specs.View.{members_of_trees}
 use Rattle.nextest_load.proofs.Maps.{Entry, put_last, members-insert_entry}
 use Rattle.nextest_load.proofs.merge.+copy_tree.Goals as goal
 

@@ -1,5 +1,5 @@
 use Rattle.std.proofs.Common.{◌≡◌, List, ◌++◌, take, map}
-use Rattle.nextest_elements.specs.View.{node_of, members_of_trees}
+use Rattle.nextest_tree.specs.View.{node_of, members_of_trees}
 use Rattle.nextest_load.proofs.Maps.{Entry}
 use Rattle.nextest_load.proofs.merge.+copy_tree.Given as goal
 

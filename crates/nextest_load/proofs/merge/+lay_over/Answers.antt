@@ -5,7 +5,7 @@ use Rattle.std.specs.Option.{option_copied_mut}
 use Rattle.std.specs.String.{string_cmp}
 use Rattle.std.specs.BTreeMap.{is_at}
 use Rattle.nextest_load.specs.Merge.{over}
-use Rattle.nextest_elements.specs.View.{node_of, members_of_trees}
+use Rattle.nextest_tree.specs.View.{node_of, members_of_trees}
 use Rattle.nextest_load.proofs.Maps.{Entry, text_cmp}
 use Rattle.nextest_load.proofs.Steps.{put_found, put_new, laid_last}
 use Rattle.nextest_load.proofs.merge.+lay_over.Goals as goal

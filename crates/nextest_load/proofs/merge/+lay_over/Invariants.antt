@@ -1,6 +1,6 @@
 use Rattle.std.proofs.Common.{◌≡◌, List, ◌++◌}
 use Rattle.nextest_load.specs.Merge.{entries_over}
-use Rattle.nextest_elements.specs.View.{members_of_trees}
+use Rattle.nextest_tree.specs.View.{members_of_trees}
 use Rattle.nextest_load.proofs.Maps.{Entry}
 use Rattle.nextest_load.proofs.merge.+lay_over.Given as goal
 

@@ -1,7 +1,7 @@
 use Rattle.std.proofs.Common.{◌≡◌, arith, map, sym, subst}
 use Rattle.std.proofs.lemmas.Grind.{common_steps}
-use Rattle.nextest_elements.specs.Node.{Node, IsSorted}
-use Rattle.nextest_elements.specs.View.{node_of}
+use Rattle.nextest_tree.specs.Node.{Node, IsSorted}
+use Rattle.nextest_tree.specs.View.{node_of}
 use Rattle.nextest_load.specs.Merge.{merged}
 use Rattle.nextest_load.proofs.Shown.{has_shown}
 use Rattle.nextest_load.proofs.Sorted.{merged_sorted}

@@ -1,6 +1,6 @@
 use Rattle.std.proofs.Common.{◌≡◌, drop, map}
 use Rattle.nextest_load.specs.Merge.{merged}
-use Rattle.nextest_elements.specs.View.{node_of}
+use Rattle.nextest_tree.specs.View.{node_of}
 use Rattle.nextest_load.proofs.merge.merge_layers.Given as goal
 
 abbrev pub invariant-loop-layer : goal.invariant-loop-layer

@@ -1,8 +1,0 @@
-pub mod Trees
-pub mod Sorted
-pub mod Reading
-pub mod Maps
-pub mod Places
-pub mod DurationGrammar
-pub mod Durations
-pub mod Identifiers

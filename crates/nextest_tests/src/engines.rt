@@ -1,0 +1,304 @@
+//! An engine whose tally counts, asked through its bound, and by a configuration of ten overrides.
+ghost use Rattle.std.specs.Prelude.{◌≡◌, ◌==◌, ◌++◌, ◌∷◌, [], List, ℕ, Bool, true, Option, None, Some, Result, Ok, Err, option_map, string_bytes, length, refl, if◌then◌else◌};
+ghost use Rattle.std.proofs.Common.{rules};
+ghost use Rattle.std.specs.Option.{option_map_or};
+ghost use Rattle.std.specs.Str.{bytes_eq};
+
+use nextest_config::{
+    ConfigPath, ConfigPaths, DefaultConfigWarnings, FileInput, NextestConfig, ReadOutcome,
+};
+use nextest_elements::NextestRunMode;
+use nextest_load::engines::history::RuleHistory;
+use nextest_load::engines::{
+    BinaryQuery, BuildPlatform, BuildPlatforms, EvalContext, FilterFault, Filters, FiltersetKind,
+    ParseContext, SpecFault, Specs, Tally, TestQuery,
+};
+use std::alloc::{AllocError, Global};
+use std::process::Abort;
+use std::test::Fail;
+
+/// Filters by name: a text matches the tests of that name, and the empty text all.
+struct Names;
+
+/// A name, or none where all match.
+#[derive(Drop)]
+struct Name(Option<String>);
+
+/// How many rules are counted one by one.
+const RULES: usize = 10;
+
+/// How often each rule was evaluated, and whether each evaluation was of the text that spells its rule's number.
+#[derive(Drop)]
+struct Counted {
+    times: [usize; RULES],
+    is_numbered: bool,
+    rules: RuleHistory,
+}
+
+impl Tally for Counted {
+    ghost numbers = { λ tally. tally.rules };
+}
+
+impl Counted {
+    fn new() -> Counted {
+        Counted {
+            times: [0; RULES],
+            is_numbered: true,
+            rules: RuleHistory::new(),
+        }
+    }
+
+    fn record(&mut self, rule: usize, expr: &Name)
+        ensures { self.new.rules ≡ self.old.rules ++ rule ∷ [] }
+    {
+        if let Some(times) = self.times.get_mut(rule) {
+            *times = times.wrapping_add(1);
+        }
+        self.is_numbered = self.is_numbered && is_number(expr, rule);
+        self.rules.push(rule);
+    }
+}
+
+/// Whether the text of a filter is one digit, of this rule.
+fn is_number(expr: &Name, rule: usize) -> bool {
+    match &expr.0 {
+        Some(name) => match name.as_bytes() {
+            [digit] => usize::from(digit.wrapping_sub(b'0')) == rule,
+            _ => false,
+        },
+        None => false,
+    }
+}
+
+impl Filters for Names {
+    type Expr = Name;
+
+    type Tally = Counted;
+
+    ghost Meaning = { Option (List ℕ) };
+
+    ghost meaning = { λ expr. option_map string_bytes expr.0 };
+
+    ghost read = { λ _ _ text. Ok (if length text == 0 then None else Some text) };
+
+    ghost everything = { None };
+
+    ghost holds = { λ filter test _. option_map_or (λ name. bytes_eq name test.name) filter true };
+
+    ghost holds_binary = { λ filter _ _. option_map_or (λ _. None) filter (Some true) };
+
+    ghost leaves = { λ filter. option_map_or (λ name. name ∷ []) filter [] };
+
+    fn parse(&self, alloc: Global, text: &str, kind: FiltersetKind) -> Result<Name, FilterFault> {
+        let _kind = kind;
+        if text.is_empty() {
+            return Ok(Name(None));
+        }
+        match String::from_str(alloc, text) {
+            Ok(name) => Ok(Name(Some(name))),
+            Err(_) => Err(FilterFault::Memory),
+        }
+    }
+
+    fn all(&self) -> Name {
+        Name(None)
+    }
+
+    fn matches_test(
+        expr: &Name,
+        rule: usize,
+        query: &TestQuery<'_>,
+        cx: &EvalContext<'_, Name>,
+        tally: &mut Counted,
+    ) -> bool {
+        let _cx = cx;
+        tally.record(rule, expr);
+        match &expr.0 {
+            None => true,
+            Some(name) => name.as_str() == query.test_name,
+        }
+    }
+
+    fn matches_binary(
+        expr: &Name,
+        rule: usize,
+        query: &BinaryQuery<'_>,
+        cx: &EvalContext<'_, Name>,
+        tally: &mut Counted,
+    ) -> Option<bool> {
+        let _cx = cx;
+        let _query = query;
+        tally.record(rule, expr);
+        match &expr.0 {
+            None => Some(true),
+            Some(_) => None,
+        }
+    }
+
+    fn runtime_only_leaves(alloc: Global, expr: &Name) -> Result<Vec<String>, AllocError> {
+        let mut found = Vec::new(alloc);
+        if let Some(name) = &expr.0 {
+            found.push(name.clone()?)?;
+        }
+        Ok(found)
+    }
+
+    ghost everything_holds = { λ _ _. refl };
+
+    ghost everything_holds_binary = { λ _ _. refl };
+
+    ghost decided = { λ _ text filter read none binary default. Prim.search rules };
+}
+
+/// Platforms that every spec holds on.
+struct Anywhere;
+
+impl Specs for Anywhere {
+    type Spec = ();
+
+    type Platform = ();
+
+    ghost SpecMeaning = { Unit {0} };
+
+    ghost spec_meaning = { λ spec. spec };
+
+    ghost read_spec = { λ _ _. Ok tt };
+
+    ghost holds_on = { λ _ _. Some true };
+
+    fn parse(&self, alloc: Global, text: &str) -> Result<(), SpecFault> {
+        let _alloc = alloc;
+        let _text = text;
+        Ok(())
+    }
+
+    fn eval(spec: &(), platform: &()) -> Option<bool> {
+        let _spec = spec;
+        let _platform = platform;
+        Some(true)
+    }
+}
+
+/// The answers of two rules to one test, in order.
+fn ask_both<F: Filters>(
+    alloc: Global,
+    filters: &F,
+    texts: [&str; 2],
+    query: &TestQuery<'_>,
+    tally: &mut F::Tally,
+) -> Result<(bool, bool), FilterFault> {
+    let all = filters.all();
+    let cx = EvalContext {
+        default_filter: &all,
+    };
+    let first = filters.parse(alloc, texts[0], FiltersetKind::OverrideFilter)?;
+    let second = filters.parse(alloc, texts[1], FiltersetKind::OverrideFilter)?;
+    let first = F::matches_test(&first, 3, query, &cx, tally);
+    let second = F::matches_test(&second, 5, query, &cx, tally);
+    Ok((first, second))
+}
+
+/// The query for a test of this name.
+fn test_of(name: &str) -> TestQuery<'_> {
+    TestQuery {
+        binary_query: BinaryQuery {
+            package_id: "",
+            binary_id: "b",
+            kind: "",
+            binary_name: "",
+            platform: BuildPlatform::Target,
+        },
+        test_name: name,
+    }
+}
+
+#[test]
+fn a_tally_can_count(rt: HostRuntime) -> Result<(), Fail> {
+    let mut tally = Counted::new();
+    let answers = ask_both(rt.alloc(), &Names, ["3", "4"], &test_of("3"), &mut tally)?;
+    assert_eq!(rt; answers, (true, false));
+    assert_eq!(rt; tally.times, [0, 0, 0, 1, 0, 1, 0, 0, 0, 0]);
+    assert!(rt; !tally.is_numbered);
+    Ok(())
+}
+
+/// Ten overrides, each with its own number as its filter. The last but one sets only what the one before sets too.
+const TEN: &str = r#"
+[[profile.default.overrides]]
+filter = "0"
+retries = 1
+[[profile.default.overrides]]
+filter = "1"
+priority = 1
+[[profile.default.overrides]]
+filter = "2"
+retries = 1
+priority = 1
+[[profile.default.overrides]]
+filter = "3"
+retries = 1
+[[profile.default.overrides]]
+filter = "4"
+retries = 1
+[[profile.default.overrides]]
+filter = "5"
+priority = 1
+[[profile.default.overrides]]
+filter = "6"
+retries = 1
+[[profile.default.overrides]]
+filter = "7"
+retries = 7
+[[profile.default.overrides]]
+filter = "8"
+retries = 8
+[[profile.default.overrides]]
+filter = "9"
+retries = 9
+priority = 9
+"#;
+
+/// What a test gets of ten overrides, and how often each was evaluated for that.
+fn ask_ten(
+    rt: &(impl AllocGlobal + Abort),
+    test: &str,
+    retries: u32,
+    times: [usize; RULES],
+) -> Result<(), Fail> {
+    let alloc = rt.alloc();
+    let path = ConfigPath::new(alloc, "/w/.config/nextest.toml")?;
+    let paths = ConfigPaths {
+        workspace_root: String::from_str(alloc, "/w")?,
+        shared: FileInput {
+            path,
+            outcome: ReadOutcome::Text(String::from_str(alloc, TEN)?),
+        },
+    };
+    let pcx = ParseContext {
+        filters: &Names,
+        specs: &Anywhere,
+    };
+    let mut warnings = DefaultConfigWarnings::new(alloc);
+    let config = NextestConfig::from_sources_with_paths(alloc, &paths, &pcx, &mut warnings)?;
+    let profile = config.profile(alloc, "default")?;
+    let platforms = BuildPlatforms {
+        host: (),
+        target: None,
+    };
+    let Ok(profile) = profile.apply_build_platforms(alloc, &platforms) else {
+        return Err(Fail::from(AllocError));
+    };
+    let mut tally = Counted::new();
+    let settings = profile.settings_for(NextestRunMode::Test, &test_of(test), &mut tally);
+    assert_eq!(rt; settings.retries().count(), retries);
+    assert_eq!(rt; tally.times, times);
+    assert!(rt; tally.is_numbered);
+    Ok(())
+}
+
+#[test]
+fn each_filter_is_evaluated_at_most_once(rt: HostRuntime) -> Result<(), Fail> {
+    ask_ten(&rt, "none", 0, [1, 1, 1, 1, 1, 1, 1, 1, 1, 1])?;
+    ask_ten(&rt, "7", 7, [1, 1, 1, 1, 1, 1, 1, 1, 0, 1])?;
+    ask_ten(&rt, "2", 1, [1, 1, 1, 0, 0, 0, 0, 0, 0, 0])
+}

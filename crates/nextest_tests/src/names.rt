@@ -1,0 +1,270 @@
+//! The values of names, numbers and tables, as they are written in files.
+use nextest_elements::{
+    ConfigExperimental, Element, ElementCause, ElementFault, FinalStatusLevel, FlakyResult,
+    JunitFlakyFailStatus, JunitImpl, JunitOverride, MaxFail, NextestRunMode, Positive,
+    ReportSkipPolicy, StatusLevel, TestOutputDisplay, TestThreads, ThreadsRequired, Tree, Walk,
+};
+use std::alloc::Global;
+use std::collections::BTreeSet;
+use std::fmt::{Debug, Display};
+use std::process::Abort;
+use std::test::Fail;
+
+/// What a reader answers, and which keys it noted.
+#[derive(Drop)]
+struct Answer<T> {
+    value: Result<T, ElementFault>,
+    unknown: BTreeSet<String>,
+}
+
+/// Reads the value of this text, at the key `x` of a document.
+fn answer_to<T: Element>(alloc: Global, text: &str) -> Result<Answer<T>, Fail> {
+    let line = format!(in alloc; "x = {text}")?;
+    let document = Tree::from_toml(
+        alloc,
+        &toml::Value::Table(toml::table_from_str(alloc, line.as_str())?),
+    )?;
+    let tree = document.get("x").ok_or("no x")?;
+    let mut walk = Walk {
+        path: String::from_str(alloc, "x")?,
+        unknown: BTreeSet::new(alloc),
+    };
+    let value = T::read(alloc, tree, &mut walk);
+    Ok(Answer {
+        value,
+        unknown: walk.unknown,
+    })
+}
+
+fn value<T: Element>(alloc: Global, text: &str) -> Result<T, Fail> {
+    let answer: Answer<T> = answer_to(alloc, text)?;
+    Ok(answer.value?)
+}
+
+fn cause<T: Element>(alloc: Global, text: &str) -> Result<ElementCause, Fail> {
+    let answer: Answer<T> = answer_to(alloc, text)?;
+    let fault = answer.value.err().ok_or("no fault")?;
+    Ok(fault.cause)
+}
+
+/// Each name reads to its value, which prints as that name, and another name is refused.
+fn check_names<T: Element + Copy + Debug + Display + PartialEq>(
+    rt: &impl Abort,
+    alloc: Global,
+    names: &[(&str, T)],
+) -> Result<(), Fail> {
+    for (name, expected) in names {
+        let quoted = format!(in alloc; "\"{name}\"")?;
+        let found: T = value(alloc, quoted.as_str())?;
+        assert!(rt; found == *expected, "{name}");
+        let shown = expected.to_string(alloc)?;
+        assert_eq!(rt; shown.as_str(), *name);
+    }
+    let outside = cause::<T>(alloc, "\"outside\"")?;
+    assert!(rt; matches!(outside, ElementCause::BadValue { .. }));
+    let number = cause::<T>(alloc, "true")?;
+    assert!(rt; matches!(number, ElementCause::WrongKind));
+    Ok(())
+}
+
+#[test]
+fn names_of_results_and_outputs(rt: HostRuntime) -> Result<(), Fail> {
+    check_names(
+        &rt,
+        rt.alloc(),
+        &[("pass", FlakyResult::Pass), ("fail", FlakyResult::Fail)],
+    )?;
+    let outputs = [
+        ("immediate", TestOutputDisplay::Immediate),
+        ("immediate-final", TestOutputDisplay::ImmediateFinal),
+        ("final", TestOutputDisplay::Final),
+        ("never", TestOutputDisplay::Never),
+    ];
+    check_names(&rt, rt.alloc(), &outputs)
+}
+
+#[test]
+fn names_of_levels(rt: HostRuntime) -> Result<(), Fail> {
+    let levels = [
+        ("none", StatusLevel::None),
+        ("fail", StatusLevel::Fail),
+        ("retry", StatusLevel::Retry),
+        ("slow", StatusLevel::Slow),
+        ("leak", StatusLevel::Leak),
+        ("pass", StatusLevel::Pass),
+        ("skip", StatusLevel::Skip),
+        ("all", StatusLevel::All),
+    ];
+    check_names(&rt, rt.alloc(), &levels)?;
+    let final_levels = [
+        ("none", FinalStatusLevel::None),
+        ("fail", FinalStatusLevel::Fail),
+        ("flaky", FinalStatusLevel::Flaky),
+        ("slow", FinalStatusLevel::Slow),
+        ("skip", FinalStatusLevel::Skip),
+        ("leak", FinalStatusLevel::Leak),
+        ("pass", FinalStatusLevel::Pass),
+        ("all", FinalStatusLevel::All),
+    ];
+    check_names(&rt, rt.alloc(), &final_levels)?;
+    let retry: FinalStatusLevel = value(rt.alloc(), "\"retry\"")?;
+    assert_eq!(rt; retry, FinalStatusLevel::Flaky);
+    assert!(rt; StatusLevel::None < StatusLevel::Fail && StatusLevel::Skip < StatusLevel::All);
+    assert!(rt; FinalStatusLevel::Flaky < FinalStatusLevel::Slow);
+    Ok(())
+}
+
+#[test]
+fn names_of_reports(rt: HostRuntime) -> Result<(), Fail> {
+    let policies = [
+        ("none", ReportSkipPolicy::None),
+        ("all", ReportSkipPolicy::All),
+    ];
+    check_names(&rt, rt.alloc(), &policies)?;
+    let statuses = [
+        ("failure", JunitFlakyFailStatus::Failure),
+        ("success", JunitFlakyFailStatus::Success),
+    ];
+    check_names(&rt, rt.alloc(), &statuses)?;
+    assert_eq!(rt; ReportSkipPolicy::default(), ReportSkipPolicy::None);
+    assert_eq!(rt;
+        JunitFlakyFailStatus::default(),
+        JunitFlakyFailStatus::Failure
+    );
+    Ok(())
+}
+
+#[test]
+fn a_refused_name_is_told(rt: HostRuntime) -> Result<(), Fail> {
+    match cause::<FlakyResult>(rt.alloc(), "\"maybe\"")? {
+        ElementCause::BadValue { given, expected } => {
+            assert_eq!(rt; given.as_str(), "maybe");
+            assert_eq!(rt; expected, "`pass`, `fail`");
+        }
+        _ => return Err("another cause".into()),
+    }
+    Ok(())
+}
+
+#[test]
+fn numbers_of_threads(rt: HostRuntime) -> Result<(), Fail> {
+    let alloc = rt.alloc();
+    let rows = [
+        ("-3", TestThreads::Count(-3), 8, 5),
+        ("-3", TestThreads::Count(-3), 2, 1),
+        ("4", TestThreads::Count(4), 2, 4),
+        ("\"num-cpus\"", TestThreads::NumCpus, 8, 8),
+    ];
+    for (text, threads, num_cpus, count) in rows {
+        let found: TestThreads = value(alloc, text)?;
+        assert_eq!(rt; found, threads);
+        assert_eq!(rt; found.compute(num_cpus), count);
+    }
+    assert_eq!(rt; TestThreads::Count(0).compute(8), 8);
+    assert!(rt; matches!(cause::<TestThreads>(alloc, "0")?, ElementCause::OutOfRange));
+    assert!(rt;
+        matches!(
+            cause::<TestThreads>(alloc, "\"many\"")?,
+            ElementCause::BadValue { .. }
+        )
+    );
+    assert!(rt; matches!(cause::<TestThreads>(alloc, "1.5")?, ElementCause::WrongKind));
+
+    let rows = [
+        ("3", ThreadsRequired::Count(3), 3, "3"),
+        ("\"num-cpus\"", ThreadsRequired::NumCpus, 8, "num-cpus"),
+        (
+            "\"num-test-threads\"",
+            ThreadsRequired::NumTestThreads,
+            5,
+            "num-test-threads",
+        ),
+    ];
+    for (text, required, count, shown) in rows {
+        let found: ThreadsRequired = value(alloc, text)?;
+        assert_eq!(rt; found, required);
+        assert_eq!(rt; found.compute(8, 5), count);
+        assert_eq!(rt; found.to_string(alloc)?.as_str(), shown);
+    }
+    assert!(rt;
+        matches!(
+            cause::<ThreadsRequired>(alloc, "0")?,
+            ElementCause::OutOfRange
+        )
+    );
+    assert!(rt; matches!(cause::<Positive>(alloc, "-1")?, ElementCause::OutOfRange));
+    Ok(())
+}
+
+#[test]
+fn ends_of_a_run(rt: HostRuntime) -> Result<(), Fail> {
+    let alloc = rt.alloc();
+    let rows = [
+        ("true", MaxFail::Count(1)),
+        ("false", MaxFail::All),
+        ("{ max-fail = 3 }", MaxFail::Count(3)),
+        ("{ max-fail = \"all\", terminate = 7 }", MaxFail::All),
+    ];
+    for (text, expected) in rows {
+        let found: MaxFail = value(alloc, text)?;
+        assert_eq!(rt; found, expected, "{text}");
+    }
+    assert!(rt;
+        matches!(
+            cause::<MaxFail>(alloc, "{ max-fail = 0 }")?,
+            ElementCause::OutOfRange
+        )
+    );
+    assert!(rt;
+        matches!(
+            cause::<MaxFail>(alloc, "{ terminate = 7 }")?,
+            ElementCause::Missing(_)
+        )
+    );
+    assert!(rt; matches!(cause::<MaxFail>(alloc, "1")?, ElementCause::WrongKind));
+    Ok(())
+}
+
+#[test]
+fn tables_of_reports(rt: HostRuntime) -> Result<(), Fail> {
+    let alloc = rt.alloc();
+    let text = "{ path = \"out.xml\", report-skipped = \"all\", stray = 1 }";
+    let profile: Answer<JunitImpl> = answer_to(alloc, text)?;
+    let junit = profile.value?;
+    let path = junit.path.ok_or("no path")?;
+    assert_eq!(rt; path.as_str(), "out.xml");
+    assert_eq!(rt; junit.report_skipped, Some(ReportSkipPolicy::All));
+    assert_eq!(rt; junit.store_success_output, None);
+    assert_eq!(rt; profile.unknown.len(), 1);
+    assert!(rt; profile.unknown.contains("x.stray"));
+
+    let text = "{ store-failure-output = true, path = \"out.xml\" }";
+    let rule: Answer<JunitOverride> = answer_to(alloc, text)?;
+    let expected = JunitOverride {
+        store_success_output: None,
+        store_failure_output: Some(true),
+        report_skipped: None,
+        flaky_fail_status: None,
+    };
+    assert_eq!(rt; rule.value?, expected);
+    assert!(rt; rule.unknown.contains("x.path"));
+    Ok(())
+}
+
+#[test]
+fn features_and_modes(rt: HostRuntime) -> Result<(), Fail> {
+    let alloc = rt.alloc();
+    assert_eq!(rt;
+        ConfigExperimental::SetupScripts.to_string(alloc)?.as_str(),
+        "setup-scripts"
+    );
+    assert_eq!(rt;
+        ConfigExperimental::WrapperScripts
+            .to_string(alloc)?
+            .as_str(),
+        "wrapper-scripts"
+    );
+    assert!(rt; ConfigExperimental::SetupScripts < ConfigExperimental::WrapperScripts);
+    assert!(rt; NextestRunMode::Test != NextestRunMode::Benchmark);
+    Ok(())
+}

@@ -1,0 +1,256 @@
+-- The tests of texts say what the grammar of identifiers says.
+use Rattle.std.proofs.Common.{◌≡◌, ◌≢◌, ◌↔◌, ℕ, ◌+◌, ◌<◌, ◌≤◌, Bool, true, false, ◌||◌, ◌&&◌, eqb, IsTrue, Option, Some, None, IfNone, IfSome, Bor, List, [], ◌∷◌, ◌++◌, All, length, take, drop, get_or, codes, encode_utf8_all, refl, sym, ◌∙◌, ap, subst, inl, inr, ⊎_elim, arith, append_assoc}
+use Rattle.std.proofs.Math.Seq.{take-append_seam, drop-append-add, get_or-append_seam}
+use Rattle.std.proofs.Math.Bool.{or-false}
+use Rattle.std.proofs.lemmas.Bool.{false≢true, and_parts, and_from, and_right, or_cases, or_left, or_right, eqb-true, eq-eqb, ne_eqb, cases_lt, false_from_ne_true}
+use Rattle.std.proofs.lemmas.Bool.Decides.{Decides-eqb}
+use Rattle.std.proofs.lemmas.List.{length-append, get_or_append_left, drop_all}
+use Rattle.std.proofs.lemmas.List.Elements.{All-head, All-tail, All-weaker}
+use Rattle.std.proofs.lemmas.List.Sums.{AllPass-from_list_all, list_all-from_AllPass, position_or_len_is, split_at_first, passes_at_first}
+use Rattle.std.proofs.lemmas.Slice.Eq.{starts_is}
+use Rattle.std.proofs.lemmas.Str.{IsUtf8-from_is_utf8, is_utf8-from_IsUtf8, encodes-chars, scalars-chars, chars_from_encodes, chars_past_char, length-encode, len_utf8_bounds}
+use Rattle.std.proofs.lemmas.Str.Pattern.{NoCharPasses-char}
+use Rattle.std.specs.Char.{encode_utf8}
+use Rattle.std.specs.List.{list_all, before_first, after_first, position_or_len}
+use Rattle.std.specs.Str.{IsUtf8, NonePass, chars, is_utf8, all_scalars}
+use Rattle.unicode_ident.specs.Ident.{is_xid_start, is_xid_continue}
+use Rattle.unicode_ident.proofs.IdentLemmas.{is_xid_start-ascii, is_xid_continue-ascii}
+use Rattle.nextest_texts.specs.Identifier.{ContinuesPart, IsPart, HasToolParts, IsToolIdentifier, IsIdentifier, are_part_characters, is_part, has_tool_prefix, tool_of, name_of, is_tool_identifier, is_identifier}
+
+-- ---- characters of a part
+
+continues_by_test : (c : ℕ) → (is_xid_continue c || eqb c 45) ≡ true → ContinuesPart c
+continues_by_test c h = ⊎_elim inl (λ e. inr (eqb-true c 45 e)) (or_cases (is_xid_continue c) (eqb c 45) h)
+
+test_by_continues : (c : ℕ) → ContinuesPart c → (is_xid_continue c || eqb c 45) ≡ true
+test_by_continues c h = ⊎_elim (or_left (is_xid_continue c) (eqb c 45)) (λ e. or_right (is_xid_continue c) (eqb c 45) (eq-eqb c 45 e)) h
+
+part_of_characters : (text cs : List ℕ) → all_scalars cs ≡ true → encode_utf8_all cs ≡ text → are_part_characters cs ≡ true → IsPart text
+part_of_characters text [] s e h = absurd (false≢true h)
+part_of_characters text (first ∷ others) s e h =
+    let test : ℕ → Bool = λ c. is_xid_continue c || eqb c 45 in
+    let parts = and_parts (is_xid_start first) _ h in
+    record {
+      first = first;
+      others = others;
+      are_characters = s;
+      spell = sym e;
+      starts = parts.0;
+      continue = All-weaker (λ c. test c ≡ true) ContinuesPart continues_by_test others (AllPass-from_list_all test others parts.1);
+    }
+
+IsPart-from_is_part : (text : List ℕ) → is_part text ≡ true → IsPart text
+unfolding is_part
+IsPart-from_is_part text h =
+    let tests = and_parts (is_utf8 text) _ h in
+    let utf8 : IsUtf8 text = IsUtf8-from_is_utf8 text tests.0 in
+    part_of_characters text (chars text) (scalars-chars text utf8) (encodes-chars text utf8) tests.1
+
+characters_of_part : (text : List ℕ) (part : IsPart text) → are_part_characters (part.first ∷ part.others) ≡ true
+characters_of_part text part =
+    let test : ℕ → Bool = λ c. is_xid_continue c || eqb c 45 in
+    and_from (is_xid_start part.first) _ part.starts (list_all-from_AllPass test part.others (All-weaker ContinuesPart (λ c. test c ≡ true) test_by_continues part.others part.continue))
+
+is_part-from_IsPart : (text : List ℕ) → IsPart text → is_part text ≡ true
+unfolding is_part
+is_part-from_IsPart text part =
+    let utf8 : IsUtf8 text = (part.first ∷ part.others, (part.are_characters, sym part.spell)) in
+    let same : part.first ∷ part.others ≡ chars text = chars_from_encodes (part.first ∷ part.others) text utf8 (sym part.spell) in
+    and_from (is_utf8 text) _ (is_utf8-from_IsUtf8 text utf8)
+    (subst (λ cs. are_part_characters cs ≡ true) same (characters_of_part text part))
+
+-- A text passes the test of parts exactly where it is a part.
+pub is_part_law : (text : List ℕ) → IsTrue (is_part text) ↔ IsPart text
+is_part_law text = (IsPart-from_is_part text, is_part-from_IsPart text)
+
+-- ---- what stands in no part
+
+-- such a character stands in no part
+abbrev LacksCharacter : ℕ → Type 0
+LacksCharacter c = (c < 128) × (is_xid_start c ≡ false) × (is_xid_continue c ≡ false) × (c ≢ 45)
+
+colon : LacksCharacter 58
+colon = (omega arith, is_xid_start-ascii 58 (omega arith), is_xid_continue-ascii 58 (omega arith), λ e. omega (arith, e))
+
+at_sign : LacksCharacter 64
+at_sign = (omega arith, is_xid_start-ascii 64 (omega arith), is_xid_continue-ascii 64 (omega arith), λ e. omega (arith, e))
+
+none_continues : (c : ℕ) → LacksCharacter c → (others : List ℕ) → All ContinuesPart others → NonePass (λ d. eqb d c) others
+none_continues c lacks [] all = tt
+none_continues c lacks (d ∷ others) all = (
+  ne_eqb d c (λ e. ⊎_elim
+      (λ continues. false≢true (sym lacks.2 ∙ subst (λ x. is_xid_continue x ≡ true) e continues))
+      (λ hyphen. lacks.3 (sym e ∙ hyphen)) (All-head ContinuesPart d others all)),
+  none_continues c lacks others (All-tail ContinuesPart d others all),
+)
+
+lacks_byte : (c : ℕ) → LacksCharacter c → (text : List ℕ) → IsPart text → (i : ℕ) → i < length text → get_or text i 0 ≢ c
+lacks_byte c lacks text part i =
+    NoCharPasses-char c text i (
+      part.first ∷ part.others,
+      sym part.spell,
+      (
+        ne_eqb part.first c (λ e. false≢true (sym lacks.1 ∙ subst (λ x. is_xid_start x ≡ true) e part.starts)),
+        none_continues c lacks part.others part.continue,
+      ),
+    ) lacks.0
+
+part_fills : (text : List ℕ) → IsPart text → 0 < length text
+part_fills text part =
+    omega (arith, ap length part.spell, length-append (encode_utf8 part.first) (encode_utf8_all part.others), length-encode part.first, (len_utf8_bounds part.first).0)
+
+-- ---- the first colon
+
+first_colon : (tool name : List ℕ) → ((i : ℕ) → i < length tool → get_or tool i 0 ≢ 58) → position_or_len (λ b. eqb b 58) (tool ++ 58 ∷ name) ≡ length tool
+first_colon tool name none =
+    position_or_len_is (λ b. eqb b 58) (tool ++ 58 ∷ name) (length tool) 0 (omega (arith, length-append tool (58 ∷ name)))
+    (λ k l. ne_eqb _ 58 (λ e. none k l (sym (get_or_append_left tool (58 ∷ name) 0 k l) ∙ e)))
+    (λ l. eq-eqb _ 58 (get_or-append_seam tool 58 name 0))
+
+before_colon : (tool name : List ℕ) → ((i : ℕ) → i < length tool → get_or tool i 0 ≢ 58) → before_first (λ b. eqb b 58) (tool ++ 58 ∷ name) ≡ tool
+before_colon tool name none = ap (λ n. take n (tool ++ 58 ∷ name)) (first_colon tool name none) ∙ take-append_seam tool (58 ∷ name)
+
+after_colon : (tool name : List ℕ) → ((i : ℕ) → i < length tool → get_or tool i 0 ≢ 58) → after_first (λ b. eqb b 58) (tool ++ 58 ∷ name) ≡ name
+after_colon tool name none = ap (λ n. drop (n + 1) (tool ++ 58 ∷ name)) (first_colon tool name none) ∙ drop-append-add tool (58 ∷ name) 1
+
+-- ---- identifiers of tools
+
+-- a text with the prefix is the prefix and what follows it
+prefix_then : (text : List ℕ) → has_tool_prefix text ≡ true → text ≡ codes "@tool:" ++ drop 6 text
+prefix_then text h = (starts_is Decides-eqb text (codes "@tool:") _ refl).0 h
+
+prefix_of : (text rest : List ℕ) → text ≡ codes "@tool:" ++ rest → has_tool_prefix text ≡ true
+prefix_of text rest e = (starts_is Decides-eqb text (codes "@tool:") _ refl).1 rest e
+
+-- A text with the prefix of tools is no part.
+pub prefix_is_no_part : (text : List ℕ) → has_tool_prefix text ≡ true → is_part text ≡ false
+prefix_is_no_part text h =
+    false_from_ne_true (is_part text) (λ part.
+    lacks_byte 64 at_sign text (IsPart-from_is_part text part) 0 (part_fills text (IsPart-from_is_part text part))
+    (ap (λ t. get_or t 0 0) (prefix_then text h)))
+
+regroup : (tool name : List ℕ) → codes "@tool:" ++ tool ++ codes ":" ++ name ≡ codes "@tool:" ++ (tool ++ 58 ∷ name)
+regroup tool name = append_assoc (codes "@tool:" ++ tool) (codes ":") name ∙ append_assoc (codes "@tool:") tool (58 ∷ name)
+
+-- What a tool's identifier is after its prefix.
+after_prefix : (text tool name : List ℕ) → HasToolParts text tool name → drop 6 text ≡ tool ++ 58 ∷ name
+after_prefix text tool name parts = ap (λ t. drop 6 t) (parts.spelled ∙ regroup tool name)
+
+-- The parts of a tool's identifier are what stands around the first colon after the prefix.
+pub tool_of_parts : (text tool name : List ℕ) → HasToolParts text tool name → tool_of text ≡ tool
+tool_of_parts text tool name parts =
+    ap (λ t. before_first (λ b. eqb b 58) t) (after_prefix text tool name parts) ∙ before_colon tool name (lacks_byte 58 colon tool parts.tool_is_part)
+
+pub name_of_parts : (text tool name : List ℕ) → HasToolParts text tool name → name_of text ≡ name
+name_of_parts text tool name parts =
+    ap (λ t. after_first (λ b. eqb b 58) t) (after_prefix text tool name parts) ∙ after_colon tool name (lacks_byte 58 colon tool parts.tool_is_part)
+
+empty_is_no_part : is_part [] ≡ false
+empty_is_no_part = false_from_ne_true (is_part []) (λ part. let fills : 0 < 0 = part_fills [] (IsPart-from_is_part [] part) in omega (arith, fills))
+
+no_colon_no_name : (text : List ℕ) → length (drop 6 text) ≤ position_or_len (λ b. eqb b 58) (drop 6 text) → is_part (name_of text) ≡ false
+no_colon_no_name text past =
+    let none : name_of text ≡ [] = drop_all (position_or_len (λ b. eqb b 58) (drop 6 text) + 1) (drop 6 text) (omega arith) in
+    subst (λ t. is_part t ≡ false) (sym none) empty_is_no_part
+
+tool_parts_by_test : (text : List ℕ) → is_tool_identifier text ≡ true → HasToolParts text (tool_of text) (name_of text)
+unfolding is_tool_identifier
+tool_parts_by_test text h =
+    let prefixed = and_parts (has_tool_prefix text) _ h in
+    let parts = and_parts (is_part (tool_of text)) (is_part (name_of text)) prefixed.1 in
+    let at : ℕ = position_or_len (λ b. eqb b 58) (drop 6 text) in
+    let inside : at < length (drop 6 text) =
+    ⊎_elim (λ l. l) (λ past. absurd (false≢true (sym (no_colon_no_name text past) ∙ parts.1))) (cases_lt at (length (drop 6 text))) in
+    let colon_at : get_or (drop 6 text) at 0 ≡ 58 = eqb-true _ 58 (passes_at_first (λ b. eqb b 58) (drop 6 text) 0 inside) in
+    let split : drop 6 text ≡ tool_of text ++ 58 ∷ name_of text =
+    subst (λ b. drop 6 text ≡ tool_of text ++ b ∷ name_of text) colon_at (split_at_first (λ b. eqb b 58) (drop 6 text) 0 inside) in
+    record {
+      spelled = prefix_then text prefixed.0 ∙ ap (λ t. codes "@tool:" ++ t) split ∙ sym (regroup (tool_of text) (name_of text));
+      tool_is_part = IsPart-from_is_part (tool_of text) parts.0;
+      name_is_part = IsPart-from_is_part (name_of text) parts.1;
+    }
+
+test_by_tool_parts : (text tool name : List ℕ) → HasToolParts text tool name → is_tool_identifier text ≡ true
+unfolding is_tool_identifier
+test_by_tool_parts text tool name parts =
+    and_from (has_tool_prefix text) _ (prefix_of text (tool ++ 58 ∷ name) (parts.spelled ∙ regroup tool name))
+    (and_from (is_part (tool_of text)) _
+    (subst (λ t. is_part t ≡ true) (sym (tool_of_parts text tool name parts)) (is_part-from_IsPart tool parts.tool_is_part))
+    (subst (λ t. is_part t ≡ true) (sym (name_of_parts text tool name parts)) (is_part-from_IsPart name parts.name_is_part)))
+
+-- A text passes the test of tools' identifiers exactly where it is one.
+pub is_tool_identifier_law : (text : List ℕ) → IsTrue (is_tool_identifier text) ↔ IsToolIdentifier text
+is_tool_identifier_law text =
+    (λ h. (tool_of text, name_of text, tool_parts_by_test text h), λ tool. test_by_tool_parts text tool.0 tool.1 tool.2)
+
+-- A text passes the test of identifiers exactly where it is one.
+pub is_identifier_law : (text : List ℕ) → IsTrue (is_identifier text) ↔ IsIdentifier text
+unfolding is_identifier
+is_identifier_law text = (
+  λ h. ⊎_elim (λ part. inl (IsPart-from_is_part text part)) (λ tool. inr ((is_tool_identifier_law text).0 tool)) (or_cases (is_part text) (is_tool_identifier text) h),
+  ⊎_elim (λ part. or_left _ (is_tool_identifier text) (is_part-from_IsPart text part)) (λ tool. or_right (is_part text) _ ((is_tool_identifier_law text).1 tool)),
+)
+
+-- ---- what the code finds
+
+-- Without the prefix of tools only a part is an identifier.
+pub plain_identifier : (text : List ℕ) → has_tool_prefix text ≡ false → is_part text ≡ is_identifier text
+unfolding is_identifier is_tool_identifier
+plain_identifier text h = sym (ap (λ b. is_part text || (b && (is_part (tool_of text) && is_part (name_of text)))) h ∙ or-false (is_part text))
+
+-- With it only two parts around the first colon are one.
+pub prefixed_identifier : (text : List ℕ) → has_tool_prefix text ≡ true → (is_part (tool_of text) && is_part (name_of text)) ≡ is_identifier text
+unfolding is_identifier is_tool_identifier
+prefixed_identifier text h =
+    sym (ap (λ b. b || (has_tool_prefix text && (is_part (tool_of text) && is_part (name_of text)))) (prefix_is_no_part text h)
+    ∙ ap (λ b. b && (is_part (tool_of text) && is_part (name_of text))) h)
+
+-- With it and no colon a text is no identifier.
+pub unsplit_identifier : (text : List ℕ) → has_tool_prefix text ≡ true → position_or_len (λ b. eqb b 58) (drop 6 text) ≡ length (drop 6 text) → false ≡ is_identifier text
+unsplit_identifier text h e =
+    sym (and_right (is_part (tool_of text)) _ (no_colon_no_name text (omega (arith, e)))) ∙ prefixed_identifier text h
+
+-- A text's characters say whether it is a part.
+pub part_by_characters : (text cs : List ℕ) → IsUtf8 text → chars text ≡ cs → are_part_characters cs ≡ is_part text
+unfolding is_part
+part_by_characters text cs utf8 e =
+    sym (ap (λ b. b && are_part_characters (chars text)) (is_utf8-from_IsUtf8 text utf8) ∙ ap are_part_characters e)
+
+-- A text with no character is no part.
+pub empty_no_part : (text : List ℕ) → length text ≡ 0 → false ≡ is_part text
+empty_no_part text e = sym (false_from_ne_true (is_part text) (λ part. let fills : 0 < length text = part_fills text (IsPart-from_is_part text part) in omega (arith, fills)))
+
+-- After a first character that may begin a part, the others decide.
+pub part_after_first : (text rest : List ℕ) (first : ℕ) → IsUtf8 text → text ≡ encode_utf8 first ++ rest
+    → (is_xid_start first && list_all (λ c. is_xid_continue c || eqb c 45) (chars rest)) ≡ is_part text
+part_after_first text rest first utf8 e = part_by_characters text (first ∷ chars rest) utf8 (chars_past_char text rest first utf8 e)
+
+-- A tool's identifier begins with the prefix, and a colon follows.
+tool_identifier_splits : (text : List ℕ) → IsToolIdentifier text → (has_tool_prefix text ≡ true) × (position_or_len (λ b. eqb b 58) (drop 6 text) < length (drop 6 text))
+unfolding is_tool_identifier
+tool_identifier_splits text tool =
+    let prefixed = and_parts (has_tool_prefix text) _ (test_by_tool_parts text tool.0 tool.1 tool.2) in
+    let parts = and_parts (is_part (tool_of text)) (is_part (name_of text)) prefixed.1 in (
+      prefixed.0,
+      ⊎_elim (λ l. l) (λ past. absurd (false≢true (sym (no_colon_no_name text past) ∙ parts.1)))
+          (cases_lt (position_or_len (λ b. eqb b 58) (drop 6 text)) (length (drop 6 text))),
+    )
+
+parts_of_prefixed : (text : List ℕ) → IsIdentifier text → has_tool_prefix text ≡ true → HasToolParts text (tool_of text) (name_of text)
+parts_of_prefixed text identifier prefix =
+    ⊎_elim (λ part. absurd (false≢true (sym (prefix_is_no_part text prefix) ∙ is_part-from_IsPart text part)))
+    (λ parts. tool_parts_by_test text (test_by_tool_parts text parts.0 parts.1 parts.2)) identifier
+
+-- Where nothing is split off, the text is no tool's identifier.
+pub unsplit_is_no_tool : (text : List ℕ) (r : Option (Bor (List ℕ) × Bor (List ℕ)))
+    → IfNone r (IsTrue (has_tool_prefix text) → position_or_len (λ b. eqb b 58) (drop 6 text) ≡ length (drop 6 text)) → IfNone r (¬ IsToolIdentifier text)
+unsplit_is_no_tool text None none = λ tool. let splits = tool_identifier_splits text tool in omega (arith, none splits.0, splits.1)
+unsplit_is_no_tool text (Some parts) none = none
+
+-- What is split off an identifier is its parts.
+pub split_is_parts : (text : List ℕ) (r : Option (Bor (List ℕ) × Bor (List ℕ))) → IsIdentifier text → IfSome r (λ _. IsTrue (has_tool_prefix text))
+    → IfSome r (λ parts. parts.0.now ≡ tool_of text) → IfSome r (λ parts. parts.1.now ≡ name_of text) → IfSome r (λ parts. HasToolParts text parts.0.now parts.1.now)
+split_is_parts text None identifier prefix tool name = prefix
+split_is_parts text (Some parts) identifier prefix tool name =
+    subst (λ t. HasToolParts text t parts.1.now) (sym tool)
+    (subst (λ n. HasToolParts text (tool_of text) n) (sym name) (parts_of_prefixed text identifier prefix))

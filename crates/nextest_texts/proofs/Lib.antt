@@ -1,0 +1,3 @@
+pub mod DurationGrammar
+pub mod Durations
+pub mod Identifiers

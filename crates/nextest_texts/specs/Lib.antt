@@ -1,0 +1,5 @@
+pub mod Duration
+pub mod Nanoseconds
+pub mod Identifier
+pub mod IdentifierText
+pub mod IdentifierReader

@@ -1,0 +1,159 @@
+//! Names that a configuration defines, and the names of tools.
+ghost use Rattle.std.specs.Prelude.{◌≡◌, ◌↔◌, ◌≢◌, IsTrue, IsFalse, IfOk, OnOk, IfErr, IfSome, IfNone, Err, string_bytes, is_ok, ◌==◌, drop, length};
+ghost use Rattle.std.specs.List.{position_or_len};
+ghost use Rattle.nextest_texts.specs.Identifier.{IsPart, HasToolParts, IsToolIdentifier, IsIdentifier, is_part, is_identifier, has_tool_prefix, tool_of, name_of};
+
+use std::alloc::Global;
+use std::marker::Model;
+use thiserror::Error;
+
+mod tool_name;
+mod traits;
+
+pub use tool_name::ToolName;
+
+/// Why a text is no identifier, or no name of a tool.
+#[derive(Clone, Copy, Debug, PartialEq, Eq, Error)]
+pub enum InvalidIdentifier {
+    /// The text is empty.
+    #[error("an identifier may not be empty")]
+    Empty,
+
+    /// The first character cannot begin an identifier.
+    #[error("an identifier begins with a letter")]
+    BadStart,
+
+    /// A character after the first cannot stand in an identifier.
+    #[error("an identifier consists of letters, digits, `_` and `-`")]
+    BadCharacter,
+
+    /// The text begins with `@tool:`, and what follows is not a tool's name, a colon and a name.
+    #[error("an identifier of a tool has the form `@tool:<tool name>:<name>`")]
+    BadToolForm,
+
+    /// Memory ran out.
+    #[error("out of memory")]
+    Memory,
+}
+
+/// The name of a group or of a script, as `build-db` or `@tool:my-tool:build-db`.
+#[derive(Debug, Drop)]
+pub struct ConfigIdentifier {
+    text: String,
+}
+
+impl Model for ConfigIdentifier {
+    ghost use Rattle.std.specs.Prelude.{ℕ, List, string_bytes};
+    ghost use Rattle.nextest_texts.specs.Identifier.{IsIdentifier};
+
+    ghost Value = { List ℕ };
+
+    ghost view = { λ identifier. string_bytes identifier.text };
+
+    ghost invariant = { λ identifier. IsIdentifier (string_bytes identifier.text) };
+}
+
+impl ConfigIdentifier {
+    ghost use Rattle.nextest_texts.specs.IdentifierText.{identifier_text};
+
+    /// Makes an identifier of a text.
+    ///
+    /// A text with several flaws is refused for one of them.
+    #[tactic(auto, using(crate::proofs::Identifiers::is_identifier_law))]
+    pub fn new(alloc: Global, text: &str) -> Result<Self, InvalidIdentifier>
+        ensures text { IfOk result (λ identifier. identifier_text identifier ≡ text.now) }
+        ensures ok { OnOk result (IsIdentifier text.now) }
+        ensures refused { IfErr result (λ e. e ≢ InvalidIdentifier.Memory → ¬ IsIdentifier text.now) }
+        ensures refused_by_test { IfErr result (λ e. e ≢ InvalidIdentifier.Memory → IsFalse (is_identifier text.now)) }
+        ensures memory { result ≡ Err InvalidIdentifier.Memory → IsIdentifier text.now }
+        ensures test { IsTrue (is_identifier text.now) ↔ IsIdentifier text.now }
+    {
+        check_identifier(text)?;
+        let text = copy_text(alloc, text)?;
+        Ok(ConfigIdentifier { text })
+    }
+
+    /// The text of the identifier.
+    pub fn as_str(&self) -> &str
+        ensures text { result.now ≡ identifier_text self.now }
+        ensures valid { IsIdentifier result.now }
+    {
+        self.text.as_str()
+    }
+
+    /// Whether the identifier is one of a tool, as `@tool:my-tool:build-db`.
+    pub fn is_tool_identifier(&self) -> bool
+        ensures { IsTrue result ↔ IsToolIdentifier (identifier_text self.now) }
+    {
+        self.tool_components().is_some()
+    }
+
+    /// The tool's name and the name that follows it, where the identifier is one of a tool.
+    pub fn tool_components(&self) -> Option<(&str, &str)>
+        ensures none { IfNone result (¬ IsToolIdentifier (identifier_text self.now)) }
+        ensures parts { IfSome result (λ parts. HasToolParts (identifier_text self.now) parts.0.now parts.1.now) }
+    {
+        split_tool(self.as_str())
+    }
+}
+
+fn copy_text(alloc: Global, text: &str) -> Result<String, InvalidIdentifier>
+    ensures text { IfOk result (λ copy. string_bytes copy ≡ text.now) }
+    ensures memory { IfErr result (λ e. e ≡ InvalidIdentifier.Memory) }
+{
+    String::from_str(alloc, text).map_err(|_| InvalidIdentifier::Memory)
+}
+
+#[tactic(auto, using(crate::proofs::Identifiers::plain_identifier, crate::proofs::Identifiers::prefixed_identifier, crate::proofs::Identifiers::unsplit_identifier))]
+fn check_identifier(text: &str) -> Result<(), InvalidIdentifier>
+    ensures verdict { is_ok result ≡ is_identifier text.now }
+    ensures cause { result ≢ Err InvalidIdentifier.Memory }
+{
+    if !has_tool_prefix(text) {
+        return check_part(text);
+    }
+    match split_tool(text) {
+        Some((tool, name)) if is_part(tool) && is_part(name) => Ok(()),
+        _ => Err(InvalidIdentifier::BadToolForm),
+    }
+}
+
+fn has_tool_prefix(text: &str) -> bool
+    ensures { result ≡ has_tool_prefix text.now }
+{
+    text.starts_with("@tool:")
+}
+
+/// What stands before and after the first colon that follows `@tool:`.
+fn split_tool(text: &str) -> Option<(&str, &str)>
+    ensures none { IfNone result (IsTrue (has_tool_prefix text.now)
+        → position_or_len (λ byte. byte == 58) (drop 6 text.now) ≡ length (drop 6 text.now)) }
+    ensures prefix { IfSome result (λ _. IsTrue (has_tool_prefix text.now)) }
+    ensures tool { IfSome result (λ parts. parts.0.now ≡ tool_of text.now) }
+    ensures name { IfSome result (λ parts. parts.1.now ≡ name_of text.now) }
+{
+    text.strip_prefix("@tool:")?.split_once(':')
+}
+
+fn is_part(text: &str) -> bool
+    ensures { result ≡ is_part text.now }
+{
+    check_part(text).is_ok()
+}
+
+fn check_part(text: &str) -> Result<(), InvalidIdentifier>
+    ensures verdict { is_ok result ≡ is_part text.now }
+    ensures cause { result ≢ Err InvalidIdentifier.Memory }
+{
+    let mut characters = text.chars();
+    let Some(first) = characters.next() else {
+        return Err(InvalidIdentifier::Empty);
+    };
+    if !unicode_ident::is_xid_start(first) {
+        return Err(InvalidIdentifier::BadStart);
+    }
+    if !characters.all(|character| unicode_ident::is_xid_continue(character) || character == '-') {
+        return Err(InvalidIdentifier::BadCharacter);
+    }
+    Ok(())
+}

@@ -1,0 +1,55 @@
+//! The names of tools.
+ghost use Rattle.std.specs.Prelude.{◌≡◌, ◌↔◌, ◌≢◌, IsTrue, IsFalse, IfOk, OnOk, IfErr};
+ghost use Rattle.nextest_texts.specs.Identifier.{IsPart, is_part};
+
+use super::{InvalidIdentifier, check_part, copy_text};
+use std::alloc::Global;
+use std::marker::Model;
+
+mod traits;
+
+/// The name of a tool, as `my-tool`.
+#[derive(Debug, Drop)]
+pub struct ToolName {
+    text: String,
+}
+
+impl Model for ToolName {
+    ghost use Rattle.std.specs.Prelude.{ℕ, List, string_bytes};
+    ghost use Rattle.nextest_texts.specs.Identifier.{IsPart};
+
+    ghost Value = { List ℕ };
+
+    ghost view = { λ name. string_bytes name.text };
+
+    ghost invariant = { λ name. IsPart (string_bytes name.text) };
+}
+
+impl ToolName {
+    ghost use Rattle.nextest_texts.specs.IdentifierText.{tool_name_text};
+
+    /// Makes a tool's name of a text.
+    ///
+    /// A text with several flaws is refused for one of them.
+    #[tactic(auto, using(crate::proofs::Identifiers::is_part_law))]
+    pub fn new(alloc: Global, text: &str) -> Result<Self, InvalidIdentifier>
+        ensures text { IfOk result (λ name. tool_name_text name ≡ text.now) }
+        ensures ok { OnOk result (IsPart text.now) }
+        ensures refused { IfErr result (λ e. e ≢ InvalidIdentifier.Memory → ¬ IsPart text.now) }
+        ensures refused_by_test { IfErr result (λ e. e ≢ InvalidIdentifier.Memory → IsFalse (is_part text.now)) }
+        ensures memory { result ≡ Err InvalidIdentifier.Memory → IsPart text.now }
+        ensures test { IsTrue (is_part text.now) ↔ IsPart text.now }
+    {
+        check_part(text)?;
+        let text = copy_text(alloc, text)?;
+        Ok(ToolName { text })
+    }
+
+    /// The text of the name.
+    pub fn as_str(&self) -> &str
+        ensures text { result.now ≡ tool_name_text self.now }
+        ensures valid { IsPart result.now }
+    {
+        self.text.as_str()
+    }
+}

@@ -1,0 +1,5 @@
+pub mod Trees
+pub mod Sorted
+pub mod Reading
+pub mod Maps
+pub mod Places

@@ -1,0 +1,73 @@
+//! What a reader is: of a value, of a table of fields, and of a name that keys a map.
+//!
+//! The contract of every reader is one equation, `Gives result walk.new (reading schema node spot)`. Its answer is Ok exactly
+//! where the tree has no fault (want of memory aside), and then the walk has noted exactly the tree's unknown paths
+//! and stands where it stood. Any other refusal but want of memory is the tree's first fault.
+ghost use Rattle.std.specs.Prelude.{◌≡◌, IfOk, IfErr, OnOk, List, Option, ℕ, None};
+ghost use Rattle.std.specs.Ordering.{nat_cmp};
+ghost use Rattle.std.specs.Cmp.Lexicographic.{slice_cmp};
+ghost use Rattle.nextest_tree.specs.Node.{Node, Entries};
+ghost use Rattle.nextest_tree.specs.View.{node_of, members_of_trees};
+ghost use Rattle.nextest_tree.specs.Schema.{Cause, Schema, Fields, names_of};
+ghost use Rattle.nextest_tree.specs.Reads.{Gives, Fails, checked, spot_of, reading, reading_fields};
+
+use crate::fault::ElementFault;
+use crate::key::Key;
+use crate::tree::Tree;
+use crate::walk::Walk;
+use std::alloc::Global;
+use std::collections::BTreeMap;
+
+/// A value of the configuration.
+pub trait Element: Sized + Drop {
+    /// What may stand in its tree.
+    ghost schema: { Schema };
+
+    /// Holds of a node and the value that it spells.
+    ghost is_value: { Node → Self → Type 0 };
+
+    /// Reads the value of a tree.
+    fn read(alloc: Global, tree: &Tree, walk: &mut Walk) -> Result<Self, ElementFault>
+        ensures value { IfOk result (is_value (node_of tree.now)) }
+        ensures reads { Gives result walk.new (reading schema (node_of tree.now) (spot_of walk.old)) };
+}
+
+/// A value that a table of fields spells.
+pub trait Record: Sized + Drop {
+    /// Its fields, in the order in which they are read.
+    ghost fields: { Fields };
+
+    /// Holds of a table and the value that it spells.
+    ghost is_record: { Entries → Self → Type 0 };
+
+    /// The keys that the table knows.
+    fn names() -> &'static [Key]
+        ensures { result.now ≡ names_of fields };
+
+    /// Reads the fields in order.
+    fn read_fields(
+        alloc: Global,
+        members: &BTreeMap<String, Tree>,
+        walk: &mut Walk,
+    ) -> Result<Self, ElementFault>
+        ensures value { IfOk result (is_record (members_of_trees members.now.entries)) }
+        ensures reads { Gives result walk.new (reading_fields fields (members_of_trees members.now.entries) (spot_of walk.old)) };
+}
+
+/// A name that keys a map.
+pub trait Name: Sized + Drop + Ord {
+    /// Which texts are refused.
+    ghost test: { List ℕ → Option Cause };
+
+    /// The text of the name.
+    ghost text: { Self → List ℕ };
+
+    /// Reads the name that the walk is at.
+    fn read_name(alloc: Global, key: &str, walk: &Walk) -> Result<Self, ElementFault>
+        ensures value { IfOk result (λ name. text name ≡ key.now) }
+        ensures passed { OnOk result (test key.now ≡ None) }
+        ensures fault { IfErr result (λ e. Fails e (checked (test key.now) (spot_of walk.now))) };
+
+    /// Names are ordered by their texts.
+    ghost ordered: { (a b : Self) → Self.cmp a b ≡ slice_cmp nat_cmp (text a) (text b) };
+}

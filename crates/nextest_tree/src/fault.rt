@@ -1,0 +1,59 @@
+//! What a reader refuses, and where.
+use std::alloc::Global;
+use thiserror::Error;
+
+/// Why a tree is no value of its schema, and where.
+///
+/// A reader answers the first fault of its tree, in the order of places.
+#[derive(Debug, Drop, Error)]
+#[error("`{path}`: {cause}")]
+pub struct ElementFault {
+    /// Where: keys and positions from the root on, joined by dots. The root is the empty text.
+    pub path: String,
+    /// Why.
+    pub cause: ElementCause,
+}
+
+/// What is wrong with a value.
+#[derive(Debug, Drop, Error)]
+pub enum ElementCause {
+    /// A value of another kind than the schema's, as a text in place of a number.
+    #[error("a value of the wrong kind")]
+    WrongKind,
+    /// The table lacks this key.
+    #[error("missing field `{0}`")]
+    Missing(String),
+    /// A text or a key outside its list of names or its grammar.
+    #[error("invalid value `{given}`, expected {expected}")]
+    BadValue {
+        /// The text or the key that stands there.
+        given: String,
+        /// What may stand there.
+        expected: &'static str,
+    },
+    /// A number outside its range.
+    #[error("a number out of range")]
+    OutOfRange,
+    /// A key that its table refuses.
+    #[error("unknown field")]
+    UnknownField,
+    /// Want of memory. No path comes with it.
+    #[error("out of memory")]
+    Memory,
+}
+
+impl ElementFault {
+    ghost use Rattle.std.specs.Prelude.{◌≡◌, None};
+    ghost use Rattle.nextest_tree.specs.Reads.{told};
+
+    /// Want of memory.
+    #[tactic(auto, unfolding(crate::specs::Reads::told))]
+    pub fn memory(alloc: Global) -> ElementFault
+        ensures { told result ≡ None }
+    {
+        ElementFault {
+            path: String::new(alloc),
+            cause: ElementCause::Memory,
+        }
+    }
+}

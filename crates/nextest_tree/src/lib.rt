@@ -1,0 +1,28 @@
+//! Trees of documents, and the form of every reader of a tree.
+//!
+//! A reader answers the value that a tree spells, or the tree's first fault, and notes the keys that no schema knows.
+#![tactic(auto)]
+
+mod element;
+mod fault;
+mod field;
+mod key;
+mod law;
+mod list;
+mod map;
+mod name;
+mod table;
+mod text;
+mod tree;
+mod walk;
+
+pub use element::{Element, Name, Record};
+pub use fault::{ElementCause, ElementFault};
+pub use field::{optional, required, wanted};
+pub use key::Key;
+pub use law::law_fault_order;
+pub use name::named;
+pub use table::{read_closed_record, read_record, read_table};
+pub use text::Ignored;
+pub use tree::Tree;
+pub use walk::Walk;
