@@ -1,9 +1,8 @@
 //! What the program does, over readers of files and writers of its own choosing.
 use crate::command::{Command, USAGE};
 use crate::files::FileReader;
-use crate::lines::{refusal_text, settings_text};
-use crate::toy::filters::{ToyFilters, ToyTally};
-use crate::toy::platforms::ToySpecs;
+use crate::lines::refusal_text;
+use crate::settings_lines::settings_text;
 use nextest_config::{
     CONFIG_PATH, ConfigParseError, ConfigParseErrorKind, ConfigPath, ConfigPaths,
     DefaultConfigWarnings, EvaluatableProfile, FileInput, NextestConfig, ProfileError,
@@ -12,6 +11,8 @@ use nextest_config::{
 use nextest_load::engines::{BinaryQuery, BuildPlatform, BuildPlatforms, ParseContext, TestQuery};
 use std::alloc::{AllocError, Global};
 use std::io::{self, Write};
+use toy_engines::filters::{ToyFilters, ToyTally};
+use toy_engines::platforms::ToySpecs;
 
 /// Why the program ends without the lines of a test.
 #[derive(Drop)]

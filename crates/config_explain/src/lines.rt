@@ -1,66 +1,7 @@
-//! The lines that the program prints.
-use nextest_config::{
-    ConfigParseError, ConfigParseErrorKind, ReadOutcome, Setting, SettingSource, TestSettings,
-};
-use nextest_elements::RetryPolicy;
-use nextest_load::engines::{Filters, Specs};
+//! The lines that the program prints of a refusal.
+use nextest_config::{ConfigParseError, ConfigParseErrorKind, ReadOutcome, UnknownTestGroupError};
 use std::alloc::{AllocError, Global};
-use std::fmt;
-
-/// A retry policy as a line shows it.
-#[derive(Drop)]
-struct Retries(RetryPolicy);
-
-impl fmt::Display for Retries {
-    fn fmt<W: fmt::Write>(&self, f: &mut fmt::Formatter<W>) -> fmt::Result {
-        match self.0 {
-            RetryPolicy::Fixed {
-                count,
-                delay,
-                jitter,
-            } => write!(f, "fixed count={count} delay={delay}ns jitter={jitter}"),
-            RetryPolicy::Exponential {
-                count,
-                delay,
-                jitter,
-                max_delay,
-            } => {
-                write!(
-                    f,
-                    "exponential count={count} delay={delay}ns jitter={jitter} max-delay="
-                )?;
-                match max_delay {
-                    Some(max_delay) => write!(f, "{max_delay}ns"),
-                    None => f.write_str("none"),
-                }
-            }
-        }
-    }
-}
-
-/// Where a value comes from, in one word.
-fn source_word<F: Filters, S: Specs>(source: Option<SettingSource<'_, F, S>>) -> &'static str {
-    match source {
-        Some(SettingSource::Default) => "default",
-        Some(SettingSource::Profile) => "profile",
-        Some(SettingSource::Override(_)) => "override",
-        None => "-",
-    }
-}
-
-/// The line of each setting of a test.
-pub fn settings_text<'p, F: Filters, S: Specs>(
-    alloc: Global,
-    settings: &TestSettings<'p, F, S, SettingSource<'p, F, S>>,
-) -> Result<String, AllocError> {
-    let priority = settings.priority().0;
-    let priority_source = source_word(settings.source_of(Setting::Priority));
-    let retries = Retries(settings.retries());
-    let retries_source = source_word(settings.source_of(Setting::Retries));
-    format!(in alloc;
-        "priority: {priority} [{priority_source}]\nretries: {retries} [{retries_source}]\n"
-    )
-}
+use std::collections::BTreeSet;
 
 /// The first line of a refusal, and its details on lines that begin with two spaces.
 pub fn refusal_text(alloc: Global, error: &ConfigParseError) -> Result<String, AllocError> {
@@ -103,7 +44,41 @@ fn with_details(
             }
             Ok(text)
         }
+        ConfigParseErrorKind::UnknownTestGroups {
+            errors,
+            known_groups,
+        } => with_groups(alloc, text, errors, known_groups),
     }
+}
+
+/// Names with commas between them.
+fn joined(alloc: Global, names: &BTreeSet<String>) -> Result<String, AllocError> {
+    let mut text = String::new(alloc);
+    for name in names.iter() {
+        if !text.is_empty() {
+            text.push_str(", ")?;
+        }
+        text.push_str(name.as_str())?;
+    }
+    Ok(text)
+}
+
+/// The text with a line for each unknown group, and one for the known ones.
+fn with_groups(
+    alloc: Global,
+    text: String,
+    errors: &[UnknownTestGroupError],
+    known_groups: &BTreeSet<String>,
+) -> Result<String, AllocError> {
+    let mut text = text;
+    for error in errors {
+        let error = error.to_string(alloc)?;
+        text = indented(alloc, text, error.as_str())?;
+    }
+    let known = joined(alloc, known_groups)?;
+    let line = format!(in alloc; "  known groups: {known}\n")?;
+    text.push_str(line.as_str())?;
+    Ok(text)
 }
 
 /// The text with each line of a message behind two spaces.

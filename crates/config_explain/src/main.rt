@@ -5,7 +5,7 @@ mod command;
 mod explain;
 mod files;
 mod lines;
-mod toy;
+mod settings_lines;
 
 use explain::explain;
 use files::DiskFiles;

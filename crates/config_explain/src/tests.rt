@@ -4,7 +4,10 @@ use crate::files::FileReader;
 use nextest_config::ReadOutcome;
 use std::alloc::{AllocError, Global};
 use std::io::{self, ErrorKind, Write};
+use std::process::Abort;
 use std::test::Fail;
+
+mod settings;
 
 /// What came of reading the one file of a row.
 #[derive(Clone, Copy)]
@@ -51,6 +54,14 @@ fn run(alloc: Global, file: Stored<'_>, line: &str) -> Result<(u8, String, Strin
     Ok((status, String::from_utf8(out)?, String::from_utf8(err)?))
 }
 
+/// Asks for a line among those that are printed.
+fn assert_line(rt: &impl Abort, out: &str, wanted: &str) {
+    assert!(rt;
+        out.lines().any(|line| line == wanted),
+        "{wanted} is not in {out}"
+    );
+}
+
 /// The file of the first rows.
 const F: &str = r#"[profile.default]
 retries = 2
@@ -67,43 +78,27 @@ retries = 7
 fn settings_of_tests(rt: HostRuntime) -> Result<(), Fail> {
     let rows = [
         (
-            Stored::Text(F),
             "/w default test b xab",
-            "priority: 10 [override]\nretries: fixed count=5 delay=0ns jitter=false [override]\n",
+            "priority: 10 [override]",
+            "retries: fixed count=5 delay=0ns jitter=false [override]",
         ),
         (
-            Stored::Text(F),
             "/w default benchmark b xab",
-            "priority: 10 [override]\nretries: fixed count=5 delay=0ns jitter=false [override]\n",
+            "priority: 10 [override]",
+            "retries: fixed count=5 delay=0ns jitter=false [override]",
         ),
         (
-            Stored::Text(F),
             "/w default test b b",
-            "priority: 0 [default]\nretries: fixed count=2 delay=0ns jitter=false [profile]\n",
-        ),
-        (
-            Stored::NotFound,
-            "/w default test b t",
-            "priority: 0 [default]\nretries: fixed count=0 delay=0ns jitter=false [profile]\n",
-        ),
-        (
-            Stored::NotADirectory,
-            "/w default test b t",
-            "priority: 0 [default]\nretries: fixed count=0 delay=0ns jitter=false [profile]\n",
-        ),
-        (
-            Stored::Text(
-                "[profile.default]\nretries = { backoff = \"exponential\", count = 20, delay = \"1s\", max-delay = \"20s\" }\n",
-            ),
-            "/w default test b t",
-            "priority: 0 [default]\nretries: exponential count=20 delay=1000000000ns jitter=false max-delay=20000000000ns [profile]\n",
+            "priority: 0 [default]",
+            "retries: fixed count=2 delay=0ns jitter=false [profile]",
         ),
     ];
-    for (file, line, wanted) in rows {
-        let (status, out, err) = run(rt.alloc(), file, line)?;
+    for (line, priority, retries) in rows {
+        let (status, out, err) = run(rt.alloc(), Stored::Text(F), line)?;
         assert_eq!(rt; err.as_str(), "", "at {line}");
-        assert_eq!(rt; out.as_str(), wanted, "at {line}");
         assert_eq!(rt; status, 0, "at {line}");
+        assert_line(&rt, out.as_str(), priority);
+        assert_line(&rt, out.as_str(), retries);
     }
     Ok(())
 }
@@ -130,8 +125,16 @@ fn refused_files(rt: HostRuntime) -> Result<(), Fail> {
             "error: /w/.config/nextest.toml: 4 DeserializeError\n",
         ),
         (
-            Stored::Text("[profile.default]\nretries = 1\n[profile.ci]\nretries = 1\n"),
-            "error: /w/.config/nextest.toml: 4 DeserializeError\n  `profile.ci`: unknown field\n",
+            Stored::Text("[profile.ci]\nretries = 1\ninherits = \"default\"\n"),
+            "error: /w/.config/nextest.toml: 4 DeserializeError\n  `profile.ci.inherits`: unknown field\n",
+        ),
+        (
+            Stored::Text("[profile.ci]\nslow-timeout = { terminate-after = 2 }\n"),
+            "error: /w/.config/nextest.toml: 4 DeserializeError\n  `profile.ci.slow-timeout`: missing field `period`\n",
+        ),
+        (
+            Stored::Text("[[profile.default.overrides]]\nfilter = \"all()\"\ntest-group = \"g\"\n"),
+            "error: /w/.config/nextest.toml: 14 UnknownTestGroups\n  profile `default`: unknown test group `g`\n  known groups: @global\n",
         ),
         (
             Stored::Text("zz = 1\n[profile.default]\nretries = -1\n"),
@@ -177,13 +180,22 @@ fn usage_faults(rt: HostRuntime) -> Result<(), Fail> {
 
 #[test]
 fn unknown_profiles(rt: HostRuntime) -> Result<(), Fail> {
-    let (status, out, err) = run(rt.alloc(), Stored::NotFound, "/w x test b t")?;
-    assert_eq!(rt;
-        err.as_str(),
-        "error: profile `x` not found (known profiles: default)\n"
-    );
-    assert_eq!(rt; out.as_str(), "");
-    assert_eq!(rt; status, 4);
+    let rows = [
+        (
+            "",
+            "error: profile `x` not found (known profiles: default, default-miri)\n",
+        ),
+        (
+            "[profile.ci]\n",
+            "error: profile `x` not found (known profiles: ci, default, default-miri)\n",
+        ),
+    ];
+    for (file, wanted) in rows {
+        let (status, out, err) = run(rt.alloc(), Stored::Text(file), "/w x test b t")?;
+        assert_eq!(rt; err.as_str(), wanted);
+        assert_eq!(rt; out.as_str(), "");
+        assert_eq!(rt; status, 4);
+    }
     Ok(())
 }
 

@@ -6,6 +6,9 @@ pub mod Few
 pub mod Least
 pub mod Named
 pub mod Gathering
+pub mod Front
 pub mod Seen
 pub mod Rising
 pub mod Natural
+pub mod Order
+pub mod Known

@@ -3,8 +3,9 @@ use Rattle.std.proofs.Common.{◌≡◌, List, [], ◌∷◌, cond, Option, Some
 use Rattle.std.specs.Cmp.Lexicographic.{slice_cmp}
 use Rattle.std.specs.Map.{lookup, keys_of}
 use Rattle.std.specs.BTreeMap.{is_at}
-use Rattle.nextest_load.specs.Whole.{Name, at_name}
-use Rattle.nextest_load.specs.Held.{named}
+use Rattle.nextest_load.specs.Whole.{at_name}
+use Rattle.nextest_tables.specs.Written.{Name}
+use Rattle.nextest_tables.specs.Seen.{named}
 
 found_or : {X Y : Type 0} (f : X → Y) (o : Ordering) (x : X) (rest : Option X) (d : Option Y) → d ≡ option_map f rest → cond (is_eq o) (Some (f x)) d ≡ option_map f (cond (is_eq o) (Some x) rest)
 found_or f Less x rest d e = e

@@ -7,7 +7,8 @@ use Rattle.std.specs.BTreeMap.{is_at}
 use Rattle.std.specs.Ordering.{nat_cmp}
 use Rattle.std.specs.Cmp.Lexicographic.{slice_cmp}
 use Rattle.nextest_load.specs.declared.engines.BuildPlatforms.{BuildPlatforms}
-use Rattle.nextest_load.specs.Whole.{Name, Compiled, Layer, Whole, at_name, meant_rule, meant_layer, meant_whole}
+use Rattle.nextest_load.specs.Whole.{Compiled, Layer, Whole, at_name, meant_rule, meant_layer, meant_whole}
+use Rattle.nextest_tables.specs.Written.{Name}
 use Rattle.nextest_config.specs.Apply.{meant_judged, judged_on, spec_holds}
 use Rattle.nextest_config.specs.Profile.{Profile, Decided, rules_in, rules_of, names_of, profile_of, meant_profile, decided_on, meant_decided}
 
@@ -33,6 +34,7 @@ module _ {E N M K : Type 0} (meaning : E → M) (spec_meaning : N → K) where
   pub profile_meant : (c : Whole E N) (name : Name) → meant_profile meaning spec_meaning (profile_of c name) ≡ profile_of (meant_whole meaning spec_meaning c) name
   profile_meant c name = λ i. record {
     name = name;
+    test_groups = c.test_groups;
     fields = (profile_of c name).fields;
     rules = of_names c.layers (names_of name) i;
     everything = meaning c.everything;
@@ -56,6 +58,7 @@ module _ {E N M K : Type 0} (meaning : E → M) (spec_meaning : N → K) where
       → meant_decided meaning (decided_on (λ spec platform. holds_on (spec_meaning spec) platform) platforms p) ≡ decided_on holds_on platforms (meant_profile meaning spec_meaning p)
   decided_meant holds_on platforms p = λ i. record {
     name = p.name;
+    test_groups = p.test_groups;
     fallback = (decided_on holds_on platforms (meant_profile meaning spec_meaning p)).fallback;
     rules = rules_decided holds_on platforms p.rules i;
     everything = meaning p.everything;

@@ -3,7 +3,8 @@ use Rattle.std.specs.Borrow.{Bor}
 use Rattle.std.specs.Prelude.{Option, None, Some, option_map, Bool, true, unwrap_or, ◌&&◌}
 use Rattle.nextest_load.specs.Engines.{Test, the_test}
 use Rattle.nextest_load.specs.Held.{rule_held}
-use Rattle.nextest_load.specs.Whole.{RuleId, Written, Compiled}
+use Rattle.nextest_load.specs.Whole.{RuleId, Compiled}
+use Rattle.nextest_tables.specs.Written.{Written}
 use Rattle.nextest_load.specs.declared.engines.BuildPlatform.{BuildPlatform}
 use Rattle.nextest_load.specs.declared.engines.BuildPlatform.TheVariants.{Host, Target}
 use Rattle.nextest_load.specs.declared.engines.BuildPlatforms.{BuildPlatforms}

@@ -1,7 +1,12 @@
+pub mod Values
+pub mod Over
+pub mod Held
 pub mod Settings
 pub mod Rules
 pub mod Source
 pub mod Apply
 pub mod Pass
 pub mod Profile
+pub mod Order
 pub mod Answers
+pub mod Given

@@ -2,14 +2,12 @@
 ghost use Rattle.std.specs.Prelude.{◌≡◌, ◌++◌, map, IfOk, option_map};
 ghost use Rattle.std.specs.List.{flat_map};
 ghost use Rattle.nextest_load.specs.Whole.{at_name};
-ghost use Rattle.nextest_load.specs.Held.{fields_held, layer_held, named, rule_held};
+ghost use Rattle.nextest_load.specs.Held.{layer_held, rule_held};
+ghost use Rattle.nextest_tables.specs.Seen.{fields_held, named};
 ghost use Rattle.nextest_config.specs.Apply.{rule_behind};
-ghost use Rattle.nextest_config.specs.Profile.{names_of, rules_in, rules_of, fields_of, fields_behind, fallback_of_fields, filled, nearest_fields};
-ghost use Rattle.nextest_config.specs.Answers.{values_held};
+ghost use Rattle.nextest_config.specs.Profile.{names_of, rules_in, rules_of, fields_of, fields_behind};
 
 use crate::profile::DEFAULT_PROFILE;
-use crate::settings::ProfileValues;
-use nextest_elements::RetryPolicy;
 use nextest_load::engines::{Filters, Specs};
 use nextest_load::{CompiledOverride, LayerRules, ProfileFields};
 use std::alloc::{AllocError, Global};
@@ -114,34 +112,4 @@ pub(crate) fn fields_of<'cfg>(
         }
     }
     Ok(found)
-}
-
-/// The fields of a profile, and those of one further on where it writes none.
-fn filled(near: ProfileFields, further: &ProfileFields) -> ProfileFields
-    ensures { fields_held result ≡ filled (fields_held near) (fields_held further.now) }
-{
-    ProfileFields {
-        retries: near.retries.or(further.retries),
-    }
-}
-
-/// Each field of the nearest profile that writes it.
-fn nearest_of(fields: &[&ProfileFields]) -> ProfileFields
-    ensures { fields_held result ≡ nearest_fields (map fields_behind fields.now) }
-{
-    let mut near = ProfileFields { retries: None };
-    for further in fields {
-        near = filled(near, further);
-    }
-    near
-}
-
-/// What stands behind the rules: each field of the nearest profile that writes it.
-pub(crate) fn values_behind(fields: &[&ProfileFields]) -> ProfileValues
-    ensures { values_held result ≡ fallback_of_fields (map fields_behind fields.now) }
-{
-    let near = nearest_of(fields);
-    ProfileValues {
-        retries: near.retries.unwrap_or(RetryPolicy::new_without_delay(0)),
-    }
 }

@@ -3,19 +3,23 @@
 
 mod apply;
 mod gather;
+mod global_group;
 mod profile;
 mod settings;
+mod values;
 
 pub use nextest_load::{
     CompiledOverride, ConfigCompileError, ConfigCompileErrorKind, ConfigCompileSection,
     ConfigParseError, ConfigParseErrorKind, ConfigPath, ConfigPaths, ConfigSource,
     ConfigSourceKind, ConfigWarning, ConfigWarnings, DefaultConfigWarnings, FileInput, OverrideId,
-    ReadOutcome,
+    ReadOutcome, UnknownTestGroupError,
 };
 pub use profile::{
-    CONFIG_PATH, DEFAULT_PROFILE, EarlyProfile, EvaluatableProfile, NextestConfig, ProfileError,
-    ProfileNotFound,
+    CONFIG_PATH, DEFAULT_MIRI_PROFILE, DEFAULT_PROFILE, DEFAULT_PROFILES, ENVIRONMENT_PREFIX,
+    EarlyProfile, EvaluatableProfile, NextestConfig, ProfileError, ProfileNotFound,
 };
-pub use settings::laws::{law_few_evaluations, law_least};
+pub use settings::laws::{
+    law_few_evaluations, law_known_groups, law_least, law_rule_order, law_settings_of_texts,
+};
 pub use settings::source::{SettingSource, TrackSource};
 pub use settings::{Setting, TestSettings};

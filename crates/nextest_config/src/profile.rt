@@ -4,19 +4,25 @@ ghost use Rattle.std.specs.Cmp.Lexicographic.{slice_cmp};
 ghost use Rattle.std.specs.List.Sorted.{IsStrictlySortedBy};
 ghost use Rattle.std.specs.Ordering.{nat_cmp};
 ghost use Rattle.nextest_load.specs.Whole.{at_name};
-ghost use Rattle.nextest_config.specs.Apply.{rule_in, case_in};
-ghost use Rattle.nextest_config.specs.Rules.{setting_value, asked_from, Rising, HasFilter};
-ghost use Rattle.nextest_config.specs.Settings.{settings, fallback_of};
-ghost use Rattle.nextest_config.specs.Source.{setting_origin};
+ghost use Rattle.nextest_config.specs.Apply.{rule_in};
+ghost use Rattle.nextest_config.specs.Given.{value_given, origin_given, asked_given};
+ghost use Rattle.nextest_config.specs.Rules.{Rising, HasFilter};
+ghost use Rattle.nextest_config.specs.Settings.{slow_timeout_in, global_timeout_in};
 ghost use Rattle.nextest_config.specs.Answers.{value_at, origin_at};
-ghost use Rattle.nextest_config.specs.Profile.{profile_of, decided_on, meant_decided, IfNotFound};
+ghost use Rattle.nextest_config.specs.Profile.{profile_of, decided_on, meant_decided, groups_held, IfNotFound};
 ghost use Rattle.nextest_config.specs.declared.settings.Setting.{Setting};
 
 use crate::apply::{JudgedOverride, judge_all};
-use crate::gather::{fields_of, names_of, rules_of, values_behind};
+use crate::gather::{fields_of, names_of, rules_of};
+use crate::global_group::GlobalGroup;
 use crate::settings::source::SettingSource;
-use crate::settings::{ProfileValues, TestSettings, settings_over};
-use nextest_elements::{NextestRunMode, RetryPolicy};
+use crate::settings::{TestSettings, settings_over};
+use crate::values::{ProfileValues, values_behind};
+use nextest_elements::{
+    CustomTestGroup, FinalStatusLevel, FlakyResult, GlobalTimeout, LeakTimeout, MaxFail,
+    NextestRunMode, RetryPolicy, SlowTimeout, StatusLevel, TestGroupConfig, TestOutputDisplay,
+    TestThreads, ThreadsRequired,
+};
 use nextest_load::engines::{BuildPlatforms, Filters, ParseContext, Specs, TestQuery};
 use nextest_load::{
     CompiledOverride, ConfigParseError, ConfigPaths, ConfigWarnings, LoadedConfig, ProfileFields,
@@ -30,13 +36,23 @@ use thiserror::Error;
 /// Where a repository's configuration lies, below the root of its workspace.
 pub const CONFIG_PATH: &str = ".config/nextest.toml";
 
+/// What the names of nextest's environment variables begin with.
+pub const ENVIRONMENT_PREFIX: &str = "NEXTEST";
+
 /// The profile that every configuration has.
 pub const DEFAULT_PROFILE: &str = "default";
+
+/// The profile of runs under Miri.
+pub const DEFAULT_MIRI_PROFILE: &str = "default-miri";
+
+/// The profiles that every configuration has.
+pub const DEFAULT_PROFILES: &[&str] = &[DEFAULT_PROFILE, DEFAULT_MIRI_PROFILE];
 
 /// A configuration.
 #[derive(Drop)]
 pub struct NextestConfig<F: Filters, S: Specs> {
     loaded: LoadedConfig<F, S>,
+    global_group: GlobalGroup,
 }
 
 impl<F: Filters, S: Specs> Model for NextestConfig<F, S> {
@@ -109,6 +125,7 @@ impl<F: Filters, S: Specs> NextestConfig<F, S> {
     ghost use Rattle.std.specs.Prelude.{MatchResult, ◌⊎◌};
     ghost use Rattle.nextest_load.specs.declared.engines.FiltersetKind.TheVariants.{OverrideFilter};
     ghost use Rattle.nextest_load.specs.Accepted.{IsAccepted, sources_in, file_fault};
+    ghost use Rattle.nextest_load.specs.Closed.{IsClosed};
     ghost use Rattle.nextest_load.specs.Errors.{Found, ended, IsMemory};
     ghost use Rattle.nextest_load.specs.Sources.{file_seen};
     ghost use Rattle.nextest_load.specs.Texts.{config_of};
@@ -129,10 +146,14 @@ impl<F: Filters, S: Specs> NextestConfig<F, S> {
         ensures found { Found (file_fault (F.read pcx.now.filters.now OverrideFilter) (file_seen paths.now.shared)) (ended result) }
         ensures means { IfOk result (λ config. meant_whole F.meaning S.spec_meaning config
             ≡ config_of F.everything (F.read pcx.now.filters.now OverrideFilter) (sources_in (file_seen paths.now.shared))) }
+        ensures closed { IfOk result (λ config. IsClosed config) }
         ensures told { W.warnings warnings.new ≡ W.warnings warnings.old }
     {
         match LoadedConfig::from_sources_with_paths(alloc, paths, pcx, warnings) {
-            Ok(loaded) => Ok(NextestConfig { loaded }),
+            Ok(loaded) => Ok(NextestConfig {
+                loaded,
+                global_group: GlobalGroup::new(),
+            }),
             Err(error) => Err(error),
         }
     }
@@ -157,9 +178,11 @@ impl<F: Filters, S: Specs> NextestConfig<F, S> {
         let names = names_of(alloc, name)?;
         Ok(EarlyProfile {
             name: String::from_str(alloc, name)?,
+            test_groups: self.loaded.test_groups(),
             fields: fields_of(alloc, profiles, &names)?,
             rules: rules_of(alloc, self.loaded.layers(), &names)?,
             everything: self.loaded.everything(),
+            global_group: &self.global_group,
         })
     }
 }
@@ -168,9 +191,11 @@ impl<F: Filters, S: Specs> NextestConfig<F, S> {
 #[derive(Drop)]
 pub struct EarlyProfile<'cfg, F: Filters, S: Specs> {
     name: String,
+    test_groups: &'cfg BTreeMap<CustomTestGroup, TestGroupConfig>,
     fields: Vec<&'cfg ProfileFields>,
     rules: Vec<&'cfg CompiledOverride<F, S>>,
     everything: &'cfg F::Expr,
+    global_group: &'cfg GlobalGroup,
 }
 
 impl<'cfg, F: Filters, S: Specs> Model for EarlyProfile<'cfg, F, S> {
@@ -180,12 +205,19 @@ impl<'cfg, F: Filters, S: Specs> Model for EarlyProfile<'cfg, F, S> {
     ghost Value = { Profile F.Expr S.Spec };
 
     ghost use Rattle.nextest_config.specs.Apply.{rule_behind};
-    ghost use Rattle.nextest_config.specs.Profile.{fields_behind};
+    ghost use Rattle.nextest_config.specs.Profile.{fields_behind, groups_held};
 
-    ghost view = { λ p. record { name = string_bytes p.name; fields = map fields_behind p.fields.items; rules = map rule_behind p.rules.items; everything = p.everything.now } };
+    ghost view = { λ p. record { name = string_bytes p.name; test_groups = groups_held p.test_groups.now; fields = map fields_behind p.fields.items; rules = map rule_behind p.rules.items; everything = p.everything.now } };
 }
 
 impl<'cfg, F: Filters, S: Specs> EarlyProfile<'cfg, F, S> {
+    /// The groups that the configuration defines, by name.
+    pub fn test_group_config(&self) -> &'cfg BTreeMap<CustomTestGroup, TestGroupConfig>
+        ensures { groups_held result.now ≡ self.now.test_groups }
+    {
+        self.test_groups
+    }
+
     /// The profile on the platforms of a build. Where memory is refused, the profile comes back.
     pub fn apply_build_platforms(
         self,
@@ -200,15 +232,19 @@ impl<'cfg, F: Filters, S: Specs> EarlyProfile<'cfg, F, S> {
             Ok(rules) => {
                 let EarlyProfile {
                     name,
+                    test_groups,
                     fields,
                     everything,
+                    global_group,
                     ..
                 } = self;
                 Ok(EvaluatableProfile {
                     name,
+                    test_groups,
                     values: values_behind(&fields),
                     rules,
                     everything,
+                    global_group,
                 })
             }
             Err(_) => Err(self),
@@ -220,20 +256,23 @@ impl<'cfg, F: Filters, S: Specs> EarlyProfile<'cfg, F, S> {
 #[derive(Drop)]
 pub struct EvaluatableProfile<'cfg, F: Filters, S: Specs> {
     name: String,
-    values: ProfileValues,
+    test_groups: &'cfg BTreeMap<CustomTestGroup, TestGroupConfig>,
+    values: ProfileValues<'cfg>,
     rules: Vec<JudgedOverride<'cfg, F, S>>,
     everything: &'cfg F::Expr,
+    global_group: &'cfg GlobalGroup,
 }
 
 impl<'cfg, F: Filters, S: Specs> Model for EvaluatableProfile<'cfg, F, S> {
     ghost use Rattle.std.specs.Prelude.{map, string_bytes};
     ghost use Rattle.nextest_config.specs.Profile.{Decided};
     ghost use Rattle.nextest_config.specs.Apply.{judged_held};
-    ghost use Rattle.nextest_config.specs.Answers.{values_held};
+    ghost use Rattle.nextest_config.specs.Held.{values_held};
+    ghost use Rattle.nextest_config.specs.Profile.{groups_held};
 
     ghost Value = { Decided F.Expr };
 
-    ghost view = { λ p. record { name = string_bytes p.name; fallback = values_held p.values; rules = map judged_held p.rules.items; everything = p.everything.now } };
+    ghost view = { λ p. record { name = string_bytes p.name; test_groups = groups_held p.test_groups.now; fallback = values_held p.values; rules = map judged_held p.rules.items; everything = p.everything.now } };
 }
 
 impl<'cfg, F: Filters, S: Specs> EvaluatableProfile<'cfg, F, S> {
@@ -244,11 +283,102 @@ impl<'cfg, F: Filters, S: Specs> EvaluatableProfile<'cfg, F, S> {
         self.name.as_str()
     }
 
+    /// The groups that the configuration defines, by name.
+    pub fn test_group_config(&self) -> &'cfg BTreeMap<CustomTestGroup, TestGroupConfig>
+        ensures { groups_held result.now ≡ self.now.test_groups }
+    {
+        self.test_groups
+    }
+
     /// How often a test is tried again where no rule says so.
     pub fn retries(&self) -> RetryPolicy
-        ensures { result ≡ self.now.fallback.retries }
+        ensures { result ≡ self.now.fallback.tests.retries }
     {
-        self.values.retries
+        self.values.tests.retries
+    }
+
+    /// What comes of a flaky test where no rule says so.
+    pub fn flaky_result(&self) -> FlakyResult
+        ensures { result ≡ self.now.fallback.tests.flaky_result }
+    {
+        self.values.tests.flaky_result
+    }
+
+    /// How many tests run at a time.
+    pub fn test_threads(&self) -> TestThreads
+        ensures { result ≡ self.now.fallback.run.test_threads }
+    {
+        self.values.run.test_threads
+    }
+
+    /// How many threads a test takes where no rule says so.
+    pub fn threads_required(&self) -> ThreadsRequired
+        ensures { result ≡ self.now.fallback.tests.threads_required }
+    {
+        self.values.tests.threads_required
+    }
+
+    /// The arguments that a test is given where no rule says so.
+    pub fn run_extra_args(&self) -> &'cfg [String]
+        ensures { map string_bytes result.now ≡ self.now.fallback.tests.run_extra_args }
+    {
+        self.values.tests.run_extra_args
+    }
+
+    /// When a test counts as slow where no rule says so.
+    pub fn slow_timeout(&self, mode: NextestRunMode) -> SlowTimeout
+        ensures { result ≡ slow_timeout_in self.now.fallback mode }
+    {
+        self.values.slow_timeout(mode)
+    }
+
+    /// How long a whole run may take.
+    pub fn global_timeout(&self, mode: NextestRunMode) -> GlobalTimeout
+        ensures { result ≡ global_timeout_in self.now.fallback mode }
+    {
+        self.values.global_timeout(mode)
+    }
+
+    /// How long what a test started may outlive it where no rule says so.
+    pub fn leak_timeout(&self) -> LeakTimeout
+        ensures { result ≡ self.now.fallback.tests.leak_timeout }
+    {
+        self.values.tests.leak_timeout
+    }
+
+    /// Which tests are shown as they end.
+    pub fn status_level(&self) -> StatusLevel
+        ensures { result ≡ self.now.fallback.run.status_level }
+    {
+        self.values.run.status_level
+    }
+
+    /// Which tests are shown at the end of the run.
+    pub fn final_status_level(&self) -> FinalStatusLevel
+        ensures { result ≡ self.now.fallback.run.final_status_level }
+    {
+        self.values.run.final_status_level
+    }
+
+    /// When the output of a test that fails is shown where no rule says so.
+    pub fn failure_output(&self) -> TestOutputDisplay
+        ensures { result ≡ self.now.fallback.tests.failure_output }
+    {
+        self.values.tests.failure_output
+    }
+
+    /// When the output of a test that passes is shown where no rule says so.
+    pub fn success_output(&self) -> TestOutputDisplay
+        ensures { result ≡ self.now.fallback.tests.success_output }
+    {
+        self.values.tests.success_output
+    }
+
+    /// After how many failures the run ends.
+    pub fn max_fail(&self) -> MaxFail
+        ensures { result ≡ self.now.fallback.run.max_fail }
+    {
+        self.values.run.max_fail
     }
 
     /// The settings of a test. Rules whose filters are evaluated go into the tally, in order.
@@ -258,20 +388,15 @@ impl<'cfg, F: Filters, S: Specs> EvaluatableProfile<'cfg, F, S> {
         query: &TestQuery<'_>,
         tally: &mut F::Tally,
     ) -> TestSettings<'cfg, F, S>
-        ensures values { let p = meant_decided F.meaning self.now in
-            let test = case_in F.holds p.everything query.now in
-            (s : Setting) → value_at result s ≡ setting_value test mode (map rule_in p.rules) (fallback_of p.fallback mode) s }
-        ensures origins { let p = meant_decided F.meaning self.now in
-            let test = case_in F.holds p.everything query.now in
-            (s : Setting) → origin_at result s ≡ setting_origin test mode (map rule_in p.rules) s }
-        ensures tally { let p = meant_decided F.meaning self.now in
-            let test = case_in F.holds p.everything query.now in
-            F.Tally.numbers tally.new ≡ F.Tally.numbers tally.old ++ asked_from settings 0 test mode [] (map rule_in p.rules) }
+        ensures values { (s : Setting) → value_at result s ≡ value_given F.holds (meant_decided F.meaning self.now) mode query.now s }
+        ensures origins { (s : Setting) → origin_at result s ≡ origin_given F.holds (meant_decided F.meaning self.now) mode query.now s }
+        ensures tally { F.Tally.numbers tally.new ≡ F.Tally.numbers tally.old ++ asked_given F.holds (meant_decided F.meaning self.now) mode query.now }
         ensures few { let p = meant_decided F.meaning self.now in
             (added : List ℕ) × (F.Tally.numbers tally.new ≡ F.Tally.numbers tally.old ++ added) × Rising (HasFilter (map rule_in p.rules)) 0 added }
     {
         settings_over(
             self.values,
+            self.global_group,
             &self.rules,
             self.everything,
             mode,
@@ -287,20 +412,15 @@ impl<'cfg, F: Filters, S: Specs> EvaluatableProfile<'cfg, F, S> {
         query: &TestQuery<'_>,
         tally: &mut F::Tally,
     ) -> TestSettings<'cfg, F, S, SettingSource<'cfg, F, S>>
-        ensures values { let p = meant_decided F.meaning self.now in
-            let test = case_in F.holds p.everything query.now in
-            (s : Setting) → value_at result s ≡ setting_value test mode (map rule_in p.rules) (fallback_of p.fallback mode) s }
-        ensures origins { let p = meant_decided F.meaning self.now in
-            let test = case_in F.holds p.everything query.now in
-            (s : Setting) → origin_at result s ≡ setting_origin test mode (map rule_in p.rules) s }
-        ensures tally { let p = meant_decided F.meaning self.now in
-            let test = case_in F.holds p.everything query.now in
-            F.Tally.numbers tally.new ≡ F.Tally.numbers tally.old ++ asked_from settings 0 test mode [] (map rule_in p.rules) }
+        ensures values { (s : Setting) → value_at result s ≡ value_given F.holds (meant_decided F.meaning self.now) mode query.now s }
+        ensures origins { (s : Setting) → origin_at result s ≡ origin_given F.holds (meant_decided F.meaning self.now) mode query.now s }
+        ensures tally { F.Tally.numbers tally.new ≡ F.Tally.numbers tally.old ++ asked_given F.holds (meant_decided F.meaning self.now) mode query.now }
         ensures few { let p = meant_decided F.meaning self.now in
             (added : List ℕ) × (F.Tally.numbers tally.new ≡ F.Tally.numbers tally.old ++ added) × Rising (HasFilter (map rule_in p.rules)) 0 added }
     {
         settings_over(
             self.values,
+            self.global_group,
             &self.rules,
             self.everything,
             mode,

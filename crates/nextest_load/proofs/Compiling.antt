@@ -1,51 +1,57 @@
--- The rules of a source whose overrides all compile.
-use Rattle.std.proofs.Common.{◌≡◌, ℕ, ◌+◌, List, [], ◌∷◌, ◌++◌, map, Option, Some, None, Result, string_bytes, refl, ap, append_assoc}
+-- The rules and the faults of a profile's overrides, one override after another.
+use Rattle.std.proofs.Common.{◌≡◌, ℕ, ◌+◌, List, [], ◌∷◌, ◌++◌, map, Some, None, Result, refl, ap, append_assoc, arith, length, Vec, Global}
+use Rattle.std.specs.List.{enumerate_from, filter_map}
 use Rattle.std.proofs.lemmas.List.{map-append}
+use Rattle.nextest_tables.specs.Seen.{override_seen, overrides_seen}
+use Rattle.nextest_tables.specs.Texts.{OverrideText}
+use Rattle.nextest_tables.specs.Written.{Name}
+use Rattle.nextest_tables.specs.declared.override_table.OverrideTable.{OverrideTable}
 use Rattle.nextest_load.specs.Sources.{SourceSeen}
-use Rattle.nextest_load.specs.Whole.{Name, Compiled}
-use Rattle.nextest_load.specs.Seen.{override_seen, overrides_seen}
-use Rattle.nextest_load.specs.Errors.{compile_error_seen, cause_seen}
-use Rattle.nextest_load.specs.Texts.{OverrideText, rule_at, rules_from}
-use Rattle.nextest_load.specs.Faults.{CompileCause, in_override, fault_at_index, override_cause, override_faults}
+use Rattle.nextest_load.specs.Whole.{Compiled, meant_rule}
+use Rattle.nextest_load.specs.Held.{rule_held}
+use Rattle.nextest_load.specs.declared.overrides.CompiledOverride.{CompiledOverride}
+use Rattle.nextest_load.specs.Errors.{compile_error_seen}
+use Rattle.nextest_load.specs.Texts.{rule_at}
+use Rattle.nextest_load.specs.Faults.{CompileCause, CompileFault, in_override, fault_at_index, override_cause}
 use Rattle.nextest_load.specs.declared.error.ConfigCompileError.{ConfigCompileError}
-use Rattle.nextest_load.specs.declared.error.ConfigCompileSection.TheVariants as sections
-use Rattle.nextest_load.specs.declared.tables.OverrideTable.{OverrideTable}
 
--- one element where there is no cause
-abbrev pub unless : {X : Type 0} → Option CompileCause → X → List X
-unless None x = x ∷ []
-unless (Some cause) x = []
+-- a fault at a position
+abbrev pub fault_at : Name → ℕ → CompileCause → CompileFault
+fault_at name i cause = record { profile = name; section = in_override i; cause = cause }
 
--- the rules of the overrides that compile
-abbrev pub good_rules : {M K : Type 0} → (List ℕ → Result M (List ℕ)) → SourceSeen → Name → ℕ → List OverrideText → List (Compiled M K)
-good_rules read source name i [] = []
-good_rules read source name i (text ∷ texts) = unless (override_cause read text.filter) (rule_at read source name i text) ++ good_rules read source name (i + 1) texts
+-- the faults and the rules of the overrides from a position on
+abbrev pub faults_from : {M : Type 0} → (List ℕ → Result M (List ℕ)) → Name → ℕ → List OverrideText → List CompileFault
+faults_from read name i texts = filter_map (λ e. fault_at_index name e.0 (override_cause read e.1.filter)) (enumerate_from i texts)
 
-module _ {M K : Type 0} (read : List ℕ → Result M (List ℕ)) (source : SourceSeen) (name : Name) where
-  one : (i : ℕ) (text : OverrideText) (texts : List OverrideText) (o : Option CompileCause) → fault_at_index name i o ++ override_faults read name (i + 1) texts ≡ [] → (override_faults read name (i + 1) texts ≡ [] → good_rules {K = K} read source name (i + 1) texts ≡ rules_from read source name (i + 1) texts) → unless o (rule_at {K = K} read source name i text) ++ good_rules read source name (i + 1) texts ≡ rules_from read source name i (text ∷ texts)
-  one i text texts None h k = ap (λ rs. rule_at read source name i text ∷ rs) (k h)
-  one i text texts (Some cause) h k = cc
+abbrev pub rules_from : {M K : Type 0} → (List ℕ → Result M (List ℕ)) → SourceSeen → Name → ℕ → List OverrideText → List (Compiled M K)
+rules_from read source name i texts = map (λ e. rule_at read source name e.0 e.1) (enumerate_from i texts)
 
-  -- with no fault, these are the rules of all overrides
-  pub all_good : (i : ℕ) (texts : List OverrideText) → override_faults read name i texts ≡ [] → good_rules {K = K} read source name i texts ≡ rules_from read source name i texts
-  all_good i [] h = refl
-  all_good i (text ∷ texts) h = one i text texts (override_cause read text.filter) h (all_good (i + 1) texts)
-
-  -- an override that compiles adds its rule
-  pub rules_good : {R : Type 0} (f : R → Compiled M K) (rs : List R) (r : R) (i : ℕ) (t : OverrideTable) (rest all : List OverrideTable) → all ≡ t ∷ rest → override_cause read (override_seen t).filter ≡ None → f r ≡ rule_at read source name i (override_seen t) → map f (rs ++ r ∷ []) ++ good_rules read source name (i + 1) (overrides_seen rest) ≡ map f rs ++ good_rules read source name i (overrides_seen all)
-  rules_good f rs r i t rest all next fine is = rw (next, fine, ← is, map-append f rs (r ∷ []), append_assoc (map f rs) (f r ∷ []) (good_rules read source name (i + 1) (overrides_seen rest))) refl
-
-  -- one that does not adds none
-  pub rules_bad : (c : CompileCause) (i : ℕ) (t : OverrideTable) (rest all : List OverrideTable) → all ≡ t ∷ rest → override_cause read (override_seen t).filter ≡ Some c → good_rules {K = K} read source name i (overrides_seen all) ≡ good_rules read source name (i + 1) (overrides_seen rest)
-  rules_bad c i t rest all next bad = rw (next, bad) refl
+-- the rules of a profile, as the engines mean their texts
+abbrev pub rules_meant : {F S E T N P M K : Type 0} → (E → M) → (N → K) → Vec (CompiledOverride F S E T N P) Global → List (Compiled M K)
+rules_meant meaning spec_meaning rules = map (λ r. meant_rule meaning spec_meaning (rule_held r)) rules.items
 
 module _ {M : Type 0} (read : List ℕ → Result M (List ℕ)) (name : Name) where
   -- an override that compiles adds no fault
-  pub faults_good : (i : ℕ) (t : OverrideTable) (rest all : List OverrideTable) → all ≡ t ∷ rest → override_cause read (override_seen t).filter ≡ None → override_faults read name i (overrides_seen all) ≡ override_faults read name (i + 1) (overrides_seen rest)
-  faults_good i t rest all next fine = rw (next, fine) refl
+  pub faults_good : (i j : ℕ) (t : OverrideTable) (rest all : List OverrideTable) → all ≡ t ∷ rest → j ≡ i + 1 → override_cause read (override_seen t).filter ≡ None → faults_from read name j (overrides_seen rest) ≡ faults_from read name i (overrides_seen all)
+  faults_good i j t rest all next more fine = rw (next, more, fine) refl
 
   -- one that does not adds its fault
-  pub faults_bad : (es : List ConfigCompileError) (e : ConfigCompileError) (i : ℕ) (t : OverrideTable) (rest all : List OverrideTable) → all ≡ t ∷ rest → override_cause read (override_seen t).filter ≡ Some (cause_seen e.kind) → string_bytes e.profile_name ≡ name → e.section ≡ sections.Override i → map compile_error_seen (es ++ e ∷ []) ++ override_faults read name (i + 1) (overrides_seen rest) ≡ map compile_error_seen es ++ override_faults read name i (overrides_seen all)
-  faults_bad es e i t rest all next bad named at =
-      rw (next, bad, map-append compile_error_seen es (e ∷ []), append_assoc (map compile_error_seen es) (compile_error_seen e ∷ []) (override_faults read name (i + 1) (overrides_seen rest)), at)
-      (λ j. map compile_error_seen es ++ record { profile = named j; section = in_override i; cause = cause_seen e.kind } ∷ override_faults read name (i + 1) (overrides_seen rest))
+  pub faults_bad : (es : List ConfigCompileError) (e : ConfigCompileError) (cause : CompileCause) (i j : ℕ) (t : OverrideTable) (rest all : List OverrideTable) → all ≡ t ∷ rest → j ≡ i + 1 → override_cause read (override_seen t).filter ≡ Some cause → compile_error_seen e ≡ record { profile = name; section = in_override i; cause = cause } → map compile_error_seen (es ++ e ∷ []) ++ faults_from read name j (overrides_seen rest) ≡ map compile_error_seen es ++ faults_from read name i (overrides_seen all)
+  faults_bad es e cause i j t rest all next more bad is =
+      rw (next, more, bad, map-append compile_error_seen es (e ∷ []), append_assoc (map compile_error_seen es) (compile_error_seen e ∷ []) (faults_from read name (i + 1) (overrides_seen rest)))
+      (ap (λ f. map compile_error_seen es ++ f ∷ faults_from read name (i + 1) (overrides_seen rest)) is)
+
+module _ {M K : Type 0} (read : List ℕ → Result M (List ℕ)) (source : SourceSeen) (name : Name) where
+  -- an override that compiles adds its rule
+  pub rules_good : {R : Type 0} (f : R → Compiled M K) (rs : List R) (r : R) (i j : ℕ) (t : OverrideTable) (rest all : List OverrideTable) → all ≡ t ∷ rest → j ≡ i + 1 → f r ≡ rule_at read source name i (override_seen t) → map f (rs ++ r ∷ []) ++ rules_from read source name j (overrides_seen rest) ≡ map f rs ++ rules_from read source name i (overrides_seen all)
+  rules_good f rs r i j t rest all next more is = rw (next, more, ← is, map-append f rs (r ∷ []), append_assoc (map f rs) (f r ∷ []) (rules_from read source name (i + 1) (overrides_seen rest))) refl
+
+-- what ends with an element is not empty
+pub not_empty : {X : Type 0} (xs : List X) (x : X) → xs ++ x ∷ [] ≡ [] → ⊥
+not_empty [] x h = cc
+not_empty (y ∷ ys) x h = cc
+
+-- a list of no elements
+pub none_left : {X : Type 0} (xs : List X) → length xs ≡ 0 → xs ≡ []
+none_left [] h = refl
+none_left (x ∷ xs) h = absurd (omega arith)

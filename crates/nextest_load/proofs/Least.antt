@@ -1,5 +1,5 @@
 -- The least of some texts is the first of a set that has the same texts.
-use Rattle.std.proofs.Common.{◌≡◌, ℕ, List, [], ◌∷◌, Option, Some, None, Bool, true, false, ◌||◌, if◌then◌else◌, String, Global, string_bytes, Ordering, Less, Equal, Greater, IsTrue, length, ◌<◌, arith, refl, subst, sym, ap, ◌∙◌}
+use Rattle.std.proofs.Common.{◌≡◌, ◌↔◌, ◌⊎◌, inl, inr, ⊎_elim, ℕ, List, [], ◌∷◌, Option, Some, None, Bool, true, false, ◌||◌, if◌then◌else◌, String, Global, string_bytes, Ordering, Less, Equal, Greater, IsTrue, length, ◌<◌, arith, refl, subst, sym, ap, ◌∙◌}
 use Rattle.std.specs.List.{All, AllByRecursion, list_any}
 use Rattle.std.specs.Str.{bytes_eq}
 use Rattle.std.specs.String.{string_cmp}
@@ -14,12 +14,13 @@ use Rattle.std.proofs.lemmas.List.Elements.{recursion_from_All}
 use Rattle.std.proofs.lemmas.Map.Lookups.{exact_bytes}
 use Rattle.std.proofs.lemmas.Slice.Eq.{bytes_eq-Decides}
 use Rattle.nextest_tree.specs.Schema.{is_one_of}
-use Rattle.nextest_load.specs.Faults.{lesser, least}
+use Rattle.std.specs.Cmp.{tied_itself}
+use Rattle.nextest_load.specs.Faults.{lesser, least, IsLeast}
 
-head_in : (p q : List ℕ) (ps : List (List ℕ)) → p ≡ q → is_one_of (p ∷ ps) q ≡ true
+pub head_in : (p q : List ℕ) (ps : List (List ℕ)) → p ≡ q → is_one_of (p ∷ ps) q ≡ true
 head_in p q ps e = rw ((bytes_eq-Decides p q).1 e) refl
 
-tail_in : (p q : List ℕ) (ps : List (List ℕ)) → is_one_of ps q ≡ true → is_one_of (p ∷ ps) q ≡ true
+pub tail_in : (p q : List ℕ) (ps : List (List ℕ)) → is_one_of ps q ≡ true → is_one_of (p ∷ ps) q ≡ true
 tail_in p q ps h = rw h (or-true (bytes_eq p q))
 
 -- the least of some texts is one of them
@@ -96,3 +97,66 @@ none_is_least s ps empty same = least_of_none ps (λ q. sym (same q) ∙ rw empt
 pub no_keys : {X : Type 0} (ks : List X) → ((0 < length ks) → ⊥) → ks ≡ []
 no_keys [] h = refl
 no_keys (k ∷ ks) h = absurd (h (omega arith))
+
+-- a text of some is the first of them, or one of the others
+pub either_text : (p q : List ℕ) (ps : List (List ℕ)) (b : Bool) → bytes_eq p q ≡ b → is_one_of (p ∷ ps) q ≡ true → (p ≡ q) ⊎ (is_one_of ps q ≡ true)
+either_text p q ps true is h = inl ((bytes_eq-Decides p q).0 is)
+either_text p q ps false is h = inr (rw is at h)
+
+not_above_itself : (p q : List ℕ) → p ≡ q → is_gt (slice_cmp nat_cmp p q) ≡ false
+not_above_itself p q same = rw (same, tied_itself nat_list_cmp_total q) refl
+
+between_at : (o u : Ordering) (a b c : List ℕ) → slice_cmp nat_cmp a b ≡ o → slice_cmp nat_cmp b c ≡ u → is_gt o ≡ false → is_gt u ≡ false → is_gt (slice_cmp nat_cmp a c) ≡ false
+between_at Less Less a b c ab bc h k = rw (nat_list_cmp_total.trans a b c ab bc) refl
+between_at Equal u a b c ab bc h k = rw (exact_bytes a b ab, bc) k
+between_at Less Equal a b c ab bc h k = rw (← exact_bytes b c bc, ab) refl
+between_at Less Greater a b c ab bc h k = cc
+between_at Greater u a b c ab bc h k = cc
+
+-- what is not above another is not above what that one is not above
+between : (a b c : List ℕ) → is_gt (slice_cmp nat_cmp a b) ≡ false → is_gt (slice_cmp nat_cmp b c) ≡ false → is_gt (slice_cmp nat_cmp a c) ≡ false
+between a b c h k = between_at (slice_cmp nat_cmp a b) (slice_cmp nat_cmp b c) a b c refl refl h k
+
+turned_back : (o : Ordering) → is_lt o ≡ false → is_gt (ordering_reverse o) ≡ false
+turned_back Less h = cc
+turned_back Equal h = refl
+turned_back Greater h = refl
+
+not_above : (a b : List ℕ) → is_lt (slice_cmp nat_cmp a b) ≡ false → is_gt (slice_cmp nat_cmp b a) ≡ false
+not_above a b h = ap is_gt (nat_list_cmp_total.antisymm b a) ∙ turned_back (slice_cmp nat_cmp a b) h
+
+less_not_above : (o : Ordering) → is_lt o ≡ true → is_gt o ≡ false
+less_not_above Less h = refl
+less_not_above Equal h = cc
+less_not_above Greater h = cc
+
+-- the lesser of two is above neither, nor above what the second is not above
+lesser_below : (p m b : List ℕ) (ps : List (List ℕ)) (t : Bool) → is_lt (slice_cmp nat_cmp m p) ≡ t → (if t then m else p) ≡ b → IsBelow m ps → IsBelow b (p ∷ ps)
+lesser_below p m b ps true is e below q h =
+    ⊎_elim (λ same. rw (← e, ← same) (less_not_above (slice_cmp nat_cmp m p) is)) (λ among. rw (← e) (below q among)) (either_text p q ps (bytes_eq p q) refl h)
+lesser_below p m b ps false is e below q h =
+    ⊎_elim (λ same. not_above_itself b q (sym e ∙ same)) (λ among. rw (← e) (between p m q (not_above m p is) (below q among))) (either_text p q ps (bytes_eq p q) refl h)
+
+below_all : (p b : List ℕ) (ps : List (List ℕ)) (o : Option (List ℕ)) → o ≡ least ps → ((m : List ℕ) → least ps ≡ Some m → IsBelow m ps) → lesser p o ≡ b → IsBelow b (p ∷ ps)
+below_all p b [] None is next e q h = ⊎_elim (λ same. not_above_itself b q (sym e ∙ same)) (λ among. cc) (either_text p q [] (bytes_eq p q) refl h)
+below_all p b (r ∷ ps) None is next e q h = cc
+below_all p b ps (Some m) is next e q h = lesser_below p m b ps (is_lt (slice_cmp nat_cmp m p)) refl e (next m (sym is)) q h
+
+-- the least of some texts is above none of them
+least_below : (ps : List (List ℕ)) (b : List ℕ) → least ps ≡ Some b → IsBelow b ps
+least_below [] b h = cc
+least_below (p ∷ ps) b h = let e : lesser p (least ps) ≡ b = cc in below_all p b ps (least ps) refl (least_below ps) e
+
+-- the least is what is one of them and has none below it
+pub least_law : (ps : List (List ℕ)) (p : List ℕ) → (least ps ≡ Some p) ↔ IsLeast ps p
+least_law ps p = (
+  λ h. record { among = least_in ps p h; lowest = λ q among. not_less q p (least_below ps p h q among) },
+  λ h. least_is ps p h.among (λ q among. not_above q p (h.lowest q among)),
+)
+
+no_least : (ps : List (List ℕ)) → least ps ≡ None → ps ≡ []
+no_least [] h = refl
+no_least (p ∷ ps) h = cc
+
+pub none_law : (ps : List (List ℕ)) → (least ps ≡ None) ↔ (ps ≡ [])
+none_law ps = (no_least ps, λ h. rw h refl)

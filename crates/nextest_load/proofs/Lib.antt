@@ -3,9 +3,13 @@ pub mod Laying
 pub mod Steps
 pub mod Shown
 pub mod Sorted
-pub mod Seeing
-pub mod Compiling
 pub mod Accepting
 pub mod Least
 pub mod Told
 pub mod Naming
+pub mod Known
+pub mod Ordering
+pub mod Compiling
+pub mod Growing
+pub mod Closing
+pub mod Defining

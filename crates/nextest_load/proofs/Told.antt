@@ -1,5 +1,5 @@
 -- What a reading of a tree's elements tells.
-use Rattle.std.proofs.Common.{◌≡◌, ℕ, List, [], ◌∷◌, Option, Some, None, Result, Ok, Err, IsErrAnd, option_map, refl, sym, ap}
+use Rattle.std.proofs.Common.{◌≡◌, ℕ, List, [], ◌∷◌, map, Option, Some, None, Result, Ok, Err, IsErrAnd, option_map, refl, sym, ap}
 use Rattle.std.specs.BTreeSet.{contains_text}
 use Rattle.std.specs.Option.{option_or}
 use Rattle.std.proofs.lemmas.Result.{err_from_is_err_and}
@@ -9,9 +9,9 @@ use Rattle.nextest_tree.specs.Node.{Node}
 use Rattle.nextest_tree.specs.Reads.{Spot, start, spot_of, noting, outcome, reading, told, Fails}
 use Rattle.nextest_tree.specs.Schema.{Fault, Schema, first, faults, unknown, is_one_of}
 use Rattle.nextest_load.specs.Errors.{Ended, passed, refused, no_memory, odd, kind_seen, ended_with, seen_at, source_of, error_seen, ended, Found, IsRefusal, Refuses}
-use Rattle.nextest_load.specs.Faults.{bad_element, LoadFault, at_source, element_fault}
+use Rattle.nextest_load.specs.Faults.{Cause, bad_element, LoadFault, at_source, fault_of, all_found, element_fault}
 use Rattle.nextest_load.specs.Sources.{SourceSeen}
-use Rattle.nextest_load.specs.Tables.{root}
+use Rattle.nextest_tables.specs.Tables.{root}
 use Rattle.nextest_load.specs.declared.error.ConfigParseError.{ConfigParseError}
 use Rattle.nextest_load.specs.declared.error.ConfigParseErrorKind.{ConfigParseErrorKind}
 use Rattle.nextest_load.specs.declared.error.ConfigParseErrorKind.TheVariants as kinds
@@ -46,7 +46,7 @@ refused_found : (f : LoadFault) (o : Ended) → IsRefusal (Some f) o → Found (
 refused_found f passed h = absurd h
 refused_found f (refused g) h = h
 refused_found f no_memory h = tt
-refused_found f odd h = cc
+refused_found f odd h = absurd h
 
 pub refusal_found : (f : LoadFault) (e : ConfigParseError) → Refuses e (Some f) → Found (Some f) (error_seen e)
 refusal_found f e h = refused_found f (error_seen e) h
@@ -65,6 +65,7 @@ kind_told None (kinds.ReadError outcome) h = cc
 kind_told None (kinds.BuildError message) h = cc
 kind_told None (kinds.DeserializeError fault) h = cc
 kind_told None (kinds.CompileErrors errors) h = cc
+kind_told None (kinds.UnknownTestGroups errors known) h = cc
 kind_told None kinds.Memory h = cc
 
 pub not_passed : (e : ConfigParseError) → error_seen e ≡ passed → ⊥
@@ -101,3 +102,8 @@ tells source n e (Some f) fault memory h = rw (first_found root n f (fault f ref
 
 pub refusal_told : (source : SourceSeen) (n : Node) (fault : ElementFault) (e : ConfigParseError) → Fails fault (reading root n start) → (told fault ≡ None → error_seen e ≡ no_memory) → Refuses e (option_map (λ f. at_source source (bad_element f)) (told fault)) → Found (option_map (at_source source) (element_fault n)) (error_seen e)
 refusal_told source n fault e h memory refuses = tells source n e (told fault) h memory refuses
+
+-- all that was found is one refusal, where something was
+pub all_refused : {X Y : Type 0} (see : X → Y) (cause : List Y → Cause) (source : SourceSeen) (xs : List X) (e : ConfigParseError) → (xs ≡ [] → ⊥) → Refuses e (Some (at_source source (cause (map see xs)))) → Found (fault_of source (all_found cause (map see xs))) (error_seen e)
+all_refused see cause source [] e some h = absurd (some refl)
+all_refused see cause source (x ∷ xs) e some h = refusal_found (at_source source (cause (map see (x ∷ xs)))) e h

@@ -2,11 +2,14 @@
 use Rattle.std.specs.Prelude.{◌≡◌, ℕ, List, [], ◌∷◌, Option, Some, None, Result, Ok, IsSome}
 use Rattle.std.specs.Option.{option_or}
 use Rattle.nextest_tree.specs.Schema.{faults, unknown}
-use Rattle.nextest_load.specs.Sources.{SourceSeen, discovered_file, FileSeen, Outcome, text, failed}
-use Rattle.nextest_load.specs.Tables.{root}
+use Rattle.nextest_tables.specs.Tables.{root}
+use Rattle.nextest_tables.specs.Texts.{OverrideText, ProfileText}
+use Rattle.nextest_tables.specs.Written.{Name}
+use Rattle.nextest_load.specs.Sources.{SourceSeen, discovered_file, FileSeen, Outcome, text, not_found, not_a_directory, failed}
 use Rattle.nextest_load.specs.Text.{tree_of}
-use Rattle.nextest_load.specs.Texts.{SourceText, OverrideText, own_tree, merged_tree, default_profile_in}
-use Rattle.nextest_load.specs.Faults.{LoadFault, not_read, at_source, EachSource, load_fault}
+use Rattle.nextest_load.specs.Texts.{SourceText, own_tree, own_text, merged_tree}
+use Rattle.nextest_load.specs.Groups.{IsAmong, known_to}
+use Rattle.nextest_load.specs.Faults.{LoadFault, not_read, at_source, EachOver, EachSource, load_fault}
 
 -- the repository's file where it is looked for
 abbrev pub repository_of : FileSeen → SourceSeen
@@ -42,10 +45,21 @@ abbrev pub Each : {X : Type 0} → (X → Type 0) → List X → Type 0
 Each P [] = Unit {0}
 Each P (x ∷ xs) = P x × Each P xs
 
+-- a fact of each rule of profiles
+abbrev pub EachRule : (OverrideText → Type 0) → List (Name × ProfileText) → Type 0
+EachRule P profiles = Each (λ p. Each P p.1.overrides) profiles
+
+-- a file is read, or it is missing: there is no such file, or a part of its path is no directory
+abbrev pub IsReadOrMissing : Outcome → Type 0
+IsReadOrMissing (text t) = Unit {0}
+IsReadOrMissing not_found = Unit {0}
+IsReadOrMissing not_a_directory = Unit {0}
+IsReadOrMissing (failed message) = ⊥
+
 -- all that is asked of the files
 pub record IsAccepted {M : Type 0} (read : List ℕ → Result M (List ℕ)) (f : FileSeen) : Type 0 where
   -- the file is read, or it is missing
-  pub outcome : read_fault f f.outcome ≡ None
+  pub outcome : IsReadOrMissing f.outcome
   -- each text is a document
   pub documents : EachSource (λ s. IsSome (tree_of s.text)) (sources_in f)
   -- each file has, over the defaults, no fault of an element
@@ -53,6 +67,8 @@ pub record IsAccepted {M : Type 0} (read : List ℕ → Result M (List ℕ)) (f 
   -- each file has only keys that are read today
   pub known : EachSource (λ s. unknown root [] (own_tree s) ≡ []) (sources_in f)
   -- each rule of each file compiles
-  pub compiled : EachSource (λ s. Each (IsCompiled read) (default_profile_in (own_tree s)).overrides) (sources_in f)
+  pub compiled : EachSource (λ s. EachRule (IsCompiled read) (own_text s).profiles) (sources_in f)
+  -- each custom group that a rule of a file writes is defined in that file or a lower one
+  pub groups : EachOver (λ below s. EachRule (λ o. IsAmong (known_to below s) o.written.test_group) (own_text s).profiles) (sources_in f)
   -- the merged tree has no fault of an element
   pub merged_readable : faults root [] (merged_tree (sources_in f)) ≡ []

@@ -9,4 +9,5 @@ is_memory (kinds.ReadError outcome) = false
 is_memory (kinds.BuildError message) = false
 is_memory (kinds.DeserializeError fault) = false
 is_memory (kinds.CompileErrors errors) = false
+is_memory (kinds.UnknownTestGroups errors known_groups) = false
 is_memory kinds.Memory = true

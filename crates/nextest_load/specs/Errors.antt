@@ -1,13 +1,17 @@
 -- What contracts see of a refusal.
 use Rattle.std.specs.Prelude.{◌≡◌, map, Option, Some, None, option_map, Result, Ok, Err, string_bytes}
+use Rattle.std.specs.BTreeSet.{contains_text}
 use Rattle.nextest_tree.specs.Reads.{told}
+use Rattle.nextest_elements.specs.TestGroup.{custom_group_text}
+use Rattle.nextest_load.specs.Groups.{UnknownGroup}
 use Rattle.nextest_load.specs.Sources.{SourceSeen, source_seen, outcome_seen}
-use Rattle.nextest_load.specs.Faults.{not_read, not_document, bad_element, not_compiled, CompileFault, Section, in_override, CompileCause, no_constraints, not_parsed, LoadFault, at_source}
+use Rattle.nextest_load.specs.Faults.{not_read, not_document, bad_element, not_compiled, unknown_groups, CompileFault, Section, in_override, CompileCause, no_constraints, not_parsed, LoadFault, at_source}
 use Rattle.nextest_load.specs.declared.error.ConfigCompileErrorKind.{ConfigCompileErrorKind}
 use Rattle.nextest_load.specs.declared.error.ConfigCompileErrorKind.TheVariants as causes
 use Rattle.nextest_load.specs.declared.error.ConfigCompileSection.{ConfigCompileSection}
 use Rattle.nextest_load.specs.declared.error.ConfigCompileSection.TheVariants as sections
 use Rattle.nextest_load.specs.declared.error.ConfigCompileError.{ConfigCompileError}
+use Rattle.nextest_load.specs.declared.error.UnknownTestGroupError.{UnknownTestGroupError}
 use Rattle.nextest_load.specs.declared.error.ConfigParseErrorKind.{ConfigParseErrorKind}
 use Rattle.nextest_load.specs.declared.error.ConfigParseErrorKind.TheVariants as kinds
 use Rattle.nextest_load.specs.declared.error.ConfigParseError.{ConfigParseError}
@@ -29,12 +33,16 @@ section_seen (sections.Override i) = in_override i
 abbrev pub compile_error_seen : ConfigCompileError → CompileFault
 compile_error_seen e = record { profile = string_bytes e.profile_name; section = section_seen e.section; cause = cause_seen e.kind }
 
+abbrev pub group_error_seen : UnknownTestGroupError → UnknownGroup
+group_error_seen e = record { profile = string_bytes e.profile_name; group = custom_group_text e.name }
+
 -- the fault that a kind tells at a source: a message for people is no part of it
 abbrev pub kind_seen : SourceSeen → ConfigParseErrorKind → Option LoadFault
 kind_seen source (kinds.ReadError outcome) = Some (at_source source (not_read (outcome_seen outcome)))
 kind_seen source (kinds.BuildError message) = Some (at_source source not_document)
 kind_seen source (kinds.DeserializeError fault) = option_map (λ f. at_source source (bad_element f)) (told fault)
 kind_seen source (kinds.CompileErrors errors) = Some (at_source source (not_compiled (map compile_error_seen errors.items)))
+kind_seen source (kinds.UnknownTestGroups errors known_groups) = Some (at_source source (unknown_groups (map group_error_seen errors.items) (contains_text known_groups)))
 kind_seen source kinds.Memory = None
 
 abbrev pub ended_with : Option LoadFault → Ended
@@ -71,7 +79,7 @@ abbrev pub IsRefusal : Option LoadFault → Ended → Type 0
 IsRefusal o passed = ⊥
 IsRefusal o (refused f) = o ≡ Some f
 IsRefusal o no_memory = Unit {0}
-IsRefusal o odd = o ≡ None
+IsRefusal o odd = ⊥
 
 abbrev pub Refuses : ConfigParseError → Option LoadFault → Type 0
 Refuses e o = IsRefusal o (error_seen e)

@@ -9,6 +9,7 @@ kind_number (kinds.ReadError outcome) = 2
 kind_number (kinds.BuildError message) = 3
 kind_number (kinds.DeserializeError fault) = 4
 kind_number (kinds.CompileErrors errors) = 13
+kind_number (kinds.UnknownTestGroups errors known_groups) = 14
 kind_number kinds.Memory = 16
 
 -- the name of a kind
@@ -17,4 +18,5 @@ kind_name (kinds.ReadError outcome) = codes "ReadError"
 kind_name (kinds.BuildError message) = codes "BuildError"
 kind_name (kinds.DeserializeError fault) = codes "DeserializeError"
 kind_name (kinds.CompileErrors errors) = codes "CompileErrors"
+kind_name (kinds.UnknownTestGroups errors known_groups) = codes "UnknownTestGroups"
 kind_name kinds.Memory = codes "Memory"

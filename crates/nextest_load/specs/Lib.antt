@@ -6,11 +6,12 @@ pub mod Held
 pub mod Merge
 pub mod Shown
 pub mod Text
-pub mod Tables
 pub mod Texts
-pub mod Seen
+pub mod Order
+pub mod Groups
 pub mod Faults
 pub mod Accepted
+pub mod Closed
 pub mod ErrorKinds
 pub mod Errors
 pub mod Files

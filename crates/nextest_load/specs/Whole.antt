@@ -1,31 +1,18 @@
 -- What a configuration is, over what an engine made of its texts: M and K are its expressions and specs, or what they mean.
-use Rattle.std.specs.Prelude.{ℕ, List, map, Option, option_map, codes}
+use Rattle.std.specs.Prelude.{ℕ, List, map, Option, option_map}
 use Rattle.std.specs.Map.{lookup}
 use Rattle.std.specs.BTreeMap.{is_at}
 use Rattle.std.specs.Ordering.{nat_cmp}
 use Rattle.std.specs.Cmp.Lexicographic.{slice_cmp}
-use Rattle.nextest_elements.specs.declared.test_priority.TestPriority.{TestPriority}
-use Rattle.nextest_elements.specs.declared.retry_policy.RetryPolicy.{RetryPolicy}
+use Rattle.nextest_elements.specs.declared.test_group.TestGroupConfig.{TestGroupConfig}
+use Rattle.nextest_tables.specs.Written.{Name, Written, Fields}
 use Rattle.nextest_load.specs.Sources.{SourceSeen}
-
--- the name of a profile
-abbrev pub Name : Type 0
-Name = List ℕ
-
--- the profile that every configuration has
-abbrev pub default_name : Name
-default_name = codes "default"
 
 -- the place of a rule: its source, its profile, and its position there
 pub record RuleId : Type 0 where
   pub source : SourceSeen
   pub profile : Name
   pub index : ℕ
-
--- what an override writes for each setting
-pub record Written : Type 0 where
-  pub priority : Option TestPriority
-  pub retries : Option RetryPolicy
 
 -- a rule: its place, what its filter and its platform specs are, and what it writes
 pub record Compiled (M K : Type 0) : Type 0 where
@@ -40,14 +27,11 @@ pub record Layer (M K : Type 0) : Type 0 where
   pub source : SourceSeen
   pub rules : List (Name × List (Compiled M K))
 
--- what a profile of the merged tree writes for each setting
-pub record Fields : Type 0 where
-  pub retries : Option RetryPolicy
-
--- a configuration: what the profiles of the merged tree write, the rules of the sources, the highest first, and the
--- filter that matches everything
+-- a configuration: what the profiles of the merged tree write, the groups that it defines, the rules of the sources, the
+-- highest first, and the filter that matches everything
 pub record Whole (M K : Type 0) : Type 0 where
   pub profiles : List (Name × Fields)
+  pub test_groups : List (Name × TestGroupConfig)
   pub layers : List (Layer M K)
   pub everything : M
 
@@ -71,6 +55,7 @@ meant_layer meaning spec_meaning l = record { source = l.source; rules = map (λ
 abbrev pub meant_whole : {E N M K : Type 0} → (E → M) → (N → K) → Whole E N → Whole M K
 meant_whole meaning spec_meaning c = record {
   profiles = c.profiles;
+  test_groups = c.test_groups;
   layers = map (meant_layer meaning spec_meaning) c.layers;
   everything = meaning c.everything;
 }

@@ -1,20 +1,22 @@
 //! Compilation: what the engines make of the texts of rules, or everything that they refuse.
-ghost use Rattle.std.specs.Prelude.{◌≡◌, [], IfOk, None, MatchResult, map, Some, Err, Ok, option_map};
+ghost use Rattle.std.specs.Prelude.{◌≡◌, [], IfOk, None, MatchResult, map, Some, Ok, option_map};
 ghost use Rattle.nextest_load.specs.declared.engines.FiltersetKind.TheVariants.{OverrideFilter};
+ghost use Rattle.nextest_tables.specs.Seen.{named, override_seen, overrides_seen, profile_seen};
 ghost use Rattle.nextest_load.specs.Errors.{cause_seen, compile_error_seen};
-ghost use Rattle.nextest_load.specs.Faults.{override_cause, override_faults};
+ghost use Rattle.nextest_load.specs.Faults.{in_override, override_cause, override_faults, compile_faults};
 ghost use Rattle.nextest_load.specs.Held.{rule_held};
-ghost use Rattle.nextest_load.specs.Seen.{override_seen, overrides_seen};
 ghost use Rattle.nextest_load.specs.Sources.{source_seen};
-ghost use Rattle.nextest_load.specs.Texts.{rule_at, rules_from};
+ghost use Rattle.nextest_load.specs.Texts.{rule_at, rules_of, rules_in};
 ghost use Rattle.nextest_load.specs.Whole.{meant_rule};
 
-use crate::engines::{FilterFault, Filters, FiltersetKind, ParseContext, Specs};
+use crate::engines::{FilterFault, Filters, FiltersetKind, Specs};
 use crate::error::{ConfigCompileError, ConfigCompileErrorKind, ConfigCompileSection};
-use crate::overrides::{CompiledOverride, OverrideId, OverrideSettings, PlatformSpecs};
+use crate::order::DefaultFirst;
+use crate::overrides::{CompiledOverride, OverrideId, PlatformSpecs};
 use crate::sources::ConfigSource;
-use crate::tables::OverrideTable;
+use nextest_tables::{OverrideTable, ProfileTable};
 use std::alloc::{AllocError, Global};
+use std::collections::BTreeMap;
 
 /// What an engine makes of the filter of an override, or what is wrong with it.
 fn compile_filter<F: Filters>(
@@ -52,14 +54,14 @@ fn compile_override<F: Filters, S: Specs>(
     source: &ConfigSource,
     profile: &str,
     index: usize,
-    table: &OverrideTable,
+    table: OverrideTable,
 ) -> Result<Result<CompiledOverride<F, S>, ConfigCompileErrorKind>, AllocError>
     ensures { IfOk result (λ made. MatchResult made
-        (λ rule. (override_cause (F.read filters.now OverrideFilter) (override_seen table.now).filter ≡ None)
-        × (meant_rule F.meaning S.spec_meaning (rule_held rule) ≡ rule_at (F.read filters.now OverrideFilter) (source_seen source.now) profile.now index (override_seen table.now)))
-        (λ kind. override_cause (F.read filters.now OverrideFilter) (override_seen table.now).filter ≡ Some (cause_seen kind))) }
+        (λ rule. (override_cause (F.read filters.now OverrideFilter) (override_seen table).filter ≡ None)
+        × (meant_rule F.meaning S.spec_meaning (rule_held rule) ≡ rule_at (F.read filters.now OverrideFilter) (source_seen source.now) profile.now index (override_seen table)))
+        (λ kind. override_cause (F.read filters.now OverrideFilter) (override_seen table).filter ≡ Some (cause_seen kind))) }
 {
-    let filter = match compile_filter(alloc, filters, table)? {
+    let filter = match compile_filter(alloc, filters, &table)? {
         Ok(filter) => filter,
         Err(kind) => return Ok(Err(kind)),
     };
@@ -68,6 +70,7 @@ fn compile_override<F: Filters, S: Specs>(
         profile_name: String::from_str(alloc, profile)?,
         index,
     };
+    let OverrideTable { settings, .. } = table;
     Ok(Ok(CompiledOverride {
         id,
         filter: Some(filter),
@@ -75,41 +78,83 @@ fn compile_override<F: Filters, S: Specs>(
             host: None,
             target: None,
         },
-        settings: OverrideSettings {
-            priority: table.priority,
-            retries: table.retries,
-        },
+        settings,
     }))
 }
 
+/// What is wrong with the override at a position.
+fn compile_error(
+    alloc: Global,
+    profile: &str,
+    index: usize,
+    kind: ConfigCompileErrorKind,
+) -> Result<ConfigCompileError, AllocError>
+    ensures { IfOk result (λ error. compile_error_seen error ≡ record { profile = profile.now; section = in_override index; cause = cause_seen kind }) }
+{
+    Ok(ConfigCompileError {
+        profile_name: String::from_str(alloc, profile)?,
+        section: ConfigCompileSection::Override(index),
+        kind,
+    })
+}
+
 /// The rules of a profile's overrides, and everything that is wrong with them, in order.
-pub(crate) fn compile_overrides<F: Filters, S: Specs>(
+fn compile_overrides<F: Filters, S: Specs>(
     alloc: Global,
     filters: &F,
     source: &ConfigSource,
     profile: &str,
-    tables: &[OverrideTable],
+    tables: Vec<OverrideTable>,
 ) -> Result<(Vec<CompiledOverride<F, S>>, Vec<ConfigCompileError>), AllocError>
-    ensures faults { IfOk result (λ made. map compile_error_seen made.1.items ≡ override_faults (F.read filters.now OverrideFilter) profile.now 0 (overrides_seen tables.now)) }
-    ensures rules { IfOk result (λ made. made.1.items ≡ [] → map (λ r. meant_rule F.meaning S.spec_meaning (rule_held r)) made.0.items ≡ rules_from (F.read filters.now OverrideFilter) (source_seen source.now) profile.now 0 (overrides_seen tables.now)) }
+    ensures faults { IfOk result (λ made. map compile_error_seen made.1.items ≡ override_faults (F.read filters.now OverrideFilter) profile.now (overrides_seen tables.items)) }
+    ensures rules { IfOk result (λ made. made.1.items ≡ [] → map (λ r. meant_rule F.meaning S.spec_meaning (rule_held r)) made.0.items ≡ rules_of (F.read filters.now OverrideFilter) (source_seen source.now) profile.now (overrides_seen tables.items)) }
 {
     let mut rules = Vec::new(alloc);
     let mut errors = Vec::new(alloc);
-    for (index, table) in tables.iter().enumerate() {
+    for (index, table) in tables.into_iter().enumerate() {
         match compile_override(alloc, filters, source, profile, index, table)? {
-            Ok(rule) => rules.push(rule).map_err(AllocError::from)?,
-            Err(kind) => {
-                let profile_name = String::from_str(alloc, profile)?;
-                let section = ConfigCompileSection::Override(index);
-                errors
-                    .push(ConfigCompileError {
-                        profile_name,
-                        section,
-                        kind,
-                    })
-                    .map_err(AllocError::from)?;
-            }
+            Ok(rule) => rules.push(rule)?,
+            Err(kind) => errors.push(compile_error(alloc, profile, index, kind)?)?,
         }
     }
+    Ok((rules, errors))
+}
+
+/// The overrides of a profile, none where it writes none.
+fn overrides_of(alloc: Global, profile: ProfileTable) -> Vec<OverrideTable>
+    ensures { overrides_seen result.items ≡ (profile_seen profile).overrides }
+{
+    let ProfileTable { overrides, .. } = profile;
+    match overrides {
+        Some(tables) => tables,
+        None => Vec::new(alloc),
+    }
+}
+
+/// The rules of profiles, and everything that is wrong with them: `default` first, the others by name.
+pub(crate) fn compile_profiles<F: Filters, S: Specs>(
+    alloc: Global,
+    filters: &F,
+    source: &ConfigSource,
+    profiles: BTreeMap<String, ProfileTable>,
+) -> Result<
+    (
+        BTreeMap<String, Vec<CompiledOverride<F, S>>>,
+        Vec<ConfigCompileError>,
+    ),
+    AllocError,
+>
+    ensures faults { IfOk result (λ made. map compile_error_seen made.1.items ≡ compile_faults (F.read filters.now OverrideFilter) (named profile_seen profiles.entries)) }
+    ensures rules { IfOk result (λ made. made.1.items ≡ [] → named (λ rules. map (λ r. meant_rule F.meaning S.spec_meaning (rule_held r)) rules.items) made.0.entries ≡ rules_in (F.read filters.now OverrideFilter) (source_seen source.now) (named profile_seen profiles.entries)) }
+{
+    let mut rules = BTreeMap::new(alloc);
+    let mut errors = DefaultFirst::new(alloc);
+    for (name, table) in profiles {
+        let tables = overrides_of(alloc, table);
+        let (compiled, found) = compile_overrides(alloc, filters, source, name.as_str(), tables)?;
+        errors.add(name.as_str(), found)?;
+        drop(rules.insert(name, compiled)?);
+    }
+    let errors = errors.all()?;
     Ok((rules, errors))
 }

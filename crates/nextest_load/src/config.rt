@@ -2,15 +2,10 @@
 use crate::engines::{Filters, Specs};
 use crate::overrides::CompiledOverride;
 use crate::sources::ConfigSource;
-use nextest_elements::RetryPolicy;
+use nextest_elements::{CustomTestGroup, TestGroupConfig};
+use nextest_tables::ProfileFields;
 use std::collections::BTreeMap;
 use std::marker::Model;
-
-/// What a profile of the merged tree writes for each setting.
-#[derive(Clone, Copy, Debug, PartialEq, Eq)]
-pub struct ProfileFields {
-    pub retries: Option<RetryPolicy>,
-}
 
 /// The rules of one source, by profile and in the order of the file.
 #[derive(Drop)]
@@ -19,10 +14,11 @@ pub struct LayerRules<F: Filters, S: Specs> {
     pub rules: BTreeMap<String, Vec<CompiledOverride<F, S>>>,
 }
 
-/// What load makes of its sources: the profiles of the merged tree, and the rules of every source.
+/// What load makes of its sources: the profiles and the groups of the merged tree, and the rules of every source.
 #[derive(Drop)]
 pub struct LoadedConfig<F: Filters, S: Specs> {
     profiles: BTreeMap<String, ProfileFields>,
+    test_groups: BTreeMap<CustomTestGroup, TestGroupConfig>,
     layers: Vec<LayerRules<F, S>>,
     everything: F::Expr,
 }
@@ -33,24 +29,28 @@ impl<F: Filters, S: Specs> Model for LoadedConfig<F, S> {
 
     ghost Value = { Whole F.Expr S.Spec };
 
-    ghost use Rattle.nextest_load.specs.Held.{named, fields_held, layer_held};
+    ghost use Rattle.nextest_tables.specs.Seen.{named, fields_held};
+    ghost use Rattle.nextest_load.specs.Held.{groups_held, layer_held};
 
-    ghost view = { λ c. record { profiles = named fields_held c.profiles.entries; layers = map layer_held c.layers.items; everything = c.everything } };
+    ghost view = { λ c. record { profiles = named fields_held c.profiles.entries; test_groups = groups_held c.test_groups.entries; layers = map layer_held c.layers.items; everything = c.everything } };
 }
 
 impl<F: Filters, S: Specs> LoadedConfig<F, S> {
     ghost use Rattle.std.specs.Prelude.{◌≡◌, map};
-    ghost use Rattle.nextest_load.specs.Held.{named, fields_held, layer_held};
+    ghost use Rattle.nextest_tables.specs.Seen.{named, fields_held};
+    ghost use Rattle.nextest_load.specs.Held.{groups_held, layer_held};
 
     pub(crate) fn new(
         profiles: BTreeMap<String, ProfileFields>,
+        test_groups: BTreeMap<CustomTestGroup, TestGroupConfig>,
         layers: Vec<LayerRules<F, S>>,
         everything: F::Expr,
     ) -> Self
-        ensures { result ≡ record { profiles = named fields_held profiles.entries; layers = map layer_held layers.items; everything = everything } }
+        ensures { result ≡ record { profiles = named fields_held profiles.entries; test_groups = groups_held test_groups.entries; layers = map layer_held layers.items; everything = everything } }
     {
         LoadedConfig {
             profiles,
+            test_groups,
             layers,
             everything,
         }
@@ -61,6 +61,13 @@ impl<F: Filters, S: Specs> LoadedConfig<F, S> {
         ensures { named fields_held result.now.entries ≡ self.now.profiles }
     {
         &self.profiles
+    }
+
+    /// The groups that the merged tree defines.
+    pub fn test_groups(&self) -> &BTreeMap<CustomTestGroup, TestGroupConfig>
+        ensures { groups_held result.now.entries ≡ self.now.test_groups }
+    {
+        &self.test_groups
     }
 
     /// The rules of every source, the highest first.

@@ -3,8 +3,11 @@ ghost use Rattle.std.specs.Prelude.{◌≡◌, not, is_some};
 ghost use Rattle.nextest_load.specs.ErrorKinds.{is_memory};
 
 use crate::sources::{ConfigPath, ConfigSource, ReadOutcome};
-use nextest_elements::{ElementCause, ElementFault, ToolName};
+use nextest_elements::CustomTestGroup;
+use nextest_texts::ToolName;
+use nextest_tree::{ElementCause, ElementFault};
 use std::alloc::AllocError;
+use std::collections::BTreeSet;
 use std::fmt;
 
 /// What compilation refuses of a rule.
@@ -81,6 +84,25 @@ impl fmt::Display for ConfigCompileError {
     }
 }
 
+/// A rule writes a group that neither its own file nor a lower one defines.
+#[derive(Debug, Drop)]
+pub struct UnknownTestGroupError {
+    /// The profile of the rule.
+    pub profile_name: String,
+    /// The group.
+    pub name: CustomTestGroup,
+}
+
+impl fmt::Display for UnknownTestGroupError {
+    fn fmt<W: fmt::Write>(&self, f: &mut fmt::Formatter<W>) -> fmt::Result {
+        write!(
+            f,
+            "profile `{}`: unknown test group `{}`",
+            self.profile_name, self.name
+        )
+    }
+}
+
 /// What is wrong with a source.
 #[derive(Debug, Drop)]
 pub enum ConfigParseErrorKind {
@@ -90,8 +112,15 @@ pub enum ConfigParseErrorKind {
     BuildError(String),
     /// A value is not what may stand there.
     DeserializeError(ElementFault),
-    /// Rules that do not compile: all of them, in the order of the file.
+    /// Rules that do not compile: all of them, those of `default` first, the others by profile and in the order of the file.
     CompileErrors(Vec<ConfigCompileError>),
+    /// Rules write groups that are not known.
+    UnknownTestGroups {
+        /// One for each such rule, in the order of `CompileErrors`.
+        errors: Vec<UnknownTestGroupError>,
+        /// The groups that the file and those below it define, and the global one.
+        known_groups: BTreeSet<String>,
+    },
     /// Want of memory. It says nothing of any source.
     Memory,
 }
@@ -108,6 +137,7 @@ impl ConfigParseErrorKind {
             ConfigParseErrorKind::BuildError(_) => 3,
             ConfigParseErrorKind::DeserializeError(_) => 4,
             ConfigParseErrorKind::CompileErrors(_) => 13,
+            ConfigParseErrorKind::UnknownTestGroups { .. } => 14,
             ConfigParseErrorKind::Memory => 16,
         }
     }
@@ -121,6 +151,7 @@ impl ConfigParseErrorKind {
             ConfigParseErrorKind::BuildError(_) => "BuildError",
             ConfigParseErrorKind::DeserializeError(_) => "DeserializeError",
             ConfigParseErrorKind::CompileErrors(_) => "CompileErrors",
+            ConfigParseErrorKind::UnknownTestGroups { .. } => "UnknownTestGroups",
             ConfigParseErrorKind::Memory => "Memory",
         }
     }
@@ -136,11 +167,11 @@ pub struct ConfigParseError {
 
 #[tactic(auto, unfolding(crate::specs::Errors::error_seen, nextest_tree::specs::Reads::told))]
 impl ConfigParseError {
-    ghost use Rattle.std.specs.Prelude.{◌≡◌, option_map, option_and_then, None, not, false, is_some};
+    ghost use Rattle.std.specs.Prelude.{◌≡◌, option_map, option_and_then, None, not, is_some, IsSome};
     ghost use Rattle.nextest_texts.specs.IdentifierText.{tool_name_text};
     ghost use Rattle.nextest_tree.specs.Reads.{told};
     ghost use Rattle.nextest_load.specs.ErrorKinds.{is_memory};
-    ghost use Rattle.nextest_load.specs.Errors.{source_of, error_seen, kind_seen, no_memory, refused, odd, Refuses};
+    ghost use Rattle.nextest_load.specs.Errors.{source_of, error_seen, kind_seen, no_memory, Refuses};
     ghost use Rattle.nextest_load.specs.Faults.{at_source, bad_element};
     ghost use Rattle.nextest_load.specs.Sources.{path_text, source_seen, tool_of};
 
@@ -184,7 +215,7 @@ impl ConfigParseError {
 
     /// The fault of a source, or want of memory for its copy.
     pub(crate) fn at(source: &ConfigSource, kind: ConfigParseErrorKind) -> ConfigParseError
-        requires { is_memory kind ≡ false }
+        requires { IsSome (kind_seen (source_seen source.now) kind) }
         ensures { Refuses result (kind_seen (source_seen source.now) kind) }
     {
         match source.clone() {

@@ -3,24 +3,27 @@
 
 mod compile;
 mod config;
-mod defaults;
 pub mod engines;
 mod error;
+mod groups;
+pub mod laws;
 mod load;
 mod merge;
+mod order;
 mod overrides;
 mod sources;
-mod tables;
 mod text;
 mod warnings;
 
-pub use config::{LayerRules, LoadedConfig, ProfileFields};
+pub use config::{LayerRules, LoadedConfig};
 pub use error::{
     ConfigCompileError, ConfigCompileErrorKind, ConfigCompileSection, ConfigParseError,
-    ConfigParseErrorKind,
+    ConfigParseErrorKind, UnknownTestGroupError,
 };
 pub use merge::{copy_tree, lay_over, merge_layers};
-pub use overrides::{CompiledOverride, OverrideId, OverrideSettings, PlatformSpecs};
+pub use nextest_elements::{CustomTestGroup, TestGroupConfig};
+pub use nextest_tables::{OverrideSettings, ProfileFields};
+pub use overrides::{CompiledOverride, OverrideId, PlatformSpecs};
 pub use sources::{
     ConfigPath, ConfigPaths, ConfigSource, ConfigSourceKind, FileInput, ReadOutcome,
 };

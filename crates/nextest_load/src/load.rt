@@ -1,34 +1,39 @@
 //! The load: every source over the defaults, then all of them merged.
-ghost use Rattle.std.specs.Prelude.{◌≡◌, [], ◌∷◌, List, ℕ, IfOk, OnOk, map, option_map, option_and_then, Some, None, ◌⊎◌, MatchResult, reverse};
+ghost use Rattle.std.specs.Prelude.{◌≡◌, [], List, ℕ, IfOk, OnOk, map, ◌⊎◌, MatchResult};
 ghost use Rattle.std.specs.Option.{option_or};
 ghost use Rattle.std.specs.BTreeSet.{contains_text};
 ghost use Rattle.nextest_tree.specs.Schema.{is_one_of, unknown};
 ghost use Rattle.nextest_tree.specs.View.{node_of};
+ghost use Rattle.nextest_tables.specs.Defaults.{defaults};
+ghost use Rattle.nextest_tables.specs.Seen.{named, fields_held, profile_seen, root_seen, items_seen};
+ghost use Rattle.nextest_tables.specs.Tables.{root};
+ghost use Rattle.nextest_tables.specs.Texts.{root_in};
 ghost use Rattle.nextest_load.specs.declared.engines.FiltersetKind.TheVariants.{OverrideFilter};
 ghost use Rattle.nextest_load.specs.Accepted.{IsAccepted, repository_of, sources_of, sources_in, read_fault, file_fault};
+ghost use Rattle.nextest_load.specs.Closed.{IsClosed};
 ghost use Rattle.nextest_load.specs.Errors.{compile_error_seen, Found, ended, IsMemory};
-ghost use Rattle.nextest_load.specs.Faults.{fault_of, element_fault, stage_fault, unread, if_none, all_found, not_compiled, override_faults, source_fault, sources_fault, load_fault};
-ghost use Rattle.nextest_load.specs.Held.{layer_held, named, fields_held};
-ghost use Rattle.nextest_load.specs.Merge.{merged};
-ghost use Rattle.nextest_load.specs.Seen.{overrides_seen, profile_seen};
-ghost use Rattle.nextest_load.specs.Sources.{source_seen, file_seen};
-ghost use Rattle.nextest_load.specs.Tables.{root};
-ghost use Rattle.nextest_load.specs.Text.{tree_of};
-ghost use Rattle.nextest_load.specs.Texts.{SourceText, defaults, tree_in, own_tree, merged_tree, default_profile_in, layer_of, rules_from, config_of};
+ghost use Rattle.nextest_load.specs.Faults.{fault_of, element_fault, stage_fault, unread, if_none, all_found, not_compiled, rules_fault, text_fault, source_fault, sources_fault, load_fault};
 ghost use Rattle.nextest_load.specs.Files.{file_text};
-ghost use Rattle.nextest_load.specs.Whole.{default_name, meant_layer, meant_whole};
+ghost use Rattle.nextest_load.specs.Groups.{defined_in, known_to};
+ghost use Rattle.nextest_load.specs.Held.{layer_held};
+ghost use Rattle.nextest_load.specs.Merge.{merged};
+ghost use Rattle.nextest_load.specs.Sources.{source_seen, file_seen};
+ghost use Rattle.nextest_load.specs.Text.{tree_of};
+ghost use Rattle.nextest_load.specs.Texts.{SourceText, tree_in, own_text, fields_in, rules_in, layer_of, config_of};
+ghost use Rattle.nextest_load.specs.Whole.{meant_layer, meant_whole};
 
-use crate::compile::compile_overrides;
-use crate::config::{LayerRules, LoadedConfig, ProfileFields};
-use crate::defaults::default_tree;
+use crate::compile::compile_profiles;
+use crate::config::{LayerRules, LoadedConfig};
 use crate::engines::{Filters, ParseContext, Specs};
 use crate::error::{ConfigCompileError, ConfigParseError, ConfigParseErrorKind};
+use crate::groups::{groups_not_known, note_groups, refuse_groups};
 use crate::merge::{lay_over, merge_layers};
 use crate::sources::{ConfigPaths, ConfigSource, ConfigSourceKind, FileInput, ReadOutcome};
-use crate::tables::{OverrideTable, ProfileTable, RootTable};
 use crate::text::{TextFault, tree_from_text};
 use crate::warnings::ConfigWarnings;
-use nextest_elements::{Element, ElementCause, ElementFault, Tree, Walk};
+use nextest_elements::{CustomTestGroup, TestGroupConfig};
+use nextest_tables::{ProfileFields, ProfileTable, RootTable, default_tree, read_root};
+use nextest_tree::{ElementCause, ElementFault, Tree, Walk};
 use std::alloc::{AllocError, Global};
 use std::collections::{BTreeMap, BTreeSet};
 
@@ -38,9 +43,6 @@ struct SourceFile<'a> {
     source: ConfigSource,
     text: &'a str,
 }
-
-/// The name of the profile that every configuration has.
-const DEFAULT_PROFILE: &str = "default";
 
 /// The tree of a source's text.
 fn read_text(alloc: Global, file: &SourceFile<'_>) -> Result<Tree, ConfigParseError>
@@ -62,16 +64,16 @@ fn read_elements(
     alloc: Global,
     source: &ConfigSource,
     tree: &Tree,
-) -> Result<(ProfileTable, BTreeSet<String>), ConfigParseError>
+) -> Result<(RootTable, BTreeSet<String>), ConfigParseError>
     ensures found { Found (fault_of (source_seen source.now) (element_fault (node_of tree.now))) (ended result) }
-    ensures value { IfOk result (λ read. profile_seen read.0 ≡ default_profile_in (node_of tree.now)) }
+    ensures value { IfOk result (λ read. root_seen read.0 ≡ root_in (node_of tree.now)) }
     ensures unknown { IfOk result (λ read. (q : List ℕ) → contains_text read.1 q ≡ is_one_of (unknown root [] (node_of tree.now)) q) }
 {
     let mut walk = Walk::new(alloc);
-    match RootTable::read(alloc, tree, &mut walk) {
-        Ok(read) => {
+    match read_root(alloc, tree, &mut walk) {
+        Ok(table) => {
             let Walk { unknown, .. } = walk;
-            Ok((read.profile.default, unknown))
+            Ok((table, unknown))
         }
         Err(fault) => Err(ConfigParseError::element(source, fault)),
     }
@@ -94,25 +96,6 @@ fn refuse_unread(source: &ConfigSource, unknown: &BTreeSet<String>) -> Result<()
     ))
 }
 
-/// A map with one value, that of the profile `default`.
-fn of_default_profile<T: Drop>(alloc: Global, value: T) -> Result<BTreeMap<String, T>, AllocError>
-    ensures { IfOk result (λ values. named (λ x. x) values.entries ≡ (default_name, value) ∷ []) }
-{
-    let mut values = BTreeMap::new(alloc);
-    drop(values.insert(String::from_str(alloc, DEFAULT_PROFILE)?, value)?);
-    Ok(values)
-}
-
-/// The overrides of a profile, none where it writes none.
-fn overrides_of(profile: &ProfileTable) -> &[OverrideTable]
-    ensures { overrides_seen result.now ≡ (profile_seen profile.now).overrides }
-{
-    match &profile.overrides {
-        Some(tables) => tables.as_slice(),
-        None => &[],
-    }
-}
-
 /// Refuses a source whose rules do not compile, with all of their faults.
 fn refuse_errors(
     source: &ConfigSource,
@@ -128,58 +111,88 @@ fn refuse_errors(
     Err(ConfigParseError::at(source, kind))
 }
 
-/// The rules of a source, or all that does not compile of them.
-#[tactic(auto, using(crate::proofs::Naming::named_one))]
+/// The groups of a file, none where it defines none.
+fn groups_of(
+    alloc: Global,
+    groups: Option<BTreeMap<CustomTestGroup, TestGroupConfig>>,
+) -> BTreeMap<CustomTestGroup, TestGroupConfig>
+    ensures { result.entries ≡ items_seen (λ m. m.entries) groups }
+{
+    match groups {
+        Some(groups) => groups,
+        None => BTreeMap::new(alloc),
+    }
+}
+
+/// The rules of a source, or all that does not compile of them, or else all that write groups which are not known.
 fn compile_source<F: Filters, S: Specs>(
     alloc: Global,
     filters: &F,
     source: &ConfigSource,
-    profile: &ProfileTable,
+    known: &mut BTreeSet<String>,
+    profiles: BTreeMap<String, ProfileTable>,
 ) -> Result<LayerRules<F, S>, ConfigParseError>
-    ensures found { Found (fault_of (source_seen source.now) (all_found not_compiled (override_faults (F.read filters.now OverrideFilter) default_name 0 (profile_seen profile.now).overrides))) (ended result) }
+    ensures found { Found (rules_fault (F.read filters.now OverrideFilter) (source_seen source.now) (contains_text known.old) (named profile_seen profiles.entries)) (ended result) }
     ensures rules { IfOk result (λ layer. meant_layer F.meaning S.spec_meaning (layer_held layer) ≡ record {
       source = source_seen source.now;
-      rules = (default_name, rules_from (F.read filters.now OverrideFilter) (source_seen source.now) default_name 0 (profile_seen profile.now).overrides) ∷ [];
+      rules = rules_in (F.read filters.now OverrideFilter) (source_seen source.now) (named profile_seen profiles.entries);
     }) }
+    ensures known { OnOk result (known.new ≡ known.old) }
 {
-    let tables = overrides_of(profile);
-    let (rules, errors) = compile_overrides(alloc, filters, source, DEFAULT_PROFILE, tables)?;
+    // Compilation takes the tables with it, so their groups are looked at before and told after it.
+    let unknown = groups_not_known(alloc, known, &profiles)?;
+    let (rules, errors) = compile_profiles(alloc, filters, source, profiles)?;
     refuse_errors(source, errors)?;
+    refuse_groups(alloc, source, unknown, known)?;
     Ok(LayerRules {
         source: source.clone()?,
-        rules: of_default_profile(alloc, rules)?,
+        rules,
     })
 }
 
 /// The elements of a file over the defaults: a fault of one, or a key that is not read yet, is told at the source.
-fn read_own(
-    alloc: Global,
-    source: &ConfigSource,
-    own: &Tree,
-) -> Result<ProfileTable, ConfigParseError>
+fn read_own(alloc: Global, source: &ConfigSource, own: &Tree) -> Result<RootTable, ConfigParseError>
     ensures found { Found (option_or (fault_of (source_seen source.now) (element_fault (node_of own.now))) (fault_of (source_seen source.now) (stage_fault (node_of own.now)))) (ended result) }
-    ensures value { IfOk result (λ profile. profile_seen profile ≡ default_profile_in (node_of own.now)) }
+    ensures value { IfOk result (λ table. root_seen table ≡ root_in (node_of own.now)) }
 {
-    let (profile, unknown) = read_elements(alloc, source, own)?;
+    let (table, unknown) = read_elements(alloc, source, own)?;
     refuse_unread(source, &unknown)?;
-    Ok(profile)
+    Ok(table)
 }
 
-/// The tree and the rules of a source, or its first fault.
-fn load_source<F: Filters, S: Specs>(
-    alloc: Global,
-    filters: &F,
-    file: &SourceFile<'_>,
-) -> Result<(Tree, LayerRules<F, S>), ConfigParseError>
-    ensures found { Found (source_fault (F.read filters.now OverrideFilter) (file_text file.now)) (ended result) }
-    ensures tree { IfOk result (λ loaded. node_of loaded.0 ≡ tree_in (file_text file.now)) }
-    ensures rules { IfOk result (λ loaded. meant_layer F.meaning S.spec_meaning (layer_held loaded.1) ≡ layer_of (F.read filters.now OverrideFilter) (file_text file.now)) }
+/// What a file over the defaults says, and its tree, or its first fault but those of its rules.
+fn read_source(alloc: Global, file: &SourceFile<'_>) -> Result<(Tree, RootTable), ConfigParseError>
+    ensures found { Found (text_fault (file_text file.now)) (ended result) }
+    ensures tree { IfOk result (λ read. node_of read.0 ≡ tree_in (file_text file.now)) }
+    ensures table { IfOk result (λ read. root_seen read.1 ≡ own_text (file_text file.now)) }
 {
     let tree = read_text(alloc, file)?;
     let defaults = default_tree(alloc)?;
     let own = lay_over(alloc, &tree, defaults)?;
-    let profile = read_own(alloc, &file.source, &own)?;
-    let rules = compile_source(alloc, filters, &file.source, &profile)?;
+    let table = read_own(alloc, &file.source, &own)?;
+    Ok((tree, table))
+}
+
+/// The tree and the rules of a source above others, or its first fault. Its groups go to those that are known.
+fn load_source<F: Filters, S: Specs>(
+    alloc: Global,
+    filters: &F,
+    known: &mut BTreeSet<String>,
+    file: &SourceFile<'_>,
+) -> Result<(Tree, LayerRules<F, S>), ConfigParseError>
+    ensures found { (below : List SourceText) → contains_text known.old ≡ is_one_of (defined_in below) → Found (source_fault (F.read filters.now OverrideFilter) below (file_text file.now)) (ended result) }
+    ensures tree { IfOk result (λ loaded. node_of loaded.0 ≡ tree_in (file_text file.now)) }
+    ensures rules { IfOk result (λ loaded. meant_layer F.meaning S.spec_meaning (layer_held loaded.1) ≡ layer_of (F.read filters.now OverrideFilter) (file_text file.now)) }
+    ensures known { (below : List SourceText) → contains_text known.old ≡ is_one_of (defined_in below) → OnOk result (contains_text known.new ≡ is_one_of (known_to below (file_text file.now))) }
+{
+    let (tree, table) = read_source(alloc, file)?;
+    let RootTable {
+        test_groups,
+        profiles,
+        ..
+    } = table;
+    note_groups(alloc, known, &groups_of(alloc, test_groups))?;
+    let rules = compile_source(alloc, filters, &file.source, known, profiles)?;
     Ok((tree, rules))
 }
 
@@ -189,37 +202,56 @@ fn load_sources<F: Filters, S: Specs>(
     filters: &F,
     files: &[SourceFile<'_>],
 ) -> Result<(Vec<Tree>, Vec<LayerRules<F, S>>), ConfigParseError>
-    ensures found { Found (sources_fault (F.read filters.now OverrideFilter) (map file_text files.now)) (ended result) }
+    ensures found { Found (sources_fault (F.read filters.now OverrideFilter) [] (map file_text files.now)) (ended result) }
     ensures trees { IfOk result (λ loaded. map node_of loaded.0.items ≡ map tree_in (map file_text files.now)) }
     ensures layers { IfOk result (λ loaded. map (λ layer. meant_layer F.meaning S.spec_meaning (layer_held layer)) loaded.1.items ≡ map (layer_of (F.read filters.now OverrideFilter)) (map file_text files.now)) }
 {
+    let mut known = BTreeSet::new(alloc);
     let mut trees = Vec::new(alloc);
     let mut layers = Vec::new(alloc);
     for file in files {
-        let (tree, rules) = load_source(alloc, filters, file)?;
+        let (tree, rules) = load_source(alloc, filters, &mut known, file)?;
         trees.push(tree).map_err(AllocError::from)?;
         layers.push(rules).map_err(AllocError::from)?;
     }
     Ok((trees, layers))
 }
 
-/// What the profiles of the merged tree write; its faults are told at the repository's source.
-#[tactic(auto, using(crate::proofs::Naming::named_one))]
+/// What a profile writes for each of its fields.
+fn fields_of(profile: ProfileTable) -> ProfileFields
+    ensures { fields_held result ≡ (profile_seen profile).fields }
+{
+    let ProfileTable { fields, .. } = profile;
+    fields
+}
+
+/// What each profile writes, by name.
+fn all_fields(
+    alloc: Global,
+    profiles: BTreeMap<String, ProfileTable>,
+) -> Result<BTreeMap<String, ProfileFields>, AllocError>
+    ensures { IfOk result (λ fields. named fields_held fields.entries ≡ fields_in (named profile_seen profiles.entries)) }
+{
+    let mut fields = BTreeMap::new(alloc);
+    for (name, table) in profiles {
+        drop(fields.insert(name, fields_of(table))?);
+    }
+    Ok(fields)
+}
+
+/// What the merged tree says; its faults are told at the repository's source.
 fn read_merged(
     alloc: Global,
     repository: &ConfigSource,
     trees: &[Tree],
-) -> Result<BTreeMap<String, ProfileFields>, ConfigParseError>
+) -> Result<RootTable, ConfigParseError>
     ensures found { Found (fault_of (source_seen repository.now) (element_fault (merged defaults (map node_of trees.now)))) (ended result) }
-    ensures fields { IfOk result (λ profiles. named fields_held profiles.entries ≡ (default_name, (default_profile_in (merged defaults (map node_of trees.now))).fields) ∷ []) }
+    ensures value { IfOk result (λ table. root_seen table ≡ root_in (merged defaults (map node_of trees.now))) }
 {
     let defaults = default_tree(alloc)?;
     let merged = merge_layers(alloc, defaults, trees)?;
-    let (profile, _unknown) = read_elements(alloc, repository, &merged)?;
-    let fields = ProfileFields {
-        retries: profile.retries,
-    };
-    Ok(of_default_profile(alloc, fields)?)
+    let (table, _unknown) = read_elements(alloc, repository, &merged)?;
+    Ok(table)
 }
 
 /// Loads sources that gave text, the lowest first, and then the merged tree, or tells their first fault.
@@ -233,9 +265,15 @@ fn load_files<F: Filters, S: Specs>(
     ensures means { IfOk result (λ config. meant_whole F.meaning S.spec_meaning config ≡ config_of F.everything (F.read filters.now OverrideFilter) (map file_text files.now)) }
 {
     let (trees, mut layers) = load_sources(alloc, filters, files)?;
-    let profiles = read_merged(alloc, repository, &trees)?;
+    let RootTable {
+        test_groups,
+        profiles,
+        ..
+    } = read_merged(alloc, repository, &trees)?;
+    let fields = all_fields(alloc, profiles)?;
+    let test_groups = groups_of(alloc, test_groups);
     layers.reverse();
-    Ok(LoadedConfig::new(profiles, layers, filters.all()))
+    Ok(LoadedConfig::new(fields, test_groups, layers, filters.all()))
 }
 
 /// The sources that gave text: a file that is looked for may be missing.
@@ -301,6 +339,7 @@ impl<F: Filters, S: Specs> LoadedConfig<F, S> {
         ensures found { Found (file_fault (F.read pcx.now.filters.now OverrideFilter) (file_seen paths.now.shared)) (ended result) }
         ensures means { IfOk result (λ config. meant_whole F.meaning S.spec_meaning config
             ≡ config_of F.everything (F.read pcx.now.filters.now OverrideFilter) (sources_in (file_seen paths.now.shared))) }
+        ensures closed { IfOk result (λ config. IsClosed config) }
         ensures told { W.warnings warnings.new ≡ W.warnings warnings.old }
     {
         let _warnings = warnings;

@@ -1,7 +1,7 @@
 //! Rules: what the overrides of a file say once the engines have read their texts.
 use crate::engines::{Filters, Specs};
 use crate::sources::ConfigSource;
-use nextest_elements::{RetryPolicy, TestPriority};
+use nextest_tables::OverrideSettings;
 
 /// Which override a value comes from.
 #[derive(Debug, Drop, PartialEq, Eq, Hash)]
@@ -12,13 +12,6 @@ pub struct OverrideId {
     pub profile_name: String,
     /// Its position among the overrides of that profile in that file, from 0.
     pub index: usize,
-}
-
-/// What an override writes for each setting.
-#[derive(Clone, Copy, Debug, PartialEq, Eq)]
-pub struct OverrideSettings {
-    pub priority: Option<TestPriority>,
-    pub retries: Option<RetryPolicy>,
 }
 
 /// The platform specs of a rule: where one is absent, every platform meets it.
@@ -41,7 +34,8 @@ pub struct CompiledOverride<F: Filters, S: Specs> {
 
 impl<F: Filters, S: Specs> CompiledOverride<F, S> {
     ghost use Rattle.std.specs.Prelude.{◌≡◌, option_map};
-    ghost use Rattle.nextest_load.specs.Held.{rule_held, id_seen, written_by};
+    ghost use Rattle.nextest_load.specs.Held.{rule_held, id_seen};
+    ghost use Rattle.nextest_tables.specs.Seen.{written_by};
 
     /// Where the rule stands.
     pub fn id(&self) -> &OverrideId
@@ -66,9 +60,9 @@ impl<F: Filters, S: Specs> CompiledOverride<F, S> {
     }
 
     /// What the rule writes for each setting.
-    pub fn settings(&self) -> OverrideSettings
-        ensures { written_by result ≡ (rule_held self.now).written }
+    pub fn settings(&self) -> &OverrideSettings
+        ensures { written_by result.now ≡ (rule_held self.now).written }
     {
-        self.settings
+        &self.settings
     }
 }

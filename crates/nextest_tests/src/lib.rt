@@ -4,6 +4,8 @@
 #![tactic(auto)]
 
 #[cfg(test)]
+mod defaults;
+#[cfg(test)]
 mod documents;
 #[cfg(test)]
 mod durations;
@@ -22,6 +24,8 @@ mod profiles;
 #[cfg(test)]
 mod readers;
 #[cfg(test)]
+mod reading;
+#[cfg(test)]
 mod script_ids;
 #[cfg(test)]
 mod script_types;
@@ -29,3 +33,5 @@ mod script_types;
 mod shell_words;
 #[cfg(test)]
 mod timeouts;
+#[cfg(test)]
+mod toy_engines;

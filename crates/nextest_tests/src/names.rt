@@ -1,40 +1,14 @@
 //! The values of names, numbers and tables, as they are written in files.
+use crate::reading::{Answer, answer_to};
 use nextest_elements::{
-    ConfigExperimental, Element, ElementCause, ElementFault, FinalStatusLevel, FlakyResult,
-    JunitFlakyFailStatus, JunitImpl, JunitOverride, MaxFail, NextestRunMode, Positive,
-    ReportSkipPolicy, StatusLevel, TestOutputDisplay, TestThreads, ThreadsRequired, Tree, Walk,
+    ConfigExperimental, Element, ElementCause, FinalStatusLevel, FlakyResult, JunitFlakyFailStatus,
+    JunitImpl, JunitOverride, MaxFail, NextestRunMode, Positive, ReportSkipPolicy, StatusLevel,
+    TestOutputDisplay, TestThreads, ThreadsRequired,
 };
 use std::alloc::Global;
-use std::collections::BTreeSet;
 use std::fmt::{Debug, Display};
 use std::process::Abort;
 use std::test::Fail;
-
-/// What a reader answers, and which keys it noted.
-#[derive(Drop)]
-struct Answer<T> {
-    value: Result<T, ElementFault>,
-    unknown: BTreeSet<String>,
-}
-
-/// Reads the value of this text, at the key `x` of a document.
-fn answer_to<T: Element>(alloc: Global, text: &str) -> Result<Answer<T>, Fail> {
-    let line = format!(in alloc; "x = {text}")?;
-    let document = Tree::from_toml(
-        alloc,
-        &toml::Value::Table(toml::table_from_str(alloc, line.as_str())?),
-    )?;
-    let tree = document.get("x").ok_or("no x")?;
-    let mut walk = Walk {
-        path: String::from_str(alloc, "x")?,
-        unknown: BTreeSet::new(alloc),
-    };
-    let value = T::read(alloc, tree, &mut walk);
-    Ok(Answer {
-        value,
-        unknown: walk.unknown,
-    })
-}
 
 fn value<T: Element>(alloc: Global, text: &str) -> Result<T, Fail> {
     let answer: Answer<T> = answer_to(alloc, text)?;

@@ -1,4 +1,5 @@
 //! Readers over documents: what each row reads to, or the fault that it meets.
+use crate::reading::{Answer, answer_at, tree_of};
 use nextest_elements::{
     Element, ElementFault, Ignored, Key, Record, RetryPolicy, TestPriority, Tree, Walk, optional,
     read_table,
@@ -7,19 +8,10 @@ use std::alloc::Global;
 use std::collections::BTreeMap;
 use std::test::Fail;
 
-/// The tree of a document.
-fn tree_of(alloc: Global, text: &str) -> Result<Tree, Fail> {
-    let document = toml::table_from_str(alloc, text)?;
-    Ok(Tree::from_toml(alloc, &toml::Value::Table(document))?)
-}
-
 /// What stands at a key of a document, or the text of its fault.
 fn read_at<T: Element>(alloc: Global, text: &str, key: &str) -> Result<Result<T, String>, Fail> {
-    let document = tree_of(alloc, text)?;
-    let tree = document.get(key).ok_or("no such key")?;
-    let mut walk = Walk::new(alloc);
-    walk.path = String::from_str(alloc, key)?;
-    match T::read(alloc, tree, &mut walk) {
+    let Answer { value, .. } = answer_at::<T>(alloc, text, key)?;
+    match value {
         Ok(value) => Ok(Ok(value)),
         Err(fault) => Ok(Err(fault.to_string(alloc)?)),
     }

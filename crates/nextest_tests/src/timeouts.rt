@@ -1,11 +1,11 @@
 //! Timeouts and groups of tests, as they are written in files.
+use crate::reading::answer_to;
 use nextest_elements::{
     BenchConfig, BenchOverride, CustomTestGroup, Element, ElementFault, GlobalTimeout, LeakTimeout,
     LeakTimeoutResult, SlowTimeout, SlowTimeoutResult, TestGroup, TestGroupConfig, TestThreads,
-    Tree, Walk,
 };
 use std::alloc::Global;
-use std::collections::{BTreeMap, BTreeSet, HashSet};
+use std::collections::{BTreeMap, HashSet};
 use std::fmt::Debug;
 use std::process::Abort;
 use std::test::Fail;
@@ -16,15 +16,7 @@ const YEAR: u128 = 31_557_600 * SECOND;
 
 /// Reads what stands after `x = ` in a document of one line.
 fn read<T: Element>(alloc: Global, text: &str) -> Result<Result<T, ElementFault>, Fail> {
-    let line = format!(in alloc; "x = {text}")?;
-    let table = toml::table_from_str(alloc, line.as_str())?;
-    let document = Tree::from_toml(alloc, &toml::Value::Table(table))?;
-    let tree = document.get("x").ok_or("no x")?;
-    let mut walk = Walk {
-        path: String::from_str(alloc, "x")?,
-        unknown: BTreeSet::new(alloc),
-    };
-    Ok(T::read(alloc, tree, &mut walk))
+    Ok(answer_to(alloc, text)?.value)
 }
 
 fn check_values<T: Element + Debug + PartialEq>(

@@ -1,7 +1,7 @@
 //! One pass over the rules: for each setting the first rule that holds and sets it.
 ghost use Rattle.std.specs.Prelude.{◌≡◌, ◌++◌, ◌∷◌, [], length, map, is_some, if◌then◌else◌};
 ghost use Rattle.std.specs.Option.{option_or};
-ghost use Rattle.nextest_load.specs.Held.{written_by};
+ghost use Rattle.nextest_tables.specs.Seen.{written_by};
 ghost use Rattle.nextest_config.specs.Settings.{is_set, settings};
 ghost use Rattle.nextest_config.specs.Rules.{winners_of, asked_from, filter_holds};
 ghost use Rattle.nextest_config.specs.Apply.{case_of, rule_of};
@@ -9,35 +9,41 @@ ghost use Rattle.nextest_config.specs.Pass.{seen, settled, wants_of, after_rule,
 
 use crate::apply::JudgedOverride;
 use crate::settings::Setting;
+use crate::settings::written::is_set;
 use nextest_elements::NextestRunMode;
 use nextest_load::OverrideSettings;
 use nextest_load::engines::{EvalContext, Filters, Specs, Tally, TestQuery};
 
 /// How many settings there are.
-pub const SETTING_COUNT: usize = 2;
+pub const SETTING_COUNT: usize = 15;
 
 /// All settings, in the order of their places.
-const SETTINGS: [Setting; SETTING_COUNT] = [Setting::Priority, Setting::Retries];
-
-/// Whether a rule writes a setting, for a mode.
-fn is_set(written: OverrideSettings, mode: NextestRunMode, setting: Setting) -> bool
-    ensures { result ≡ is_set (written_by written) mode setting }
-{
-    let _mode = mode;
-    match setting {
-        Setting::Priority => written.priority.is_some(),
-        Setting::Retries => written.retries.is_some(),
-    }
-}
+const SETTINGS: [Setting; SETTING_COUNT] = [
+    Setting::Priority,
+    Setting::ThreadsRequired,
+    Setting::RunWrapper,
+    Setting::RunExtraArgs,
+    Setting::Retries,
+    Setting::FlakyResult,
+    Setting::SlowTimeout,
+    Setting::LeakTimeout,
+    Setting::TestGroup,
+    Setting::SuccessOutput,
+    Setting::FailureOutput,
+    Setting::JunitStoreSuccessOutput,
+    Setting::JunitStoreFailureOutput,
+    Setting::JunitReportSkipped,
+    Setting::JunitFlakyFailStatus,
+];
 
 /// Whether a rule sets a setting for which no rule was found yet.
 #[tactic(auto, unfolding(crate::specs::Settings::settings))]
 fn wants<F: Filters, S: Specs>(
     slots: &[Option<JudgedOverride<'_, F, S>>],
-    written: OverrideSettings,
+    written: &OverrideSettings,
     mode: NextestRunMode,
 ) -> bool
-    ensures { result ≡ wants_of (is_set (written_by written) mode) slots.now settings }
+    ensures { result ≡ wants_of (is_set (written_by written.now) mode) slots.now settings }
 {
     slots.iter().zip(SETTINGS.iter()).any(|(slot, setting)| slot.is_none()
         && is_set(written, mode, *setting))
@@ -59,11 +65,11 @@ fn taken<R: Copy>(slot: Option<R>, rule: R, is_set: bool) -> Option<R>
 fn settle<R: Copy>(
     slots: &mut [Option<R>],
     rule: R,
-    written: OverrideSettings,
+    written: &OverrideSettings,
     mode: NextestRunMode,
 )
     requires { length slots.old ≡ length settings }
-    ensures { slots.new ≡ settled (is_set (written_by written) mode) rule settings slots.old }
+    ensures { slots.new ≡ settled (is_set (written_by written.now) mode) rule settings slots.old }
 {
     for k in 0..SETTINGS.len() {
         slots[k] = taken(slots[k], rule, is_set(written, mode, SETTINGS[k]));

@@ -1,4 +1,4 @@
-use Rattle.nextest_load.specs.Held.{fields_held}
+use Rattle.nextest_tables.specs.Seen.{fields_held}
 use Rattle.nextest_config.proofs.Named.{got_at}
 use Rattle.nextest_config.proofs.gather.fields_at.Goals as goal
 

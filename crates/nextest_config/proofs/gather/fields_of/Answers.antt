@@ -1,7 +1,7 @@
 use Rattle.std.proofs.Common.{◌≡◌, ◌++◌, [], map, append-nil, ap, sym, ◌∙◌, get_or, refl}
 use Rattle.std.proofs.lemmas.List.{map-append}
 use Rattle.std.specs.List.{cons_option}
-use Rattle.nextest_load.specs.Held.{named, fields_held}
+use Rattle.nextest_tables.specs.Seen.{named, fields_held}
 use Rattle.nextest_config.specs.Profile.{fields_behind}
 use Rattle.nextest_load.specs.Whole.{at_name}
 use Rattle.nextest_config.proofs.Gathering.{filter_turn}

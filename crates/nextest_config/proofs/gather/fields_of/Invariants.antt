@@ -1,5 +1,5 @@
 use Rattle.std.proofs.Common.{◌≡◌, map, take}
-use Rattle.nextest_load.specs.Held.{named, fields_held}
+use Rattle.nextest_tables.specs.Seen.{named, fields_held}
 use Rattle.nextest_config.specs.Profile.{fields_behind}
 use Rattle.nextest_config.specs.Profile.{fields_of}
 use Rattle.nextest_config.proofs.gather.fields_of.Given as goal

@@ -2,23 +2,19 @@ use Rattle.std.proofs.Common.{◌≡◌, Ok, refl}
 use Rattle.nextest_tree.specs.Reads.{start, spot_of, reading, Fails}
 use Rattle.nextest_tree.specs.View.{node_of}
 use Rattle.nextest_load.specs.Sources.{source_seen}
-use Rattle.nextest_load.specs.Tables.{root}
-use Rattle.nextest_load.proofs.Seeing.{root_is}
+use Rattle.nextest_tables.specs.Tables.{root}
 use Rattle.nextest_load.proofs.Told.{no_fault, noted_are, refusal_told}
 use Rattle.nextest_load.proofs.load.read_elements.Goals as goal
 
 pub returns-in-Ok-clause-found : goal.returns-in-Ok-clause-found
 returns-in-Ok-clause-found c =
-    let read : reading root (node_of c.args.tree.now) start ≡ Ok (spot_of c.read.new.walk) = rw c.new-walk.ensures at c.in-Ok.ensures.reads in
+    let read : reading root (node_of c.args.tree.now) start ≡ Ok (spot_of c.read_root.new.walk) = rw c.new-walk.ensures at c.in-Ok.ensures.reads in
     rw (no_fault (node_of c.args.tree.now) _ read) refl
-
-pub returns-in-Ok-clause-value : goal.returns-in-Ok-clause-value
-returns-in-Ok-clause-value c = root_is (node_of c.args.tree.now) c.in-Ok.read c.in-Ok.ensures.value
 
 pub returns-in-Ok-clause-unknown : goal.returns-in-Ok-clause-unknown
 returns-in-Ok-clause-unknown c q =
-    let read : reading root (node_of c.args.tree.now) start ≡ Ok (spot_of c.read.new.walk) = rw c.new-walk.ensures at c.in-Ok.ensures.reads in
-    noted_are root (node_of c.args.tree.now) c.read.new.walk read q
+    let read : reading root (node_of c.args.tree.now) start ≡ Ok (spot_of c.read_root.new.walk) = rw c.new-walk.ensures at c.in-Ok.ensures.reads in
+    noted_are root (node_of c.args.tree.now) c.read_root.new.walk read q
 
 pub returns-in-Err-clause-found : goal.returns-in-Err-clause-found
 returns-in-Err-clause-found c =

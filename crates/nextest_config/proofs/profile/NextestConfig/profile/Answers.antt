@@ -1,5 +1,5 @@
 use Rattle.std.proofs.Common.{sym, ◌∙◌}
-use Rattle.nextest_load.specs.Held.{fields_held}
+use Rattle.nextest_tables.specs.Seen.{fields_held}
 use Rattle.nextest_config.proofs.Named.{some_at, none_at, names_of_entries}
 use Rattle.nextest_config.proofs.profile.NextestConfig.profile.Goals as goal
 

@@ -1,6 +1,6 @@
 use Rattle.std.proofs.Common.{◌≡◌, ◌++◌, take, drop}
 use Rattle.nextest_config.specs.Settings.{is_set, settings}
-use Rattle.nextest_load.specs.Held.{written_by}
+use Rattle.nextest_tables.specs.Seen.{written_by}
 use Rattle.nextest_config.specs.Pass.{settled}
 use Rattle.nextest_config.proofs.settings.pass.settle.Given as goal
 

@@ -1,0 +1,4 @@
+pub mod Values
+pub mod Seeing
+pub mod Rows
+pub mod Defaulting

@@ -1,0 +1,15 @@
+//! The text of the default table, and the table that is built.
+use nextest_load::tree_from_text;
+use nextest_tables::{DEFAULT_CONFIG, default_tree};
+use std::test::Fail;
+
+#[test]
+fn text_and_table_agree(rt: HostRuntime) -> Result<(), Fail> {
+    let alloc = rt.alloc();
+    let read = tree_from_text(alloc, DEFAULT_CONFIG)?;
+    let built = default_tree(alloc)?;
+    let read = format!(in alloc; "{read:?}")?;
+    let built = format!(in alloc; "{built:?}")?;
+    assert_eq!(rt; read.as_str(), built.as_str());
+    Ok(())
+}

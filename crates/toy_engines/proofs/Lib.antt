@@ -1,0 +1,5 @@
+pub mod PartsOfTexts
+pub mod Grammar
+pub mod Lists
+pub mod Negations
+pub mod FilterTexts

@@ -1,0 +1,9 @@
+use Rattle.std.proofs.Common.{◌≡◌, ◌++◌, map, take, string_bytes}
+use Rattle.std.specs.List.{flat_map}
+use Rattle.toy_engines.specs.FilterValues.{term_of}
+use Rattle.toy_engines.specs.Filters.{term_leaves}
+use Rattle.toy_engines.proofs.filters.with_leaves.Given as goal
+
+abbrev pub invariant-loop-term : goal.invariant-loop-term
+invariant-loop-term l =
+    map string_bytes l.found.items ≡ map string_bytes l.fn.found.items ++ flat_map term_leaves (map term_of (take l.term-index l.terms))

@@ -1,0 +1,28 @@
+use Rattle.std.proofs.Common.{◌∙◌, ap, sym, rules, option_map, map}
+use Rattle.toy_engines.specs.FilterValues.{term_of, lists_of}
+use Rattle.toy_engines.specs.FilterTexts.{so_far, continued, pieces, filter_in_pieces}
+use Rattle.toy_engines.proofs.FilterTexts.{first_none, first_some, more_none, begun_by}
+use Rattle.toy_engines.proofs.parse.read_filter.Goals as goal
+
+pub returns-in_default : goal.returns-in_default
+returns-in_default c = sym (ap filter_in_pieces c.in_default.ensures.parts)
+
+pub returns-in_default-2 : goal.returns-in_default-2
+returns-in_default-2 c =
+    sym (first_none c.args.text.now c.in-Some.piece.now c.in-Some.rest.now c.in-Some.ensures.parts (sym c.in_ok-term.ensures ∙ ap (option_map term_of) c.in_default-2.is))
+
+pub loop-piece-init : goal.loop-piece-init
+loop-piece-init c =
+    let rest = c.in-Some.rest.now in
+    let read = sym c.in_ok-term.ensures ∙ ap (option_map term_of) c.in-Some-2.is in
+    let parts = begun_by _ _ (term_of c.in-Some-2.term) (ap lists_of c.new.ensures.items) (ap (map term_of) c.in_ok-vec.ensures.items) in
+    record {
+      utf8 = search rules;
+      means = first_some c.args.text.now c.in-Some.piece.now rest (term_of c.in-Some-2.term) c.in-Some.ensures.parts read ∙ ap (λ s. continued s (pieces rest)) parts;
+    }
+
+pub returns-in_default-3 : goal.returns-in_default-3
+returns-in_default-3 c =
+    let l = c.loop-piece in
+    let none = sym c.in_ok-more.ensures ∙ ap (option_map so_far) c.in_default-3.is in
+    sym (l.invariant.means ∙ more_none (so_far l.read) l.rest.now c.in-Some-cut.piece.now c.in-Some-cut.behind.now c.in-Some-cut.ensures.parts none)

@@ -1,0 +1,191 @@
+//! The engine of filters.
+ghost use Rattle.std.specs.Prelude.{◌≡◌, ◌++◌, [], Some, Ok, Err, IfOk, IfErr, map, refl, string_bytes};
+ghost use Rattle.std.specs.List.{flat_map, list_any};
+ghost use Rattle.nextest_load.specs.Engines.{IfFilterRefused};
+ghost use Rattle.toy_engines.specs.FilterValues.{Filter, everything as nothing_asked, term_of, lists_of, filter_of, subject_of};
+ghost use Rattle.toy_engines.specs.Filters.{filter_read, read_for, filter_holds, filter_holds_binary, filter_leaves, term_leaves, value_beside as value_beside_default, asks_default, is_default as asks_for_default};
+ghost use Rattle.toy_engines.specs.Decided.{default_filter_decides};
+
+use crate::expr::{Leaf, Subject, Term, ToyExpr};
+use crate::parse::read_filter;
+use nextest_load::engines::history::RuleHistory;
+use nextest_load::engines::{
+    BinaryQuery, EvalContext, FilterFault, Filters, FiltersetKind, Tally, TestQuery,
+};
+use std::alloc::{AllocError, Global};
+
+/// The rules that were evaluated. It has no bytes.
+#[derive(Drop)]
+pub struct ToyTally {
+    rules: RuleHistory,
+}
+
+impl Tally for ToyTally {
+    ghost numbers = { λ tally. tally.rules };
+}
+
+impl ToyTally {
+    /// No rule yet.
+    pub fn new() -> ToyTally
+        ensures { result.rules ≡ [] }
+    {
+        ToyTally {
+            rules: RuleHistory::new(),
+        }
+    }
+}
+
+/// The engine of filters.
+#[derive(Drop)]
+pub struct ToyFilters;
+
+fn is_default(term: &Term) -> bool
+    ensures { result ≡ asks_for_default (term_of term.now) }
+{
+    matches!(&term.leaf, Leaf::Default)
+}
+
+fn has_default(terms: &[Term]) -> bool
+    ensures { result ≡ list_any (λ term. asks_for_default (term_of term)) terms.now }
+{
+    terms.iter().any(|term| is_default(term))
+}
+
+fn any_has_default(lists: &[Vec<Term>]) -> bool
+    ensures { result ≡ list_any (λ terms. list_any (λ term. asks_for_default (term_of term)) terms.items) lists.now }
+{
+    lists.iter().any(|terms| has_default(terms))
+}
+
+/// Adds the leaves of some terms that only a test can answer.
+fn with_leaves(alloc: Global, found: Vec<String>, terms: &[Term]) -> Result<Vec<String>, AllocError>
+    ensures { IfOk result (λ all. map string_bytes all.items ≡ map string_bytes found.items ++ flat_map term_leaves (map term_of terms.now)) }
+{
+    let mut found = found;
+    for term in terms {
+        if let Leaf::Test(part) = &term.leaf {
+            found.push(format!(in alloc; "test({part})")?)?;
+        }
+    }
+    Ok(found)
+}
+
+fn refused(alloc: Global, message: &str) -> FilterFault
+    ensures { IfFilterRefused result (λ told. told ≡ message.now) }
+{
+    match String::from_str(alloc, message) {
+        Ok(message) => FilterFault::Refused(message),
+        Err(_) => FilterFault::Memory,
+    }
+}
+
+/// The filter of some lists of terms, unless a default filter asks for itself.
+#[tactic(auto, using(crate::proofs::Lists::asks_default_by_terms))]
+fn for_kind(
+    alloc: Global,
+    kind: FiltersetKind,
+    lists: Vec<Vec<Term>>,
+) -> Result<ToyExpr, FilterFault>
+    ensures ok { IfOk result (λ expr. read_for kind (Some (lists_of lists.items)) ≡ Ok (filter_of expr)) }
+    ensures err { IfErr result (λ fault. IfFilterRefused fault (λ message. read_for kind (Some (lists_of lists.items)) ≡ Err message)) }
+{
+    match kind {
+        FiltersetKind::DefaultFilter => {
+            if any_has_default(&lists) {
+                return Err(refused(alloc, "a default filter may not ask for the default filter"));
+            }
+            Ok(ToyExpr::AnyOf(lists))
+        }
+        FiltersetKind::Test | FiltersetKind::OverrideFilter => Ok(ToyExpr::AnyOf(lists)),
+    }
+}
+
+fn value_beside(expr: &ToyExpr, subject: Subject<'_>, cx: &EvalContext<'_, ToyExpr>) -> Option<bool>
+    ensures { result ≡ value_beside_default (subject_of subject.entry) (filter_of cx.now.default_filter.now) (filter_of expr.now) }
+{
+    let default = cx.default_filter.value(subject, Some(true));
+    expr.value(subject, default)
+}
+
+impl Filters for ToyFilters {
+    type Expr = ToyExpr;
+
+    type Tally = ToyTally;
+
+    ghost Meaning = { Filter };
+
+    ghost meaning = { filter_of };
+
+    ghost read = { λ _ kind text. filter_read kind text };
+
+    ghost everything = { nothing_asked };
+
+    ghost holds = { filter_holds };
+
+    ghost holds_binary = { filter_holds_binary };
+
+    ghost leaves = { filter_leaves };
+
+    fn parse(
+        &self,
+        alloc: Global,
+        text: &str,
+        kind: FiltersetKind,
+    ) -> Result<ToyExpr, FilterFault> {
+        match read_filter(alloc, text) {
+            Ok(Some(lists)) => for_kind(alloc, kind, lists),
+            Ok(None) => Err(refused(alloc, "this is no filter")),
+            Err(_) => Err(FilterFault::Memory),
+        }
+    }
+
+    fn all(&self) -> ToyExpr {
+        ToyExpr::Everything
+    }
+
+    fn matches_test(
+        expr: &ToyExpr,
+        rule: usize,
+        query: &TestQuery<'_>,
+        cx: &EvalContext<'_, ToyExpr>,
+        tally: &mut ToyTally,
+    ) -> bool {
+        tally.rules.push(rule);
+        let subject = Subject {
+            binary_id: query.binary_query.binary_id,
+            test_name: Some(query.test_name),
+        };
+        value_beside(expr, subject, cx).unwrap_or(false)
+    }
+
+    fn matches_binary(
+        expr: &ToyExpr,
+        rule: usize,
+        query: &BinaryQuery<'_>,
+        cx: &EvalContext<'_, ToyExpr>,
+        tally: &mut ToyTally,
+    ) -> Option<bool> {
+        tally.rules.push(rule);
+        let subject = Subject {
+            binary_id: query.binary_id,
+            test_name: None,
+        };
+        value_beside(expr, subject, cx)
+    }
+
+    fn runtime_only_leaves(alloc: Global, expr: &ToyExpr) -> Result<Vec<String>, AllocError> {
+        let mut found = Vec::new(alloc);
+        if let ToyExpr::AnyOf(lists) = expr {
+            for terms in lists {
+                found = with_leaves(alloc, found, terms)?;
+            }
+        }
+        Ok(found)
+    }
+
+    ghost everything_holds = { λ _ _. refl };
+
+    ghost everything_holds_binary = { λ _ _. refl };
+
+    ghost decided = { λ _ text filter read none binary default. default_filter_decides text filter read none binary default };
+}
