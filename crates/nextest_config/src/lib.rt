@@ -14,6 +14,7 @@ pub use nextest_load::{
     ConfigSourceKind, ConfigWarning, ConfigWarnings, DefaultConfigWarnings, FileInput, OverrideId,
     ReadOutcome, UnknownTestGroupError,
 };
+pub use nextest_tables::DEFAULT_CONFIG;
 pub use profile::{
     CONFIG_PATH, DEFAULT_MIRI_PROFILE, DEFAULT_PROFILE, DEFAULT_PROFILES, ENVIRONMENT_PREFIX,
     EarlyProfile, EvaluatableProfile, NextestConfig, ProfileError, ProfileNotFound,

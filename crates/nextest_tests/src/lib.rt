@@ -34,4 +34,4 @@ mod shell_words;
 #[cfg(test)]
 mod timeouts;
 #[cfg(test)]
-mod toy_engines;
+mod toy_languages;
