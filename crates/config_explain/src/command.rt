@@ -1,12 +1,13 @@
 //! The words of the command line.
-use nextest_elements::NextestRunMode;
+use nextest_elements::{InvalidIdentifier, NextestRunMode, ToolName};
+use std::alloc::{AllocError, Global};
 
 /// How the program is called.
 pub const USAGE: &str =
     "usage: config_explain ROOT PROFILE MODE BINARY TEST [--config-file P] [--tool-config-file TOOL:PATH] [--experimental NAME] [--host T] [--target T] [--host-binary]";
 
 /// What the words ask for.
-#[derive(Clone, Copy, Debug)]
+#[derive(Debug, Drop)]
 pub struct Command<'a> {
     /// The root of the workspace.
     pub root: &'a str,
@@ -15,25 +16,143 @@ pub struct Command<'a> {
     /// The id of the test's binary.
     pub binary: &'a str,
     pub test: &'a str,
+    pub options: Options<'a>,
+}
+
+/// The options among the words.
+#[derive(Debug, Drop)]
+pub struct Options<'a> {
+    /// The path of the file that is read in place of the repository's own.
+    pub config_file: Option<&'a str>,
+    /// The files of tools, in the order of the words.
+    pub tool_files: Vec<ToolFile<'a>>,
+}
+
+/// A file that a tool provides.
+#[derive(Debug, Drop)]
+pub struct ToolFile<'a> {
+    pub tool: ToolName,
+    pub path: &'a str,
+}
+
+/// Why words are no command.
+#[derive(Clone, Copy, Debug, PartialEq, Eq)]
+pub enum CommandError {
+    /// The words are not as the usage says.
+    Usage,
+    /// Want of memory.
+    Memory,
+}
+
+impl From<AllocError> for CommandError {
+    fn from(_error: AllocError) -> CommandError {
+        CommandError::Memory
+    }
+}
+
+impl From<InvalidIdentifier> for CommandError {
+    fn from(error: InvalidIdentifier) -> CommandError {
+        match error {
+            InvalidIdentifier::Memory => CommandError::Memory,
+            InvalidIdentifier::Empty
+            | InvalidIdentifier::BadStart
+            | InvalidIdentifier::BadCharacter
+            | InvalidIdentifier::BadToolForm => CommandError::Usage,
+        }
+    }
 }
 
 impl<'a> Command<'a> {
-    /// Reads the words, without the program's name. `None` is a usage fault: a wrong count, another mode, or an option,
-    /// since no option is read yet.
-    pub fn parse(words: &'a [String]) -> Option<Command<'a>> {
-        if words.iter().any(|word| word.as_str().starts_with("--")) {
-            return None;
-        }
-        let [root, profile, mode, binary, test] = words else {
-            return None;
+    /// Reads the words, without the program's name.
+    pub fn parse(alloc: Global, words: &'a [String]) -> Result<Command<'a>, CommandError> {
+        let (arguments, options) = split(alloc, words)?;
+        let [root, profile, mode, binary, test] = arguments.as_slice() else {
+            return Err(CommandError::Usage);
         };
-        Some(Command {
-            root: root.as_str(),
-            profile: profile.as_str(),
-            mode: mode_of(mode.as_str())?,
-            binary: binary.as_str(),
-            test: test.as_str(),
+        let Some(mode) = mode_of(mode) else {
+            return Err(CommandError::Usage);
+        };
+        Ok(Command {
+            root,
+            profile,
+            mode,
+            binary,
+            test,
+            options,
         })
+    }
+}
+
+/// An option that is read. Its value is the next word.
+#[derive(Clone, Copy)]
+enum OptionName {
+    ConfigFile,
+    ToolConfigFile,
+}
+
+impl OptionName {
+    /// The option that a word spells.
+    fn of(word: &str) -> Option<OptionName> {
+        match word {
+            "--config-file" => Some(OptionName::ConfigFile),
+            "--tool-config-file" => Some(OptionName::ToolConfigFile),
+            _ => None,
+        }
+    }
+}
+
+impl<'a> Options<'a> {
+    /// Sets an option to a value.
+    fn set(&mut self, alloc: Global, name: OptionName, value: &'a str) -> Result<(), CommandError> {
+        match name {
+            OptionName::ConfigFile => self.set_config_file(value),
+            OptionName::ToolConfigFile => self.add_tool_file(alloc, value),
+        }
+    }
+
+    fn set_config_file(&mut self, path: &'a str) -> Result<(), CommandError> {
+        match self.config_file.replace(path) {
+            Some(_) => Err(CommandError::Usage),
+            None => Ok(()),
+        }
+    }
+
+    fn add_tool_file(&mut self, alloc: Global, value: &'a str) -> Result<(), CommandError> {
+        let Some((tool, path)) = value.split_once(':') else {
+            return Err(CommandError::Usage);
+        };
+        let tool = ToolName::new(alloc, tool)?;
+        self.tool_files
+            .push(ToolFile { tool, path })
+            .map_err(AllocError::from)?;
+        Ok(())
+    }
+}
+
+/// The arguments and the options of some words. The word after an option is its value, whatever it is.
+fn split<'a>(
+    alloc: Global,
+    words: &'a [String],
+) -> Result<(Vec<&'a str>, Options<'a>), CommandError> {
+    let mut arguments = Vec::new(alloc);
+    let mut options = Options {
+        config_file: None,
+        tool_files: Vec::new(alloc),
+    };
+    let mut waiting: Option<OptionName> = None;
+    for word in words {
+        let word = word.as_str();
+        if let Some(name) = waiting.take() {
+            options.set(alloc, name, word)?;
+        } else if word.starts_with("--") {
+            waiting = Some(OptionName::of(word).ok_or(CommandError::Usage)?);
+        } else {
+            arguments.push(word).map_err(AllocError::from)?;
+        }
+    }
+    match waiting {
+        Some(_) => Err(CommandError::Usage),
+        None => Ok((arguments, options)),
     }
 }
 

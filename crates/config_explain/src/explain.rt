@@ -1,14 +1,13 @@
 //! What the program does, over readers of files and writers of its own choosing.
-use crate::command::{Command, USAGE};
+use crate::command::{Command, CommandError, USAGE};
 use crate::files::FileReader;
 use crate::lines::refusal_text;
+use crate::load::load;
 use crate::settings_lines::settings_text;
 use nextest_config::{
-    CONFIG_PATH, ConfigParseError, ConfigParseErrorKind, ConfigPath, ConfigPaths,
-    DefaultConfigWarnings, EvaluatableProfile, FileInput, NextestConfig, ProfileError,
-    ProfileNotFound,
+    ConfigParseError, ConfigParseErrorKind, EvaluatableProfile, ProfileError, ProfileNotFound,
 };
-use nextest_load::engines::{BinaryQuery, BuildPlatform, BuildPlatforms, ParseContext, TestQuery};
+use nextest_load::engines::{BinaryQuery, BuildPlatform, BuildPlatforms, TestQuery};
 use std::alloc::{AllocError, Global};
 use std::io::{self, Write};
 use toy_engines::filters::{ToyFilters, ToyTally};
@@ -33,6 +32,21 @@ impl From<AllocError> for Failure {
     }
 }
 
+impl From<CommandError> for Failure {
+    fn from(error: CommandError) -> Failure {
+        match error {
+            CommandError::Usage => Failure::Usage,
+            CommandError::Memory => Failure::Memory,
+        }
+    }
+}
+
+impl From<ConfigParseError> for Failure {
+    fn from(error: ConfigParseError) -> Failure {
+        Failure::Refused(error)
+    }
+}
+
 /// The triple of the host where none is named.
 const HOST: &str = "x86_64-unknown-linux-gnu";
 
@@ -52,10 +66,15 @@ pub fn explain<R: FileReader, O: Write, E: Write>(
             let (text, status) = told(alloc, &failure);
             match text {
                 Ok(text) => ended(err.write_all(text.as_bytes()), status),
-                Err(_) => ended(err.write_all(b"error: out of memory\n"), 5),
+                Err(_) => refuse_for_memory(err),
             }
         }
     }
+}
+
+/// Tells of want of memory, without any, and answers the exit status as `explain` does.
+pub fn refuse_for_memory<E: Write>(err: &mut E) -> u8 {
+    ended(err.write_all(b"error: out of memory\n"), 5)
 }
 
 /// The status, unless the last write failed.
@@ -85,10 +104,8 @@ fn out_of_memory(alloc: Global) -> Result<String, AllocError> {
 
 /// The lines of a test.
 fn lines<R: FileReader>(alloc: Global, words: &[String], files: &R) -> Result<String, Failure> {
-    let Some(command) = Command::parse(words) else {
-        return Err(Failure::Usage);
-    };
-    let config = load(alloc, command.root, files)?;
+    let command = Command::parse(alloc, words)?;
+    let config = load(alloc, command.root, &command.options, files)?;
     let profile = match config.profile(alloc, command.profile) {
         Ok(profile) => profile,
         Err(ProfileError::NotFound(error)) => return Err(Failure::NoProfile(error)),
@@ -102,44 +119,6 @@ fn lines<R: FileReader>(alloc: Global, words: &[String], files: &R) -> Result<St
         Ok(profile) => Ok(lines_of(alloc, &profile, &command)?),
         Err(_) => Err(Failure::Memory),
     }
-}
-
-/// The configuration of a workspace.
-fn load<R: FileReader>(
-    alloc: Global,
-    root: &str,
-    files: &R,
-) -> Result<NextestConfig<ToyFilters, ToySpecs>, Failure> {
-    let path = joined(alloc, root, CONFIG_PATH)?;
-    let outcome = files.read(alloc, path.as_str())?;
-    let paths = ConfigPaths {
-        workspace_root: String::from_str(alloc, root)?,
-        shared: FileInput {
-            path: ConfigPath::new(alloc, path.as_str())?,
-            outcome,
-        },
-    };
-    let pcx = ParseContext {
-        filters: &ToyFilters,
-        specs: &ToySpecs,
-    };
-    let mut warnings = DefaultConfigWarnings::new(alloc);
-    NextestConfig::from_sources_with_paths(alloc, &paths, &pcx, &mut warnings).map_err(
-        Failure::Refused,
-    )
-}
-
-/// A path below another: a second part that begins with a slash replaces the first.
-fn joined(alloc: Global, first: &str, second: &str) -> Result<String, AllocError> {
-    if second.starts_with("/") {
-        return String::from_str(alloc, second);
-    }
-    let mut path = String::from_str(alloc, first)?;
-    if !first.is_empty() && !first.ends_with("/") {
-        path.push_str("/")?;
-    }
-    path.push_str(second)?;
-    Ok(path)
 }
 
 /// The lines of the settings that a profile gives the command's test.

@@ -27,6 +27,10 @@ fn with_details(
     kind: &ConfigParseErrorKind,
 ) -> Result<String, AllocError> {
     match kind {
+        ConfigParseErrorKind::DuplicateToolConfigFile { first, .. } => {
+            let first = format!(in alloc; "the first file of the tool is {first}")?;
+            indented(alloc, text, first.as_str())
+        }
         ConfigParseErrorKind::ReadError(ReadOutcome::Failed(message)) => {
             indented(alloc, text, message.as_str())
         }

@@ -8,31 +8,47 @@ use std::process::Abort;
 use std::test::Fail;
 
 mod settings;
+mod sources;
+mod usage;
 
-/// What came of reading the one file of a row.
+/// What comes of reading a file of a row.
 #[derive(Clone, Copy)]
 enum Stored<'a> {
     Text(&'a str),
     NotFound,
     NotADirectory,
     Failed,
+    /// Want of memory: the program ends with status 5 where it reads such a file.
+    Memory,
 }
 
-/// The repository's file of `/w`.
-#[derive(Drop)]
-struct Files<'a>(Stored<'a>);
-
-impl FileReader for Files<'_> {
-    fn read(&self, alloc: Global, path: &str) -> Result<ReadOutcome, AllocError> {
-        if path != "/w/.config/nextest.toml" {
-            return Ok(ReadOutcome::NotFound);
-        }
-        match self.0 {
+impl Stored<'_> {
+    fn outcome(self, alloc: Global) -> Result<ReadOutcome, AllocError> {
+        match self {
             Stored::Text(text) => Ok(ReadOutcome::Text(String::from_str(alloc, text)?)),
             Stored::NotFound => Ok(ReadOutcome::NotFound),
             Stored::NotADirectory => Ok(ReadOutcome::NotADirectory),
             Stored::Failed => Ok(ReadOutcome::Failed(String::from_str(alloc, "a disk fault")?)),
+            Stored::Memory => Err(AllocError),
         }
+    }
+}
+
+/// The repository's file of `/w`.
+const REPOSITORY: &str = "/w/.config/nextest.toml";
+
+/// The files of a row, by their paths. There are no others.
+#[derive(Drop)]
+struct Files<'a>(&'a [(&'a str, Stored<'a>)]);
+
+impl FileReader for Files<'_> {
+    fn read(&self, alloc: Global, path: &str) -> Result<ReadOutcome, AllocError> {
+        for (stored_at, stored) in self.0 {
+            if *stored_at == path {
+                return stored.outcome(alloc);
+            }
+        }
+        Ok(ReadOutcome::NotFound)
     }
 }
 
@@ -45,13 +61,22 @@ fn words_of(alloc: Global, line: &str) -> Result<Vec<String>, AllocError> {
     Ok(words)
 }
 
-/// One run of the program: its status and what it wrote.
-fn run(alloc: Global, file: Stored<'_>, line: &str) -> Result<(u8, String, String), Fail> {
+/// One run of the program over some files: its status and what it wrote.
+fn run_over(
+    alloc: Global,
+    files: &[(&str, Stored<'_>)],
+    line: &str,
+) -> Result<(u8, String, String), Fail> {
     let words = words_of(alloc, line)?;
     let mut out = Vec::new(alloc);
     let mut err = Vec::new(alloc);
-    let status = explain(alloc, &words, &Files(file), &mut out, &mut err);
+    let status = explain(alloc, &words, &Files(files), &mut out, &mut err);
     Ok((status, String::from_utf8(out)?, String::from_utf8(err)?))
+}
+
+/// One run of the program over the repository's file.
+fn run(alloc: Global, file: Stored<'_>, line: &str) -> Result<(u8, String, String), Fail> {
+    run_over(alloc, &[(REPOSITORY, file)], line)
 }
 
 /// Asks for a line among those that are printed.
@@ -158,27 +183,6 @@ fn refused_files(rt: HostRuntime) -> Result<(), Fail> {
 }
 
 #[test]
-fn usage_faults(rt: HostRuntime) -> Result<(), Fail> {
-    let usage =
-        "usage: config_explain ROOT PROFILE MODE BINARY TEST [--config-file P] [--tool-config-file TOOL:PATH] [--experimental NAME] [--host T] [--target T] [--host-binary]\n";
-    let lines = [
-        "/w default test b",
-        "/w default test b t more",
-        "/w default tset b t",
-        "/w default test b t --host-binary",
-        "/w default test b t --config-file p",
-        "--unknown /w default test b",
-    ];
-    for line in lines {
-        let (status, out, err) = run(rt.alloc(), Stored::Failed, line)?;
-        assert_eq!(rt; err.as_str(), usage, "at {line}");
-        assert_eq!(rt; out.as_str(), "", "at {line}");
-        assert_eq!(rt; status, 2, "at {line}");
-    }
-    Ok(())
-}
-
-#[test]
 fn unknown_profiles(rt: HostRuntime) -> Result<(), Fail> {
     let rows = [
         (
@@ -245,7 +249,7 @@ fn nothing_follows_a_failed_write(rt: HostRuntime) -> Result<(), Fail> {
             let words = words_of(alloc, line)?;
             let mut out = failing_after(room);
             let mut err = failing_after(room);
-            let status = explain(alloc, &words, &Files(Stored::NotFound), &mut out, &mut err);
+            let status = explain(alloc, &words, &Files(&[]), &mut out, &mut err);
             assert_eq!(rt; status, 6, "at {line}");
             assert_eq!(rt; out.tries_after, 0, "at {line}");
             assert_eq!(rt; err.tries_after, 0, "at {line}");

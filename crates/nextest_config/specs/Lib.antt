@@ -7,6 +7,7 @@ pub mod Source
 pub mod Apply
 pub mod Pass
 pub mod Profile
+pub mod Configured
 pub mod Order
 pub mod Answers
 pub mod Given

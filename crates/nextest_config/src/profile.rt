@@ -1,15 +1,11 @@
-//! A loaded configuration, and its profiles.
-ghost use Rattle.std.specs.Prelude.{◌≡◌, ◌++◌, [], map, List, ℕ, None, IfOk, IfErr, IsSome, string_bytes};
-ghost use Rattle.std.specs.Cmp.Lexicographic.{slice_cmp};
-ghost use Rattle.std.specs.List.Sorted.{IsStrictlySortedBy};
-ghost use Rattle.std.specs.Ordering.{nat_cmp};
-ghost use Rattle.nextest_load.specs.Whole.{at_name};
+//! The profiles of a configuration.
+ghost use Rattle.std.specs.Prelude.{◌≡◌, ◌++◌, [], map, List, ℕ, IfOk, IfErr, string_bytes};
 ghost use Rattle.nextest_config.specs.Apply.{rule_in};
 ghost use Rattle.nextest_config.specs.Given.{value_given, origin_given, asked_given};
 ghost use Rattle.nextest_config.specs.Rules.{Rising, HasFilter};
 ghost use Rattle.nextest_config.specs.Settings.{slow_timeout_in, global_timeout_in};
 ghost use Rattle.nextest_config.specs.Answers.{value_at, origin_at};
-ghost use Rattle.nextest_config.specs.Profile.{profile_of, decided_on, meant_decided, groups_held, IfNotFound};
+ghost use Rattle.nextest_config.specs.Profile.{profile_of, decided_on, meant_decided, groups_held};
 ghost use Rattle.nextest_config.specs.declared.settings.Setting.{Setting};
 
 use crate::apply::{JudgedOverride, judge_all};
@@ -23,21 +19,13 @@ use nextest_elements::{
     NextestRunMode, RetryPolicy, SlowTimeout, StatusLevel, TestGroupConfig, TestOutputDisplay,
     TestThreads, ThreadsRequired,
 };
-use nextest_load::engines::{BuildPlatforms, Filters, ParseContext, Specs, TestQuery};
-use nextest_load::{
-    CompiledOverride, ConfigParseError, ConfigPaths, ConfigWarnings, LoadedConfig, ProfileFields,
-};
+use nextest_load::engines::{BuildPlatforms, Filters, Specs, TestQuery};
+use nextest_load::{CompiledOverride, LoadedConfig, ProfileFields};
 use std::alloc::{AllocError, Global};
 use std::collections::BTreeMap;
 use std::fmt;
 use std::marker::Model;
 use thiserror::Error;
-
-/// Where a repository's configuration lies, below the root of its workspace.
-pub const CONFIG_PATH: &str = ".config/nextest.toml";
-
-/// What the names of nextest's environment variables begin with.
-pub const ENVIRONMENT_PREFIX: &str = "NEXTEST";
 
 /// The profile that every configuration has.
 pub const DEFAULT_PROFILE: &str = "default";
@@ -47,21 +35,6 @@ pub const DEFAULT_MIRI_PROFILE: &str = "default-miri";
 
 /// The profiles that every configuration has.
 pub const DEFAULT_PROFILES: &[&str] = &[DEFAULT_PROFILE, DEFAULT_MIRI_PROFILE];
-
-/// A configuration.
-#[derive(Drop)]
-pub struct NextestConfig<F: Filters, S: Specs> {
-    loaded: LoadedConfig<F, S>,
-    global_group: GlobalGroup,
-}
-
-impl<F: Filters, S: Specs> Model for NextestConfig<F, S> {
-    ghost use Rattle.nextest_load.specs.Whole.{Whole};
-
-    ghost Value = { Whole F.Expr S.Spec };
-
-    ghost view = { λ config. config.loaded };
-}
 
 /// A name that no profile has.
 #[derive(Debug, Drop)]
@@ -106,87 +79,6 @@ impl From<AllocError> for ProfileError {
     }
 }
 
-/// The names of the profiles, in the order of their bytes.
-fn names_known(
-    alloc: Global,
-    profiles: &BTreeMap<String, ProfileFields>,
-) -> Result<Vec<String>, AllocError>
-    ensures names { IfOk result (λ known. map string_bytes known.items ≡ map (λ e. string_bytes e.0) profiles.now.entries) }
-    ensures order { IfOk result (λ known. IsStrictlySortedBy (slice_cmp nat_cmp) (map string_bytes known.items)) }
-{
-    let mut known = Vec::new(alloc);
-    for name in profiles.keys() {
-        known.push(name.clone()?)?;
-    }
-    Ok(known)
-}
-
-impl<F: Filters, S: Specs> NextestConfig<F, S> {
-    ghost use Rattle.std.specs.Prelude.{MatchResult, ◌⊎◌};
-    ghost use Rattle.nextest_load.specs.declared.engines.FiltersetKind.TheVariants.{OverrideFilter};
-    ghost use Rattle.nextest_load.specs.Accepted.{IsAccepted, sources_in, file_fault};
-    ghost use Rattle.nextest_load.specs.Closed.{IsClosed};
-    ghost use Rattle.nextest_load.specs.Errors.{Found, ended, IsMemory};
-    ghost use Rattle.nextest_load.specs.Sources.{file_seen};
-    ghost use Rattle.nextest_load.specs.Texts.{config_of};
-    ghost use Rattle.nextest_load.specs.Whole.{meant_whole};
-
-    /// Loads the repository's configuration over the defaults.
-    ///
-    /// The shared file may be missing. No warning is told yet.
-    pub fn from_sources_with_paths<W: ConfigWarnings>(
-        alloc: Global,
-        paths: &ConfigPaths,
-        pcx: &ParseContext<'_, F, S>,
-        warnings: &mut W,
-    ) -> Result<Self, ConfigParseError>
-        ensures verdict { MatchResult result
-            (λ _. IsAccepted (F.read pcx.now.filters.now OverrideFilter) (file_seen paths.now.shared))
-            (λ e. IsMemory e ⊎ ¬ IsAccepted (F.read pcx.now.filters.now OverrideFilter) (file_seen paths.now.shared)) }
-        ensures found { Found (file_fault (F.read pcx.now.filters.now OverrideFilter) (file_seen paths.now.shared)) (ended result) }
-        ensures means { IfOk result (λ config. meant_whole F.meaning S.spec_meaning config
-            ≡ config_of F.everything (F.read pcx.now.filters.now OverrideFilter) (sources_in (file_seen paths.now.shared))) }
-        ensures closed { IfOk result (λ config. IsClosed config) }
-        ensures told { W.warnings warnings.new ≡ W.warnings warnings.old }
-    {
-        match LoadedConfig::from_sources_with_paths(alloc, paths, pcx, warnings) {
-            Ok(loaded) => Ok(NextestConfig {
-                loaded,
-                global_group: GlobalGroup::new(),
-            }),
-            Err(error) => Err(error),
-        }
-    }
-
-    /// The profile of a name.
-    pub fn profile(&self, alloc: Global, name: &str) -> Result<EarlyProfile<'_, F, S>, ProfileError>
-        ensures ok { IfOk result (λ profile. profile ≡ profile_of self.now name.now) }
-        ensures known { IfOk result (λ _. IsSome (at_name name.now self.now.profiles)) }
-        ensures unknown { IfErr result (λ error. IfNotFound error (λ _. at_name name.now self.now.profiles ≡ None)) }
-        ensures name { IfErr result (λ error. IfNotFound error (λ missing. string_bytes missing.name ≡ name.now)) }
-        ensures names { IfErr result (λ error. IfNotFound error (λ missing.
-            map string_bytes missing.known.items ≡ map (λ e. e.0) self.now.profiles)) }
-        ensures order { IfErr result (λ error. IfNotFound error (λ missing. IsStrictlySortedBy (slice_cmp nat_cmp) (map string_bytes missing.known.items))) }
-    {
-        let profiles = self.loaded.profiles();
-        if !profiles.contains_key(name) {
-            return Err(ProfileError::NotFound(ProfileNotFound {
-                name: String::from_str(alloc, name)?,
-                known: names_known(alloc, profiles)?,
-            }));
-        }
-        let names = names_of(alloc, name)?;
-        Ok(EarlyProfile {
-            name: String::from_str(alloc, name)?,
-            test_groups: self.loaded.test_groups(),
-            fields: fields_of(alloc, profiles, &names)?,
-            rules: rules_of(alloc, self.loaded.layers(), &names)?,
-            everything: self.loaded.everything(),
-            global_group: &self.global_group,
-        })
-    }
-}
-
 /// A profile whose rules are not decided for a build's platforms yet.
 #[derive(Drop)]
 pub struct EarlyProfile<'cfg, F: Filters, S: Specs> {
@@ -211,6 +103,26 @@ impl<'cfg, F: Filters, S: Specs> Model for EarlyProfile<'cfg, F, S> {
 }
 
 impl<'cfg, F: Filters, S: Specs> EarlyProfile<'cfg, F, S> {
+    /// The profile of a name.
+    pub(crate) fn new(
+        alloc: Global,
+        name: &str,
+        loaded: &'cfg LoadedConfig<F, S>,
+        global_group: &'cfg GlobalGroup,
+    ) -> Result<Self, AllocError>
+        ensures { IfOk result (λ profile. profile ≡ profile_of loaded.now name.now) }
+    {
+        let names = names_of(alloc, name)?;
+        Ok(EarlyProfile {
+            name: String::from_str(alloc, name)?,
+            test_groups: loaded.test_groups(),
+            fields: fields_of(alloc, loaded.profiles(), &names)?,
+            rules: rules_of(alloc, loaded.layers(), &names)?,
+            everything: loaded.everything(),
+            global_group,
+        })
+    }
+
     /// The groups that the configuration defines, by name.
     pub fn test_group_config(&self) -> &'cfg BTreeMap<CustomTestGroup, TestGroupConfig>
         ensures { groups_held result.now ≡ self.now.test_groups }

@@ -10,16 +10,18 @@ use Rattle.nextest_elements.specs.declared.test_group.TestGroup.TheVariants as g
 use Rattle.nextest_tables.specs.Tables.{root}
 use Rattle.nextest_tables.specs.Texts.{OverrideText, ProfileText}
 use Rattle.nextest_tables.specs.Written.{Name}
-use Rattle.nextest_load.specs.Accepted.{repository_of, sources_in, read_fault, file_fault, IsRead, IsReadOrMissing, IsCompiled, Each, EachRule, IsAccepted}
+use Rattle.nextest_load.specs.Accepted.{IsRead, IsReadOrMissing, IsCompiled, Each, EachRule, IsAccepted}
 use Rattle.nextest_load.specs.Errors.{Ended, passed, refused, no_memory, odd, error_seen, ended, Found, IsMemory}
-use Rattle.nextest_load.specs.Faults.{Cause, bad_element, not_compiled, unknown_groups, in_override, least, element_fault, stage_fault, refusal, override_cause, fault_at_index, override_faults, compile_faults, compile_cause, group_cause, all_found, if_none, at_source, fault_of, source_fault, sources_fault, EachOver}
+use Rattle.nextest_load.specs.Faults.{Cause, bad_element, not_compiled, unknown_groups, in_override, least, element_fault, stage_fault, refusal, override_cause, fault_at_index, override_faults, compile_faults, compile_cause, group_cause, all_found, if_none, at_source, fault_of, source_fault, sources_fault, missing_cause, read_cause, input_fault, inputs_fault, duplicate_fault, load_fault, EachOver}
 use Rattle.nextest_load.specs.Groups.{group_fault, groups_unknown_to, groups_unknown_in, IsAmong, known_to, with_global}
+use Rattle.nextest_load.specs.Inputs.{Given, Input, texts_of, repository_of, inputs_of, sources_in}
 use Rattle.nextest_load.specs.Order.{is_default, default_first}
-use Rattle.nextest_load.specs.Sources.{FileSeen, Outcome, text, not_found, not_a_directory, failed}
+use Rattle.nextest_load.specs.Sources.{SourceKind, tool_file, explicit_file, discovered_file, Outcome, text, not_found, not_a_directory, failed}
 use Rattle.nextest_load.specs.Text.{tree_of}
 use Rattle.nextest_load.specs.Texts.{SourceText, own_tree, own_text, merged_tree}
 use Rattle.nextest_load.specs.declared.error.ConfigParseError.{ConfigParseError}
 use Rattle.nextest_load.proofs.Compiling.{faults_from}
+use Rattle.nextest_load.proofs.Duplicates.{duplicates_from, duplicates_to}
 use Rattle.nextest_load.proofs.Ordering.{in_default, in_others, together, step_default, step_others, both_empty, either_empty}
 use Rattle.nextest_load.proofs.Told.{not_passed}
 
@@ -147,17 +149,29 @@ groups_to names profiles h =
     ordered_to (λ p. groups_unknown_to (is_one_of names) p.0 p.1.overrides) profiles
     (each_from (λ p among. filtered_to (λ o. group_fault (is_one_of names) p.0 o.written.test_group) p.1.overrides (each_from (λ o one. group_to names p.0 o.written.test_group one) p.1.overrides among)) profiles h)
 
-outcome_from : (f : FileSeen) (o : Outcome) → read_fault f o ≡ None → IsReadOrMissing o
-outcome_from f (text t) h = tt
-outcome_from f not_found h = tt
-outcome_from f not_a_directory h = tt
-outcome_from f (failed message) h = cc
+missing_from : (kind : SourceKind) (o : Outcome) → missing_cause kind o ≡ None → kind ≡ discovered_file
+missing_from discovered_file o h = refl
+missing_from explicit_file o h = cc
+missing_from (tool_file tool) o h = cc
 
-outcome_to : (f : FileSeen) (o : Outcome) → IsReadOrMissing o → read_fault f o ≡ None
-outcome_to f (text t) h = refl
-outcome_to f not_found h = refl
-outcome_to f not_a_directory h = refl
-outcome_to f (failed message) h = absurd h
+missing_to : (kind : SourceKind) (o : Outcome) → kind ≡ discovered_file → missing_cause kind o ≡ None
+missing_to kind o h = rw h refl
+
+outcome_from : (kind : SourceKind) (o : Outcome) → read_cause kind o ≡ None → IsReadOrMissing kind o
+outcome_from kind (text t) h = tt
+outcome_from kind not_found h = missing_from kind not_found h
+outcome_from kind not_a_directory h = missing_from kind not_a_directory h
+outcome_from kind (failed message) h = cc
+
+outcome_to : (kind : SourceKind) (o : Outcome) → IsReadOrMissing kind o → read_cause kind o ≡ None
+outcome_to kind (text t) h = refl
+outcome_to kind not_found h = missing_to kind not_found h
+outcome_to kind not_a_directory h = missing_to kind not_a_directory h
+outcome_to kind (failed message) h = absurd h
+
+or_assoc : {X : Type 0} (a b c : Option X) → option_or (option_or a b) c ≡ option_or a (option_or b c)
+or_assoc None b c = refl
+or_assoc (Some x) b c = refl
 
 module _ {M : Type 0} (read : List ℕ → Result M (List ℕ)) where
   refusal_from : (r : Result M (List ℕ)) → refusal r ≡ None → (m : M) × (r ≡ Ok m)
@@ -238,37 +252,67 @@ module _ {M : Type 0} (read : List ℕ → Result M (List ℕ)) where
       or_none (source_fault read under y) (sources_fault read (under ++ y ∷ []) ys) (source_to under y (subst (λ bs. SourceFine bs y) (append-nil under) (h [] y ys refl)))
       (sources_to (under ++ y ∷ []) ys (λ below s above e. subst (λ bs. SourceFine bs s) (sym (append_assoc under (y ∷ []) below)) (h (y ∷ below) s above (ap (λ ss. y ∷ ss) e))))
 
+  sources_more : (under xs ys : List SourceText) → sources_fault read under (xs ++ ys) ≡ option_or (sources_fault read under xs) (sources_fault read (under ++ xs) ys)
+  sources_more under [] ys = ap (λ us. sources_fault read us ys) (sym (append-nil under))
+  sources_more under (x ∷ xs) ys =
+      ap (λ o. option_or (source_fault read under x) o) (sources_more (under ++ x ∷ []) xs ys ∙ ap (λ us. option_or (sources_fault read (under ++ x ∷ []) xs) (sources_fault read us ys)) (append_assoc under (x ∷ []) xs))
+      ∙ sym (or_assoc (source_fault read under x) (sources_fault read (under ++ x ∷ []) xs) (sources_fault read (under ++ x ∷ xs) ys))
+
+  -- inputs have no fault exactly where each is read or may be missing, and their texts have none
+  inputs_from : (under : List SourceText) (is : List Input) → inputs_fault read under is ≡ None → Each (λ i. IsReadOrMissing i.source.kind i.outcome) is × (sources_fault read under (flat_map texts_of is) ≡ None)
+  inputs_from under [] h = (tt, refl)
+  inputs_from under (i ∷ is) h =
+      let reading = fault_of i.source (read_cause i.source.kind i.outcome) in
+      let said = sources_fault read under (texts_of i) in
+      let here = or_left (option_or reading said) (inputs_fault read (under ++ texts_of i) is) h in
+      let rest = inputs_from (under ++ texts_of i) is (or_right (option_or reading said) (inputs_fault read (under ++ texts_of i) is) h) in (
+        (outcome_from i.source.kind i.outcome (map_from (at_source i.source) _ (or_left reading said here)), rest.0),
+        sources_more under (texts_of i) (flat_map texts_of is) ∙ or_none said _ (or_right reading said here) rest.1,
+      )
+
+  inputs_to : (under : List SourceText) (is : List Input) → Each (λ i. IsReadOrMissing i.source.kind i.outcome) is → sources_fault read under (flat_map texts_of is) ≡ None → inputs_fault read under is ≡ None
+  inputs_to under [] e h = refl
+  inputs_to under (i ∷ is) e h =
+      let said = sources_fault read under (texts_of i) in
+      let rest = sources_fault read (under ++ texts_of i) (flat_map texts_of is) in
+      let both = sym (sources_more under (texts_of i) (flat_map texts_of is)) ∙ h in
+      or_none (input_fault read under i) (inputs_fault read (under ++ texts_of i) is)
+      (or_none _ said (map_to (at_source i.source) _ (outcome_to i.source.kind i.outcome e.0)) (or_left said rest both))
+      (inputs_to (under ++ texts_of i) is e.1 (or_right said rest both))
+
   -- no fault is met exactly where every rule holds
-  pub accepted_from : (f : FileSeen) → file_fault read f ≡ None → IsAccepted read f
-  accepted_from f h =
-      let reading_fault = read_fault f f.outcome in
-      let below = sources_fault read [] (sources_in f) in
-      let whole = fault_of (repository_of f) (element_fault (merged_tree (sources_in f))) in
-      let loaded = or_right reading_fault (option_or below whole) h in
-      let each = sources_from [] (sources_in f) (or_left below whole loaded) in
+  pub accepted_from : (g : Given) → load_fault read g ≡ None → IsAccepted read g
+  accepted_from g h =
+      let twice = duplicate_fault [] g.tools in
+      let below = inputs_fault read [] (inputs_of g) in
+      let whole = fault_of (repository_of g) (element_fault (merged_tree (sources_in g))) in
+      let loaded = or_right twice (option_or below whole) h in
+      let fine = inputs_from [] (inputs_of g) (or_left below whole loaded) in
+      let each = sources_from [] (sources_in g) fine.1 in
       record {
-        outcome = outcome_from f f.outcome (or_left reading_fault (option_or below whole) h);
+        tools = duplicates_from g.tools (or_left twice (option_or below whole) h);
+        outcomes = fine.0;
         documents = λ b s a e. (each b s a e).document;
         readable = λ b s a e. (each b s a e).readable;
         known = λ b s a e. (each b s a e).known;
         compiled = λ b s a e. (each b s a e).compiled;
         groups = λ b s a e. (each b s a e).groups;
-        merged_readable = elements_from (merged_tree (sources_in f)) (map_from (at_source (repository_of f)) _ (or_right below whole loaded));
+        merged_readable = elements_from (merged_tree (sources_in g)) (map_from (at_source (repository_of g)) _ (or_right below whole loaded));
       }
 
-  pub accepted_to : (f : FileSeen) → IsAccepted read f → file_fault read f ≡ None
-  accepted_to f h =
-      or_none _ _ (outcome_to f f.outcome h.outcome)
-      (or_none _ _ (sources_to [] (sources_in f) (λ b s a e. record { document = h.documents b s a e; readable = h.readable b s a e; known = h.known b s a e; compiled = h.compiled b s a e; groups = h.groups b s a e }))
-      (map_to (at_source (repository_of f)) _ (elements_to (merged_tree (sources_in f)) h.merged_readable)))
+  pub accepted_to : (g : Given) → IsAccepted read g → load_fault read g ≡ None
+  accepted_to g h =
+      let each = sources_to [] (sources_in g) (λ b s a e. record { document = h.documents b s a e; readable = h.readable b s a e; known = h.known b s a e; compiled = h.compiled b s a e; groups = h.groups b s a e }) in
+      or_none _ _ (duplicates_to g.tools h.tools)
+      (or_none _ _ (inputs_to [] (inputs_of g) h.outcomes each) (map_to (at_source (repository_of g)) _ (elements_to (merged_tree (sources_in g)) h.merged_readable)))
 
-  refusal_is : (f : FileSeen) (e : ConfigParseError) (o : Ended) → error_seen e ≡ o → Found (file_fault read f) o → IsMemory e ⊎ (IsAccepted read f → ⊥)
-  refusal_is f e passed is h = absurd (not_passed e is)
-  refusal_is f e (refused fault) is h = inr (λ fine. let bad : Some fault ≡ None = sym h ∙ accepted_to f fine in cc)
-  refusal_is f e no_memory is h = inl is
-  refusal_is f e odd is h = absurd h
+  refusal_is : (g : Given) (e : ConfigParseError) (o : Ended) → error_seen e ≡ o → Found (load_fault read g) o → IsMemory e ⊎ (IsAccepted read g → ⊥)
+  refusal_is g e passed is h = absurd (not_passed e is)
+  refusal_is g e (refused fault) is h = inr (λ fine. let bad : Some fault ≡ None = sym h ∙ accepted_to g fine in cc)
+  refusal_is g e no_memory is h = inl is
+  refusal_is g e odd is h = absurd h
 
   -- what the end of a load says of its files
-  pub verdict : {T : Type 0} (f : FileSeen) (r : Result T ConfigParseError) → Found (file_fault read f) (ended r) → MatchResult r (λ _. IsAccepted read f) (λ e. IsMemory e ⊎ (IsAccepted read f → ⊥))
-  verdict f (Ok x) h = accepted_from f h
-  verdict f (Err e) h = refusal_is f e (error_seen e) refl h
+  pub verdict : {T : Type 0} (g : Given) (r : Result T ConfigParseError) → Found (load_fault read g) (ended r) → MatchResult r (λ _. IsAccepted read g) (λ e. IsMemory e ⊎ (IsAccepted read g → ⊥))
+  verdict g (Ok x) h = accepted_from g h
+  verdict g (Err e) h = refusal_is g e (error_seen e) refl h

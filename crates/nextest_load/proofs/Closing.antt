@@ -8,12 +8,13 @@ use Rattle.nextest_elements.specs.declared.test_group.TestGroup.TheVariants as g
 use Rattle.nextest_tables.specs.Tables.{root}
 use Rattle.nextest_tables.specs.Texts.{OverrideText, ProfileText}
 use Rattle.nextest_tables.specs.Written.{Name}
-use Rattle.nextest_load.specs.Accepted.{sources_in, file_fault, Each, EachRule}
+use Rattle.nextest_load.specs.Accepted.{Each, EachRule}
 use Rattle.nextest_load.specs.Closed.{IsClosed}
 use Rattle.nextest_load.specs.Errors.{ended, Found}
-use Rattle.nextest_load.specs.Faults.{EachSource, EachOver}
+use Rattle.nextest_load.specs.Faults.{load_fault, EachSource, EachOver}
 use Rattle.nextest_load.specs.Groups.{IsAmong, known_to}
-use Rattle.nextest_load.specs.Sources.{SourceSeen, FileSeen}
+use Rattle.nextest_load.specs.Inputs.{Given, sources_in}
+use Rattle.nextest_load.specs.Sources.{SourceSeen}
 use Rattle.nextest_load.specs.Texts.{SourceText, own_tree, own_text, merged_tree, rules_in, layer_of, config_of}
 use Rattle.nextest_load.specs.Whole.{Layer, Whole, meant_rule, meant_layer, meant_whole}
 use Rattle.nextest_load.specs.declared.error.ConfigParseError.{ConfigParseError}
@@ -80,8 +81,8 @@ unmeant meaning spec_meaning c h =
     (each_unmapped (λ layer. Each (λ p. Each (λ rule. IsAmong names rule.written.test_group) p.1) layer.rules) (meant_layer meaning spec_meaning) c.layers h)
 
 -- a configuration that was loaded is closed
-pub closed : {E N M K : Type 0} (read : List ℕ → Result M (List ℕ)) (meaning : E → M) (spec_meaning : N → K) (everything : M) (f : FileSeen) (r : Result (Whole E N) ConfigParseError) → Found (file_fault read f) (ended r) → IfOk r (λ c. meant_whole meaning spec_meaning c ≡ config_of everything read (sources_in f)) → IfOk r (λ c. IsClosed c)
-closed {E} {N} {M} {K} read meaning spec_meaning everything f (Ok c) found means =
-    let fine = accepted_from read f found in
-    unmeant meaning spec_meaning c (subst (λ w. IsClosed w) (sym means) (sources_closed K read everything (sources_in f) fine.readable fine.groups))
-closed read meaning spec_meaning everything f (Err e) found means = tt
+pub closed : {E N M K : Type 0} (read : List ℕ → Result M (List ℕ)) (meaning : E → M) (spec_meaning : N → K) (everything : M) (g : Given) (r : Result (Whole E N) ConfigParseError) → Found (load_fault read g) (ended r) → IfOk r (λ c. meant_whole meaning spec_meaning c ≡ config_of everything read (sources_in g)) → IfOk r (λ c. IsClosed c)
+closed {E} {N} {M} {K} read meaning spec_meaning everything g (Ok c) found means =
+    let fine = accepted_from read g found in
+    unmeant meaning spec_meaning c (subst (λ w. IsClosed w) (sym means) (sources_closed K read everything (sources_in g) fine.readable fine.groups))
+closed read meaning spec_meaning everything g (Err e) found means = tt

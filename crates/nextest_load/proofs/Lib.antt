@@ -3,6 +3,8 @@ pub mod Laying
 pub mod Steps
 pub mod Shown
 pub mod Sorted
+pub mod Duplicates
+pub mod FirstPaths
 pub mod Accepting
 pub mod Least
 pub mod Told

@@ -22,7 +22,7 @@ rules_twice meaning spec_meaning (e ∷ es) = λ i. (string_bytes e.0, map_twice
 pub layer_is : {F S E T N P M K : Type 0} (meaning : E → M) (spec_meaning : N → K) (l : LayerRules F S E T N P) (source : SourceSeen) (meant : List (Name × List (Compiled M K))) → source_seen l.source ≡ source → named (rules_meant meaning spec_meaning) l.rules.entries ≡ meant → meant_layer meaning spec_meaning (layer_held l) ≡ record { source = source; rules = meant }
 layer_is meaning spec_meaning l source meant s m = λ i. record { source = s i; rules = (rules_twice meaning spec_meaning l.rules.entries ∙ m) i }
 
-map_reversed : {X Y : Type 0} (f : X → Y) (xs : List X) → map f (reverse xs) ≡ reverse (map f xs)
+pub map_reversed : {X Y : Type 0} (f : X → Y) (xs : List X) → map f (reverse xs) ≡ reverse (map f xs)
 map_reversed f [] = refl
 map_reversed f (x ∷ xs) = rw (reverse-append (x ∷ []) xs, map-append f (reverse xs) (x ∷ []), map_reversed f xs) (sym (reverse-append (f x ∷ []) (map f xs)))
 
@@ -31,7 +31,7 @@ pub layers_are : {F S E T N P M K : Type 0} (meaning : E → M) (spec_meaning : 
 layers_are meaning spec_meaning xs ys layers turned m =
     rw turned (map_twice layer_held (meant_layer meaning spec_meaning) (reverse xs) ∙ map_reversed (λ l. meant_layer meaning spec_meaning (layer_held l)) xs ∙ ap (λ ls. reverse ls) m)
 
--- one element more, as it is seen
-pub one_seen : {X Y Z : Type 0} (see : X → Y) (say : Z → Y) (xs more : List X) (x : X) (zs : List Z) (z : Z) → more ≡ xs ++ x ∷ [] → map see xs ≡ map say zs → see x ≡ say z → map see more ≡ map say (zs ++ z ∷ [])
-one_seen see say xs more x zs z is so_far one =
-    ap (map see) is ∙ map-append see xs (x ∷ []) ∙ (λ i. so_far i ++ one i ∷ []) ∙ sym (map-append say zs (z ∷ []))
+-- some elements more, as they are seen
+pub more_seen : {X Y Z : Type 0} (see : X → Y) (say : Z → Y) (xs more added : List X) (zs ws : List Z) → more ≡ xs ++ added → map see xs ≡ map say zs → map see added ≡ map say ws → map see more ≡ map say (zs ++ ws)
+more_seen see say xs more added zs ws is so_far one =
+    ap (map see) is ∙ map-append see xs added ∙ (λ i. so_far i ++ one i) ∙ sym (map-append say zs ws)

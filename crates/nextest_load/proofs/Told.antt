@@ -61,6 +61,7 @@ fault_told None h = cc
 
 kind_told : (o : Option SourceSeen) (k : ConfigParseErrorKind) → seen_at o k ≡ passed → ⊥
 kind_told (Some source) k h = fault_told (kind_seen source k) h
+kind_told None (kinds.DuplicateToolConfigFile tool first) h = cc
 kind_told None (kinds.ReadError outcome) h = cc
 kind_told None (kinds.BuildError message) h = cc
 kind_told None (kinds.DeserializeError fault) h = cc

@@ -1,36 +1,15 @@
 -- Which sources are accepted: one field for each written rule.
-use Rattle.std.specs.Prelude.{◌≡◌, ℕ, List, [], ◌∷◌, Option, Some, None, Result, Ok, IsSome}
-use Rattle.std.specs.Option.{option_or}
+use Rattle.std.specs.Prelude.{◌≡◌, ℕ, List, [], ◌∷◌, ◌++◌, Some, Result, Ok, IsSome}
 use Rattle.nextest_tree.specs.Schema.{faults, unknown}
 use Rattle.nextest_tables.specs.Tables.{root}
 use Rattle.nextest_tables.specs.Texts.{OverrideText, ProfileText}
 use Rattle.nextest_tables.specs.Written.{Name}
-use Rattle.nextest_load.specs.Sources.{SourceSeen, discovered_file, FileSeen, Outcome, text, not_found, not_a_directory, failed}
+use Rattle.nextest_load.specs.Inputs.{Given, tool_source, inputs_of, sources_in}
+use Rattle.nextest_load.specs.Sources.{SourceKind, discovered_file, Outcome, text, not_found, not_a_directory, failed, ToolFile}
 use Rattle.nextest_load.specs.Text.{tree_of}
-use Rattle.nextest_load.specs.Texts.{SourceText, own_tree, own_text, merged_tree}
+use Rattle.nextest_load.specs.Texts.{own_tree, own_text, merged_tree}
 use Rattle.nextest_load.specs.Groups.{IsAmong, known_to}
-use Rattle.nextest_load.specs.Faults.{LoadFault, not_read, at_source, EachOver, EachSource, load_fault}
-
--- the repository's file where it is looked for
-abbrev pub repository_of : FileSeen → SourceSeen
-repository_of f = record { path = f.path; kind = discovered_file }
-
--- the sources that gave text
-abbrev pub sources_of : FileSeen → Outcome → List SourceText
-sources_of f (text t) = record { source = repository_of f; text = t } ∷ []
-sources_of f _ = []
-
--- a file that is looked for may be missing; any other outcome without text is refused
-abbrev pub read_fault : FileSeen → Outcome → Option LoadFault
-read_fault f (failed message) = Some (at_source (repository_of f) (not_read (failed message)))
-read_fault f _ = None
-
-abbrev pub sources_in : FileSeen → List SourceText
-sources_in f = sources_of f f.outcome
-
--- the first fault of a load of the repository's file
-abbrev pub file_fault : {M : Type 0} → (List ℕ → Result M (List ℕ)) → FileSeen → Option LoadFault
-file_fault read f = option_or (read_fault f f.outcome) (load_fault read (repository_of f) (sources_in f))
+use Rattle.nextest_load.specs.Faults.{LoadFault, duplicate_tool, at_source, EachOver, EachSource}
 
 -- the engine reads a text
 abbrev pub IsRead : {M : Type 0} → (List ℕ → Result M (List ℕ)) → List ℕ → Type 0
@@ -49,26 +28,49 @@ Each P (x ∷ xs) = P x × Each P xs
 abbrev pub EachRule : (OverrideText → Type 0) → List (Name × ProfileText) → Type 0
 EachRule P profiles = Each (λ p. Each P p.1.overrides) profiles
 
--- a file is read, or it is missing: there is no such file, or a part of its path is no directory
-abbrev pub IsReadOrMissing : Outcome → Type 0
-IsReadOrMissing (text t) = Unit {0}
-IsReadOrMissing not_found = Unit {0}
-IsReadOrMissing not_a_directory = Unit {0}
-IsReadOrMissing (failed message) = ⊥
+-- a file is read; or it is missing, and it was only looked for
+abbrev pub IsReadOrMissing : SourceKind → Outcome → Type 0
+IsReadOrMissing kind (text t) = Unit {0}
+IsReadOrMissing kind not_found = kind ≡ discovered_file
+IsReadOrMissing kind not_a_directory = kind ≡ discovered_file
+IsReadOrMissing kind (failed message) = ⊥
 
--- all that is asked of the files
-pub record IsAccepted {M : Type 0} (read : List ℕ → Result M (List ℕ)) (f : FileSeen) : Type 0 where
-  -- the file is read, or it is missing
-  pub outcome : IsReadOrMissing f.outcome
+-- no tool has two files
+abbrev pub HaveOneFileEach : List ToolFile → Type 0
+HaveOneFileEach ts =
+    (before between after : List ToolFile) (t u : ToolFile) → ts ≡ before ++ t ∷ between ++ u ∷ after → t.tool ≡ u.tool → ⊥
+
+-- the fault is that of a tool's second file, by the first argument that has an earlier one of its tool, and it names the first
+-- file of that tool
+pub record IsFirstDuplicate (ts : List ToolFile) (fault : LoadFault) : Type 0 where
+  pub before : List ToolFile
+  pub first : ToolFile
+  pub between : List ToolFile
+  pub second : ToolFile
+  pub after : List ToolFile
+  pub splits : ts ≡ before ++ first ∷ between ++ second ∷ after
+  pub same : first.tool ≡ second.tool
+  -- there is no earlier file of the tool
+  pub earliest : Each (λ t. t.tool ≡ second.tool → ⊥) before
+  -- and no earlier argument has an earlier one of its tool
+  pub least : HaveOneFileEach (before ++ first ∷ between)
+  pub told : fault ≡ at_source (tool_source second) (duplicate_tool second.tool first.file.path)
+
+-- all that is asked of the files that a load is given
+pub record IsAccepted {M : Type 0} (read : List ℕ → Result M (List ℕ)) (g : Given) : Type 0 where
+  -- no tool has two files
+  pub tools : HaveOneFileEach g.tools
+  -- each file is read, or it was only looked for and is missing
+  pub outcomes : Each (λ i. IsReadOrMissing i.source.kind i.outcome) (inputs_of g)
   -- each text is a document
-  pub documents : EachSource (λ s. IsSome (tree_of s.text)) (sources_in f)
+  pub documents : EachSource (λ s. IsSome (tree_of s.text)) (sources_in g)
   -- each file has, over the defaults, no fault of an element
-  pub readable : EachSource (λ s. faults root [] (own_tree s) ≡ []) (sources_in f)
+  pub readable : EachSource (λ s. faults root [] (own_tree s) ≡ []) (sources_in g)
   -- each file has only keys that are read today
-  pub known : EachSource (λ s. unknown root [] (own_tree s) ≡ []) (sources_in f)
+  pub known : EachSource (λ s. unknown root [] (own_tree s) ≡ []) (sources_in g)
   -- each rule of each file compiles
-  pub compiled : EachSource (λ s. EachRule (IsCompiled read) (own_text s).profiles) (sources_in f)
+  pub compiled : EachSource (λ s. EachRule (IsCompiled read) (own_text s).profiles) (sources_in g)
   -- each custom group that a rule of a file writes is defined in that file or a lower one
-  pub groups : EachOver (λ below s. EachRule (λ o. IsAmong (known_to below s) o.written.test_group) (own_text s).profiles) (sources_in f)
+  pub groups : EachOver (λ below s. EachRule (λ o. IsAmong (known_to below s) o.written.test_group) (own_text s).profiles) (sources_in g)
   -- the merged tree has no fault of an element
-  pub merged_readable : faults root [] (merged_tree (sources_in f)) ≡ []
+  pub merged_readable : faults root [] (merged_tree (sources_in g)) ≡ []

@@ -5,6 +5,7 @@ use Rattle.nextest_load.specs.declared.error.ConfigParseErrorKind.TheVariants as
 
 -- the kind is want of memory
 abbrev pub is_memory : ConfigParseErrorKind → Bool
+is_memory (kinds.DuplicateToolConfigFile tool first) = false
 is_memory (kinds.ReadError outcome) = false
 is_memory (kinds.BuildError message) = false
 is_memory (kinds.DeserializeError fault) = false

@@ -3,9 +3,10 @@ use Rattle.std.specs.Prelude.{◌≡◌, map, Option, Some, None, option_map, Re
 use Rattle.std.specs.BTreeSet.{contains_text}
 use Rattle.nextest_tree.specs.Reads.{told}
 use Rattle.nextest_elements.specs.TestGroup.{custom_group_text}
+use Rattle.nextest_texts.specs.IdentifierText.{tool_name_text}
 use Rattle.nextest_load.specs.Groups.{UnknownGroup}
-use Rattle.nextest_load.specs.Sources.{SourceSeen, source_seen, outcome_seen}
-use Rattle.nextest_load.specs.Faults.{not_read, not_document, bad_element, not_compiled, unknown_groups, CompileFault, Section, in_override, CompileCause, no_constraints, not_parsed, LoadFault, at_source}
+use Rattle.nextest_load.specs.Sources.{SourceSeen, source_seen, outcome_seen, path_text}
+use Rattle.nextest_load.specs.Faults.{duplicate_tool, not_read, not_document, bad_element, not_compiled, unknown_groups, CompileFault, Section, in_override, CompileCause, no_constraints, not_parsed, LoadFault, at_source}
 use Rattle.nextest_load.specs.declared.error.ConfigCompileErrorKind.{ConfigCompileErrorKind}
 use Rattle.nextest_load.specs.declared.error.ConfigCompileErrorKind.TheVariants as causes
 use Rattle.nextest_load.specs.declared.error.ConfigCompileSection.{ConfigCompileSection}
@@ -38,6 +39,7 @@ group_error_seen e = record { profile = string_bytes e.profile_name; group = cus
 
 -- the fault that a kind tells at a source: a message for people is no part of it
 abbrev pub kind_seen : SourceSeen → ConfigParseErrorKind → Option LoadFault
+kind_seen source (kinds.DuplicateToolConfigFile tool first) = Some (at_source source (duplicate_tool (tool_name_text tool) (path_text first)))
 kind_seen source (kinds.ReadError outcome) = Some (at_source source (not_read (outcome_seen outcome)))
 kind_seen source (kinds.BuildError message) = Some (at_source source not_document)
 kind_seen source (kinds.DeserializeError fault) = option_map (λ f. at_source source (bad_element f)) (told fault)

@@ -1,8 +1,9 @@
 -- What is wrong with sources, and which fault of them a load meets first.
-use Rattle.std.specs.Prelude.{◌≡◌, ℕ, List, [], ◌∷◌, ◌++◌, Option, None, Some, option_map, Result, Ok, Err, Bool, true, false, if◌then◌else◌}
+use Rattle.std.specs.Prelude.{◌≡◌, ℕ, List, [], ◌∷◌, ◌++◌, Option, None, Some, option_map, Result, Ok, Err, Bool, true, false, if◌then◌else◌, find}
 use Rattle.std.specs.List.{enumerate_from, filter_map, flat_map}
 use Rattle.std.specs.Option.{option_or}
 use Rattle.std.specs.Ordering.{nat_cmp, is_lt}
+use Rattle.std.specs.Str.{bytes_eq}
 use Rattle.std.specs.Cmp.Lexicographic.{slice_cmp}
 use Rattle.nextest_tree.specs.Node.{Node}
 use Rattle.nextest_tree.specs.Schema.{Fault, first, faults, unknown, unknown_field, is_one_of}
@@ -10,8 +11,9 @@ use Rattle.nextest_tables.specs.Tables.{root}
 use Rattle.nextest_tables.specs.Texts.{OverrideText, ProfileText}
 use Rattle.nextest_tables.specs.Written.{Name}
 use Rattle.nextest_load.specs.Groups.{UnknownGroup, groups_unknown_in, known_to, with_global}
+use Rattle.nextest_load.specs.Inputs.{Given, Input, tool_source, repository_of, inputs_of, texts_of, sources_in}
 use Rattle.nextest_load.specs.Order.{default_first}
-use Rattle.nextest_load.specs.Sources.{SourceSeen, Outcome}
+use Rattle.nextest_load.specs.Sources.{SourceSeen, SourceKind, tool_file, explicit_file, discovered_file, Outcome, text, not_found, not_a_directory, failed, ToolFile}
 use Rattle.nextest_load.specs.Text.{tree_of}
 use Rattle.nextest_load.specs.Texts.{SourceText, own_tree, own_text, merged_tree}
 
@@ -33,6 +35,8 @@ pub record CompileFault : Type 0 where
 
 -- why a source is refused
 pub data Cause : Type 0 where
+  -- a tool provides a second file: the tool, and the path of its first file
+  duplicate_tool : (tool first : List ℕ) → Cause
   not_read : Outcome → Cause
   not_document : Cause
   bad_element : Fault → Cause
@@ -80,7 +84,7 @@ refusal (Err message) = Some (not_parsed None None (message ∷ []))
 -- what is wrong with an override: it has no constraint, or the engine refuses its filter
 abbrev pub override_cause : {M : Type 0} → (List ℕ → Result M (List ℕ)) → Option (List ℕ) → Option CompileCause
 override_cause read None = Some (no_constraints false)
-override_cause read (Some text) = refusal (read text)
+override_cause read (Some filter) = refusal (read filter)
 
 -- a fault at the index, if there is a cause
 abbrev pub fault_at_index : Name → ℕ → Option CompileCause → Option CompileFault
@@ -138,9 +142,48 @@ abbrev pub sources_fault : {M : Type 0} → (List ℕ → Result M (List ℕ)) �
 sources_fault read below [] = None
 sources_fault read below (s ∷ above) = option_or (source_fault read below s) (sources_fault read (below ++ s ∷ []) above)
 
--- the first fault of a load: source by source, the lowest first, and then the merged tree's elements, at the repository's source
-abbrev pub load_fault : {M : Type 0} → (List ℕ → Result M (List ℕ)) → SourceSeen → List SourceText → Option LoadFault
-load_fault read repository ss = option_or (sources_fault read [] ss) (fault_of repository (element_fault (merged_tree ss)))
+-- a file that is missing is refused, unless it is only looked for
+abbrev pub missing_cause : SourceKind → Outcome → Option Cause
+missing_cause discovered_file o = None
+missing_cause explicit_file o = Some (not_read o)
+missing_cause (tool_file tool) o = Some (not_read o)
+
+-- why the outcome of a file is refused
+abbrev pub read_cause : SourceKind → Outcome → Option Cause
+read_cause kind (text t) = None
+read_cause kind not_found = missing_cause kind not_found
+read_cause kind not_a_directory = missing_cause kind not_a_directory
+read_cause kind (failed message) = Some (not_read (failed message))
+
+-- the first fault of one input above others: its file was not read, or what is wrong with its text
+abbrev pub input_fault : {M : Type 0} → (List ℕ → Result M (List ℕ)) → (below : List SourceText) → Input → Option LoadFault
+input_fault read below i = option_or (fault_of i.source (read_cause i.source.kind i.outcome)) (sources_fault read below (texts_of i))
+
+-- the first fault of some inputs above others, the lowest first
+abbrev pub inputs_fault : {M : Type 0} → (List ℕ → Result M (List ℕ)) → (below : List SourceText) → List Input → Option LoadFault
+inputs_fault read below [] = None
+inputs_fault read below (i ∷ above) = option_or (input_fault read below i) (inputs_fault read (below ++ texts_of i) above)
+
+-- the path of the first file of a tool among some
+abbrev pub first_path : List ℕ → List ToolFile → Option (List ℕ)
+first_path tool ts = option_map (λ t. t.file.path) (find (λ t. bytes_eq t.tool tool) ts)
+
+-- a tool's file is refused where one of the files before it is of the same tool
+abbrev pub second_file : (before : List ToolFile) → ToolFile → Option LoadFault
+second_file before t = option_map (λ first. at_source (tool_source t) (duplicate_tool t.tool first)) (first_path t.tool before)
+
+-- the first file, of those after some others, whose tool has an earlier one
+abbrev pub duplicate_fault : (before : List ToolFile) → List ToolFile → Option LoadFault
+duplicate_fault before [] = None
+duplicate_fault before (t ∷ ts) = option_or (second_file before t) (duplicate_fault (before ++ t ∷ []) ts)
+
+-- the first fault of a load: a tool's second file; then input by input, the lowest first; and then the merged tree's elements, at
+-- the repository's source, whether it gave text or not
+abbrev pub load_fault : {M : Type 0} → (List ℕ → Result M (List ℕ)) → Given → Option LoadFault
+load_fault read g =
+    option_or (duplicate_fault [] g.tools)
+    (option_or (inputs_fault read [] (inputs_of g))
+    (fault_of (repository_of g) (element_fault (merged_tree (sources_in g)))))
 
 -- a fact of each source and of those below it
 abbrev pub EachOver : (List SourceText → SourceText → Type 0) → List SourceText → Type 0

@@ -5,6 +5,7 @@ use Rattle.nextest_load.specs.declared.error.ConfigParseErrorKind.TheVariants as
 
 -- the number of a kind
 abbrev pub kind_number : ConfigParseErrorKind → ℕ
+kind_number (kinds.DuplicateToolConfigFile tool first) = 1
 kind_number (kinds.ReadError outcome) = 2
 kind_number (kinds.BuildError message) = 3
 kind_number (kinds.DeserializeError fault) = 4
@@ -14,6 +15,7 @@ kind_number kinds.Memory = 16
 
 -- the name of a kind
 abbrev pub kind_name : ConfigParseErrorKind → List ℕ
+kind_name (kinds.DuplicateToolConfigFile tool first) = codes "DuplicateToolConfigFile"
 kind_name (kinds.ReadError outcome) = codes "ReadError"
 kind_name (kinds.BuildError message) = codes "BuildError"
 kind_name (kinds.DeserializeError fault) = codes "DeserializeError"

@@ -7,6 +7,7 @@ pub mod Merge
 pub mod Shown
 pub mod Text
 pub mod Texts
+pub mod Inputs
 pub mod Order
 pub mod Groups
 pub mod Faults
@@ -14,6 +15,7 @@ pub mod Accepted
 pub mod Closed
 pub mod ErrorKinds
 pub mod Errors
+pub mod Load
 pub mod Files
 pub mod Warning
 pub mod Collected

@@ -5,6 +5,7 @@ use Rattle.nextest_load.specs.declared.sources.ConfigPath.{ConfigPath}
 use Rattle.nextest_load.specs.declared.sources.ReadOutcome.{ReadOutcome}
 use Rattle.nextest_load.specs.declared.sources.ReadOutcome.TheVariants as outcomes
 use Rattle.nextest_load.specs.declared.sources.FileInput.{FileInput}
+use Rattle.nextest_load.specs.declared.sources.ToolConfigFile.{ToolConfigFile}
 use Rattle.nextest_load.specs.declared.sources.ConfigSource.{ConfigSource}
 use Rattle.nextest_load.specs.declared.sources.ConfigSourceKind.{ConfigSourceKind}
 use Rattle.nextest_load.specs.declared.sources.ConfigSourceKind.TheVariants as kinds
@@ -58,3 +59,11 @@ pub record FileSeen : Type 0 where
 
 abbrev pub file_seen : FileInput → FileSeen
 file_seen f = record { path = path_text f.path; outcome = outcome_seen f.outcome }
+
+-- a file that a tool provides
+pub record ToolFile : Type 0 where
+  pub tool : List ℕ
+  pub file : FileSeen
+
+abbrev pub tool_file_seen : ToolConfigFile → ToolFile
+tool_file_seen t = record { tool = tool_name_text t.tool; file = file_seen t.config_file }

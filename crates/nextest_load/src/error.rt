@@ -106,6 +106,13 @@ impl fmt::Display for UnknownTestGroupError {
 /// What is wrong with a source.
 #[derive(Debug, Drop)]
 pub enum ConfigParseErrorKind {
+    /// A tool provides a second file. The fault stands at the second.
+    DuplicateToolConfigFile {
+        /// The tool.
+        tool: ToolName,
+        /// The path of its first file, in the order of the arguments.
+        first: ConfigPath,
+    },
     /// The file could not be read.
     ReadError(ReadOutcome),
     /// The text is no TOML document. The message is for people.
@@ -133,6 +140,7 @@ impl ConfigParseErrorKind {
         ensures { result ≡ kind_number self.now }
     {
         match self {
+            ConfigParseErrorKind::DuplicateToolConfigFile { .. } => 1,
             ConfigParseErrorKind::ReadError(_) => 2,
             ConfigParseErrorKind::BuildError(_) => 3,
             ConfigParseErrorKind::DeserializeError(_) => 4,
@@ -147,6 +155,7 @@ impl ConfigParseErrorKind {
         ensures { result.now ≡ kind_name self.now }
     {
         match self {
+            ConfigParseErrorKind::DuplicateToolConfigFile { .. } => "DuplicateToolConfigFile",
             ConfigParseErrorKind::ReadError(_) => "ReadError",
             ConfigParseErrorKind::BuildError(_) => "BuildError",
             ConfigParseErrorKind::DeserializeError(_) => "DeserializeError",

@@ -6,6 +6,7 @@ mod config;
 pub mod engines;
 mod error;
 mod groups;
+mod inputs;
 pub mod laws;
 mod load;
 mod merge;
@@ -25,7 +26,8 @@ pub use nextest_elements::{CustomTestGroup, TestGroupConfig};
 pub use nextest_tables::{OverrideSettings, ProfileFields};
 pub use overrides::{CompiledOverride, OverrideId, PlatformSpecs};
 pub use sources::{
-    ConfigPath, ConfigPaths, ConfigSource, ConfigSourceKind, FileInput, ReadOutcome,
+    ConfigFileSelection, ConfigPath, ConfigPaths, ConfigSource, ConfigSourceKind, FileInput,
+    ReadOutcome, ToolConfigFile,
 };
 pub use text::{TextFault, tree_from_text};
 pub use warnings::{ConfigWarning, ConfigWarnings, DefaultConfigWarnings};

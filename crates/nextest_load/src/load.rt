@@ -1,5 +1,6 @@
 //! The load: every source over the defaults, then all of them merged.
-ghost use Rattle.std.specs.Prelude.{◌≡◌, [], List, ℕ, IfOk, OnOk, map, ◌⊎◌, MatchResult};
+ghost use Rattle.std.specs.Prelude.{◌≡◌, ◌++◌, [], List, ℕ, IfOk, OnOk, map, option_map};
+ghost use Rattle.std.specs.List.{cons_option, flat_map};
 ghost use Rattle.std.specs.Option.{option_or};
 ghost use Rattle.std.specs.BTreeSet.{contains_text};
 ghost use Rattle.nextest_tree.specs.Schema.{is_one_of, unknown};
@@ -9,17 +10,17 @@ ghost use Rattle.nextest_tables.specs.Seen.{named, fields_held, profile_seen, ro
 ghost use Rattle.nextest_tables.specs.Tables.{root};
 ghost use Rattle.nextest_tables.specs.Texts.{root_in};
 ghost use Rattle.nextest_load.specs.declared.engines.FiltersetKind.TheVariants.{OverrideFilter};
-ghost use Rattle.nextest_load.specs.Accepted.{IsAccepted, repository_of, sources_of, sources_in, read_fault, file_fault};
-ghost use Rattle.nextest_load.specs.Closed.{IsClosed};
-ghost use Rattle.nextest_load.specs.Errors.{compile_error_seen, Found, ended, IsMemory};
-ghost use Rattle.nextest_load.specs.Faults.{fault_of, element_fault, stage_fault, unread, if_none, all_found, not_compiled, rules_fault, text_fault, source_fault, sources_fault, load_fault};
-ghost use Rattle.nextest_load.specs.Files.{file_text};
+ghost use Rattle.nextest_load.specs.Errors.{compile_error_seen, Found, ended};
+ghost use Rattle.nextest_load.specs.Faults.{fault_of, element_fault, stage_fault, unread, if_none, all_found, not_compiled, rules_fault, text_fault, source_fault, input_fault, inputs_fault, load_fault};
+ghost use Rattle.nextest_load.specs.Files.{file_text, input_seen};
 ghost use Rattle.nextest_load.specs.Groups.{defined_in, known_to};
 ghost use Rattle.nextest_load.specs.Held.{layer_held};
+ghost use Rattle.nextest_load.specs.Inputs.{given, texts_of, sources_in};
+ghost use Rattle.nextest_load.specs.Load.{IsLoad};
 ghost use Rattle.nextest_load.specs.Merge.{merged};
-ghost use Rattle.nextest_load.specs.Sources.{source_seen, file_seen};
+ghost use Rattle.nextest_load.specs.Sources.{source_seen};
 ghost use Rattle.nextest_load.specs.Text.{tree_of};
-ghost use Rattle.nextest_load.specs.Texts.{SourceText, tree_in, own_text, fields_in, rules_in, layer_of, config_of};
+ghost use Rattle.nextest_load.specs.Texts.{SourceText, tree_in, own_text, merged_tree, fields_in, rules_in, layer_of, config_of};
 ghost use Rattle.nextest_load.specs.Whole.{meant_layer, meant_whole};
 
 use crate::compile::compile_profiles;
@@ -27,8 +28,9 @@ use crate::config::{LayerRules, LoadedConfig};
 use crate::engines::{Filters, ParseContext, Specs};
 use crate::error::{ConfigCompileError, ConfigParseError, ConfigParseErrorKind};
 use crate::groups::{groups_not_known, note_groups, refuse_groups};
+use crate::inputs::{SourceInput, gather, refuse_duplicates, repository_file, text_of};
 use crate::merge::{lay_over, merge_layers};
-use crate::sources::{ConfigPaths, ConfigSource, ConfigSourceKind, FileInput, ReadOutcome};
+use crate::sources::{ConfigFileSelection, ConfigSource, FileInput, ToolConfigFile};
 use crate::text::{TextFault, tree_from_text};
 use crate::warnings::ConfigWarnings;
 use nextest_elements::{CustomTestGroup, TestGroupConfig};
@@ -38,9 +40,9 @@ use std::alloc::{AllocError, Global};
 use std::collections::{BTreeMap, BTreeSet};
 
 /// A source with the text of its file.
-#[derive(Drop)]
+#[derive(Clone, Copy)]
 struct SourceFile<'a> {
-    source: ConfigSource,
+    source: &'a ConfigSource,
     text: &'a str,
 }
 
@@ -52,7 +54,7 @@ fn read_text(alloc: Global, file: &SourceFile<'_>) -> Result<Tree, ConfigParseEr
     match tree_from_text(alloc, file.text) {
         Ok(tree) => Ok(tree),
         Err(TextFault::NotDocument(message)) => Err(ConfigParseError::at(
-            &file.source,
+            file.source,
             ConfigParseErrorKind::BuildError(message),
         )),
         Err(TextFault::Memory) => Err(ConfigParseError::memory()),
@@ -169,7 +171,7 @@ fn read_source(alloc: Global, file: &SourceFile<'_>) -> Result<(Tree, RootTable)
     let tree = read_text(alloc, file)?;
     let defaults = default_tree(alloc)?;
     let own = lay_over(alloc, &tree, defaults)?;
-    let table = read_own(alloc, &file.source, &own)?;
+    let table = read_own(alloc, file.source, &own)?;
     Ok((tree, table))
 }
 
@@ -192,27 +194,50 @@ fn load_source<F: Filters, S: Specs>(
         ..
     } = table;
     note_groups(alloc, known, &groups_of(alloc, test_groups))?;
-    let rules = compile_source(alloc, filters, &file.source, known, profiles)?;
+    let rules = compile_source(alloc, filters, file.source, known, profiles)?;
     Ok((tree, rules))
 }
 
-/// The trees and the rules of the sources, the lowest first, or their first fault.
-fn load_sources<F: Filters, S: Specs>(
+/// The tree and the rules of an input above others, if it gave text, or its first fault.
+fn load_input<F: Filters, S: Specs>(
     alloc: Global,
     filters: &F,
-    files: &[SourceFile<'_>],
+    known: &mut BTreeSet<String>,
+    input: &SourceInput<'_>,
+) -> Result<Option<(Tree, LayerRules<F, S>)>, ConfigParseError>
+    ensures found { (below : List SourceText) → contains_text known.old ≡ is_one_of (defined_in below) → Found (input_fault (F.read filters.now OverrideFilter) below (input_seen input.now)) (ended result) }
+    ensures tree { IfOk result (λ loaded. cons_option (option_map (λ l. node_of l.0) loaded) [] ≡ map tree_in (texts_of (input_seen input.now))) }
+    ensures rules { IfOk result (λ loaded. cons_option (option_map (λ l. meant_layer F.meaning S.spec_meaning (layer_held l.1)) loaded) [] ≡ map (layer_of (F.read filters.now OverrideFilter)) (texts_of (input_seen input.now))) }
+    ensures known { (below : List SourceText) → contains_text known.old ≡ is_one_of (defined_in below) → OnOk result (contains_text known.new ≡ is_one_of (defined_in (below ++ texts_of (input_seen input.now)))) }
+{
+    let Some(text) = text_of(input)? else {
+        return Ok(None);
+    };
+    let file = SourceFile {
+        source: &input.source,
+        text,
+    };
+    Ok(Some(load_source(alloc, filters, known, &file)?))
+}
+
+/// The trees and the rules of the inputs that gave text, the lowest first, or the first fault of the inputs.
+fn load_inputs<F: Filters, S: Specs>(
+    alloc: Global,
+    filters: &F,
+    inputs: &[SourceInput<'_>],
 ) -> Result<(Vec<Tree>, Vec<LayerRules<F, S>>), ConfigParseError>
-    ensures found { Found (sources_fault (F.read filters.now OverrideFilter) [] (map file_text files.now)) (ended result) }
-    ensures trees { IfOk result (λ loaded. map node_of loaded.0.items ≡ map tree_in (map file_text files.now)) }
-    ensures layers { IfOk result (λ loaded. map (λ layer. meant_layer F.meaning S.spec_meaning (layer_held layer)) loaded.1.items ≡ map (layer_of (F.read filters.now OverrideFilter)) (map file_text files.now)) }
+    ensures found { Found (inputs_fault (F.read filters.now OverrideFilter) [] (map input_seen inputs.now)) (ended result) }
+    ensures trees { IfOk result (λ loaded. map node_of loaded.0.items ≡ map tree_in (flat_map texts_of (map input_seen inputs.now))) }
+    ensures layers { IfOk result (λ loaded. map (λ layer. meant_layer F.meaning S.spec_meaning (layer_held layer)) loaded.1.items ≡ map (layer_of (F.read filters.now OverrideFilter)) (flat_map texts_of (map input_seen inputs.now))) }
 {
     let mut known = BTreeSet::new(alloc);
     let mut trees = Vec::new(alloc);
     let mut layers = Vec::new(alloc);
-    for file in files {
-        let (tree, rules) = load_source(alloc, filters, &mut known, file)?;
-        trees.push(tree).map_err(AllocError::from)?;
-        layers.push(rules).map_err(AllocError::from)?;
+    for input in inputs {
+        if let Some((tree, rules)) = load_input(alloc, filters, &mut known, input)? {
+            trees.push(tree).map_err(AllocError::from)?;
+            layers.push(rules).map_err(AllocError::from)?;
+        }
     }
     Ok((trees, layers))
 }
@@ -254,17 +279,18 @@ fn read_merged(
     Ok(table)
 }
 
-/// Loads sources that gave text, the lowest first, and then the merged tree, or tells their first fault.
-fn load_files<F: Filters, S: Specs>(
+/// Loads inputs, the lowest first, and then the merged tree, or tells their first fault.
+fn load_all<F: Filters, S: Specs>(
     alloc: Global,
     filters: &F,
     repository: &ConfigSource,
-    files: &[SourceFile<'_>],
+    inputs: &[SourceInput<'_>],
 ) -> Result<LoadedConfig<F, S>, ConfigParseError>
-    ensures found { Found (load_fault (F.read filters.now OverrideFilter) (source_seen repository.now) (map file_text files.now)) (ended result) }
-    ensures means { IfOk result (λ config. meant_whole F.meaning S.spec_meaning config ≡ config_of F.everything (F.read filters.now OverrideFilter) (map file_text files.now)) }
+    ensures found { Found (option_or (inputs_fault (F.read filters.now OverrideFilter) [] (map input_seen inputs.now))
+        (fault_of (source_seen repository.now) (element_fault (merged_tree (flat_map texts_of (map input_seen inputs.now)))))) (ended result) }
+    ensures means { IfOk result (λ config. meant_whole F.meaning S.spec_meaning config ≡ config_of F.everything (F.read filters.now OverrideFilter) (flat_map texts_of (map input_seen inputs.now))) }
 {
-    let (trees, mut layers) = load_sources(alloc, filters, files)?;
+    let (trees, mut layers) = load_inputs(alloc, filters, inputs)?;
     let RootTable {
         test_groups,
         profiles,
@@ -276,73 +302,40 @@ fn load_files<F: Filters, S: Specs>(
     Ok(LoadedConfig::new(fields, test_groups, layers, filters.all()))
 }
 
-/// The sources that gave text: a file that is looked for may be missing.
-fn gather<'a>(
-    alloc: Global,
-    repository: &ConfigSource,
-    shared: &'a FileInput,
-) -> Result<Vec<SourceFile<'a>>, ConfigParseError>
-    requires { source_seen repository.now ≡ repository_of (file_seen shared.now) }
-    ensures found { Found (read_fault (file_seen shared.now) (file_seen shared.now).outcome) (ended result) }
-    ensures files { IfOk result (λ files. map file_text files.items ≡ sources_of (file_seen shared.now) (file_seen shared.now).outcome) }
-{
-    match &shared.outcome {
-        ReadOutcome::Text(text) => {
-            let source = repository.clone()?;
-            let file = SourceFile {
-                source,
-                text: text.as_str(),
-            };
-            let mut files = Vec::new(alloc);
-            files.push(file).map_err(AllocError::from)?;
-            Ok(files)
-        }
-        ReadOutcome::NotFound | ReadOutcome::NotADirectory => Ok(Vec::new(alloc)),
-        ReadOutcome::Failed(message) => {
-            let outcome = ReadOutcome::Failed(message.clone()?);
-            let kind = ConfigParseErrorKind::ReadError(outcome);
-            Err(ConfigParseError::at(repository, kind))
-        }
-    }
-}
-
-/// Loads the repository's file, or tells the first fault.
-fn load_paths<F: Filters, S: Specs>(
+/// Loads the files of tools and the repository's, or tells the first fault.
+fn load_given<F: Filters, S: Specs>(
     alloc: Global,
     filters: &F,
     shared: &FileInput,
+    selection: ConfigFileSelection<'_>,
+    tools: &[ToolConfigFile],
 ) -> Result<LoadedConfig<F, S>, ConfigParseError>
-    ensures found { Found (file_fault (F.read filters.now OverrideFilter) (file_seen shared.now)) (ended result) }
-    ensures means { IfOk result (λ config. meant_whole F.meaning S.spec_meaning config ≡ config_of F.everything (F.read filters.now OverrideFilter) (sources_in (file_seen shared.now))) }
+    ensures found { Found (load_fault (F.read filters.now OverrideFilter) (given shared.now selection.entry.config_file tools.now)) (ended result) }
+    ensures means { IfOk result (λ config. meant_whole F.meaning S.spec_meaning config ≡ config_of F.everything (F.read filters.now OverrideFilter) (sources_in (given shared.now selection.entry.config_file tools.now))) }
 {
-    let repository = ConfigSource::new(
-        shared.path.clone()?,
-        ConfigSourceKind::DiscoveredRepository,
-    );
-    let files = gather(alloc, &repository, shared)?;
-    load_files(alloc, filters, &repository, &files)
+    refuse_duplicates(alloc, tools)?;
+    let repository = repository_file(shared, selection)?;
+    let source = repository.source.clone()?;
+    let inputs = gather(alloc, repository, tools)?;
+    load_all(alloc, filters, &source, &inputs)
 }
 
 impl<F: Filters, S: Specs> LoadedConfig<F, S> {
-    /// Loads the repository's configuration over the defaults.
+    /// Loads the defaults, the files of tools and the repository's file, in this order, each above those before it.
     ///
-    /// The shared file may be missing. No warning is told yet.
-    pub fn from_sources_with_paths<W: ConfigWarnings>(
+    /// Of tools' files the first is the highest. No warning is told yet.
+    pub fn load<W: ConfigWarnings>(
         alloc: Global,
-        paths: &ConfigPaths,
+        shared: &FileInput,
         pcx: &ParseContext<'_, F, S>,
+        selection: ConfigFileSelection<'_>,
+        tools: &[ToolConfigFile],
         warnings: &mut W,
     ) -> Result<LoadedConfig<F, S>, ConfigParseError>
-        ensures verdict { MatchResult result
-            (λ _. IsAccepted (F.read pcx.now.filters.now OverrideFilter) (file_seen paths.now.shared))
-            (λ e. IsMemory e ⊎ ¬ IsAccepted (F.read pcx.now.filters.now OverrideFilter) (file_seen paths.now.shared)) }
-        ensures found { Found (file_fault (F.read pcx.now.filters.now OverrideFilter) (file_seen paths.now.shared)) (ended result) }
-        ensures means { IfOk result (λ config. meant_whole F.meaning S.spec_meaning config
-            ≡ config_of F.everything (F.read pcx.now.filters.now OverrideFilter) (sources_in (file_seen paths.now.shared))) }
-        ensures closed { IfOk result (λ config. IsClosed config) }
+        ensures loads { IsLoad (λ config. config) F.meaning S.spec_meaning F.everything (F.read pcx.now.filters.now OverrideFilter) (given shared.now selection.entry.config_file tools.now) result }
         ensures told { W.warnings warnings.new ≡ W.warnings warnings.old }
     {
         let _warnings = warnings;
-        load_paths(alloc, pcx.filters, &paths.shared)
+        load_given(alloc, pcx.filters, shared, selection, tools)
     }
 }

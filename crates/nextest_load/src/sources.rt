@@ -2,7 +2,7 @@
 //!
 //! Nothing here reads a file. A caller reads them and hands the outcomes in.
 ghost use Rattle.std.specs.Prelude.{◌≡◌, IfOk, option_map};
-ghost use Rattle.nextest_load.specs.Sources.{path_text, source_seen, kind_seen, tool_of};
+ghost use Rattle.nextest_load.specs.Sources.{path_text, outcome_seen, source_seen, kind_seen, tool_of};
 ghost use Rattle.nextest_texts.specs.IdentifierText.{tool_name_text};
 
 use nextest_elements::ToolName;
@@ -52,11 +52,55 @@ pub enum ReadOutcome {
     Failed(String),
 }
 
+impl Clone for ReadOutcome {
+    ghost is_clone = { λ outcome copy. outcome_seen copy ≡ outcome_seen outcome };
+
+    fn clone(&self) -> Result<Self, AllocError> {
+        match self {
+            ReadOutcome::Text(text) => Ok(ReadOutcome::Text(text.clone()?)),
+            ReadOutcome::NotFound => Ok(ReadOutcome::NotFound),
+            ReadOutcome::NotADirectory => Ok(ReadOutcome::NotADirectory),
+            ReadOutcome::Failed(message) => Ok(ReadOutcome::Failed(message.clone()?)),
+        }
+    }
+}
+
 /// A file that was read, or not.
 #[derive(Debug, Drop)]
 pub struct FileInput {
     pub path: ConfigPath,
     pub outcome: ReadOutcome,
+}
+
+/// A file that a tool provides. It has to be there.
+#[derive(Debug, Drop)]
+pub struct ToolConfigFile {
+    /// The tool.
+    pub tool: ToolName,
+    pub config_file: FileInput,
+}
+
+/// Which file of the repository is read, whatever files tools provide.
+#[derive(Clone, Copy, Debug)]
+pub struct ConfigFileSelection<'a> {
+    /// The file that a user named. It has to be there, and no other is looked for.
+    pub config_file: Option<&'a FileInput>,
+}
+
+impl<'a> ConfigFileSelection<'a> {
+    /// The file that a user named, if there is one, and else the one that is looked for.
+    pub fn new(config_file: Option<&'a FileInput>) -> ConfigFileSelection<'a>
+        ensures { result.config_file ≡ config_file.entry }
+    {
+        ConfigFileSelection { config_file }
+    }
+
+    /// The file that a user named.
+    pub fn explicit_config_file(self) -> Option<&'a FileInput>
+        ensures { result ≡ self.entry.config_file }
+    {
+        self.config_file
+    }
 }
 
 /// Where the configuration of a workspace lies.

@@ -58,16 +58,11 @@ impl ScriptId {
     ) -> Result<String, AllocError>
         ensures { IfOk result (λ id. string_bytes id ≡ unique_text run_id (script_text self.now) stress_index) }
     {
-        let mut buffer = Uuid::encode_buffer();
-        let run = run_id.hyphenated().encode_lower(&mut buffer);
-        let mut id = String::from_str(alloc, run)?;
-        id.push_str(":")?;
-        id.push_str(self.0.as_str())?;
-        if let Some(index) = stress_index {
-            id.push_str("@stress-")?;
-            id.push_str(index.to_string(alloc)?.as_str())?;
+        let id = format!(in alloc; "{run_id}:{self}")?;
+        match stress_index {
+            Some(index) => format!(in alloc; "{id}@stress-{index}"),
+            None => Ok(id),
         }
-        Ok(id)
     }
 }
 

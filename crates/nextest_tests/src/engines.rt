@@ -5,7 +5,8 @@ ghost use Rattle.std.specs.Option.{option_map_or};
 ghost use Rattle.std.specs.Str.{bytes_eq};
 
 use nextest_config::{
-    ConfigPath, ConfigPaths, DefaultConfigWarnings, FileInput, NextestConfig, ReadOutcome,
+    ConfigFileSelection, ConfigPath, ConfigPaths, DefaultConfigWarnings, FileInput, NextestConfig,
+    ReadOutcome,
 };
 use nextest_elements::NextestRunMode;
 use nextest_load::engines::history::RuleHistory;
@@ -14,6 +15,7 @@ use nextest_load::engines::{
     ParseContext, SpecFault, Specs, Tally, TestQuery,
 };
 use std::alloc::{AllocError, Global};
+use std::collections::BTreeSet;
 use std::process::Abort;
 use std::test::Fail;
 
@@ -279,7 +281,15 @@ fn ask_ten(
         specs: &Anywhere,
     };
     let mut warnings = DefaultConfigWarnings::new(alloc);
-    let config = NextestConfig::from_sources_with_paths(alloc, &paths, &pcx, &mut warnings)?;
+    let config = NextestConfig::from_sources_with_paths(
+        alloc,
+        &paths,
+        &pcx,
+        ConfigFileSelection::new(None),
+        &[],
+        &BTreeSet::new(alloc),
+        &mut warnings,
+    )?;
     let profile = config.profile(alloc, "default")?;
     let platforms = BuildPlatforms {
         host: (),

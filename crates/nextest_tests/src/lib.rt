@@ -16,6 +16,8 @@ mod env_keys;
 #[cfg(test)]
 mod identifiers;
 #[cfg(test)]
+mod loading;
+#[cfg(test)]
 mod merging;
 #[cfg(test)]
 mod names;

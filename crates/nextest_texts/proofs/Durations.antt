@@ -1,6 +1,6 @@
 -- Lemmas on the runs of a text, and the law that ties them to the grammar of durations.
-use Rattle.std.proofs.Common.{◌≡◌, ◌==◌, ℕ, ◌+◌, ◌-◌, ◌*◌, ◌<◌, ◌≤◌, suc, Bool, true, false, ◌&&◌, List, [], ◌∷◌, ◌++◌, length, get_or, drop, refl, sym, ap, subst, length-append, ◌∙◌, add-one, arith, All, nat_lt}
-use Rattle.std.specs.Prelude.{Option, Some, None, option_map, option_and_then}
+use Rattle.std.proofs.Common.{◌≡◌, ◌==◌, ℕ, ◌+◌, ◌-◌, ◌*◌, ◌<◌, ◌≤◌, suc, Bool, true, false, cond, List, [], ◌∷◌, ◌++◌, length, get_or, drop, nat_lt, refl, sym, ap, subst, length-append, ◌∙◌, add-one, arith, All}
+use Rattle.std.specs.Prelude.{Option, Some, None, option_map, option_and_then, IfSome}
 use Rattle.std.specs.List.{list_all}
 use Rattle.std.specs.Map.{lookup}
 use Rattle.std.specs.Char.{digit_value}
@@ -8,9 +8,8 @@ use Rattle.std.specs.Str.{bytes_eq}
 use Rattle.std.specs.Str.Parse.{digits_value, digits_value_after}
 use Rattle.std.proofs.Math.Seq.{drop-cons}
 use Rattle.std.proofs.lemmas.Bool.Decides.{nat_tests}
-use Rattle.std.proofs.lemmas.Bool.{false≢true, ltb-true, eqb-true, eqb-false}
+use Rattle.std.proofs.lemmas.Bool.{and_parts, ltb-true, eqb-true, eqb-false}
 use Rattle.std.proofs.lemmas.Option.{none-some}
-use Rattle.std.proofs.lemmas.Slice.Eq.{bytes_eq-Decides}
 use Rattle.nextest_texts.specs.declared.duration.ByteKind.{ByteKind}
 use Rattle.nextest_texts.specs.declared.duration.ByteKind.TheVariants.{Space, Digit, Other}
 use Rattle.nextest_texts.specs.Duration.{kind_of, same_kind, Run, run, with_byte, runs, without_spaces, words_of, sum_of, some_sum_of, within_limit, longest_duration, duration_units, unit_size, NotFirst, SplitsRun, TakesItem}
@@ -280,24 +279,17 @@ pub false_from : (b : Bool) → (b ≡ true → ⊥) → b ≡ false
 false_from true h = absurd (h refl)
 false_from false h = refl
 
-lookup-longer : (name : List ℕ) (k : ℕ) (es : List (List ℕ × ℕ)) → list_all (λ e. nat_lt (length e.0) k) es ≡ true → k ≤ length name → lookup (λ unit. bytes_eq unit name) es ≡ None
-lookup-longer name k [] h l = refl
-lookup-longer name k (e ∷ es) h l =
-    let parts = and_parts (nat_lt (length e.0) k) _ h in
-    let differ : bytes_eq e.0 name ≡ false = not_same e.0 name (λ same. omega (arith, ltb-true _ _ parts.0, ap length same)) in
-    rw differ (lookup-longer name k es parts.1 l)
-  where
-    and_parts : (a b : Bool) → (a && b) ≡ true → (a ≡ true) × (b ≡ true)
-    and_parts true b h = (refl, h)
-    and_parts false b h = absurd (false≢true h)
+lookup-positive : (name : List ℕ) (units : List (List ℕ × ℕ)) → list_all (λ unit. nat_lt 0 unit.1) units ≡ true → IfSome (lookup (λ unit. bytes_eq unit name) units) (λ size. 0 < size)
+lookup-positive name [] h = tt
+lookup-positive name (unit ∷ units) h =
+    let parts = and_parts (nat_lt 0 unit.1) _ h in
+    let later = lookup-positive name units parts.1 in
+    elim (bytes_eq unit.0 name) as (λ b. IfSome (cond b (Some unit.1) (lookup (λ u. bytes_eq u name) units)) (λ size. 0 < size)) [ true ↦ ltb-true _ _ parts.0 | false ↦ later ]
 
-    not_same : (x y : List ℕ) → (x ≡ y → ⊥) → bytes_eq x y ≡ false
-    not_same x y n = false_from (bytes_eq x y) (λ e. n ((bytes_eq-Decides x y).0 e))
-
--- a name longer than each unit's
-pub unit_size-longer : (name : List ℕ) → 8 ≤ length name → unit_size name ≡ None
+-- no unit is of no length
+pub unit_size-positive : (name : List ℕ) → IfSome (unit_size name) (λ size. 0 < size)
 unfolding unit_size duration_units
-unit_size-longer name h = lookup-longer name 8 duration_units refl h
+unit_size-positive name = lookup-positive name duration_units refl
 
 -- what `is_empty` says of a list
 pub empty_length : (xs : List ℕ) → (length xs == 0) ≡ true → xs ≡ []

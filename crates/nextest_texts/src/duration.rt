@@ -1,7 +1,10 @@
 // Durations as texts write them, in nanoseconds.
 
 ghost use Rattle.std.specs.Prelude.{◌≡◌, ◌≤◌, ◌<◌, ◌+◌, ◌*◌, ◌↔◌, ℕ, All, IfOk, IfSome};
+ghost use Rattle.std.specs.Map.{lookup};
+ghost use Rattle.std.specs.Str.{bytes_eq};
 ghost use Rattle.std.specs.Str.Parse.{digits_value};
+ghost use Rattle.nextest_tree.specs.Leaf.{names_in};
 ghost use Rattle.nextest_texts.specs.Duration.{duration_of, duration_result, IsDuration, kind_of, longest_duration, unit_size, within_limit, ReadsItem, ReadsItems, SplitsRun};
 
 const MICROSECOND: u128 = 1_000;
@@ -23,6 +26,21 @@ const MONTH: u128 = 2_630_016 * SECOND;
 const YEAR: u128 = 31_557_600 * SECOND;
 
 const LONGEST: u128 = 18_446_744_073_709_551_615 * SECOND;
+
+// The names of the units, each with its size in nanoseconds. In `µs` stands U+00B5.
+#[rattlefmt::skip]
+const UNITS: [(&str, u128); 40] = [
+    ("ns", 1), ("nsec", 1), ("nanos", 1),
+    ("us", MICROSECOND), ("usec", MICROSECOND), ("µs", MICROSECOND),
+    ("ms", MILLISECOND), ("msec", MILLISECOND), ("millis", MILLISECOND),
+    ("s", SECOND), ("sec", SECOND), ("secs", SECOND), ("second", SECOND), ("seconds", SECOND),
+    ("m", MINUTE), ("min", MINUTE), ("mins", MINUTE), ("minute", MINUTE), ("minutes", MINUTE),
+    ("h", HOUR), ("hr", HOUR), ("hrs", HOUR), ("hour", HOUR), ("hours", HOUR),
+    ("d", DAY), ("day", DAY), ("days", DAY),
+    ("w", WEEK), ("wk", WEEK), ("wks", WEEK), ("week", WEEK), ("weeks", WEEK),
+    ("M", MONTH), ("month", MONTH), ("months", MONTH),
+    ("y", YEAR), ("yr", YEAR), ("yrs", YEAR), ("year", YEAR), ("years", YEAR),
+];
 
 /// Why a text is no duration.
 #[derive(Clone, Copy, Debug, PartialEq, Eq)]
@@ -62,26 +80,25 @@ fn split_run(text: &[u8], kind: ByteKind) -> (&[u8], &[u8])
     text.split_at(end)
 }
 
-// The size of a unit in nanoseconds.
-#[tactic(auto, unfolding(crate::specs::Duration::unit_size))]
+// The size of the unit of this name among these, in nanoseconds.
+fn size_among(units: &[(&str, u128)], name: &[u8]) -> Option<u128>
+    ensures { result ≡ lookup (λ unit. bytes_eq unit name.now) (names_in units.now) }
+{
+    for (unit, size) in units {
+        if unit.as_bytes() == name {
+            return Some(*size);
+        }
+    }
+    None
+}
+
+// The size of the unit of this name in nanoseconds.
+#[tactic(auto, unfolding(crate::specs::Duration::unit_size, crate::specs::Duration::duration_units))]
 fn unit_size(name: &[u8]) -> Option<u128>
     ensures size { result ≡ unit_size name.now }
     ensures positive { IfSome result (λ size. 0 < size) }
 {
-    match name {
-        b"ns" | b"nsec" | b"nanos" => Some(1),
-        // The last is `µs`, with U+00B5.
-        b"us" | b"usec" | b"\xc2\xb5s" => Some(MICROSECOND),
-        b"ms" | b"msec" | b"millis" => Some(MILLISECOND),
-        b"s" | b"sec" | b"secs" | b"second" | b"seconds" => Some(SECOND),
-        b"m" | b"min" | b"mins" | b"minute" | b"minutes" => Some(MINUTE),
-        b"h" | b"hr" | b"hrs" | b"hour" | b"hours" => Some(HOUR),
-        b"d" | b"day" | b"days" => Some(DAY),
-        b"w" | b"wk" | b"wks" | b"week" | b"weeks" => Some(WEEK),
-        b"M" | b"month" | b"months" => Some(MONTH),
-        b"y" | b"yr" | b"yrs" | b"year" | b"years" => Some(YEAR),
-        _ => None,
-    }
+    size_among(&UNITS, name)
 }
 
 // The number itself, unless it is above the longest duration.

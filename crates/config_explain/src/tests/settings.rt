@@ -4,7 +4,7 @@ use std::process::Abort;
 use std::test::Fail;
 
 /// What is printed of any test where no file says anything.
-const DEFAULT_LINES: &str = "\
+pub(super) const DEFAULT_LINES: &str = "\
 priority: 0 [default]
 threads-required: 1 [profile]
 run-wrapper: none [-]

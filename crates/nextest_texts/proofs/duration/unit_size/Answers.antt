@@ -1,7 +1,12 @@
--- No unit has a name of eight bytes or more.
-use Rattle.std.proofs.Common.{sym}
-use Rattle.nextest_texts.proofs.Durations.{unit_size-longer}
+-- No unit is of no length.
+use Rattle.std.proofs.Common.{◌≡◌, ◌<◌, sym, subst, rules}
+use Rattle.std.specs.Prelude.{IfSome}
+use Rattle.nextest_texts.specs.Duration.{duration_units, unit_size}
+use Rattle.nextest_texts.proofs.Durations.{unit_size-positive}
 use Rattle.nextest_texts.proofs.duration.unit_size.Goals as goal
 
-pub returns-in_default-104-clause-size : goal.returns-in_default-104-clause-size
-returns-in_default-104-clause-size c = sym (unit_size-longer c.args.name.now c.in_default.len_at_least)
+pub returns-clause-positive : goal.returns-clause-positive
+unfolding unit_size duration_units
+returns-clause-positive c =
+    let size : c.size_among.result ≡ unit_size c.args.name.now = search rules in
+    subst (λ result. IfSome result (λ size. 0 < size)) (sym size) (unit_size-positive c.args.name.now)

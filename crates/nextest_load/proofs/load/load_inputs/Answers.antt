@@ -1,0 +1,78 @@
+use Rattle.std.proofs.Common.{rules, ◌≡◌, [], ◌∷◌, ◌++◌, ◌+◌, map, drop, take, sym, ap, ◌∙◌, append-nil}
+use Rattle.std.specs.List.{flat_map}
+use Rattle.std.specs.Option.{option_or}
+use Rattle.std.proofs.lemmas.List.{drop_more, take_more, map-append}
+use Rattle.std.proofs.lemmas.List.Concat.{flat_map-append}
+use Rattle.nextest_tree.specs.Schema.{is_one_of}
+use Rattle.nextest_tree.specs.View.{node_of}
+use Rattle.nextest_load.specs.declared.engines.FiltersetKind.TheVariants.{OverrideFilter}
+use Rattle.nextest_load.specs.declared.config.LayerRules.{LayerRules}
+use Rattle.nextest_load.specs.Errors.{Found, error_seen}
+use Rattle.nextest_load.specs.Faults.{inputs_fault}
+use Rattle.nextest_load.specs.Files.{input_seen}
+use Rattle.nextest_load.specs.Groups.{defined_in}
+use Rattle.nextest_load.specs.Held.{layer_held}
+use Rattle.nextest_load.specs.Inputs.{texts_of}
+use Rattle.nextest_load.specs.Texts.{tree_in, layer_of}
+use Rattle.nextest_load.specs.Whole.{meant_layer}
+use Rattle.nextest_load.proofs.Naming.{more_seen}
+use Rattle.nextest_load.proofs.Told.{exit, found_first}
+use Rattle.nextest_load.proofs.load.load_inputs.Goals as goal
+use Rattle.nextest_load.proofs.load.load_inputs.Goals.{in-Some+in_ok-map_err+in_ok-map_err-2, in_default}
+
+pub returns-in_err-tree-clause-found : goal.returns-in_err-tree-clause-found
+returns-in_err-tree-clause-found g c =
+    let read = g.F.Filters.read c.args.filters.now OverrideFilter in
+    let inputs = c.args.inputs.now in
+    let i = c.loop-input.input-index in
+    let input = c.input-item.result in
+    let e = c.in_err-tree.field-0.0 in
+    let below = flat_map texts_of (map input_seen (take i inputs)) in
+    let next : drop i inputs ≡ input ∷ drop (i + 1) inputs = drop_more inputs i input c.loop-input-test.true ∙ ap (λ f. f ∷ drop (i + 1) inputs) (sym c.input-item.is) in
+    let found : Found (inputs_fault read below (map input_seen (drop i inputs))) (error_seen e) = rw next (found_first _ _ e (c.in_err-tree.ensures.found below c.loop-input.invariant.1)) in
+    exit _ e _ c.from_residual.ensures.1 (rw c.loop-input.invariant.0 found)
+
+pub loop-input-preserved : goal.loop-input-preserved
+loop-input-preserved g c =
+    let read = g.F.Filters.read c.args.filters.now OverrideFilter in
+    let inputs = c.args.inputs.now in
+    let i = c.loop-input.input-index in
+    let input = c.input-item.result in
+    let x = input_seen input in
+    let texts = texts_of x in
+    let below = flat_map texts_of (map input_seen (take i inputs)) in
+    let inv = c.loop-input.invariant in
+    let seen = λ (rules : LayerRules g.row.F.Denot g.row.S.Denot g.row.F-Expr.Denot g.row.F-Tally.Denot g.row.S-Spec.Denot g.row.S-Platform.Denot). meant_layer g.F.Filters.meaning g.S.Specs.spec_meaning (layer_held rules) in
+    let rest = map input_seen (drop (i + 1) inputs) in
+    let next : drop i inputs ≡ input ∷ drop (i + 1) inputs = drop_more inputs i input c.loop-input-test.true ∙ ap (λ f. f ∷ drop (i + 1) inputs) (sym c.input-item.is) in
+    let taken : take (i + 1) inputs ≡ take i inputs ++ input ∷ [] = take_more inputs i input c.loop-input-test.true ∙ ap (λ f. take i inputs ++ f ∷ []) (sym c.input-item.is) in
+    let more : flat_map texts_of (map input_seen (take (i + 1) inputs)) ≡ below ++ texts =
+    ap (λ is. flat_map texts_of (map input_seen is)) taken
+    ∙ ap (flat_map texts_of) (map-append input_seen (take i inputs) (input ∷ []))
+    ∙ flat_map-append texts_of (map input_seen (take i inputs)) (x ∷ [])
+    ∙ ap (λ ts. below ++ ts) (append-nil texts)
+    in
+    let fine = ap (λ o. option_or o (inputs_fault read (below ++ texts) rest)) (c.in_ok-tree.ensures.found below inv.1) in (
+      inv.0 ∙ ap (λ is. inputs_fault read below (map input_seen is)) next ∙ fine ∙ ap (λ b. inputs_fault read b rest) (sym more),
+      c.in_ok-tree.ensures.known below inv.1 ∙ ap (λ b. is_one_of (defined_in b)) (sym more),
+      elim c.match-branch-2.branch [
+        | in-Some+in_ok-map_err+in_ok-map_err-2 w ↦
+            let pushed : c.match-branch-2.trees.items ≡ c.loop-input.trees.items ++ w.in-Some.tree ∷ [] = search rules in
+            let loaded : node_of w.in-Some.tree ∷ [] ≡ map tree_in texts = rw w.in-Some.is at c.in_ok-tree.ensures.tree in
+            more_seen node_of tree_in c.loop-input.trees.items c.match-branch-2.trees.items (w.in-Some.tree ∷ []) below texts pushed inv.2 loaded ∙ ap (map tree_in) (sym more)
+        | in_default w ↦
+            let same : c.match-branch-2.trees.items ≡ c.loop-input.trees.items ++ [] = search rules in
+            let loaded : [] ≡ map tree_in texts = rw w.in_default.is at c.in_ok-tree.ensures.tree in
+            more_seen node_of tree_in c.loop-input.trees.items c.match-branch-2.trees.items [] below texts same inv.2 loaded ∙ ap (map tree_in) (sym more)
+      ],
+      elim c.match-branch-2.branch [
+        | in-Some+in_ok-map_err+in_ok-map_err-2 w ↦
+            let pushed : c.match-branch-2.layers.items ≡ c.loop-input.layers.items ++ w.in-Some.rules ∷ [] = search rules in
+            let loaded : seen w.in-Some.rules ∷ [] ≡ map (layer_of {K = g.S.Specs.SpecMeaning} read) texts = rw w.in-Some.is at c.in_ok-tree.ensures.rules in
+            more_seen seen (layer_of {K = g.S.Specs.SpecMeaning} read) c.loop-input.layers.items c.match-branch-2.layers.items (w.in-Some.rules ∷ []) below texts pushed inv.3 loaded ∙ ap (map (layer_of read)) (sym more)
+        | in_default w ↦
+            let same : c.match-branch-2.layers.items ≡ c.loop-input.layers.items ++ [] = search rules in
+            let loaded : [] ≡ map (layer_of {K = g.S.Specs.SpecMeaning} read) texts = rw w.in_default.is at c.in_ok-tree.ensures.rules in
+            more_seen seen (layer_of {K = g.S.Specs.SpecMeaning} read) c.loop-input.layers.items c.match-branch-2.layers.items [] below texts same inv.3 loaded ∙ ap (map (layer_of read)) (sym more)
+      ],
+    )
