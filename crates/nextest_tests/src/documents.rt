@@ -5,7 +5,7 @@ use std::test::Fail;
 #[test]
 fn no_documents(rt: HostRuntime) -> Result<(), Fail> {
     let alloc = rt.alloc();
-    for text in ["invalid = [", "a", "a = 1\na = 2", "[a]\n[a]"] {
+    for &text in &["invalid = [", "a", "a = 1\na = 2", "[a]\n[a]"] {
         let fault = tree_from_text(alloc, text).err().ok_or(text)?;
         assert!(rt; matches!(&fault, TextFault::NotDocument(_)), "{text}");
         let shown = fault.to_string(alloc)?;
@@ -17,7 +17,7 @@ fn no_documents(rt: HostRuntime) -> Result<(), Fail> {
 #[test]
 fn documents(rt: HostRuntime) -> Result<(), Fail> {
     let alloc = rt.alloc();
-    let cases = [
+    let cases = &[
         ("", "Table({})"),
         ("a = 1", "Table({\"a\": Int(1)})"),
         ("a = 1.5", "Table({\"a\": Opaque})"),
@@ -28,7 +28,7 @@ fn documents(rt: HostRuntime) -> Result<(), Fail> {
             "Table({\"a\": Array([Text(\"x\"), Table({})]), \"b\": Bool(true)})",
         ),
     ];
-    for (text, shown) in cases {
+    for &(text, shown) in cases {
         let tree = tree_from_text(alloc, text)?;
         assert_eq!(rt; format!(in alloc; "{tree:?}")?.as_str(), shown, "{text}");
     }

@@ -4,7 +4,7 @@ use nextest_elements::{DurationError, parse_duration};
 
 #[test]
 fn parts_of_a_second(rt: HostRuntime) {
-    for (text, nanoseconds) in [
+    for &(text, nanoseconds) in &[
         ("1ns", 1u128),
         ("1nsec", 1),
         ("1nanos", 1),
@@ -28,7 +28,7 @@ fn parts_of_a_second(rt: HostRuntime) {
 
 #[test]
 fn whole_seconds(rt: HostRuntime) {
-    for (text, seconds) in [
+    for &(text, seconds) in &[
         ("1s", 1u64),
         ("1sec", 1),
         ("1secs", 1),
@@ -73,7 +73,7 @@ fn whole_seconds(rt: HostRuntime) {
 
 #[test]
 fn malformed(rt: HostRuntime) {
-    for text in [
+    for &text in &[
         "",
         " ",
         "0 ",
@@ -102,7 +102,7 @@ fn malformed(rt: HostRuntime) {
 
 #[test]
 fn out_of_range(rt: HostRuntime) {
-    for text in [
+    for &text in &[
         "18446744073709551616s",
         "18446744073709551615s 1ns",
         "1ns 18446744073709551615s",

@@ -37,10 +37,10 @@ const REFUSED: [(&str, &str); 9] = [
 
 #[test]
 fn keys(rt: HostRuntime) -> Result<(), Fail> {
-    for good in ["__NEXTEST_TEST", "_", "a", "Z9", "NEXTES", "nextest"] {
+    for &good in &["__NEXTEST_TEST", "_", "a", "Z9", "NEXTES", "nextest"] {
         assert!(rt; validate_env_var_key(rt.alloc(), good).is_ok(), "{good}");
     }
-    for (key, text) in REFUSED {
+    for &(key, text) in &REFUSED {
         let Err(error) = validate_env_var_key(rt.alloc(), key) else {
             panic!(rt; "{key:?} is accepted");
         };

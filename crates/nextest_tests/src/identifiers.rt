@@ -5,12 +5,12 @@ use std::test::Fail;
 
 #[test]
 fn texts_of_identifiers(rt: HostRuntime) -> Result<(), Fail> {
-    for text in ["a-b", "é1", "@tool:my-tool:x"] {
+    for &text in &["a-b", "é1", "@tool:my-tool:x"] {
         let identifier = ConfigIdentifier::new(rt.alloc(), text)?;
         assert_eq!(rt; identifier.as_str(), text);
         assert_eq!(rt; identifier.to_string(rt.alloc())?.as_str(), text);
     }
-    let refused = [
+    let refused = &[
         ("", InvalidIdentifier::Empty),
         ("_x", InvalidIdentifier::BadStart),
         ("1a", InvalidIdentifier::BadStart),
@@ -20,7 +20,7 @@ fn texts_of_identifiers(rt: HostRuntime) -> Result<(), Fail> {
         ("@tool:a:", InvalidIdentifier::BadToolForm),
         ("@tool:a:b:c", InvalidIdentifier::BadToolForm),
     ];
-    for (text, cause) in refused {
+    for &(text, cause) in refused {
         assert_eq!(rt;
             ConfigIdentifier::new(rt.alloc(), text).err(),
             Some(cause),
@@ -32,19 +32,19 @@ fn texts_of_identifiers(rt: HostRuntime) -> Result<(), Fail> {
 
 #[test]
 fn texts_of_tool_names(rt: HostRuntime) -> Result<(), Fail> {
-    for text in ["my-tool", "é1"] {
+    for &text in &["my-tool", "é1"] {
         let name = ToolName::new(rt.alloc(), text)?;
         assert_eq!(rt; name.as_str(), text);
         assert_eq!(rt; name.to_string(rt.alloc())?.as_str(), text);
     }
-    let refused = [
+    let refused = &[
         ("", InvalidIdentifier::Empty),
         ("a:b", InvalidIdentifier::BadCharacter),
         ("@tool", InvalidIdentifier::BadStart),
         ("1a", InvalidIdentifier::BadStart),
         ("_a", InvalidIdentifier::BadStart),
     ];
-    for (text, cause) in refused {
+    for &(text, cause) in refused {
         assert_eq!(rt;
             ToolName::new(rt.alloc(), text).err(),
             Some(cause),
@@ -72,7 +72,7 @@ fn components_of_a_tool_identifier(rt: HostRuntime) -> Result<(), Fail> {
 fn identifiers_as_keys(rt: HostRuntime) -> Result<(), Fail> {
     let mut sizes = BTreeMap::new(rt.alloc());
     let mut seen = HashSet::new(rt.alloc());
-    for (text, size) in [("b", 1u8), ("a", 2), ("b", 3)] {
+    for &(text, size) in &[("b", 1u8), ("a", 2), ("b", 3)] {
         sizes.insert(ConfigIdentifier::new(rt.alloc(), text)?, size)?;
         seen.insert(ConfigIdentifier::new(rt.alloc(), text)?)?;
     }
@@ -97,7 +97,7 @@ fn tool_names_are_compared(rt: HostRuntime) -> Result<(), Fail> {
 
 #[test]
 fn messages(rt: HostRuntime) -> Result<(), Fail> {
-    let table = [
+    let table = &[
         (InvalidIdentifier::Empty, "an identifier may not be empty"),
         (
             InvalidIdentifier::BadStart,
@@ -113,7 +113,7 @@ fn messages(rt: HostRuntime) -> Result<(), Fail> {
         ),
         (InvalidIdentifier::Memory, "out of memory"),
     ];
-    for (cause, message) in table {
+    for &(cause, message) in table {
         assert_eq!(rt; cause.to_string(rt.alloc())?.as_str(), message);
     }
     Ok(())

@@ -123,13 +123,13 @@ fn a_refused_name_is_told(rt: HostRuntime) -> Result<(), Fail> {
 #[test]
 fn numbers_of_threads(rt: HostRuntime) -> Result<(), Fail> {
     let alloc = rt.alloc();
-    let rows = [
+    let rows = &[
         ("-3", TestThreads::Count(-3), 8, 5),
         ("-3", TestThreads::Count(-3), 2, 1),
         ("4", TestThreads::Count(4), 2, 4),
         ("\"num-cpus\"", TestThreads::NumCpus, 8, 8),
     ];
-    for (text, threads, num_cpus, count) in rows {
+    for &(text, threads, num_cpus, count) in rows {
         let found: TestThreads = value(alloc, text)?;
         assert_eq!(rt; found, threads);
         assert_eq!(rt; found.compute(num_cpus), count);
@@ -144,7 +144,7 @@ fn numbers_of_threads(rt: HostRuntime) -> Result<(), Fail> {
     );
     assert!(rt; matches!(cause::<TestThreads>(alloc, "1.5")?, ElementCause::WrongKind));
 
-    let rows = [
+    let rows = &[
         ("3", ThreadsRequired::Count(3), 3, "3"),
         ("\"num-cpus\"", ThreadsRequired::NumCpus, 8, "num-cpus"),
         (
@@ -154,7 +154,7 @@ fn numbers_of_threads(rt: HostRuntime) -> Result<(), Fail> {
             "num-test-threads",
         ),
     ];
-    for (text, required, count, shown) in rows {
+    for &(text, required, count, shown) in rows {
         let found: ThreadsRequired = value(alloc, text)?;
         assert_eq!(rt; found, required);
         assert_eq!(rt; found.compute(8, 5), count);
@@ -173,13 +173,13 @@ fn numbers_of_threads(rt: HostRuntime) -> Result<(), Fail> {
 #[test]
 fn ends_of_a_run(rt: HostRuntime) -> Result<(), Fail> {
     let alloc = rt.alloc();
-    let rows = [
+    let rows = &[
         ("true", MaxFail::Count(1)),
         ("false", MaxFail::All),
         ("{ max-fail = 3 }", MaxFail::Count(3)),
         ("{ max-fail = \"all\", terminate = 7 }", MaxFail::All),
     ];
-    for (text, expected) in rows {
+    for &(text, expected) in rows {
         let found: MaxFail = value(alloc, text)?;
         assert_eq!(rt; found, expected, "{text}");
     }

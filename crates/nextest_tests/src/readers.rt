@@ -64,7 +64,7 @@ fn retries_are_read(rt: HostRuntime) -> Result<(), Fail> {
 #[test]
 fn retries_are_refused(rt: HostRuntime) -> Result<(), Fail> {
     let alloc = rt.alloc();
-    let rows = [
+    let rows = &[
         ("retries = 1.5", "`retries`: a value of the wrong kind"),
         (r#"retries = "x""#, "`retries`: a value of the wrong kind"),
         ("retries = -1", "`retries`: a number out of range"),
@@ -91,7 +91,7 @@ fn retries_are_refused(rt: HostRuntime) -> Result<(), Fail> {
             "`retries.delay`: invalid value `1.5s`, expected a duration like `1h 30m`",
         ),
     ];
-    for (text, wanted) in rows {
+    for &(text, wanted) in rows {
         let fault = fault_at::<RetryPolicy>(alloc, text, "retries")?;
         assert_eq!(rt; fault.as_str(), wanted, "at {text}");
     }
@@ -101,7 +101,7 @@ fn retries_are_refused(rt: HostRuntime) -> Result<(), Fail> {
 #[test]
 fn priorities(rt: HostRuntime) -> Result<(), Fail> {
     let alloc = rt.alloc();
-    for (text, wanted) in [
+    for &(text, wanted) in &[
         ("priority = 100", 100),
         ("priority = -100", -100),
         ("priority = 0", 0),
@@ -111,7 +111,7 @@ fn priorities(rt: HostRuntime) -> Result<(), Fail> {
             .ok_or("a fault")?;
         assert_eq!(rt; read, TestPriority(wanted), "at {text}");
     }
-    for text in ["priority = 101", "priority = -101"] {
+    for &text in &["priority = 101", "priority = -101"] {
         let fault = fault_at::<TestPriority>(alloc, text, "priority")?;
         assert_eq!(rt;
             fault.as_str(),

@@ -7,7 +7,7 @@ use uuid::Uuid;
 #[test]
 fn ids_of_texts(rt: HostRuntime) -> Result<(), Fail> {
     let alloc = rt.alloc();
-    for text in ["db", "a-b", "@tool:my-tool:x"] {
+    for &text in &["db", "a-b", "@tool:my-tool:x"] {
         let id = ScriptId::new(alloc, text)?;
         assert_eq!(rt; id.as_identifier().as_str(), text);
         assert_eq!(rt; id.to_string(alloc)?.as_str(), text);
@@ -37,12 +37,12 @@ fn ids_are_ordered_as_their_texts(rt: HostRuntime) -> Result<(), Fail> {
 fn ids_within_a_run(rt: HostRuntime) -> Result<(), Fail> {
     let alloc = rt.alloc();
     let db = ScriptId::new(alloc, "db")?;
-    let rows = [
+    let rows = &[
         (Some(3), "00000000-0000-0000-0000-000000000001:db@stress-3"),
         (Some(0), "00000000-0000-0000-0000-000000000001:db@stress-0"),
         (None, "00000000-0000-0000-0000-000000000001:db"),
     ];
-    for (index, wanted) in rows {
+    for &(index, wanted) in rows {
         let id = db.unique_id(alloc, Uuid::from_u128(1), index)?;
         assert_eq!(rt; id.as_str(), wanted);
     }

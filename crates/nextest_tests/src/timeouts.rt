@@ -217,12 +217,12 @@ fn check_no_group<T: Element>(rt: &(impl Abort + AllocGlobal), text: &str) -> Re
 fn groups(rt: HostRuntime) -> Result<(), Fail> {
     check_values(&rt, &[("\"@global\"", TestGroup::Global)])?;
     check_group(&rt, "@global")?;
-    for text in ["a-b", "é1", "@tool:a:b"] {
+    for &text in &["a-b", "é1", "@tool:a:b"] {
         check_group(&rt, text)?;
         check_custom_group(&rt, text)?;
     }
     check_no_group::<CustomTestGroup>(&rt, "@global")?;
-    for text in ["", "_x", "1a", "a b", "@tool:a", "@tool:a:", "@tool:a:b:c"] {
+    for &text in &["", "_x", "1a", "a b", "@tool:a", "@tool:a:", "@tool:a:b:c"] {
         check_no_group::<TestGroup>(&rt, text)?;
         check_no_group::<CustomTestGroup>(&rt, text)?;
     }

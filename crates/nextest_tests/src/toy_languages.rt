@@ -47,7 +47,7 @@ const ANSWERS: [(&str, &str, &str, bool, Option<bool>); 17] = [
 #[test]
 fn filters_answer(rt: HostRuntime) -> Result<(), Fail> {
     let alloc = rt.alloc();
-    for (text, default, name, on_test, on_binary) in ANSWERS {
+    for &(text, default, name, on_test, on_binary) in &ANSWERS {
         let expr = ToyFilters.parse(alloc, text, FiltersetKind::OverrideFilter)?;
         let default = ToyFilters.parse(alloc, default, FiltersetKind::Test)?;
         let cx = EvalContext {
@@ -68,7 +68,7 @@ fn filters_answer(rt: HostRuntime) -> Result<(), Fail> {
 
 #[test]
 fn filters_are_refused(rt: HostRuntime) {
-    let texts = [
+    let texts = &[
         "",
         "bad",
         "test()",
@@ -84,11 +84,11 @@ fn filters_are_refused(rt: HostRuntime) {
         "not(all())",
         "and all()",
     ];
-    for text in texts {
+    for &text in texts {
         let read = ToyFilters.parse(rt.alloc(), text, FiltersetKind::Test);
         assert!(rt; matches!(&read, Err(FilterFault::Refused(_))), "{text}");
     }
-    for text in ["default()", "all() or not default()"] {
+    for &text in &["default()", "all() or not default()"] {
         let read = ToyFilters.parse(rt.alloc(), text, FiltersetKind::DefaultFilter);
         assert!(rt; matches!(&read, Err(FilterFault::Refused(_))), "{text}");
     }
@@ -118,7 +118,7 @@ const WINDOWS: &str = "x86_64-pc-windows-msvc";
 #[test]
 fn platform_specs_answer(rt: HostRuntime) -> Result<(), Fail> {
     let alloc = rt.alloc();
-    let rows = [
+    let rows = &[
         ("cfg(unix)", LINUX, Some(true)),
         ("cfg(unix)", MACOS, Some(true)),
         ("cfg(unix)", WINDOWS, Some(false)),
@@ -132,12 +132,12 @@ fn platform_specs_answer(rt: HostRuntime) -> Result<(), Fail> {
         (LINUX, LINUX, Some(true)),
         ("x86_64-unknown-linux", LINUX, Some(false)),
     ];
-    for (text, platform, answer) in rows {
+    for &(text, platform, answer) in rows {
         let spec = ToySpecs.parse(alloc, text)?;
         let platform = String::from_str(alloc, platform)?;
         assert_eq!(rt; ToySpecs::eval(&spec, &platform), answer, "{text}");
     }
-    for text in ["", "cfg(unix", "cfg(unix) ", "a b", "é"] {
+    for &text in &["", "cfg(unix", "cfg(unix) ", "a b", "é"] {
         let read = ToySpecs.parse(alloc, text);
         assert!(rt; matches!(&read, Err(SpecFault::Refused(_))), "{text}");
     }
