@@ -1,14 +1,9 @@
-//! Where the program's files come from.
+//! The files of the disk.
 use nextest_config::ReadOutcome;
+use nextest_explain::FileReader;
 use std::alloc::{AllocError, Global};
 use std::rt::Files;
 use std::{fs, io};
-
-/// What reads files: the disk, or a table in memory.
-pub trait FileReader {
-    /// What comes of reading the file at a path.
-    fn read(&self, alloc: Global, path: &str) -> Result<ReadOutcome, AllocError>;
-}
 
 /// The files of the disk.
 #[derive(Drop)]

@@ -1,15 +1,10 @@
 //! Explains what a nextest configuration gives a test: each setting with its value and where it comes from.
 #![tactic(auto)]
 
-mod command;
-mod explain;
 mod files;
-mod lines;
-mod load;
-mod settings_lines;
 
-use explain::{explain, refuse_for_memory};
 use files::DiskFiles;
+use nextest_explain::{explain, refuse_for_memory};
 use std::process::ExitCode;
 use std::rt::Env;
 use std::{env, io};

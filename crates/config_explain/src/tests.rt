@@ -1,15 +1,15 @@
-//! The rows of the program, with files in memory.
-use crate::explain::explain;
-use crate::files::FileReader;
+//! The rows of the program: each says the files that there are, the words, and what the run is to end with.
 use nextest_config::ReadOutcome;
+use nextest_explain::{FileReader, explain};
 use std::alloc::{AllocError, Global};
-use std::io::{self, ErrorKind, Write};
 use std::process::Abort;
 use std::test::Fail;
 
+mod refusals;
 mod settings;
 mod sources;
 mod usage;
+mod writes;
 
 /// What comes of reading a file of a row.
 #[derive(Clone, Copy)]
@@ -37,6 +37,9 @@ impl Stored<'_> {
 /// The repository's file of `/w`.
 const REPOSITORY: &str = "/w/.config/nextest.toml";
 
+/// The words that ask for the test `t` of the binary `b` in `/w`.
+const WORDS: &str = "/w default test b t";
+
 /// The files of a row, by their paths. There are no others.
 #[derive(Drop)]
 struct Files<'a>(&'a [(&'a str, Stored<'a>)]);
@@ -52,6 +55,72 @@ impl FileReader for Files<'_> {
     }
 }
 
+/// What a run is to end with. Where it prints lines, it tells nothing and its status is 0; else it prints nothing.
+#[derive(Clone, Copy)]
+enum Wanted<'a> {
+    /// The fifteen lines, whole.
+    Lines(&'a str),
+    /// Fifteen lines, and this one among them.
+    Line(&'a str),
+    /// Fifteen lines, and this one alone gives the value of an override.
+    OneOverride(&'a str),
+    /// This status, and this text whole.
+    Refusal(u8, &'a str),
+    /// The status of a refused configuration, and a text of this line and of details on indented lines.
+    FirstLine(&'a str),
+}
+
+impl Wanted<'_> {
+    fn status(self) -> u8 {
+        match self {
+            Wanted::Lines(_) | Wanted::Line(_) | Wanted::OneOverride(_) => 0,
+            Wanted::Refusal(status, _) => status,
+            Wanted::FirstLine(_) => 3,
+        }
+    }
+
+    /// Whether this is what it is to print.
+    fn is_printed(self, out: &str) -> bool {
+        match self {
+            Wanted::Lines(lines) => out == lines,
+            Wanted::Line(wanted) => has_fifteen_lines(out) && has_line(out, wanted),
+            Wanted::OneOverride(wanted) => {
+                has_fifteen_lines(out) && overrides(out) == 1 && has_line(out, wanted)
+            }
+            Wanted::Refusal(..) | Wanted::FirstLine(_) => out.is_empty(),
+        }
+    }
+
+    /// Whether this is what it is to tell on standard error.
+    fn is_told(self, err: &str) -> bool {
+        match self {
+            Wanted::Lines(_) | Wanted::Line(_) | Wanted::OneOverride(_) => err.is_empty(),
+            Wanted::Refusal(_, text) => err == text,
+            Wanted::FirstLine(line) => {
+                err.ends_with("\n")
+                    && err.lines().next() == Some(line)
+                    && err.lines().skip(1).all(|detail| detail.starts_with("  "))
+            }
+        }
+    }
+}
+
+fn has_fifteen_lines(text: &str) -> bool {
+    text.lines().count() == 15
+}
+
+/// Whether a line is among those of a text.
+fn has_line(text: &str, wanted: &str) -> bool {
+    text.lines().any(|line| line == wanted)
+}
+
+/// How many lines give the value of an override.
+fn overrides(text: &str) -> usize {
+    text.lines()
+        .filter(|line| line.ends_with("[override]"))
+        .count()
+}
+
 /// The words of a line, parted by spaces.
 fn words_of(alloc: Global, line: &str) -> Result<Vec<String>, AllocError> {
     let mut words = Vec::new(alloc);
@@ -61,201 +130,22 @@ fn words_of(alloc: Global, line: &str) -> Result<Vec<String>, AllocError> {
     Ok(words)
 }
 
-/// One run of the program over some files: its status and what it wrote.
-fn run_over(
-    alloc: Global,
+/// Runs the program over these files and words, and asks for what is wanted.
+fn check(
+    rt: &(impl AllocGlobal + Abort),
     files: &[(&str, Stored<'_>)],
     line: &str,
-) -> Result<(u8, String, String), Fail> {
+    wanted: Wanted<'_>,
+) -> Result<(), Fail> {
+    let alloc = rt.alloc();
     let words = words_of(alloc, line)?;
     let mut out = Vec::new(alloc);
     let mut err = Vec::new(alloc);
     let status = explain(alloc, &words, &Files(files), &mut out, &mut err);
-    Ok((status, String::from_utf8(out)?, String::from_utf8(err)?))
-}
-
-/// One run of the program over the repository's file.
-fn run(alloc: Global, file: Stored<'_>, line: &str) -> Result<(u8, String, String), Fail> {
-    run_over(alloc, &[(REPOSITORY, file)], line)
-}
-
-/// Asks for a line among those that are printed.
-fn assert_line(rt: &impl Abort, out: &str, wanted: &str) {
-    assert!(rt;
-        out.lines().any(|line| line == wanted),
-        "{wanted} is not in {out}"
-    );
-}
-
-/// The file of the first rows.
-const F: &str = r#"[profile.default]
-retries = 2
-[[profile.default.overrides]]
-filter = "test(a)"
-retries = 5
-[[profile.default.overrides]]
-filter = "test(ab)"
-priority = 10
-retries = 7
-"#;
-
-#[test]
-fn settings_of_tests(rt: HostRuntime) -> Result<(), Fail> {
-    let rows = [
-        (
-            "/w default test b xab",
-            "priority: 10 [override]",
-            "retries: fixed count=5 delay=0ns jitter=false [override]",
-        ),
-        (
-            "/w default benchmark b xab",
-            "priority: 10 [override]",
-            "retries: fixed count=5 delay=0ns jitter=false [override]",
-        ),
-        (
-            "/w default test b b",
-            "priority: 0 [default]",
-            "retries: fixed count=2 delay=0ns jitter=false [profile]",
-        ),
-    ];
-    for (line, priority, retries) in rows {
-        let (status, out, err) = run(rt.alloc(), Stored::Text(F), line)?;
-        assert_eq!(rt; err.as_str(), "", "at {line}");
-        assert_eq!(rt; status, 0, "at {line}");
-        assert_line(&rt, out.as_str(), priority);
-        assert_line(&rt, out.as_str(), retries);
-    }
-    Ok(())
-}
-
-const ARGUMENTS: &str = "/w default test b t";
-
-#[test]
-fn refused_files(rt: HostRuntime) -> Result<(), Fail> {
-    let rows = [
-        (
-            Stored::Text("[[profile.default.overrides]]\nretries = 2\n"),
-            "error: /w/.config/nextest.toml: 13 CompileErrors\n",
-        ),
-        (
-            Stored::Text("[[profile.default.overrides]]\nfilter = \"bad\"\nretries = 2\n"),
-            "error: /w/.config/nextest.toml: 13 CompileErrors\n",
-        ),
-        (
-            Stored::Text("invalid = ["),
-            "error: /w/.config/nextest.toml: 3 BuildError\n",
-        ),
-        (
-            Stored::Text("[profile.default]\nretries = \"x\"\n"),
-            "error: /w/.config/nextest.toml: 4 DeserializeError\n",
-        ),
-        (
-            Stored::Text("[profile.ci]\nretries = 1\ninherits = \"default\"\n"),
-            "error: /w/.config/nextest.toml: 4 DeserializeError\n  `profile.ci.inherits`: unknown field\n",
-        ),
-        (
-            Stored::Text("[profile.ci]\nslow-timeout = { terminate-after = 2 }\n"),
-            "error: /w/.config/nextest.toml: 4 DeserializeError\n  `profile.ci.slow-timeout`: missing field `period`\n",
-        ),
-        (
-            Stored::Text("[[profile.default.overrides]]\nfilter = \"all()\"\ntest-group = \"g\"\n"),
-            "error: /w/.config/nextest.toml: 14 UnknownTestGroups\n  profile `default`: unknown test group `g`\n  known groups: @global\n",
-        ),
-        (
-            Stored::Text("zz = 1\n[profile.default]\nretries = -1\n"),
-            "error: /w/.config/nextest.toml: 4 DeserializeError\n  `profile.default.retries`: a number out of range\n",
-        ),
-        (
-            Stored::Failed,
-            "error: /w/.config/nextest.toml: 2 ReadError\n",
-        ),
-    ];
-    for (file, wanted) in rows {
-        let (status, out, err) = run(rt.alloc(), file, ARGUMENTS)?;
-        assert!(rt; err.as_str().starts_with(wanted), "{err} is not {wanted}");
-        for detail in err.as_str().lines().skip(1) {
-            assert!(rt; detail.starts_with("  "), "at {wanted}");
-        }
-        assert_eq!(rt; out.as_str(), "", "at {wanted}");
-        assert_eq!(rt; status, 3, "at {wanted}");
-    }
-    Ok(())
-}
-
-#[test]
-fn unknown_profiles(rt: HostRuntime) -> Result<(), Fail> {
-    let rows = [
-        (
-            "",
-            "error: profile `x` not found (known profiles: default, default-miri)\n",
-        ),
-        (
-            "[profile.ci]\n",
-            "error: profile `x` not found (known profiles: ci, default, default-miri)\n",
-        ),
-    ];
-    for (file, wanted) in rows {
-        let (status, out, err) = run(rt.alloc(), Stored::Text(file), "/w x test b t")?;
-        assert_eq!(rt; err.as_str(), wanted);
-        assert_eq!(rt; out.as_str(), "");
-        assert_eq!(rt; status, 4);
-    }
-    Ok(())
-}
-
-/// A writer that takes this many bytes and then fails, and counts what comes after that.
-#[derive(Drop)]
-struct Failing {
-    room: usize,
-    taken: usize,
-    failed: bool,
-    tries_after: usize,
-}
-
-impl Write for Failing {
-    fn write(&mut self, buf: &[u8]) -> io::Result<usize> {
-        if self.failed {
-            self.tries_after = self.tries_after.wrapping_add(1);
-        }
-        let count = buf.len().min(self.room);
-        if count == 0 {
-            self.failed = true;
-            return Err(io::Error::from(ErrorKind::BrokenPipe));
-        }
-        self.room -= count;
-        self.taken = self.taken.wrapping_add(count);
-        Ok(count)
-    }
-
-    fn flush(&mut self) -> io::Result<()> {
-        Ok(())
-    }
-}
-
-fn failing_after(room: usize) -> Failing {
-    Failing {
-        room,
-        taken: 0,
-        failed: false,
-        tries_after: 0,
-    }
-}
-
-#[test]
-fn nothing_follows_a_failed_write(rt: HostRuntime) -> Result<(), Fail> {
-    let alloc = rt.alloc();
-    for room in [0, 3] {
-        for (line, to_out) in [(ARGUMENTS, true), ("/w x test b t", false)] {
-            let words = words_of(alloc, line)?;
-            let mut out = failing_after(room);
-            let mut err = failing_after(room);
-            let status = explain(alloc, &words, &Files(&[]), &mut out, &mut err);
-            assert_eq!(rt; status, 6, "at {line}");
-            assert_eq!(rt; out.tries_after, 0, "at {line}");
-            assert_eq!(rt; err.tries_after, 0, "at {line}");
-            let taken = if to_out { (room, 0) } else { (0, room) };
-            assert_eq!(rt; (out.taken, err.taken), taken, "at {line}");
-        }
-    }
+    let out = String::from_utf8(out)?;
+    let err = String::from_utf8(err)?;
+    assert_eq!(rt; status, wanted.status(), "at {line}: {err}");
+    assert!(rt; wanted.is_printed(out.as_str()), "at {line}: {out}");
+    assert!(rt; wanted.is_told(err.as_str()), "at {line}: {err}");
     Ok(())
 }

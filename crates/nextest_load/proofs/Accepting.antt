@@ -17,7 +17,7 @@ use Rattle.nextest_load.specs.Groups.{group_fault, groups_unknown_to, groups_unk
 use Rattle.nextest_load.specs.Inputs.{Given, Input, texts_of, repository_of, inputs_of, sources_in}
 use Rattle.nextest_load.specs.Order.{is_default, default_first}
 use Rattle.nextest_load.specs.Sources.{SourceKind, tool_file, explicit_file, discovered_file, Outcome, text, not_found, not_a_directory, failed}
-use Rattle.nextest_load.specs.Text.{tree_of}
+use Rattle.nextest_documents.specs.Text.{tree_of}
 use Rattle.nextest_load.specs.Texts.{SourceText, own_tree, own_text, merged_tree}
 use Rattle.nextest_load.specs.declared.error.ConfigParseError.{ConfigParseError}
 use Rattle.nextest_load.proofs.Compiling.{faults_from}

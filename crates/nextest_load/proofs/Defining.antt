@@ -8,11 +8,9 @@ use Rattle.std.proofs.lemmas.List.Folds.{list_any-append}
 use Rattle.std.proofs.lemmas.List.{map-append}
 use Rattle.std.proofs.lemmas.Map.Lookups.{exact_bytes}
 use Rattle.std.proofs.lemmas.Slice.Eq.{bytes_eq-Decides}
-use Rattle.toml.specs.Data.{Members}
-use Rattle.toml.specs.Parse.{parse_document}
 use Rattle.nextest_tree.specs.declared.key.Key.TheVariants as keys
 use Rattle.nextest_tree.specs.Key.{key_text}
-use Rattle.nextest_tree.specs.Node.{Node, table, array, text, int, bool, opaque, Entries, no_entries, entry, get, as_table, from_members}
+use Rattle.nextest_tree.specs.Node.{Node, table, array, text, int, bool, opaque, Entries, no_entries, entry, get, put, as_table}
 use Rattle.nextest_tree.specs.Schema.{Cause, Schema, Fields, no_more, field, map_of, faults, fields_faults, field_faults, below, is_one_of}
 use Rattle.nextest_tree.specs.declared.key.Key.{Key}
 use Rattle.nextest_texts.specs.IdentifierReader.{identifier_cause}
@@ -23,9 +21,10 @@ use Rattle.nextest_tables.specs.Texts.{group_in, each_in, root_in}
 use Rattle.nextest_tables.specs.Written.{Name}
 use Rattle.nextest_load.specs.Accepted.{Each}
 use Rattle.nextest_load.specs.Groups.{defined_by, defined_in}
-use Rattle.nextest_load.specs.Merge.{put, over, entries_over, merged}
+use Rattle.nextest_documents.specs.Merge.{over, entries_over, merged}
 use Rattle.nextest_load.specs.Texts.{SourceText, tree_in, own_tree, merged_tree}
-use Rattle.nextest_load.proofs.Laying.{laid_over, get-entries_over}
+use Rattle.nextest_documents.proofs.Laying.{laid_over, get-entries_over}
+use Rattle.nextest_documents.proofs.Texts.{entries_in, text_table}
 use Rattle.nextest_load.proofs.Ordering.{both_empty}
 use Rattle.nextest_load.proofs.Least.{head_in, tail_in, either_text}
 
@@ -154,14 +153,10 @@ has_all b (a ∷ layers) rest tb ts q h =
 
 -- the members of a source's document
 abbrev pub members_in : SourceText → Entries
-members_in s = unwrap_or (option_map from_members (parse_document s.text)) no_entries
-
-tree_at : (o : Option Members) → unwrap_or (option_map (λ ms. table (from_members ms)) o) (table no_entries) ≡ table (unwrap_or (option_map from_members o) no_entries)
-tree_at None = refl
-tree_at (Some ms) = refl
+members_in s = entries_in s.text
 
 pub tree_is : (s : SourceText) → tree_in s ≡ table (members_in s)
-tree_is s = tree_at (parse_document s.text)
+tree_is s = text_table s.text
 
 trees_are : (ss : List SourceText) → map tree_in ss ≡ map table (map members_in ss)
 trees_are [] = refl

@@ -1,8 +1,3 @@
-pub mod Maps
-pub mod Laying
-pub mod Steps
-pub mod Shown
-pub mod Sorted
 pub mod Duplicates
 pub mod FirstPaths
 pub mod Accepting

@@ -1,5 +1,6 @@
 -- The rules of sources, as the engines mean their texts.
-use Rattle.std.proofs.Common.{◌≡◌, List, [], ◌∷◌, ◌++◌, map, reverse, String, Global, Vec, string_bytes, refl, sym, ap, ◌∙◌}
+use Rattle.std.proofs.Common.{◌≡◌, List, [], ◌∷◌, ◌++◌, map, reverse, Option, Some, None, option_map, String, Global, Vec, string_bytes, refl, sym, ap, ◌∙◌}
+use Rattle.std.specs.List.{cons_option}
 use Rattle.std.proofs.lemmas.List.{map-append, reverse-append}
 use Rattle.nextest_tables.specs.Seen.{named}
 use Rattle.nextest_tables.specs.Written.{Name}
@@ -30,6 +31,11 @@ map_reversed f (x ∷ xs) = rw (reverse-append (x ∷ []) xs, map-append f (reve
 pub layers_are : {F S E T N P M K : Type 0} (meaning : E → M) (spec_meaning : N → K) (lowest_first highest_first : List (LayerRules F S E T N P)) (layers : List (Layer M K)) → highest_first ≡ reverse lowest_first → map (λ l. meant_layer meaning spec_meaning (layer_held l)) lowest_first ≡ layers → map (meant_layer meaning spec_meaning) (map layer_held highest_first) ≡ reverse layers
 layers_are meaning spec_meaning xs ys layers turned m =
     rw turned (map_twice layer_held (meant_layer meaning spec_meaning) (reverse xs) ∙ map_reversed (λ l. meant_layer meaning spec_meaning (layer_held l)) xs ∙ ap (λ ls. reverse ls) m)
+
+-- a part of what was given, as it is seen
+pub given_seen : {X Y Z : Type 0} (part : X → Y) (see : Y → Z) (o : Option X) → map see (cons_option (option_map part o) []) ≡ cons_option (option_map (λ x. see (part x)) o) []
+given_seen part see None = refl
+given_seen part see (Some x) = refl
 
 -- some elements more, as they are seen
 pub more_seen : {X Y Z : Type 0} (see : X → Y) (say : Z → Y) (xs more added : List X) (zs ws : List Z) → more ≡ xs ++ added → map see xs ≡ map say zs → map see added ≡ map say ws → map see more ≡ map say (zs ++ ws)

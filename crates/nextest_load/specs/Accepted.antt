@@ -6,7 +6,7 @@ use Rattle.nextest_tables.specs.Texts.{OverrideText, ProfileText}
 use Rattle.nextest_tables.specs.Written.{Name}
 use Rattle.nextest_load.specs.Inputs.{Given, tool_source, inputs_of, sources_in}
 use Rattle.nextest_load.specs.Sources.{SourceKind, discovered_file, Outcome, text, not_found, not_a_directory, failed, ToolFile}
-use Rattle.nextest_load.specs.Text.{tree_of}
+use Rattle.nextest_documents.specs.Text.{tree_of}
 use Rattle.nextest_load.specs.Texts.{own_tree, own_text, merged_tree}
 use Rattle.nextest_load.specs.Groups.{IsAmong, known_to}
 use Rattle.nextest_load.specs.Faults.{LoadFault, duplicate_tool, at_source, EachOver, EachSource}

@@ -14,7 +14,7 @@ use Rattle.nextest_load.specs.Groups.{UnknownGroup, groups_unknown_in, known_to,
 use Rattle.nextest_load.specs.Inputs.{Given, Input, tool_source, repository_of, inputs_of, texts_of, sources_in}
 use Rattle.nextest_load.specs.Order.{default_first}
 use Rattle.nextest_load.specs.Sources.{SourceSeen, SourceKind, tool_file, explicit_file, discovered_file, Outcome, text, not_found, not_a_directory, failed, ToolFile}
-use Rattle.nextest_load.specs.Text.{tree_of}
+use Rattle.nextest_documents.specs.Text.{tree_of}
 use Rattle.nextest_load.specs.Texts.{SourceText, own_tree, own_text, merged_tree}
 
 -- where in a profile a fault of compilation stands: at the override of an index

@@ -3,9 +3,6 @@ pub mod RuleHistory
 pub mod Sources
 pub mod Whole
 pub mod Held
-pub mod Merge
-pub mod Shown
-pub mod Text
 pub mod Texts
 pub mod Inputs
 pub mod Order

@@ -6,8 +6,8 @@ use Rattle.nextest_tree.specs.Node.{Node, table, no_entries}
 use Rattle.nextest_tables.specs.Defaults.{defaults}
 use Rattle.nextest_tables.specs.Texts.{OverrideText, ProfileText, RootText, root_in}
 use Rattle.nextest_tables.specs.Written.{Name, Fields}
-use Rattle.nextest_load.specs.Merge.{over, merged}
-use Rattle.nextest_load.specs.Text.{tree_of}
+use Rattle.nextest_documents.specs.Merge.{over, merged}
+use Rattle.nextest_documents.specs.Text.{tree_of}
 use Rattle.nextest_load.specs.Sources.{SourceSeen}
 use Rattle.nextest_load.specs.Whole.{Compiled, Layer, Whole}
 

@@ -9,11 +9,9 @@ mod groups;
 mod inputs;
 pub mod laws;
 mod load;
-mod merge;
 mod order;
 mod overrides;
 mod sources;
-mod text;
 mod warnings;
 
 pub use config::{LayerRules, LoadedConfig};
@@ -21,7 +19,6 @@ pub use error::{
     ConfigCompileError, ConfigCompileErrorKind, ConfigCompileSection, ConfigParseError,
     ConfigParseErrorKind, UnknownTestGroupError,
 };
-pub use merge::{copy_tree, lay_over, merge_layers};
 pub use nextest_elements::{CustomTestGroup, TestGroupConfig};
 pub use nextest_tables::{OverrideSettings, ProfileFields};
 pub use overrides::{CompiledOverride, OverrideId, PlatformSpecs};
@@ -29,5 +26,4 @@ pub use sources::{
     ConfigFileSelection, ConfigPath, ConfigPaths, ConfigSource, ConfigSourceKind, FileInput,
     ReadOutcome, ToolConfigFile,
 };
-pub use text::{TextFault, tree_from_text};
 pub use warnings::{ConfigWarning, ConfigWarnings, DefaultConfigWarnings};

@@ -11,15 +11,15 @@ ghost use Rattle.nextest_tables.specs.Tables.{root};
 ghost use Rattle.nextest_tables.specs.Texts.{root_in};
 ghost use Rattle.nextest_load.specs.declared.engines.FiltersetKind.TheVariants.{OverrideFilter};
 ghost use Rattle.nextest_load.specs.Errors.{compile_error_seen, Found, ended};
-ghost use Rattle.nextest_load.specs.Faults.{fault_of, element_fault, stage_fault, unread, if_none, all_found, not_compiled, rules_fault, text_fault, source_fault, input_fault, inputs_fault, load_fault};
+ghost use Rattle.nextest_load.specs.Faults.{fault_of, element_fault, stage_fault, unread, if_none, all_found, not_compiled, compile_cause, rules_fault, text_fault, source_fault, input_fault, inputs_fault, load_fault};
 ghost use Rattle.nextest_load.specs.Files.{file_text, input_seen};
 ghost use Rattle.nextest_load.specs.Groups.{defined_in, known_to};
 ghost use Rattle.nextest_load.specs.Held.{layer_held};
-ghost use Rattle.nextest_load.specs.Inputs.{given, texts_of, sources_in};
+ghost use Rattle.nextest_load.specs.Inputs.{given, inputs_of, repository_of, texts_of, sources_in};
 ghost use Rattle.nextest_load.specs.Load.{IsLoad};
-ghost use Rattle.nextest_load.specs.Merge.{merged};
+ghost use Rattle.nextest_documents.specs.Merge.{merged};
 ghost use Rattle.nextest_load.specs.Sources.{source_seen};
-ghost use Rattle.nextest_load.specs.Text.{tree_of};
+ghost use Rattle.nextest_documents.specs.Text.{tree_of};
 ghost use Rattle.nextest_load.specs.Texts.{SourceText, tree_in, own_text, merged_tree, fields_in, rules_in, layer_of, config_of};
 ghost use Rattle.nextest_load.specs.Whole.{meant_layer, meant_whole};
 
@@ -29,10 +29,9 @@ use crate::engines::{Filters, ParseContext, Specs};
 use crate::error::{ConfigCompileError, ConfigParseError, ConfigParseErrorKind};
 use crate::groups::{groups_not_known, note_groups, refuse_groups};
 use crate::inputs::{SourceInput, gather, refuse_duplicates, repository_file, text_of};
-use crate::merge::{lay_over, merge_layers};
 use crate::sources::{ConfigFileSelection, ConfigSource, FileInput, ToolConfigFile};
-use crate::text::{TextFault, tree_from_text};
 use crate::warnings::ConfigWarnings;
+use nextest_documents::{TextFault, lay_over, merge_layers, tree_from_text};
 use nextest_elements::{CustomTestGroup, TestGroupConfig};
 use nextest_tables::{ProfileFields, ProfileTable, RootTable, default_tree, read_root};
 use nextest_tree::{ElementCause, ElementFault, Tree, Walk};
@@ -44,6 +43,39 @@ use std::collections::{BTreeMap, BTreeSet};
 struct SourceFile<'a> {
     source: &'a ConfigSource,
     text: &'a str,
+}
+
+/// The trees and the rules of sources, the lowest first.
+#[derive(Drop)]
+struct LoadedLayers<F: Filters, S: Specs> {
+    trees: Vec<Tree>,
+    layers: Vec<LayerRules<F, S>>,
+}
+
+impl<F: Filters, S: Specs> LoadedLayers<F, S> {
+    /// None yet.
+    fn new(alloc: Global) -> Self
+        ensures trees { result.trees.items ≡ [] }
+        ensures layers { result.layers.items ≡ [] }
+    {
+        LoadedLayers {
+            trees: Vec::new(alloc),
+            layers: Vec::new(alloc),
+        }
+    }
+
+    /// Adds the tree and the rules of an input above these, if it gave text.
+    fn add(&mut self, loaded: Option<(Tree, LayerRules<F, S>)>) -> Result<(), AllocError>
+        ensures trees { OnOk result (self.new.trees.items ≡ self.old.trees.items ++ cons_option (option_map (λ l. l.0) loaded) []) }
+        ensures layers { OnOk result (self.new.layers.items ≡ self.old.layers.items ++ cons_option (option_map (λ l. l.1) loaded) []) }
+    {
+        let Some((tree, rules)) = loaded else {
+            return Ok(());
+        };
+        self.trees.push(tree)?;
+        self.layers.push(rules)?;
+        Ok(())
+    }
 }
 
 /// The tree of a source's text.
@@ -126,6 +158,27 @@ fn groups_of(
     }
 }
 
+/// The rules of a source, or all that does not compile of them.
+fn compile_rules<F: Filters, S: Specs>(
+    alloc: Global,
+    filters: &F,
+    source: &ConfigSource,
+    profiles: BTreeMap<String, ProfileTable>,
+) -> Result<LayerRules<F, S>, ConfigParseError>
+    ensures found { Found (fault_of (source_seen source.now) (compile_cause (F.read filters.now OverrideFilter) (named profile_seen profiles.entries))) (ended result) }
+    ensures rules { IfOk result (λ layer. meant_layer F.meaning S.spec_meaning (layer_held layer) ≡ record {
+      source = source_seen source.now;
+      rules = rules_in (F.read filters.now OverrideFilter) (source_seen source.now) (named profile_seen profiles.entries);
+    }) }
+{
+    let (rules, errors) = compile_profiles(alloc, filters, source, profiles)?;
+    refuse_errors(source, errors)?;
+    Ok(LayerRules {
+        source: source.clone()?,
+        rules,
+    })
+}
+
 /// The rules of a source, or all that does not compile of them, or else all that write groups which are not known.
 fn compile_source<F: Filters, S: Specs>(
     alloc: Global,
@@ -143,13 +196,9 @@ fn compile_source<F: Filters, S: Specs>(
 {
     // Compilation takes the tables with it, so their groups are looked at before and told after it.
     let unknown = groups_not_known(alloc, known, &profiles)?;
-    let (rules, errors) = compile_profiles(alloc, filters, source, profiles)?;
-    refuse_errors(source, errors)?;
+    let rules = compile_rules(alloc, filters, source, profiles)?;
     refuse_groups(alloc, source, unknown, known)?;
-    Ok(LayerRules {
-        source: source.clone()?,
-        rules,
-    })
+    Ok(rules)
 }
 
 /// The elements of a file over the defaults: a fault of one, or a key that is not read yet, is told at the source.
@@ -225,21 +274,17 @@ fn load_inputs<F: Filters, S: Specs>(
     alloc: Global,
     filters: &F,
     inputs: &[SourceInput<'_>],
-) -> Result<(Vec<Tree>, Vec<LayerRules<F, S>>), ConfigParseError>
+) -> Result<LoadedLayers<F, S>, ConfigParseError>
     ensures found { Found (inputs_fault (F.read filters.now OverrideFilter) [] (map input_seen inputs.now)) (ended result) }
-    ensures trees { IfOk result (λ loaded. map node_of loaded.0.items ≡ map tree_in (flat_map texts_of (map input_seen inputs.now))) }
-    ensures layers { IfOk result (λ loaded. map (λ layer. meant_layer F.meaning S.spec_meaning (layer_held layer)) loaded.1.items ≡ map (layer_of (F.read filters.now OverrideFilter)) (flat_map texts_of (map input_seen inputs.now))) }
+    ensures trees { IfOk result (λ loaded. map node_of loaded.trees.items ≡ map tree_in (flat_map texts_of (map input_seen inputs.now))) }
+    ensures layers { IfOk result (λ loaded. map (λ layer. meant_layer F.meaning S.spec_meaning (layer_held layer)) loaded.layers.items ≡ map (layer_of (F.read filters.now OverrideFilter)) (flat_map texts_of (map input_seen inputs.now))) }
 {
     let mut known = BTreeSet::new(alloc);
-    let mut trees = Vec::new(alloc);
-    let mut layers = Vec::new(alloc);
+    let mut loaded = LoadedLayers::new(alloc);
     for input in inputs {
-        if let Some((tree, rules)) = load_input(alloc, filters, &mut known, input)? {
-            trees.push(tree).map_err(AllocError::from)?;
-            layers.push(rules).map_err(AllocError::from)?;
-        }
+        loaded.add(load_input(alloc, filters, &mut known, input)?)?;
     }
-    Ok((trees, layers))
+    Ok(loaded)
 }
 
 /// What a profile writes for each of its fields.
@@ -290,7 +335,7 @@ fn load_all<F: Filters, S: Specs>(
         (fault_of (source_seen repository.now) (element_fault (merged_tree (flat_map texts_of (map input_seen inputs.now)))))) (ended result) }
     ensures means { IfOk result (λ config. meant_whole F.meaning S.spec_meaning config ≡ config_of F.everything (F.read filters.now OverrideFilter) (flat_map texts_of (map input_seen inputs.now))) }
 {
-    let (trees, mut layers) = load_inputs(alloc, filters, inputs)?;
+    let LoadedLayers { trees, mut layers } = load_inputs(alloc, filters, inputs)?;
     let RootTable {
         test_groups,
         profiles,
@@ -300,6 +345,24 @@ fn load_all<F: Filters, S: Specs>(
     let test_groups = groups_of(alloc, test_groups);
     layers.reverse();
     Ok(LoadedConfig::new(fields, test_groups, layers, filters.all()))
+}
+
+/// Loads the files of tools and the repository's, whichever tools they are of, or tells the first fault.
+fn load_files<F: Filters, S: Specs>(
+    alloc: Global,
+    filters: &F,
+    shared: &FileInput,
+    selection: ConfigFileSelection<'_>,
+    tools: &[ToolConfigFile],
+) -> Result<LoadedConfig<F, S>, ConfigParseError>
+    ensures found { let files = given shared.now selection.entry.config_file tools.now in
+        Found (option_or (inputs_fault (F.read filters.now OverrideFilter) [] (inputs_of files)) (fault_of (repository_of files) (element_fault (merged_tree (sources_in files))))) (ended result) }
+    ensures means { IfOk result (λ config. meant_whole F.meaning S.spec_meaning config ≡ config_of F.everything (F.read filters.now OverrideFilter) (sources_in (given shared.now selection.entry.config_file tools.now))) }
+{
+    let repository = repository_file(shared, selection)?;
+    let source = repository.source.clone()?;
+    let inputs = gather(alloc, repository, tools)?;
+    load_all(alloc, filters, &source, &inputs)
 }
 
 /// Loads the files of tools and the repository's, or tells the first fault.
@@ -314,10 +377,7 @@ fn load_given<F: Filters, S: Specs>(
     ensures means { IfOk result (λ config. meant_whole F.meaning S.spec_meaning config ≡ config_of F.everything (F.read filters.now OverrideFilter) (sources_in (given shared.now selection.entry.config_file tools.now))) }
 {
     refuse_duplicates(alloc, tools)?;
-    let repository = repository_file(shared, selection)?;
-    let source = repository.source.clone()?;
-    let inputs = gather(alloc, repository, tools)?;
-    load_all(alloc, filters, &source, &inputs)
+    load_files(alloc, filters, shared, selection, tools)
 }
 
 impl<F: Filters, S: Specs> LoadedConfig<F, S> {

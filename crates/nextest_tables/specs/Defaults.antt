@@ -1,17 +1,10 @@
 -- The table of defaults, over which every file is read.
 use Rattle.std.specs.Prelude.{ℕ, List, pos, true, false, codes}
-use Rattle.std.specs.Ordering.{nat_cmp, match_ordering}
-use Rattle.std.specs.Cmp.Lexicographic.{slice_cmp}
 use Rattle.nextest_tree.specs.declared.key.Key.{Key}
 use Rattle.nextest_tree.specs.declared.key.Key.TheVariants as keys
 use Rattle.nextest_tree.specs.Key.{key_text}
-use Rattle.nextest_tree.specs.Node.{Node, table, array, text, int, bool, no_nodes, Entries, no_entries, entry}
+use Rattle.nextest_tree.specs.Node.{Node, table, array, text, int, bool, no_nodes, Entries, no_entries, entry, put}
 use Rattle.nextest_tables.specs.Written.{default_name}
-
--- the entries with a node at a key: in place of what stood there, or before the first greater key
-abbrev pub put : List ℕ → Node → Entries → Entries
-put k n no_entries = entry k n no_entries
-put k n (entry l m es) = match_ordering (slice_cmp nat_cmp k l) (entry k n (entry l m es)) (entry l n es) (entry l m (put k n es))
 
 -- a row of a table: a key, what stands there, and the rows after it
 abbrev pub row : Key → Node → Entries → Entries

@@ -1,5 +1,5 @@
 //! Texts with the trees that they read to.
-use nextest_load::{TextFault, tree_from_text};
+use nextest_documents::{TextFault, tree_from_text};
 use std::test::Fail;
 
 #[test]

@@ -4,9 +4,9 @@ ghost use Rattle.std.proofs.Common.{rules};
 ghost use Rattle.std.specs.Option.{option_map_or};
 ghost use Rattle.std.specs.Str.{bytes_eq};
 
+use crate::files::workspace_paths;
 use nextest_config::{
-    ConfigFileSelection, ConfigPath, ConfigPaths, DefaultConfigWarnings, FileInput, NextestConfig,
-    ReadOutcome,
+    ConfigFileSelection, DefaultConfigWarnings, EvaluatableProfile, NextestConfig,
 };
 use nextest_elements::NextestRunMode;
 use nextest_load::engines::history::RuleHistory;
@@ -30,10 +30,25 @@ struct Name(Option<String>);
 const RULES: usize = 10;
 
 /// How often each rule was evaluated, and whether each evaluation was of the text that spells its rule's number.
-#[derive(Drop)]
-struct Counted {
+#[derive(Clone, Copy)]
+struct Counts {
     times: [usize; RULES],
     is_numbered: bool,
+}
+
+impl Counts {
+    fn add(&mut self, rule: usize, expr: &Name) {
+        if let Some(times) = self.times.get_mut(rule) {
+            *times = times.wrapping_add(1);
+        }
+        self.is_numbered = self.is_numbered && is_number(expr, rule);
+    }
+}
+
+/// The rules that were evaluated, and their counts.
+#[derive(Drop)]
+struct Counted {
+    counts: Counts,
     rules: RuleHistory,
 }
 
@@ -44,8 +59,10 @@ impl Tally for Counted {
 impl Counted {
     fn new() -> Counted {
         Counted {
-            times: [0; RULES],
-            is_numbered: true,
+            counts: Counts {
+                times: [0; RULES],
+                is_numbered: true,
+            },
             rules: RuleHistory::new(),
         }
     }
@@ -53,10 +70,7 @@ impl Counted {
     fn record(&mut self, rule: usize, expr: &Name)
         ensures { self.new.rules ≡ self.old.rules ++ rule ∷ [] }
     {
-        if let Some(times) = self.times.get_mut(rule) {
-            *times = times.wrapping_add(1);
-        }
-        self.is_numbered = self.is_numbered && is_number(expr, rule);
+        self.counts.add(rule, expr);
         self.rules.push(rule);
     }
 }
@@ -219,8 +233,8 @@ fn a_tally_can_count(rt: HostRuntime) -> Result<(), Fail> {
     let mut tally = Counted::new();
     let answers = ask_both(rt.alloc(), &Names, ["3", "4"], &test_of("3"), &mut tally)?;
     assert_eq!(rt; answers, (true, false));
-    assert_eq!(rt; tally.times, [0, 0, 0, 1, 0, 1, 0, 0, 0, 0]);
-    assert!(rt; !tally.is_numbered);
+    assert_eq!(rt; tally.counts.times, [0, 0, 0, 1, 0, 1, 0, 0, 0, 0]);
+    assert!(rt; !tally.counts.is_numbered);
     Ok(())
 }
 
@@ -260,28 +274,15 @@ retries = 9
 priority = 9
 "#;
 
-/// What a test gets of ten overrides, and how often each was evaluated for that.
-fn ask_ten(
-    rt: &(impl AllocGlobal + Abort),
-    test: &str,
-    retries: u32,
-    times: [usize; RULES],
-) -> Result<(), Fail> {
-    let alloc = rt.alloc();
-    let path = ConfigPath::new(alloc, "/w/.config/nextest.toml")?;
-    let paths = ConfigPaths {
-        workspace_root: String::from_str(alloc, "/w")?,
-        shared: FileInput {
-            path,
-            outcome: ReadOutcome::Text(String::from_str(alloc, TEN)?),
-        },
-    };
+/// Loads the ten overrides.
+fn load_ten(alloc: Global) -> Result<NextestConfig<Names, Anywhere>, Fail> {
+    let paths = workspace_paths(alloc, TEN)?;
     let pcx = ParseContext {
         filters: &Names,
         specs: &Anywhere,
     };
     let mut warnings = DefaultConfigWarnings::new(alloc);
-    let config = NextestConfig::from_sources_with_paths(
+    Ok(NextestConfig::from_sources_with_paths(
         alloc,
         &paths,
         &pcx,
@@ -289,26 +290,65 @@ fn ask_ten(
         &[],
         &BTreeSet::new(alloc),
         &mut warnings,
-    )?;
-    let profile = config.profile(alloc, "default")?;
+    )?)
+}
+
+/// The profile of the ten overrides, on any platform.
+fn profile_of_ten(
+    alloc: Global,
+    config: &NextestConfig<Names, Anywhere>,
+) -> Result<EvaluatableProfile<'_, Names, Anywhere>, Fail> {
     let platforms = BuildPlatforms {
         host: (),
         target: None,
     };
-    let Ok(profile) = profile.apply_build_platforms(alloc, &platforms) else {
-        return Err(Fail::from(AllocError));
-    };
+    let profile = config.profile(alloc, "default")?;
+    match profile.apply_build_platforms(alloc, &platforms) {
+        Ok(profile) => Ok(profile),
+        Err(_) => Err(Fail::from(AllocError)),
+    }
+}
+
+/// What a test gets of ten overrides, and how often each was evaluated for that.
+struct Asked {
+    test: &'static str,
+    retries: u32,
+    times: [usize; RULES],
+}
+
+static ASKED: [Asked; 3] = [
+    Asked {
+        test: "none",
+        retries: 0,
+        times: [1, 1, 1, 1, 1, 1, 1, 1, 1, 1],
+    },
+    Asked {
+        test: "7",
+        retries: 7,
+        times: [1, 1, 1, 1, 1, 1, 1, 1, 0, 1],
+    },
+    Asked {
+        test: "2",
+        retries: 1,
+        times: [1, 1, 1, 0, 0, 0, 0, 0, 0, 0],
+    },
+];
+
+fn check_asked(rt: &impl Abort, profile: &EvaluatableProfile<'_, Names, Anywhere>, asked: &Asked) {
     let mut tally = Counted::new();
-    let settings = profile.settings_for(NextestRunMode::Test, &test_of(test), &mut tally);
-    assert_eq!(rt; settings.retries().count(), retries);
-    assert_eq!(rt; tally.times, times);
-    assert!(rt; tally.is_numbered);
-    Ok(())
+    let query = test_of(asked.test);
+    let settings = profile.settings_for(NextestRunMode::Test, &query, &mut tally);
+    assert_eq!(rt; settings.retries().count(), asked.retries);
+    assert_eq!(rt; tally.counts.times, asked.times);
+    assert!(rt; tally.counts.is_numbered);
 }
 
 #[test]
 fn each_filter_is_evaluated_at_most_once(rt: HostRuntime) -> Result<(), Fail> {
-    ask_ten(&rt, "none", 0, [1, 1, 1, 1, 1, 1, 1, 1, 1, 1])?;
-    ask_ten(&rt, "7", 7, [1, 1, 1, 1, 1, 1, 1, 1, 0, 1])?;
-    ask_ten(&rt, "2", 1, [1, 1, 1, 0, 0, 0, 0, 0, 0, 0])
+    let config = load_ten(rt.alloc())?;
+    let profile = profile_of_ten(rt.alloc(), &config)?;
+    for asked in &ASKED {
+        check_asked(&rt, &profile, asked);
+    }
+    Ok(())
 }

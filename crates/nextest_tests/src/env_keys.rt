@@ -2,7 +2,7 @@
 use nextest_scripts::validate_env_var_key;
 use std::test::Fail;
 
-const REFUSED: [(&str, &str); 9] = [
+static REFUSED: [(&str, &str); 9] = [
     ("", "key `` does not start with a letter or underscore"),
     (
         "0TEST ",

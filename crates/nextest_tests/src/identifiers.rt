@@ -1,5 +1,7 @@
 //! Texts with the identifiers and names of tools that they are.
+use crate::showing::assert_shown;
 use nextest_elements::{ConfigIdentifier, InvalidIdentifier, ToolName};
+use std::alloc::Global;
 use std::collections::{BTreeMap, HashSet};
 use std::test::Fail;
 
@@ -8,7 +10,7 @@ fn texts_of_identifiers(rt: HostRuntime) -> Result<(), Fail> {
     for &text in &["a-b", "é1", "@tool:my-tool:x"] {
         let identifier = ConfigIdentifier::new(rt.alloc(), text)?;
         assert_eq!(rt; identifier.as_str(), text);
-        assert_eq!(rt; identifier.to_string(rt.alloc())?.as_str(), text);
+        assert_shown(&rt, &identifier, text)?;
     }
     let refused = &[
         ("", InvalidIdentifier::Empty),
@@ -35,7 +37,7 @@ fn texts_of_tool_names(rt: HostRuntime) -> Result<(), Fail> {
     for &text in &["my-tool", "é1"] {
         let name = ToolName::new(rt.alloc(), text)?;
         assert_eq!(rt; name.as_str(), text);
-        assert_eq!(rt; name.to_string(rt.alloc())?.as_str(), text);
+        assert_shown(&rt, &name, text)?;
     }
     let refused = &[
         ("", InvalidIdentifier::Empty),
@@ -68,14 +70,29 @@ fn components_of_a_tool_identifier(rt: HostRuntime) -> Result<(), Fail> {
     Ok(())
 }
 
+/// Texts of identifiers with sizes, where a later one takes the place of an earlier one.
+static SIZES: [(&str, u8); 3] = [("b", 1), ("a", 2), ("b", 3)];
+
+fn size_by_identifier(alloc: Global) -> Result<BTreeMap<ConfigIdentifier, u8>, Fail> {
+    let mut sizes = BTreeMap::new(alloc);
+    for &(text, size) in &SIZES {
+        sizes.insert(ConfigIdentifier::new(alloc, text)?, size)?;
+    }
+    Ok(sizes)
+}
+
+fn identifiers_with_sizes(alloc: Global) -> Result<HashSet<ConfigIdentifier>, Fail> {
+    let mut seen = HashSet::new(alloc);
+    for &(text, _) in &SIZES {
+        seen.insert(ConfigIdentifier::new(alloc, text)?)?;
+    }
+    Ok(seen)
+}
+
 #[test]
 fn identifiers_as_keys(rt: HostRuntime) -> Result<(), Fail> {
-    let mut sizes = BTreeMap::new(rt.alloc());
-    let mut seen = HashSet::new(rt.alloc());
-    for &(text, size) in &[("b", 1u8), ("a", 2), ("b", 3)] {
-        sizes.insert(ConfigIdentifier::new(rt.alloc(), text)?, size)?;
-        seen.insert(ConfigIdentifier::new(rt.alloc(), text)?)?;
-    }
+    let sizes = size_by_identifier(rt.alloc())?;
+    let seen = identifiers_with_sizes(rt.alloc())?;
     let a = ConfigIdentifier::new(rt.alloc(), "a")?;
     let b = ConfigIdentifier::new(rt.alloc(), "b")?;
     assert_eq!(rt; sizes.get(&b).copied(), Some(3));
@@ -114,7 +131,7 @@ fn messages(rt: HostRuntime) -> Result<(), Fail> {
         (InvalidIdentifier::Memory, "out of memory"),
     ];
     for &(cause, message) in table {
-        assert_eq!(rt; cause.to_string(rt.alloc())?.as_str(), message);
+        assert_shown(&rt, &cause, message)?;
     }
     Ok(())
 }

@@ -14,6 +14,8 @@ mod engines;
 #[cfg(test)]
 mod env_keys;
 #[cfg(test)]
+mod files;
+#[cfg(test)]
 mod identifiers;
 #[cfg(test)]
 mod loading;
@@ -33,6 +35,8 @@ mod script_ids;
 mod script_types;
 #[cfg(test)]
 mod shell_words;
+#[cfg(test)]
+mod showing;
 #[cfg(test)]
 mod timeouts;
 #[cfg(test)]

@@ -1,4 +1,5 @@
 //! The four calls that load a configuration.
+use crate::files::{file, workspace_paths};
 use nextest_config::{
     ConfigFileSelection, ConfigParseError, ConfigPath, ConfigPaths, DefaultConfigWarnings,
     FileInput, NextestConfig, ReadOutcome, ToolConfigFile, ToolName,
@@ -27,21 +28,10 @@ struct Inputs {
     tools: Vec<ToolConfigFile>,
 }
 
-/// A file of this text.
-fn file(alloc: Global, path: &str, text: &str) -> Result<FileInput, AllocError> {
-    Ok(FileInput {
-        path: ConfigPath::new(alloc, path)?,
-        outcome: ReadOutcome::Text(String::from_str(alloc, text)?),
-    })
-}
-
 /// A workspace whose own file has this text, and nothing else.
 fn workspace(alloc: Global, shared: &str) -> Result<Inputs, AllocError> {
     Ok(Inputs {
-        paths: ConfigPaths {
-            workspace_root: String::from_str(alloc, "/w")?,
-            shared: file(alloc, "/w/.config/nextest.toml", shared)?,
-        },
+        paths: workspace_paths(alloc, shared)?,
         named: None,
         tools: Vec::new(alloc),
     })
@@ -118,22 +108,27 @@ fn by_paths(alloc: Global, inputs: &Inputs) -> Result<Config, ConfigParseError> 
     )
 }
 
-/// Asks a configuration how often tests are tried again.
-fn assert_retries(
-    rt: &(impl AllocGlobal + Abort),
-    config: &Config,
-    retries: u32,
-) -> Result<(), Fail> {
-    let alloc = rt.alloc();
+/// How often a configuration tries tests again.
+fn retries_of(alloc: Global, config: &Config) -> Result<u32, Fail> {
     let platforms = BuildPlatforms {
         host: String::from_str(alloc, "x86_64-unknown-linux-gnu")?,
         target: None,
     };
     let profile = config.profile(alloc, "default")?;
-    let Ok(profile) = profile.apply_build_platforms(alloc, &platforms) else {
-        return Err(Fail::from(AllocError));
-    };
-    assert_eq!(rt; profile.retries().count(), retries);
+    match profile.apply_build_platforms(alloc, &platforms) {
+        Ok(profile) => Ok(profile.retries().count()),
+        Err(_) => Err(Fail::from(AllocError)),
+    }
+}
+
+/// Asks what was loaded how often tests are tried again.
+fn assert_loaded(
+    rt: &(impl AllocGlobal + Abort),
+    loaded: Result<Config, ConfigParseError>,
+    retries: u32,
+) -> Result<(), Fail> {
+    let config = loaded?;
+    assert_eq!(rt; retries_of(rt.alloc(), &config)?, retries);
     assert!(rt; config.warnings().warnings().is_empty());
     Ok(())
 }
@@ -145,29 +140,44 @@ fn assert_loads(
     retries: u32,
 ) -> Result<(), Fail> {
     let alloc = rt.alloc();
-    assert_retries(rt, &by_sources(alloc, inputs)?, retries)?;
-    assert_retries(rt, &by_warnings(alloc, inputs)?, retries)?;
-    assert_retries(rt, &by_selection(alloc, inputs)?, retries)?;
-    assert_retries(rt, &by_paths(alloc, inputs)?, retries)
+    assert_loaded(rt, by_sources(alloc, inputs), retries)?;
+    assert_loaded(rt, by_warnings(alloc, inputs), retries)?;
+    assert_loaded(rt, by_selection(alloc, inputs), retries)?;
+    assert_loaded(rt, by_paths(alloc, inputs), retries)
+}
+
+/// Loads the shared file and a tool's, which says two retries, and also the file that a user names.
+fn tool_loads(
+    rt: &(impl AllocGlobal + Abort),
+    shared: &str,
+    named: Option<&str>,
+    retries: u32,
+) -> Result<(), Fail> {
+    let alloc = rt.alloc();
+    let inputs = workspace(alloc, shared)?;
+    let inputs = with_tool(alloc, inputs, "a.toml", "profile.default.retries = 2")?;
+    let inputs = match named {
+        Some(text) => {
+            let text = String::from_str(alloc, text)?;
+            with_named(alloc, inputs, ReadOutcome::Text(text))?
+        }
+        None => inputs,
+    };
+    assert_loads(rt, &inputs, retries)
 }
 
 #[test]
 fn each_call_loads(rt: HostRuntime) -> Result<(), Fail> {
-    let alloc = rt.alloc();
-    let empty = workspace(alloc, "")?;
+    let empty = workspace(rt.alloc(), "")?;
     assert_loads(&rt, &empty, 0)?;
-    let tool = with_tool(alloc, empty, "a.toml", "profile.default.retries = 2")?;
-    assert_loads(&rt, &tool, 2)?;
-    let shared = with_tool(
-        alloc,
-        workspace(alloc, "profile.default.retries = 1")?,
-        "a.toml",
-        "profile.default.retries = 2",
-    )?;
-    assert_loads(&rt, &shared, 1)?;
-    let text = String::from_str(alloc, "profile.default.retries = 3")?;
-    let named = with_named(alloc, shared, ReadOutcome::Text(text))?;
-    assert_loads(&rt, &named, 3)
+    tool_loads(&rt, "", None, 2)?;
+    tool_loads(&rt, "profile.default.retries = 1", None, 1)?;
+    tool_loads(
+        &rt,
+        "profile.default.retries = 1",
+        Some("profile.default.retries = 3"),
+        3,
+    )
 }
 
 /// Compares a refusal with a number, the path of the file and the tool that provides it.

@@ -1,5 +1,6 @@
 //! The values of names, numbers and tables, as they are written in files.
 use crate::reading::{Answer, answer_to};
+use crate::showing::assert_shown;
 use nextest_elements::{
     ConfigExperimental, Element, ElementCause, FinalStatusLevel, FlakyResult, JunitFlakyFailStatus,
     JunitImpl, JunitOverride, MaxFail, NextestRunMode, Positive, ReportSkipPolicy, StatusLevel,
@@ -23,21 +24,18 @@ fn cause<T: Element>(alloc: Global, text: &str) -> Result<ElementCause, Fail> {
 
 /// Each name reads to its value, which prints as that name, and another name is refused.
 fn check_names<T: Element + Copy + Debug + Display + PartialEq>(
-    rt: &impl Abort,
-    alloc: Global,
+    rt: &(impl AllocGlobal + Abort),
     names: &[(&str, T)],
 ) -> Result<(), Fail> {
+    let alloc = rt.alloc();
     for (name, expected) in names {
         let quoted = format!(in alloc; "\"{name}\"")?;
         let found: T = value(alloc, quoted.as_str())?;
         assert!(rt; found == *expected, "{name}");
-        let shown = expected.to_string(alloc)?;
-        assert_eq!(rt; shown.as_str(), *name);
+        assert_shown(rt, expected, name)?;
     }
-    let outside = cause::<T>(alloc, "\"outside\"")?;
-    assert!(rt; matches!(outside, ElementCause::BadValue { .. }));
-    let number = cause::<T>(alloc, "true")?;
-    assert!(rt; matches!(number, ElementCause::WrongKind));
+    assert!(rt; is_bad_value::<T>(alloc, "\"outside\"")?);
+    assert!(rt; is_wrong_kind::<T>(alloc, "true")?);
     Ok(())
 }
 
@@ -45,7 +43,6 @@ fn check_names<T: Element + Copy + Debug + Display + PartialEq>(
 fn names_of_results_and_outputs(rt: HostRuntime) -> Result<(), Fail> {
     check_names(
         &rt,
-        rt.alloc(),
         &[("pass", FlakyResult::Pass), ("fail", FlakyResult::Fail)],
     )?;
     let outputs = [
@@ -54,7 +51,7 @@ fn names_of_results_and_outputs(rt: HostRuntime) -> Result<(), Fail> {
         ("final", TestOutputDisplay::Final),
         ("never", TestOutputDisplay::Never),
     ];
-    check_names(&rt, rt.alloc(), &outputs)
+    check_names(&rt, &outputs)
 }
 
 #[test]
@@ -69,7 +66,7 @@ fn names_of_levels(rt: HostRuntime) -> Result<(), Fail> {
         ("skip", StatusLevel::Skip),
         ("all", StatusLevel::All),
     ];
-    check_names(&rt, rt.alloc(), &levels)?;
+    check_names(&rt, &levels)?;
     let final_levels = [
         ("none", FinalStatusLevel::None),
         ("fail", FinalStatusLevel::Fail),
@@ -80,7 +77,7 @@ fn names_of_levels(rt: HostRuntime) -> Result<(), Fail> {
         ("pass", FinalStatusLevel::Pass),
         ("all", FinalStatusLevel::All),
     ];
-    check_names(&rt, rt.alloc(), &final_levels)?;
+    check_names(&rt, &final_levels)?;
     let retry: FinalStatusLevel = value(rt.alloc(), "\"retry\"")?;
     assert_eq!(rt; retry, FinalStatusLevel::Flaky);
     assert!(rt; StatusLevel::None < StatusLevel::Fail && StatusLevel::Skip < StatusLevel::All);
@@ -94,12 +91,12 @@ fn names_of_reports(rt: HostRuntime) -> Result<(), Fail> {
         ("none", ReportSkipPolicy::None),
         ("all", ReportSkipPolicy::All),
     ];
-    check_names(&rt, rt.alloc(), &policies)?;
+    check_names(&rt, &policies)?;
     let statuses = [
         ("failure", JunitFlakyFailStatus::Failure),
         ("success", JunitFlakyFailStatus::Success),
     ];
-    check_names(&rt, rt.alloc(), &statuses)?;
+    check_names(&rt, &statuses)?;
     assert_eq!(rt; ReportSkipPolicy::default(), ReportSkipPolicy::None);
     assert_eq!(rt;
         JunitFlakyFailStatus::default(),
@@ -120,82 +117,90 @@ fn a_refused_name_is_told(rt: HostRuntime) -> Result<(), Fail> {
     Ok(())
 }
 
+/// Whether a text is refused as a number out of range.
+fn is_out_of_range<T: Element>(alloc: Global, text: &str) -> Result<bool, Fail> {
+    Ok(matches!(cause::<T>(alloc, text)?, ElementCause::OutOfRange))
+}
+
+/// Whether a text is refused as a value of another kind.
+fn is_wrong_kind<T: Element>(alloc: Global, text: &str) -> Result<bool, Fail> {
+    Ok(matches!(cause::<T>(alloc, text)?, ElementCause::WrongKind))
+}
+
+/// Whether a text is refused as none of those that may stand there.
+fn is_bad_value<T: Element>(alloc: Global, text: &str) -> Result<bool, Fail> {
+    Ok(matches!(cause::<T>(alloc, text)?, ElementCause::BadValue { .. }))
+}
+
+/// Whether a table is refused for a key that it lacks.
+fn lacks_a_key<T: Element>(alloc: Global, text: &str) -> Result<bool, Fail> {
+    Ok(matches!(cause::<T>(alloc, text)?, ElementCause::Missing(_)))
+}
+
+/// Texts of numbers of threads, their values, and how many threads they are on so many processors.
+static TEST_THREADS: [(&str, TestThreads, u64, u64); 4] = [
+    ("-3", TestThreads::Count(-3), 8, 5),
+    ("-3", TestThreads::Count(-3), 2, 1),
+    ("4", TestThreads::Count(4), 2, 4),
+    ("\"num-cpus\"", TestThreads::NumCpus, 8, 8),
+];
+
+/// Texts of what a test takes, their values, how many of five threads on eight processors they are, and how they print.
+static THREADS_REQUIRED: [(&str, ThreadsRequired, u64, &str); 3] = [
+    ("3", ThreadsRequired::Count(3), 3, "3"),
+    ("\"num-cpus\"", ThreadsRequired::NumCpus, 8, "num-cpus"),
+    (
+        "\"num-test-threads\"",
+        ThreadsRequired::NumTestThreads,
+        5,
+        "num-test-threads",
+    ),
+];
+
 #[test]
 fn numbers_of_threads(rt: HostRuntime) -> Result<(), Fail> {
     let alloc = rt.alloc();
-    let rows = &[
-        ("-3", TestThreads::Count(-3), 8, 5),
-        ("-3", TestThreads::Count(-3), 2, 1),
-        ("4", TestThreads::Count(4), 2, 4),
-        ("\"num-cpus\"", TestThreads::NumCpus, 8, 8),
-    ];
-    for &(text, threads, num_cpus, count) in rows {
+    for &(text, threads, num_cpus, count) in &TEST_THREADS {
         let found: TestThreads = value(alloc, text)?;
         assert_eq!(rt; found, threads);
         assert_eq!(rt; found.compute(num_cpus), count);
     }
     assert_eq!(rt; TestThreads::Count(0).compute(8), 8);
-    assert!(rt; matches!(cause::<TestThreads>(alloc, "0")?, ElementCause::OutOfRange));
-    assert!(rt;
-        matches!(
-            cause::<TestThreads>(alloc, "\"many\"")?,
-            ElementCause::BadValue { .. }
-        )
-    );
-    assert!(rt; matches!(cause::<TestThreads>(alloc, "1.5")?, ElementCause::WrongKind));
-
-    let rows = &[
-        ("3", ThreadsRequired::Count(3), 3, "3"),
-        ("\"num-cpus\"", ThreadsRequired::NumCpus, 8, "num-cpus"),
-        (
-            "\"num-test-threads\"",
-            ThreadsRequired::NumTestThreads,
-            5,
-            "num-test-threads",
-        ),
-    ];
-    for &(text, required, count, shown) in rows {
+    for &(text, required, count, shown) in &THREADS_REQUIRED {
         let found: ThreadsRequired = value(alloc, text)?;
         assert_eq!(rt; found, required);
         assert_eq!(rt; found.compute(8, 5), count);
-        assert_eq!(rt; found.to_string(alloc)?.as_str(), shown);
+        assert_shown(&rt, &found, shown)?;
     }
-    assert!(rt;
-        matches!(
-            cause::<ThreadsRequired>(alloc, "0")?,
-            ElementCause::OutOfRange
-        )
-    );
-    assert!(rt; matches!(cause::<Positive>(alloc, "-1")?, ElementCause::OutOfRange));
+    no_numbers_of_threads(&rt)
+}
+
+/// Texts that are no number of threads.
+fn no_numbers_of_threads(rt: &(impl AllocGlobal + Abort)) -> Result<(), Fail> {
+    let alloc = rt.alloc();
+    assert!(rt; is_out_of_range::<TestThreads>(alloc, "0")?);
+    assert!(rt; is_bad_value::<TestThreads>(alloc, "\"many\"")?);
+    assert!(rt; is_wrong_kind::<TestThreads>(alloc, "1.5")?);
+    assert!(rt; is_out_of_range::<ThreadsRequired>(alloc, "0")?);
+    assert!(rt; is_out_of_range::<Positive>(alloc, "-1")?);
     Ok(())
 }
 
 #[test]
 fn ends_of_a_run(rt: HostRuntime) -> Result<(), Fail> {
     let alloc = rt.alloc();
-    let rows = &[
+    for &(text, expected) in &[
         ("true", MaxFail::Count(1)),
         ("false", MaxFail::All),
         ("{ max-fail = 3 }", MaxFail::Count(3)),
         ("{ max-fail = \"all\", terminate = 7 }", MaxFail::All),
-    ];
-    for &(text, expected) in rows {
+    ] {
         let found: MaxFail = value(alloc, text)?;
         assert_eq!(rt; found, expected, "{text}");
     }
-    assert!(rt;
-        matches!(
-            cause::<MaxFail>(alloc, "{ max-fail = 0 }")?,
-            ElementCause::OutOfRange
-        )
-    );
-    assert!(rt;
-        matches!(
-            cause::<MaxFail>(alloc, "{ terminate = 7 }")?,
-            ElementCause::Missing(_)
-        )
-    );
-    assert!(rt; matches!(cause::<MaxFail>(alloc, "1")?, ElementCause::WrongKind));
+    assert!(rt; is_out_of_range::<MaxFail>(alloc, "{ max-fail = 0 }")?);
+    assert!(rt; lacks_a_key::<MaxFail>(alloc, "{ terminate = 7 }")?);
+    assert!(rt; is_wrong_kind::<MaxFail>(alloc, "1")?);
     Ok(())
 }
 
@@ -227,17 +232,8 @@ fn tables_of_reports(rt: HostRuntime) -> Result<(), Fail> {
 
 #[test]
 fn features_and_modes(rt: HostRuntime) -> Result<(), Fail> {
-    let alloc = rt.alloc();
-    assert_eq!(rt;
-        ConfigExperimental::SetupScripts.to_string(alloc)?.as_str(),
-        "setup-scripts"
-    );
-    assert_eq!(rt;
-        ConfigExperimental::WrapperScripts
-            .to_string(alloc)?
-            .as_str(),
-        "wrapper-scripts"
-    );
+    assert_shown(&rt, &ConfigExperimental::SetupScripts, "setup-scripts")?;
+    assert_shown(&rt, &ConfigExperimental::WrapperScripts, "wrapper-scripts")?;
     assert!(rt; ConfigExperimental::SetupScripts < ConfigExperimental::WrapperScripts);
     assert!(rt; NextestRunMode::Test != NextestRunMode::Benchmark);
     Ok(())

@@ -1,4 +1,5 @@
 //! What is told of a name that no profile has.
+use crate::showing::assert_shown;
 use nextest_config::{ProfileError, ProfileNotFound};
 use std::alloc::{AllocError, Global};
 use std::test::Fail;
@@ -19,18 +20,8 @@ fn not_found(alloc: Global, name: &str, known: &[&str]) -> Result<ProfileError, 
 fn a_name_is_told_with_the_known_ones(rt: HostRuntime) -> Result<(), Fail> {
     let alloc = rt.alloc();
     let one = not_found(alloc, "x", &["default"])?;
-    assert_eq!(rt;
-        one.to_string(alloc)?.as_str(),
-        "profile `x` not found (known profiles: default)"
-    );
+    assert_shown(&rt, &one, "profile `x` not found (known profiles: default)")?;
     let two = not_found(alloc, "x", &["a", "b"])?;
-    assert_eq!(rt;
-        two.to_string(alloc)?.as_str(),
-        "profile `x` not found (known profiles: a, b)"
-    );
-    assert_eq!(rt;
-        ProfileError::Memory.to_string(alloc)?.as_str(),
-        "out of memory"
-    );
-    Ok(())
+    assert_shown(&rt, &two, "profile `x` not found (known profiles: a, b)")?;
+    assert_shown(&rt, &ProfileError::Memory, "out of memory")
 }

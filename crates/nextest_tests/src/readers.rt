@@ -1,25 +1,32 @@
 //! Readers over documents: what each row reads to, or the fault that it meets.
-use crate::reading::{Answer, answer_at, tree_of};
+use crate::reading::{answer_at, tree_of};
 use nextest_elements::{
     Element, ElementFault, Ignored, Key, Record, RetryPolicy, TestPriority, Tree, Walk, optional,
     read_table,
 };
 use std::alloc::Global;
 use std::collections::BTreeMap;
+use std::process::Abort;
 use std::test::Fail;
 
-/// What stands at a key of a document, or the text of its fault.
-fn read_at<T: Element>(alloc: Global, text: &str, key: &str) -> Result<Result<T, String>, Fail> {
-    let Answer { value, .. } = answer_at::<T>(alloc, text, key)?;
-    match value {
-        Ok(value) => Ok(Ok(value)),
-        Err(fault) => Ok(Err(fault.to_string(alloc)?)),
-    }
+/// What stands at a key of a document.
+fn value_at<T: Element>(alloc: Global, text: &str, key: &str) -> Result<T, Fail> {
+    Ok(answer_at::<T>(alloc, text, key)?.value?)
 }
 
-/// The text of the fault of what stands at a key.
-fn fault_at<T: Element>(alloc: Global, text: &str, key: &str) -> Result<String, Fail> {
-    Ok(read_at::<T>(alloc, text, key)?.err().ok_or("no fault")?)
+/// Compares the fault of what stands at a key with a text.
+fn assert_fault<T: Element>(
+    rt: &(impl AllocGlobal + Abort),
+    text: &str,
+    key: &str,
+    wanted: &str,
+) -> Result<(), Fail> {
+    let alloc = rt.alloc();
+    let answer = answer_at::<T>(alloc, text, key)?;
+    let fault = answer.value.err().ok_or("no fault")?;
+    let shown = fault.to_string(alloc)?;
+    assert_eq!(rt; shown.as_str(), wanted, "at {text}");
+    Ok(())
 }
 
 const SECOND: u128 = 1_000_000_000;
@@ -51,10 +58,8 @@ fn retries_are_read(rt: HostRuntime) -> Result<(), Fail> {
             },
         ),
     ];
-    for (text, wanted) in rows {
-        let read = read_at::<RetryPolicy>(alloc, text, "retries")?
-            .ok()
-            .ok_or("a fault")?;
+    for &(text, wanted) in &rows {
+        let read: RetryPolicy = value_at(alloc, text, "retries")?;
         assert_eq!(rt; read, wanted, "at {text}");
         assert_eq!(rt; read.count(), wanted.count(), "at {text}");
     }
@@ -63,7 +68,6 @@ fn retries_are_read(rt: HostRuntime) -> Result<(), Fail> {
 
 #[test]
 fn retries_are_refused(rt: HostRuntime) -> Result<(), Fail> {
-    let alloc = rt.alloc();
     let rows = &[
         ("retries = 1.5", "`retries`: a value of the wrong kind"),
         (r#"retries = "x""#, "`retries`: a value of the wrong kind"),
@@ -92,8 +96,7 @@ fn retries_are_refused(rt: HostRuntime) -> Result<(), Fail> {
         ),
     ];
     for &(text, wanted) in rows {
-        let fault = fault_at::<RetryPolicy>(alloc, text, "retries")?;
-        assert_eq!(rt; fault.as_str(), wanted, "at {text}");
+        assert_fault::<RetryPolicy>(&rt, text, "retries", wanted)?;
     }
     Ok(())
 }
@@ -106,18 +109,11 @@ fn priorities(rt: HostRuntime) -> Result<(), Fail> {
         ("priority = -100", -100),
         ("priority = 0", 0),
     ] {
-        let read = read_at::<TestPriority>(alloc, text, "priority")?
-            .ok()
-            .ok_or("a fault")?;
+        let read: TestPriority = value_at(alloc, text, "priority")?;
         assert_eq!(rt; read, TestPriority(wanted), "at {text}");
     }
     for &text in &["priority = 101", "priority = -101"] {
-        let fault = fault_at::<TestPriority>(alloc, text, "priority")?;
-        assert_eq!(rt;
-            fault.as_str(),
-            "`priority`: a number out of range",
-            "at {text}"
-        );
+        assert_fault::<TestPriority>(&rt, text, "priority", "`priority`: a number out of range")?;
     }
     Ok(())
 }
@@ -167,23 +163,23 @@ impl Element for Row {
 
 #[test]
 fn faults_inside_lists_and_maps(rt: HostRuntime) -> Result<(), Fail> {
-    let alloc = rt.alloc();
-    let fault = fault_at::<Vec<Row>>(alloc, "[[overrides]]\npriority = 101", "overrides")?;
-    assert_eq!(rt;
-        fault.as_str(),
-        "`overrides.0.priority`: a number out of range"
-    );
-    let fault = fault_at::<BTreeMap<String, Vec<Row>>>(
-        alloc,
+    assert_fault::<Vec<Row>>(
+        &rt,
+        "[[overrides]]\npriority = 101",
+        "overrides",
+        "`overrides.0.priority`: a number out of range",
+    )?;
+    assert_fault::<BTreeMap<String, Vec<Row>>>(
+        &rt,
         "[profile]\na = [{}, { priority = 1 }]\nb = [{}, { priority = true }, 3]",
         "profile",
+        "`profile.b.1.priority`: a value of the wrong kind",
     )?;
-    assert_eq!(rt;
-        fault.as_str(),
-        "`profile.b.1.priority`: a value of the wrong kind"
-    );
-    let read = read_at::<Vec<Row>>(alloc, "overrides = [{ priority = 7 }, {}]", "overrides")?;
-    let rows = read.ok().ok_or("a fault")?;
+    let rows: Vec<Row> = value_at(
+        rt.alloc(),
+        "overrides = [{ priority = 7 }, {}]",
+        "overrides",
+    )?;
     let priorities = [
         rows.first().and_then(|row| row.priority),
         rows.last().and_then(|row| row.priority),
@@ -217,41 +213,13 @@ d = ["x", "y"]
 e = ["x", 1]
 f = 2020-01-01
 "#;
-    assert_eq!(rt;
-        read_at::<String>(alloc, text, "a")?
-            .ok()
-            .ok_or("a fault")?
-            .as_str(),
-        "text"
-    );
-    assert_eq!(rt;
-        read_at::<bool>(alloc, text, "b")?.ok().ok_or("a fault")?,
-        true
-    );
-    assert_eq!(rt;
-        read_at::<Ignored>(alloc, text, "c")?.ok().ok_or("a fault")?,
-        Ignored
-    );
-    assert_eq!(rt;
-        read_at::<Vec<String>>(alloc, text, "d")?
-            .ok()
-            .ok_or("a fault")?
-            .len(),
-        2
-    );
-    assert_eq!(rt;
-        fault_at::<Vec<String>>(alloc, text, "e")?.as_str(),
-        "`e.1`: a value of the wrong kind"
-    );
-    assert_eq!(rt;
-        fault_at::<Vec<String>>(alloc, text, "a")?.as_str(),
-        "`a`: a value of the wrong kind"
-    );
-    assert_eq!(rt;
-        fault_at::<String>(alloc, text, "f")?.as_str(),
-        "`f`: a value of the wrong kind"
-    );
-    Ok(())
+    assert_eq!(rt; value_at::<String>(alloc, text, "a")?.as_str(), "text");
+    assert_eq!(rt; value_at::<bool>(alloc, text, "b")?, true);
+    assert_eq!(rt; value_at::<Ignored>(alloc, text, "c")?, Ignored);
+    assert_eq!(rt; value_at::<Vec<String>>(alloc, text, "d")?.len(), 2);
+    assert_fault::<Vec<String>>(&rt, text, "e", "`e.1`: a value of the wrong kind")?;
+    assert_fault::<Vec<String>>(&rt, text, "a", "`a`: a value of the wrong kind")?;
+    assert_fault::<String>(&rt, text, "f", "`f`: a value of the wrong kind")
 }
 
 #[test]

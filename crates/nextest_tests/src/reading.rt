@@ -1,4 +1,5 @@
 //! What readers answer of documents.
+use nextest_documents::tree_from_text;
 use nextest_elements::{Element, ElementFault, Tree, Walk};
 use std::alloc::Global;
 use std::collections::BTreeSet;
@@ -13,8 +14,7 @@ pub struct Answer<T> {
 
 /// The tree of a document.
 pub fn tree_of(alloc: Global, text: &str) -> Result<Tree, Fail> {
-    let document = toml::table_from_str(alloc, text)?;
-    Ok(Tree::from_toml(alloc, &toml::Value::Table(document))?)
+    Ok(tree_from_text(alloc, text)?)
 }
 
 /// Reads what stands at a key of a document.

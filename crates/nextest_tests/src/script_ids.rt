@@ -1,4 +1,5 @@
 //! Ids of scripts over texts, and their ids within a run.
+use crate::showing::assert_shown;
 use nextest_elements::InvalidIdentifier;
 use nextest_scripts::{InvalidConfigScriptName, ScriptId, ScriptInfo, ScriptType};
 use std::test::Fail;
@@ -10,7 +11,7 @@ fn ids_of_texts(rt: HostRuntime) -> Result<(), Fail> {
     for &text in &["db", "a-b", "@tool:my-tool:x"] {
         let id = ScriptId::new(alloc, text)?;
         assert_eq!(rt; id.as_identifier().as_str(), text);
-        assert_eq!(rt; id.to_string(alloc)?.as_str(), text);
+        assert_shown(&rt, &id, text)?;
         assert_eq!(rt; id.clone()?, id);
     }
     let refused = ScriptId::new(alloc, "").err().ok_or("accepted")?;

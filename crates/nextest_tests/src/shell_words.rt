@@ -1,9 +1,10 @@
 //! Command lines with their words.
+use crate::showing::assert_shown;
 use nextest_scripts::{ShellWordsError, split_shell_words};
 use std::alloc::{AllocError, Global};
 use std::test::Fail;
 
-const ROWS: [(&str, Option<&[&str]>); 30] = [
+static ROWS: [(&str, Option<&[&str]>); 30] = [
     (
         r#"a 'b c' "d\"e" f\ g # h"#,
         Some(&["a", "b c", "d\"e", "f g"]),
@@ -52,7 +53,7 @@ fn is_split(words: &[String], wanted: &[&str]) -> bool {
 
 #[test]
 fn rows(rt: HostRuntime) {
-    for (text, wanted) in ROWS {
+    for &(text, wanted) in &ROWS {
         let found = split_shell_words(rt.alloc(), text);
         let agrees = match (&found, wanted) {
             (Ok(words), Some(wanted)) => is_split(words.as_slice(), wanted),
@@ -76,11 +77,8 @@ fn refused_growth(rt: HostRuntime) {
 
 #[test]
 fn texts_of_errors(rt: HostRuntime) -> Result<(), Fail> {
-    let unclosed = ShellWordsError::Unclosed.to_string(rt.alloc())?;
-    assert_eq!(rt; unclosed.as_str(), "a quote is not closed");
-    let memory = ShellWordsError::Memory.to_string(rt.alloc())?;
-    assert_eq!(rt; memory.as_str(), "out of memory");
-    Ok(())
+    assert_shown(&rt, &ShellWordsError::Unclosed, "a quote is not closed")?;
+    assert_shown(&rt, &ShellWordsError::Memory, "out of memory")
 }
 
 type Bytes = Vec<u8>;

@@ -1,5 +1,6 @@
 //! Timeouts and groups of tests, as they are written in files.
 use crate::reading::answer_to;
+use crate::showing::assert_shown;
 use nextest_elements::{
     BenchConfig, BenchOverride, CustomTestGroup, Element, ElementFault, GlobalTimeout, LeakTimeout,
     LeakTimeoutResult, SlowTimeout, SlowTimeoutResult, TestGroup, TestGroupConfig, TestThreads,
@@ -171,26 +172,17 @@ fn timeouts_of_benchmarks(rt: HostRuntime) -> Result<(), Fail> {
 
 #[test]
 fn printed_results(rt: HostRuntime) -> Result<(), Fail> {
-    let alloc = rt.alloc();
-    assert_eq!(rt;
-        LeakTimeoutResult::default().to_string(alloc)?.as_str(),
-        "pass"
-    );
-    assert_eq!(rt; LeakTimeoutResult::Fail.to_string(alloc)?.as_str(), "fail");
-    assert_eq!(rt;
-        SlowTimeoutResult::default().to_string(alloc)?.as_str(),
-        "fail"
-    );
-    assert_eq!(rt; SlowTimeoutResult::Pass.to_string(alloc)?.as_str(), "pass");
-    Ok(())
+    assert_shown(&rt, &LeakTimeoutResult::default(), "pass")?;
+    assert_shown(&rt, &LeakTimeoutResult::Fail, "fail")?;
+    assert_shown(&rt, &SlowTimeoutResult::default(), "fail")?;
+    assert_shown(&rt, &SlowTimeoutResult::Pass, "pass")
 }
 
 fn check_group(rt: &(impl Abort + AllocGlobal), text: &str) -> Result<(), Fail> {
     let alloc = rt.alloc();
     let quoted = format!(in alloc; "\"{text}\"")?;
     let group: TestGroup = read(alloc, quoted.as_str())??;
-    let shown = group.to_string(alloc)?;
-    assert_eq!(rt; shown.as_str(), text);
+    assert_shown(rt, &group, text)?;
     assert!(rt; group.clone()? == group);
     Ok(())
 }
@@ -199,8 +191,7 @@ fn check_custom_group(rt: &(impl Abort + AllocGlobal), text: &str) -> Result<(),
     let alloc = rt.alloc();
     let quoted = format!(in alloc; "\"{text}\"")?;
     let group: CustomTestGroup = read(alloc, quoted.as_str())??;
-    let shown = group.to_string(alloc)?;
-    assert_eq!(rt; shown.as_str(), text);
+    assert_shown(rt, &group, text)?;
     assert_eq!(rt; group.as_identifier().as_str(), text);
     assert!(rt; group.clone()? == group);
     Ok(())
@@ -229,18 +220,25 @@ fn groups(rt: HostRuntime) -> Result<(), Fail> {
     check_refusals::<TestGroup>(&rt, &[("1", "`x`: a value of the wrong kind")])
 }
 
-#[test]
-fn tables_of_groups(rt: HostRuntime) -> Result<(), Fail> {
-    let alloc = rt.alloc();
-    let groups: BTreeMap<CustomTestGroup, TestGroupConfig> = read(
-        alloc,
-        "{ b = { max-threads = \"num-cpus\" }, \"@tool:a:b\" = { max-threads = 2 } }",
-    )??;
+type Groups = BTreeMap<CustomTestGroup, TestGroupConfig>;
+
+/// How many names the groups have as a set.
+fn count_names(alloc: Global, groups: &Groups) -> Result<usize, Fail> {
     let mut names = HashSet::new(alloc);
     for name in groups.keys() {
         names.insert(name.clone()?)?;
     }
-    assert_eq!(rt; names.len(), 2);
+    Ok(names.len())
+}
+
+#[test]
+fn tables_of_groups(rt: HostRuntime) -> Result<(), Fail> {
+    let alloc = rt.alloc();
+    let groups: Groups = read(
+        alloc,
+        "{ b = { max-threads = \"num-cpus\" }, \"@tool:a:b\" = { max-threads = 2 } }",
+    )??;
+    assert_eq!(rt; count_names(alloc, &groups)?, 2);
     let first = groups.keys().next().ok_or("no group")?;
     assert_eq!(rt; first.as_str(), "@tool:a:b");
     assert!(rt;
@@ -249,7 +247,7 @@ fn tables_of_groups(rt: HostRuntime) -> Result<(), Fail> {
                 max_threads: TestThreads::Count(2)
             })
     );
-    check_refusals::<BTreeMap<CustomTestGroup, TestGroupConfig>>(
+    check_refusals::<Groups>(
         &rt,
         &[
             (

@@ -24,7 +24,7 @@ fn query(test_name: &str) -> TestQuery<'_> {
 }
 
 /// A text, the default filter's text, a test's name, and the answers on the test and on its binary `b`.
-const ANSWERS: [(&str, &str, &str, bool, Option<bool>); 17] = [
+static ANSWERS: [(&str, &str, &str, bool, Option<bool>); 17] = [
     ("all()", "none()", "x", true, Some(true)),
     ("none()", "all()", "x", false, Some(false)),
     ("test(a)", "all()", "cat", true, None),

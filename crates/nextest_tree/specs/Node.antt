@@ -3,8 +3,6 @@ use Rattle.std.specs.Prelude.{◌≡◌, ℕ, ℤ, List, [], ◌∷◌, Bool, Op
 use Rattle.std.specs.Ordering.{nat_cmp, match_ordering}
 use Rattle.std.specs.declared.cmp.Ordering.TheVariants.{Less}
 use Rattle.std.specs.Cmp.Lexicographic.{slice_cmp}
-use Rattle.toml.specs.Data.{Data, Items, Members}
-use Rattle.toml.specs.Data as toml
 
 mutual
   -- a node is a table, or a leaf with its value: an array is one leaf, into which a reader looks by positions
@@ -30,6 +28,11 @@ mutual
 abbrev pub get : List ℕ → Entries → Option Node
 get k no_entries = None
 get k (entry l n es) = match_ordering (slice_cmp nat_cmp k l) (get k es) (Some n) (get k es)
+
+-- the entries with a node at a key: in place of what stood there, or before the first greater key
+abbrev pub put : List ℕ → Node → Entries → Entries
+put k n no_entries = entry k n no_entries
+put k n (entry l m es) = match_ordering (slice_cmp nat_cmp k l) (entry k n (entry l m es)) (entry l n es) (entry l m (put k n es))
 
 -- the keys, in the order of the entries
 abbrev pub keys : Entries → List (List ℕ)
@@ -81,22 +84,3 @@ abbrev mutual
   pub EntriesAreSorted : Entries → Type 0
   EntriesAreSorted no_entries = Unit {0}
   EntriesAreSorted (entry k n es) = IsBefore k es × IsSorted n × EntriesAreSorted es
-
--- what a document's value reads to: a float, a date and a time are opaque
-abbrev mutual
-  pub from_data : Data → Node
-  from_data (toml.string s) = text s
-  from_data (toml.integer z) = int z
-  from_data (toml.float x) = opaque
-  from_data (toml.boolean b) = bool b
-  from_data (toml.datetime dt) = opaque
-  from_data (toml.array ds) = array (from_items ds)
-  from_data (toml.table ms) = table (from_members ms)
-
-  pub from_items : Items → Nodes
-  from_items toml.no_items = no_nodes
-  from_items (toml.item d ds) = node (from_data d) (from_items ds)
-
-  pub from_members : Members → Entries
-  from_members toml.no_members = no_entries
-  from_members (toml.member k d ms) = entry k (from_data d) (from_members ms)

@@ -1,11 +1,9 @@
 //! The tree of a document: what its text says, without dates and floats.
-ghost use Rattle.std.specs.Prelude.{◌≡◌, IfOk, option_map};
+ghost use Rattle.std.specs.Prelude.{◌≡◌, option_map};
 ghost use Rattle.std.specs.Option.{option_copied};
-ghost use Rattle.toml.specs.View.{view, array_view, table_view};
-ghost use Rattle.nextest_tree.specs.Node.{as_table, as_array, as_text, as_int, as_bool, member_of, IsSorted, NodesAreSorted, EntriesAreSorted, from_data, from_items, from_members};
+ghost use Rattle.nextest_tree.specs.Node.{as_table, as_array, as_text, as_int, as_bool, member_of};
 ghost use Rattle.nextest_tree.specs.View.{node_of, items_of_trees, members_of_trees};
 
-use std::alloc::{AllocError, Global};
 use std::collections::BTreeMap;
 
 /// A value of a configuration file.
@@ -28,14 +26,6 @@ pub enum Tree {
 }
 
 impl Tree {
-    /// The tree of a document's value.
-    pub fn from_toml(alloc: Global, value: &toml::Value) -> Result<Tree, AllocError>
-        ensures is { IfOk result (λ tree. node_of tree ≡ from_data (view value.now)) }
-        ensures sorted { IfOk result (λ tree. IsSorted (node_of tree)) }
-    {
-        tree_of(alloc, value)
-    }
-
     /// The entries of a table.
     pub fn as_table(&self) -> Option<&BTreeMap<String, Tree>>
         ensures { option_map (λ members. members_of_trees members.now.entries) result ≡ as_table (node_of self.now) }
@@ -95,45 +85,4 @@ impl Tree {
             _ => None,
         }
     }
-}
-
-#[cycle(tree_of)]
-fn tree_of(alloc: Global, value: &toml::Value) -> Result<Tree, AllocError>
-    ensures is { IfOk result (λ tree. node_of tree ≡ from_data (view value.now)) }
-    ensures sorted { IfOk result (λ tree. IsSorted (node_of tree)) }
-{
-    match value {
-        toml::Value::String(text) => Ok(Tree::Text(text.clone()?)),
-        toml::Value::Integer(number) => Ok(Tree::Int(*number)),
-        toml::Value::Float(_) => Ok(Tree::Opaque),
-        toml::Value::Boolean(flag) => Ok(Tree::Bool(*flag)),
-        toml::Value::Datetime(_) => Ok(Tree::Opaque),
-        toml::Value::Array(items) => Ok(Tree::Array(trees_of(alloc, items)?)),
-        toml::Value::Table(members) => Ok(Tree::Table(table_of(alloc, members)?)),
-    }
-}
-
-#[cycle(tree_of)]
-fn trees_of(alloc: Global, items: &toml::value::Array) -> Result<Vec<Tree>, AllocError>
-    ensures is { IfOk result (λ trees. items_of_trees trees.items ≡ from_items (array_view items.now)) }
-    ensures sorted { IfOk result (λ trees. NodesAreSorted (items_of_trees trees.items)) }
-{
-    let mut trees = Vec::new(alloc);
-    for item in items {
-        trees.push(tree_of(alloc, item)?)?;
-    }
-    Ok(trees)
-}
-
-#[cycle(tree_of)]
-fn table_of(alloc: Global, members: &toml::Table) -> Result<BTreeMap<String, Tree>, AllocError>
-    ensures is { IfOk result (λ trees. members_of_trees trees.entries ≡ from_members (table_view members.now)) }
-    ensures sorted { IfOk result (λ trees. EntriesAreSorted (members_of_trees trees.entries)) }
-{
-    let mut trees = BTreeMap::new(alloc);
-    for (key, member) in members.iter() {
-        let name = key.clone()?;
-        drop(trees.insert(name, tree_of(alloc, member)?)?);
-    }
-    Ok(trees)
 }

@@ -1,5 +1,5 @@
-//! The rows of the fifteen settings.
-use super::{Stored, assert_line, run};
+//! The rows of the fifteen settings, where there is the repository's file alone.
+use super::{REPOSITORY, Stored, WORDS, Wanted, check};
 use std::process::Abort;
 use std::test::Fail;
 
@@ -22,89 +22,18 @@ junit-report-skipped: none [profile]
 junit-flaky-fail-status: failure [profile]
 ";
 
+/// What comes of reading a file that says nothing.
+static NOTHING: [Stored<'_>; 3] = [Stored::NotFound, Stored::NotADirectory, Stored::Text("")];
+
 #[test]
 fn lines_without_a_file(rt: HostRuntime) -> Result<(), Fail> {
-    for file in [Stored::NotFound, Stored::NotADirectory, Stored::Text("")] {
-        let (status, out, err) = run(rt.alloc(), file, "/w default test b t")?;
-        assert_eq!(rt; err.as_str(), "");
-        assert_eq!(rt; out.as_str(), DEFAULT_LINES);
-        assert_eq!(rt; status, 0);
-    }
-    Ok(())
-}
-
-/// Runs a file, and looks for a line among what is printed.
-fn prints(
-    rt: &(impl AllocGlobal + Abort),
-    file: &str,
-    words: &str,
-    wanted: &str,
-) -> Result<(), Fail> {
-    let (status, out, err) = run(rt.alloc(), Stored::Text(file), words)?;
-    assert_eq!(rt; err.as_str(), "", "at {words}");
-    assert_eq!(rt; status, 0, "at {words}");
-    assert_eq!(rt; out.as_str().lines().count(), 15, "at {words}");
-    assert_line(rt, out.as_str(), wanted);
-    Ok(())
-}
-
-const TIMEOUTS: &str = r#"
-[[profile.default.overrides]]
-filter = "test(test_only)"
-slow-timeout = "90s"
-
-[[profile.default.overrides]]
-filter = "test(both)"
-slow-timeout = "60s"
-bench.slow-timeout = { period = "5m", terminate-after = 2 }
-"#;
-
-#[test]
-fn timeouts_in_both_modes(rt: HostRuntime) -> Result<(), Fail> {
-    let rows = [
-        (
-            "/w default test b test_only",
-            "slow-timeout: period=90000000000ns terminate-after=none grace-period=10000000000ns on-timeout=fail [override]",
-        ),
-        (
-            "/w default benchmark b test_only",
-            "slow-timeout: period=946728000000000000ns terminate-after=none grace-period=10000000000ns on-timeout=fail [profile]",
-        ),
-        (
-            "/w default test b both",
-            "slow-timeout: period=60000000000ns terminate-after=none grace-period=10000000000ns on-timeout=fail [override]",
-        ),
-        (
-            "/w default benchmark b both",
-            "slow-timeout: period=300000000000ns terminate-after=2 grace-period=10000000000ns on-timeout=fail [override]",
-        ),
-    ];
-    for (words, wanted) in rows {
-        prints(&rt, TIMEOUTS, words, wanted)?;
-    }
-    prints(
-        &rt,
-        "[profile.default]\nslow-timeout = { terminate-after = 2 }\n",
-        "/w default test b t",
-        "slow-timeout: period=60000000000ns terminate-after=2 grace-period=10000000000ns on-timeout=fail [profile]",
-    )
-}
-
-#[test]
-fn reports(rt: HostRuntime) -> Result<(), Fail> {
-    let without_path =
-        "[[profile.default.overrides]]\nfilter = 'all()'\njunit = { store-success-output = true }\n";
-    let with_path = "[profile.default.junit]\npath = 'j.xml'\n";
-    let rows = [
-        (without_path, "junit-store-success-output: true [override]"),
-        (without_path, "junit-store-failure-output: false [profile]"),
-        (with_path, "junit-store-success-output: false [profile]"),
-        (with_path, "junit-store-failure-output: true [profile]"),
-        (with_path, "junit-report-skipped: none [profile]"),
-        (with_path, "junit-flaky-fail-status: failure [profile]"),
-    ];
-    for (file, wanted) in rows {
-        prints(&rt, file, "/w default test b t", wanted)?;
+    for file in &NOTHING {
+        check(
+            &rt,
+            &[(REPOSITORY, *file)],
+            WORDS,
+            Wanted::Lines(DEFAULT_LINES),
+        )?;
     }
     Ok(())
 }
@@ -198,24 +127,154 @@ junit-report-skipped: all [override]
 junit-flaky-fail-status: success [override]
 ";
 
-#[test]
-fn all_settings_by_overrides(rt: HostRuntime) -> Result<(), Fail> {
-    for (file, wanted) in [(ALL_SET, ALL_SET_LINES), (HALVES, HALVES_LINES)] {
-        let (status, out, err) = run(rt.alloc(), Stored::Text(file), "/w default test b t")?;
-        assert_eq!(rt; err.as_str(), "");
-        assert_eq!(rt; out.as_str(), wanted);
-        assert_eq!(rt; status, 0);
-    }
-    prints(
-        &rt,
+/// Two overrides that each set the retries.
+const TWO_RULES: &str = r#"[profile.default]
+retries = 2
+[[profile.default.overrides]]
+filter = "test(a)"
+retries = 5
+[[profile.default.overrides]]
+filter = "test(ab)"
+priority = 10
+retries = 7
+"#;
+
+/// Overrides that set the slow timeout of one mode and of both.
+const TIMEOUTS: &str = r#"
+[[profile.default.overrides]]
+filter = "test(test_only)"
+slow-timeout = "90s"
+
+[[profile.default.overrides]]
+filter = "test(both)"
+slow-timeout = "60s"
+bench.slow-timeout = { period = "5m", terminate-after = 2 }
+"#;
+
+/// A period that is not written is that of the default table.
+const NO_PERIOD: &str = "[profile.default]\nslow-timeout = { terminate-after = 2 }\n";
+
+const REPORT_WITHOUT_PATH: &str =
+    "[[profile.default.overrides]]\nfilter = 'all()'\njunit = { store-success-output = true }\n";
+
+const REPORT_WITH_PATH: &str = "[profile.default.junit]\npath = 'j.xml'\n";
+
+/// The file, the words, and what is printed.
+static ROWS: [(&str, &str, Wanted<'_>); 20] = [
+    (ALL_SET, WORDS, Wanted::Lines(ALL_SET_LINES)),
+    (HALVES, WORDS, Wanted::Lines(HALVES_LINES)),
+    (
         HALVES,
         "/w default test c x",
-        "test-group: @global [override]",
-    )
+        Wanted::Line("test-group: @global [override]"),
+    ),
+    (
+        TWO_RULES,
+        "/w default test b xab",
+        Wanted::Line("priority: 10 [override]"),
+    ),
+    (
+        TWO_RULES,
+        "/w default test b xab",
+        Wanted::Line("retries: fixed count=5 delay=0ns jitter=false [override]"),
+    ),
+    (
+        TWO_RULES,
+        "/w default benchmark b xab",
+        Wanted::Line("priority: 10 [override]"),
+    ),
+    (
+        TWO_RULES,
+        "/w default benchmark b xab",
+        Wanted::Line("retries: fixed count=5 delay=0ns jitter=false [override]"),
+    ),
+    (
+        TWO_RULES,
+        "/w default test b b",
+        Wanted::Line("priority: 0 [default]"),
+    ),
+    (
+        TWO_RULES,
+        "/w default test b b",
+        Wanted::Line("retries: fixed count=2 delay=0ns jitter=false [profile]"),
+    ),
+    (
+        TIMEOUTS,
+        "/w default test b test_only",
+        Wanted::Line(
+            "slow-timeout: period=90000000000ns terminate-after=none grace-period=10000000000ns on-timeout=fail [override]",
+        ),
+    ),
+    (
+        TIMEOUTS,
+        "/w default benchmark b test_only",
+        Wanted::Line(
+            "slow-timeout: period=946728000000000000ns terminate-after=none grace-period=10000000000ns on-timeout=fail [profile]",
+        ),
+    ),
+    (
+        TIMEOUTS,
+        "/w default test b both",
+        Wanted::Line(
+            "slow-timeout: period=60000000000ns terminate-after=none grace-period=10000000000ns on-timeout=fail [override]",
+        ),
+    ),
+    (
+        TIMEOUTS,
+        "/w default benchmark b both",
+        Wanted::Line(
+            "slow-timeout: period=300000000000ns terminate-after=2 grace-period=10000000000ns on-timeout=fail [override]",
+        ),
+    ),
+    (
+        NO_PERIOD,
+        WORDS,
+        Wanted::Line(
+            "slow-timeout: period=60000000000ns terminate-after=2 grace-period=10000000000ns on-timeout=fail [profile]",
+        ),
+    ),
+    (
+        REPORT_WITHOUT_PATH,
+        WORDS,
+        Wanted::Line("junit-store-success-output: true [override]"),
+    ),
+    (
+        REPORT_WITHOUT_PATH,
+        WORDS,
+        Wanted::Line("junit-store-failure-output: false [profile]"),
+    ),
+    (
+        REPORT_WITH_PATH,
+        WORDS,
+        Wanted::Line("junit-store-success-output: false [profile]"),
+    ),
+    (
+        REPORT_WITH_PATH,
+        WORDS,
+        Wanted::Line("junit-store-failure-output: true [profile]"),
+    ),
+    (
+        REPORT_WITH_PATH,
+        WORDS,
+        Wanted::Line("junit-report-skipped: none [profile]"),
+    ),
+    (
+        REPORT_WITH_PATH,
+        WORDS,
+        Wanted::Line("junit-flaky-fail-status: failure [profile]"),
+    ),
+];
+
+#[test]
+fn settings(rt: HostRuntime) -> Result<(), Fail> {
+    for (file, line, wanted) in &ROWS {
+        check(&rt, &[(REPOSITORY, Stored::Text(file))], line, *wanted)?;
+    }
+    Ok(())
 }
 
 /// Each override setting, written alone, and its line.
-const SINGLE: [(&str, &str); 14] = [
+static SINGLE: [(&str, &str); 14] = [
     ("priority = 7", "priority: 7 [override]"),
     ("threads-required = 2", "threads-required: 2 [override]"),
     ("run-extra-args = ['x']", "run-extra-args: [x] [override]"),
@@ -259,27 +318,19 @@ const SINGLE: [(&str, &str); 14] = [
     ),
 ];
 
-/// Runs a file whose one override writes one value, and looks for the one line that comes of an override.
-fn prints_alone(rt: &(impl AllocGlobal + Abort), written: &str, wanted: &str) -> Result<(), Fail> {
-    let alloc = rt.alloc();
-    let file = format!(in alloc; "[[profile.default.overrides]]\nfilter = 'all()'\n{written}\n")?;
-    let (status, out, err) = run(alloc, Stored::Text(file.as_str()), "/w default test b t")?;
-    assert_eq!(rt; err.as_str(), "", "at {written}");
-    assert_eq!(rt; status, 0, "at {written}");
-    let count = out
-        .as_str()
-        .lines()
-        .filter(|line| line.ends_with("[override]"))
-        .count();
-    assert_eq!(rt; count, 1, "at {written}");
-    assert_line(rt, out.as_str(), wanted);
-    Ok(())
+/// Runs the program over a file whose one override writes one value.
+fn check_alone(rt: &(impl AllocGlobal + Abort), written: &str, wanted: &str) -> Result<(), Fail> {
+    let file = format!(in rt.alloc();
+        "[[profile.default.overrides]]\nfilter = 'all()'\n{written}\n"
+    )?;
+    let files = [(REPOSITORY, Stored::Text(file.as_str()))];
+    check(rt, &files, WORDS, Wanted::OneOverride(wanted))
 }
 
 #[test]
 fn each_setting_by_itself(rt: HostRuntime) -> Result<(), Fail> {
-    for (written, wanted) in SINGLE {
-        prints_alone(&rt, written, wanted)?;
+    for (written, wanted) in &SINGLE {
+        check_alone(&rt, written, wanted)?;
     }
     Ok(())
 }

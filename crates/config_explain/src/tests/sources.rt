@@ -1,7 +1,6 @@
-//! The rows of several files: those of tools, one that a user names, and the repository's.
+//! The rows of files of tools, of a file that a user names, and of what all of them are merged to.
 use super::settings::DEFAULT_LINES;
-use super::{REPOSITORY, Stored, assert_line, run_over};
-use std::alloc::Global;
+use super::{REPOSITORY, Stored, WORDS, Wanted, check};
 use std::process::Abort;
 use std::test::Fail;
 
@@ -9,201 +8,65 @@ use std::test::Fail;
 const TWO_TOOLS: &str =
     "/w default test b t --tool-config-file a:a.toml --tool-config-file b:b.toml";
 
-/// Runs the program where it is to refuse the configuration with this text.
-fn refuses(
-    rt: &(impl AllocGlobal + Abort),
-    files: &[(&str, Stored<'_>)],
-    line: &str,
-    wanted: &str,
-) -> Result<(), Fail> {
-    let (status, out, err) = run_over(rt.alloc(), files, line)?;
-    assert_eq!(rt; err.as_str(), wanted, "at {line}");
-    assert_eq!(rt; out.as_str(), "", "at {line}");
-    assert_eq!(rt; status, 3, "at {line}");
-    Ok(())
+/// A run over some files.
+struct Row<'a> {
+    files: &'a [(&'a str, Stored<'a>)],
+    words: &'a str,
+    wanted: Wanted<'a>,
 }
 
-/// Runs the program where it is to print this line.
-fn prints(
-    rt: &(impl AllocGlobal + Abort),
-    files: &[(&str, Stored<'_>)],
-    line: &str,
-    wanted: &str,
-) -> Result<(), Fail> {
-    let (status, out, err) = run_over(rt.alloc(), files, line)?;
-    assert_eq!(rt; err.as_str(), "", "at {line}");
-    assert_eq!(rt; status, 0, "at {line}");
-    assert_line(rt, out.as_str(), wanted);
-    Ok(())
-}
-
-/// The files of the tools `a` and `b`, and the repository's.
-fn three<'a>(a: &'a str, b: &'a str, repository: &'a str) -> [(&'a str, Stored<'a>); 3] {
-    [
-        ("a.toml", Stored::Text(a)),
-        ("b.toml", Stored::Text(b)),
-        (REPOSITORY, Stored::Text(repository)),
-    ]
-}
-
-/// What the tool `a` and the repository say is refused at the repository's file, with this detail.
-fn merge_refused(
-    rt: &(impl AllocGlobal + Abort),
-    a: &str,
-    repository: &str,
-    detail: &str,
-) -> Result<(), Fail> {
-    let wanted = format!(in rt.alloc(); "error: {REPOSITORY}: 4 DeserializeError\n  {detail}\n")?;
-    refuses(rt, &three(a, "", repository), TWO_TOOLS, wanted.as_str())
-}
-
-/// What the tool `a` and the repository say gives this line.
-fn merge_prints(
-    rt: &(impl AllocGlobal + Abort),
-    a: &str,
-    repository: &str,
-    wanted: &str,
-) -> Result<(), Fail> {
-    prints(rt, &three(a, "", repository), TWO_TOOLS, wanted)
-}
-
-#[test]
-fn second_files_of_a_tool(rt: HostRuntime) -> Result<(), Fail> {
-    refuses(
-        &rt,
-        &[],
-        "/w default test b t --tool-config-file my-tool:first.toml --tool-config-file other-tool:other.toml --tool-config-file my-tool:second.toml",
-        "error: second.toml provided by tool `my-tool`: 1 DuplicateToolConfigFile\n  the first file of the tool is first.toml\n",
-    )
-}
-
-#[test]
-fn files_that_give_no_text(rt: HostRuntime) -> Result<(), Fail> {
-    let default = "/w default test b t";
-    refuses(
-        &rt,
-        &[],
-        "/w default test b t --config-file p.toml",
-        "error: p.toml: 2 ReadError\n",
-    )?;
-    refuses(
-        &rt,
-        &[("p.toml", Stored::NotADirectory)],
-        "/w default test b t --config-file p.toml",
-        "error: p.toml: 2 ReadError\n",
-    )?;
-    refuses(
-        &rt,
-        &[("b.toml", Stored::Text(""))],
-        TWO_TOOLS,
-        "error: a.toml provided by tool `a`: 2 ReadError\n",
-    )?;
-    refuses(
-        &rt,
-        &[(REPOSITORY, Stored::Failed)],
-        default,
-        "error: /w/.config/nextest.toml: 2 ReadError\n  a disk fault\n",
-    )?;
-    let (status, out, err) = run_over(rt.alloc(), &[(REPOSITORY, Stored::NotADirectory)], default)?;
-    assert_eq!(rt; err.as_str(), "");
-    assert_eq!(rt; out.as_str(), DEFAULT_LINES);
-    assert_eq!(rt; status, 0);
-    Ok(())
-}
-
-/// Runs the program where the first file that it refuses is no document.
-fn refuses_text(
-    rt: &(impl AllocGlobal + Abort),
-    files: &[(&str, Stored<'_>)],
-    wanted: &str,
-) -> Result<(), Fail> {
-    let (status, out, err) = run_over(rt.alloc(), files, TWO_TOOLS)?;
-    assert_eq!(rt; err.as_str().lines().next(), Some(wanted));
-    assert!(rt;
-        err.as_str()
-            .lines()
-            .skip(1)
-            .all(|line| line.starts_with("  ")),
-        "{err}"
-    );
-    assert_eq!(rt; out.as_str(), "");
-    assert_eq!(rt; status, 3);
-    Ok(())
-}
-
-#[test]
-fn texts_that_are_no_documents(rt: HostRuntime) -> Result<(), Fail> {
-    refuses_text(
-        &rt,
-        &three("", "invalid = [", ""),
-        "error: b.toml provided by tool `b`: 3 BuildError",
-    )?;
-    refuses_text(
-        &rt,
-        &three("a = 1\na = 2", "", "invalid = ["),
-        "error: a.toml provided by tool `a`: 3 BuildError",
-    )
-}
-
-#[test]
-fn the_lowest_fault_is_told(rt: HostRuntime) -> Result<(), Fail> {
-    refuses(
-        &rt,
-        &three("profile.default.retries = 'x'", "", "invalid = ["),
-        TWO_TOOLS,
-        "error: a.toml provided by tool `a`: 4 DeserializeError\n  `profile.default.retries`: a value of the wrong kind\n",
-    )?;
-    refuses(
-        &rt,
-        &three(
-            "profile.default.retries = 'x'",
-            "profile.default.priority = 1",
-            "",
+/// Faults of files, and files that a user names.
+static ROWS: [Row<'_>; 11] = [
+    // A second file of a tool.
+    Row {
+        files: &[],
+        words: "/w default test b t --tool-config-file my-tool:first.toml --tool-config-file other-tool:other.toml --tool-config-file my-tool:second.toml",
+        wanted: Wanted::Refusal(
+            3,
+            "error: second.toml provided by tool `my-tool`: 1 DuplicateToolConfigFile\n  the first file of the tool is first.toml\n",
         ),
-        TWO_TOOLS,
-        "error: b.toml provided by tool `b`: 4 DeserializeError\n  `profile.default.priority`: unknown field\n",
-    )?;
-    refuses(
-        &rt,
-        &[("b.toml", Stored::Text("profile.default.retries = -1"))],
-        TWO_TOOLS,
-        "error: b.toml provided by tool `b`: 4 DeserializeError\n  `profile.default.retries`: a number out of range\n",
-    )
-}
-
-#[test]
-fn faults_of_the_merged_tree(rt: HostRuntime) -> Result<(), Fail> {
-    merge_refused(
-        &rt,
-        "[profile.ci]\nretries = { backoff = 'exponential', count = 2, delay = '1s', max-delay = '10s' }",
-        "[profile.ci]\nretries = { backoff = 'exponential', count = 2, delay = '20s' }",
-        "`profile.ci.retries`: a number out of range",
-    )?;
-    merge_refused(
-        &rt,
-        "profile.ci.slow-timeout = '90s'",
-        "profile.ci.slow-timeout = { terminate-after = 2 }",
-        "`profile.ci.slow-timeout`: missing field `period`",
-    )?;
-    merge_refused(
-        &rt,
-        "profile.default.retries = { backoff = 'exponential', count = 2, delay = '1s' }",
-        "profile.default.retries = { count = 5 }",
-        "`profile.default.retries`: missing field `backoff`",
-    )?;
-    merge_refused(
-        &rt,
-        "profile.default.slow-timeout = '90s'",
-        "profile.default.slow-timeout = { terminate-after = 2 }",
-        "`profile.default.slow-timeout`: missing field `period`",
-    )
-}
-
-#[test]
-fn merged_faults_without_a_repository_file(rt: HostRuntime) -> Result<(), Fail> {
-    refuses(
-        &rt,
-        &[
+    },
+    // Files that give no text.
+    Row {
+        files: &[],
+        words: "/w default test b t --config-file p.toml",
+        wanted: Wanted::Refusal(3, "error: p.toml: 2 ReadError\n"),
+    },
+    Row {
+        files: &[("p.toml", Stored::NotADirectory)],
+        words: "/w default test b t --config-file p.toml",
+        wanted: Wanted::Refusal(3, "error: p.toml: 2 ReadError\n"),
+    },
+    Row {
+        files: &[("b.toml", Stored::Text(""))],
+        words: TWO_TOOLS,
+        wanted: Wanted::Refusal(3, "error: a.toml provided by tool `a`: 2 ReadError\n"),
+    },
+    Row {
+        files: &[(REPOSITORY, Stored::Failed)],
+        words: WORDS,
+        wanted: Wanted::Refusal(
+            3,
+            "error: /w/.config/nextest.toml: 2 ReadError\n  a disk fault\n",
+        ),
+    },
+    Row {
+        files: &[(REPOSITORY, Stored::NotADirectory)],
+        words: WORDS,
+        wanted: Wanted::Lines(DEFAULT_LINES),
+    },
+    // A lower file's fault comes before a higher file that is not there.
+    Row {
+        files: &[("b.toml", Stored::Text("profile.default.retries = -1"))],
+        words: TWO_TOOLS,
+        wanted: Wanted::Refusal(
+            3,
+            "error: b.toml provided by tool `b`: 4 DeserializeError\n  `profile.default.retries`: a number out of range\n",
+        ),
+    },
+    // A fault of what files are merged to is told at the repository's file, though there is none.
+    Row {
+        files: &[
             (
                 "a.toml",
                 Stored::Text("profile.default.slow-timeout = { terminate-after = 2 }"),
@@ -213,110 +76,34 @@ fn merged_faults_without_a_repository_file(rt: HostRuntime) -> Result<(), Fail> 
                 Stored::Text("profile.default.slow-timeout = '90s'"),
             ),
         ],
-        TWO_TOOLS,
-        "error: /w/.config/nextest.toml: 4 DeserializeError\n  `profile.default.slow-timeout`: missing field `period`\n",
-    )
-}
-
-#[test]
-fn merged_values(rt: HostRuntime) -> Result<(), Fail> {
-    merge_prints(
-        &rt,
-        "profile.default.retries = 3",
-        "profile.default.retries = { backoff = 'fixed', count = 4, delay = '2s' }",
-        "retries: fixed count=4 delay=2000000000ns jitter=false [profile]",
-    )?;
-    merge_prints(
-        &rt,
-        "profile.default.slow-timeout = { period = '30s', terminate-after = 3 }",
-        "profile.default.slow-timeout = { period = '90s' }",
-        "slow-timeout: period=90000000000ns terminate-after=3 grace-period=10000000000ns on-timeout=fail [profile]",
-    )?;
-    merge_prints(
-        &rt,
-        "profile.default.slow-timeout = { period = '30s', terminate-after = 3 }",
-        "profile.default.slow-timeout = '90s'",
-        "slow-timeout: period=90000000000ns terminate-after=none grace-period=10000000000ns on-timeout=fail [profile]",
-    )
-}
-
-#[test]
-fn the_first_tool_is_the_highest(rt: HostRuntime) -> Result<(), Fail> {
-    prints(
-        &rt,
-        &three(
-            "profile.default.retries = 1",
-            "profile.default.retries = 2",
-            "",
+        words: TWO_TOOLS,
+        wanted: Wanted::Refusal(
+            3,
+            "error: /w/.config/nextest.toml: 4 DeserializeError\n  `profile.default.slow-timeout`: missing field `period`\n",
         ),
-        TWO_TOOLS,
-        "retries: fixed count=1 delay=0ns jitter=false [profile]",
-    )?;
-    prints(
-        &rt,
-        &three(
-            "[[profile.default.overrides]]\nfilter = 'all()'\nretries = 1",
-            "[[profile.default.overrides]]\nfilter = 'all()'\nretries = 2\npriority = 3",
-            "profile.default.retries = 9",
-        ),
-        TWO_TOOLS,
-        "retries: fixed count=1 delay=0ns jitter=false [override]",
-    )
-}
-
-/// The retries of a test where a rule of the repository stands before one of a tool.
-fn retries_of(alloc: Global, test: &str) -> Result<String, Fail> {
-    let files = three(
-        "",
-        "[[profile.default.overrides]]\nfilter = 'all()'\nretries = 9",
-        "[[profile.default.overrides]]\nfilter = 'test(z)'\nretries = 4",
-    );
-    let line = format!(in alloc;
-        "/w default test b {test} --tool-config-file a:a.toml --tool-config-file b:b.toml"
-    )?;
-    let (_, out, _) = run_over(alloc, &files, line.as_str())?;
-    Ok(out)
-}
-
-#[test]
-fn rules_of_all_files_stand(rt: HostRuntime) -> Result<(), Fail> {
-    assert_line(
-        &rt,
-        retries_of(rt.alloc(), "t")?.as_str(),
-        "retries: fixed count=9 delay=0ns jitter=false [override]",
-    );
-    assert_line(
-        &rt,
-        retries_of(rt.alloc(), "z")?.as_str(),
-        "retries: fixed count=4 delay=0ns jitter=false [override]",
-    );
-    Ok(())
-}
-
-#[test]
-fn a_file_that_a_user_names(rt: HostRuntime) -> Result<(), Fail> {
-    let line = "/w default test b t --config-file p.toml";
-    prints(
-        &rt,
-        &[
+    },
+    // A file that a user names. The repository's is not read.
+    Row {
+        files: &[
             (REPOSITORY, Stored::Memory),
             ("p.toml", Stored::Text("profile.default.retries = 2")),
         ],
-        line,
-        "retries: fixed count=2 delay=0ns jitter=false [profile]",
-    )?;
-    refuses(
-        &rt,
-        &[
+        words: "/w default test b t --config-file p.toml",
+        wanted: Wanted::Line("retries: fixed count=2 delay=0ns jitter=false [profile]"),
+    },
+    Row {
+        files: &[
             (REPOSITORY, Stored::Memory),
             ("p.toml", Stored::Text("profile.default.retries = -1")),
         ],
-        line,
-        "error: p.toml: 4 DeserializeError\n  `profile.default.retries`: a number out of range\n",
-    )?;
-    refuses(
-        &rt,
-        &[
+        words: "/w default test b t --config-file p.toml",
+        wanted: Wanted::Refusal(
+            3,
+            "error: p.toml: 4 DeserializeError\n  `profile.default.retries`: a number out of range\n",
+        ),
+    },
+    Row {
+        files: &[
             (
                 "a.toml",
                 Stored::Text("profile.default.slow-timeout = '90s'"),
@@ -326,9 +113,29 @@ fn a_file_that_a_user_names(rt: HostRuntime) -> Result<(), Fail> {
                 Stored::Text("profile.default.slow-timeout = { terminate-after = 2 }"),
             ),
         ],
-        "/w default test b t --config-file p.toml --tool-config-file a:a.toml",
-        "error: p.toml: 4 DeserializeError\n  `profile.default.slow-timeout`: missing field `period`\n",
-    )
+        words: "/w default test b t --config-file p.toml --tool-config-file a:a.toml",
+        wanted: Wanted::Refusal(
+            3,
+            "error: p.toml: 4 DeserializeError\n  `profile.default.slow-timeout`: missing field `period`\n",
+        ),
+    },
+];
+
+#[test]
+fn faults_and_named_files(rt: HostRuntime) -> Result<(), Fail> {
+    for row in &ROWS {
+        check(&rt, row.files, row.words, row.wanted)?;
+    }
+    Ok(())
+}
+
+/// A run over the files of the tools `a` and `b` and the repository's.
+struct Layers<'a> {
+    a: &'a str,
+    b: &'a str,
+    repository: &'a str,
+    words: &'a str,
+    wanted: Wanted<'a>,
 }
 
 const USES_A_GROUP: &str =
@@ -336,28 +143,182 @@ const USES_A_GROUP: &str =
 
 const DEFINES_A_GROUP: &str = "[test-groups.'@tool:b:g']\nmax-threads = 1";
 
-#[test]
-fn groups_of_other_files(rt: HostRuntime) -> Result<(), Fail> {
-    refuses(
-        &rt,
-        &three(
-            "",
-            "[[profile.default.overrides]]\nfilter = 'all()'\ntest-group = 'g'",
-            "[test-groups.g]\nmax-threads = 1",
+/// What three files are merged to, or their first fault.
+static LAYERS: [Layers<'_>; 18] = [
+    // Texts that are no documents.
+    Layers {
+        a: "",
+        b: "invalid = [",
+        repository: "",
+        words: TWO_TOOLS,
+        wanted: Wanted::FirstLine("error: b.toml provided by tool `b`: 3 BuildError"),
+    },
+    Layers {
+        a: "a = 1\na = 2",
+        b: "",
+        repository: "invalid = [",
+        words: TWO_TOOLS,
+        wanted: Wanted::FirstLine("error: a.toml provided by tool `a`: 3 BuildError"),
+    },
+    // The fault of the lowest file is told.
+    Layers {
+        a: "profile.default.retries = 'x'",
+        b: "",
+        repository: "invalid = [",
+        words: TWO_TOOLS,
+        wanted: Wanted::Refusal(
+            3,
+            "error: a.toml provided by tool `a`: 4 DeserializeError\n  `profile.default.retries`: a value of the wrong kind\n",
         ),
-        TWO_TOOLS,
-        "error: b.toml provided by tool `b`: 14 UnknownTestGroups\n  profile `default`: unknown test group `g`\n  known groups: @global\n",
-    )?;
-    prints(
-        &rt,
-        &three(USES_A_GROUP, DEFINES_A_GROUP, ""),
-        TWO_TOOLS,
-        "test-group: @tool:b:g [override]",
-    )?;
-    prints(
-        &rt,
-        &three("", DEFINES_A_GROUP, USES_A_GROUP),
-        TWO_TOOLS,
-        "test-group: @tool:b:g [override]",
-    )
+    },
+    Layers {
+        a: "profile.default.retries = 'x'",
+        b: "profile.default.priority = 1",
+        repository: "",
+        words: TWO_TOOLS,
+        wanted: Wanted::Refusal(
+            3,
+            "error: b.toml provided by tool `b`: 4 DeserializeError\n  `profile.default.priority`: unknown field\n",
+        ),
+    },
+    // Faults of what the files are merged to.
+    Layers {
+        a: "[profile.ci]\nretries = { backoff = 'exponential', count = 2, delay = '1s', max-delay = '10s' }",
+        b: "",
+        repository: "[profile.ci]\nretries = { backoff = 'exponential', count = 2, delay = '20s' }",
+        words: TWO_TOOLS,
+        wanted: Wanted::Refusal(
+            3,
+            "error: /w/.config/nextest.toml: 4 DeserializeError\n  `profile.ci.retries`: a number out of range\n",
+        ),
+    },
+    Layers {
+        a: "profile.ci.slow-timeout = '90s'",
+        b: "",
+        repository: "profile.ci.slow-timeout = { terminate-after = 2 }",
+        words: TWO_TOOLS,
+        wanted: Wanted::Refusal(
+            3,
+            "error: /w/.config/nextest.toml: 4 DeserializeError\n  `profile.ci.slow-timeout`: missing field `period`\n",
+        ),
+    },
+    Layers {
+        a: "profile.default.retries = { backoff = 'exponential', count = 2, delay = '1s' }",
+        b: "",
+        repository: "profile.default.retries = { count = 5 }",
+        words: TWO_TOOLS,
+        wanted: Wanted::Refusal(
+            3,
+            "error: /w/.config/nextest.toml: 4 DeserializeError\n  `profile.default.retries`: missing field `backoff`\n",
+        ),
+    },
+    Layers {
+        a: "profile.default.slow-timeout = '90s'",
+        b: "",
+        repository: "profile.default.slow-timeout = { terminate-after = 2 }",
+        words: TWO_TOOLS,
+        wanted: Wanted::Refusal(
+            3,
+            "error: /w/.config/nextest.toml: 4 DeserializeError\n  `profile.default.slow-timeout`: missing field `period`\n",
+        ),
+    },
+    // Values of what the files are merged to.
+    Layers {
+        a: "profile.default.retries = 3",
+        b: "",
+        repository: "profile.default.retries = { backoff = 'fixed', count = 4, delay = '2s' }",
+        words: TWO_TOOLS,
+        wanted: Wanted::Line("retries: fixed count=4 delay=2000000000ns jitter=false [profile]"),
+    },
+    Layers {
+        a: "profile.default.slow-timeout = { period = '30s', terminate-after = 3 }",
+        b: "",
+        repository: "profile.default.slow-timeout = { period = '90s' }",
+        words: TWO_TOOLS,
+        wanted: Wanted::Line(
+            "slow-timeout: period=90000000000ns terminate-after=3 grace-period=10000000000ns on-timeout=fail [profile]",
+        ),
+    },
+    Layers {
+        a: "profile.default.slow-timeout = { period = '30s', terminate-after = 3 }",
+        b: "",
+        repository: "profile.default.slow-timeout = '90s'",
+        words: TWO_TOOLS,
+        wanted: Wanted::Line(
+            "slow-timeout: period=90000000000ns terminate-after=none grace-period=10000000000ns on-timeout=fail [profile]",
+        ),
+    },
+    // The first tool is the highest.
+    Layers {
+        a: "profile.default.retries = 1",
+        b: "profile.default.retries = 2",
+        repository: "",
+        words: TWO_TOOLS,
+        wanted: Wanted::Line("retries: fixed count=1 delay=0ns jitter=false [profile]"),
+    },
+    Layers {
+        a: "[[profile.default.overrides]]\nfilter = 'all()'\nretries = 1",
+        b: "[[profile.default.overrides]]\nfilter = 'all()'\nretries = 2\npriority = 3",
+        repository: "profile.default.retries = 9",
+        words: TWO_TOOLS,
+        wanted: Wanted::Line("retries: fixed count=1 delay=0ns jitter=false [override]"),
+    },
+    // The rules of all files stand, the repository's before a tool's.
+    Layers {
+        a: "",
+        b: "[[profile.default.overrides]]\nfilter = 'all()'\nretries = 9",
+        repository: "[[profile.default.overrides]]\nfilter = 'test(z)'\nretries = 4",
+        words: TWO_TOOLS,
+        wanted: Wanted::Line("retries: fixed count=9 delay=0ns jitter=false [override]"),
+    },
+    Layers {
+        a: "",
+        b: "[[profile.default.overrides]]\nfilter = 'all()'\nretries = 9",
+        repository: "[[profile.default.overrides]]\nfilter = 'test(z)'\nretries = 4",
+        words: "/w default test b z --tool-config-file a:a.toml --tool-config-file b:b.toml",
+        wanted: Wanted::Line("retries: fixed count=4 delay=0ns jitter=false [override]"),
+    },
+    // Groups of lower files are known, and those of higher files are not.
+    Layers {
+        a: "",
+        b: "[[profile.default.overrides]]\nfilter = 'all()'\ntest-group = 'g'",
+        repository: "[test-groups.g]\nmax-threads = 1",
+        words: TWO_TOOLS,
+        wanted: Wanted::Refusal(
+            3,
+            "error: b.toml provided by tool `b`: 14 UnknownTestGroups\n  profile `default`: unknown test group `g`\n  known groups: @global\n",
+        ),
+    },
+    Layers {
+        a: USES_A_GROUP,
+        b: DEFINES_A_GROUP,
+        repository: "",
+        words: TWO_TOOLS,
+        wanted: Wanted::Line("test-group: @tool:b:g [override]"),
+    },
+    Layers {
+        a: "",
+        b: DEFINES_A_GROUP,
+        repository: USES_A_GROUP,
+        words: TWO_TOOLS,
+        wanted: Wanted::Line("test-group: @tool:b:g [override]"),
+    },
+];
+
+/// Runs the program over the three files.
+fn check_layers(rt: &(impl AllocGlobal + Abort), row: &Layers<'_>) -> Result<(), Fail> {
+    let files = [
+        ("a.toml", Stored::Text(row.a)),
+        ("b.toml", Stored::Text(row.b)),
+        (REPOSITORY, Stored::Text(row.repository)),
+    ];
+    check(rt, &files, row.words, row.wanted)
+}
+
+#[test]
+fn files_of_two_tools(rt: HostRuntime) -> Result<(), Fail> {
+    for row in &LAYERS {
+        check_layers(&rt, row)?;
+    }
+    Ok(())
 }

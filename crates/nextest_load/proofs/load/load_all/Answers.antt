@@ -18,5 +18,5 @@ returns-clause-means g c =
     let merged = rw trees at c.in_ok-test_groups.ensures.value in
     let fields = c.in_ok-fields.ensures ∙ ap (λ t. fields_in t.profiles) merged in
     let groups = ap groups_held c.groups_of-test_groups.ensures ∙ ap (λ t. t.test_groups) merged in
-    let layers = layers_are g.F.Filters.meaning g.S.Specs.spec_meaning c.in_ok-trees.layers.items c.reverse.new.self.items _ c.reverse.ensures.items c.in_ok-trees.ensures.layers in
+    let layers = layers_are g.F.Filters.meaning g.S.Specs.spec_meaning c.in_ok-trees.field-0.layers.items c.reverse.new.self.items _ c.reverse.ensures.items c.in_ok-trees.ensures.layers in
     rw c.new.ensures (λ i. record { profiles = fields i; test_groups = groups i; layers = layers i; everything = c.all.ensures i })

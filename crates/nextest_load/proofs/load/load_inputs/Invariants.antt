@@ -22,5 +22,5 @@ invariant-loop-input g l =
     let below = flat_map texts_of (map input_seen (take l.input-index l.inputs)) in
     (inputs_fault read [] (map input_seen l.inputs) ≡ inputs_fault read below (map input_seen (drop l.input-index l.inputs)))
     × (contains_text l.known ≡ is_one_of (defined_in below))
-    × (map node_of l.trees.items ≡ map tree_in below)
-    × (map (λ layer. meant_layer F.meaning S.spec_meaning (layer_held layer)) l.layers.items ≡ map (layer_of {K = S.SpecMeaning} read) below)
+    × (map node_of l.loaded.trees.items ≡ map tree_in below)
+    × (map (λ layer. meant_layer F.meaning S.spec_meaning (layer_held layer)) l.loaded.layers.items ≡ map (layer_of {K = S.SpecMeaning} read) below)

@@ -1,3 +1,4 @@
+use Rattle.std.proofs.Common.{refl}
 use Rattle.nextest_load.specs.declared.engines.FiltersetKind.TheVariants.{OverrideFilter}
 use Rattle.nextest_load.specs.Inputs.{given}
 use Rattle.nextest_load.proofs.Accepting.{verdict}
@@ -14,3 +15,6 @@ returns-clause-loads g c =
       means = c.load_given.ensures.means;
       closed = closed read g.F.Filters.meaning g.S.Specs.spec_meaning g.F.Filters.everything all c.load_given.result c.load_given.ensures.found c.load_given.ensures.means;
     }
+
+pub returns-clause-told : goal.returns-clause-told
+returns-clause-told g c = refl

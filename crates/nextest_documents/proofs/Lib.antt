@@ -1,0 +1,8 @@
+pub mod Values
+pub mod Built
+pub mod Maps
+pub mod Laying
+pub mod Steps
+pub mod Shown
+pub mod Sorted
+pub mod Texts

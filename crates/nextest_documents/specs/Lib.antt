@@ -1,0 +1,4 @@
+pub mod Value
+pub mod Text
+pub mod Merge
+pub mod Shown

@@ -1,0 +1,16 @@
+-- The node that a text stands for.
+use Rattle.std.specs.Prelude.{ℕ, List, Option, option_map}
+use Rattle.toml.specs.Parse.{parse_document}
+use Rattle.nextest_tree.specs.Node.{Node, table}
+use Rattle.nextest_documents.specs.Value.{from_members}
+use Rattle.nextest_documents.specs.declared.text.TextFault.{TextFault}
+use Rattle.nextest_documents.specs.declared.text.TextFault.TheVariants.{NotDocument, Memory}
+
+-- a text that is a document is the table of what its members read to; any other text is nothing
+abbrev pub tree_of : List ℕ → Option Node
+tree_of text = option_map (λ members. table (from_members members)) (parse_document text)
+
+-- the fault is the text's, and not want of memory
+abbrev pub IsNotDocument : TextFault → Type 0
+IsNotDocument (NotDocument message) = Unit {0}
+IsNotDocument Memory = ⊥

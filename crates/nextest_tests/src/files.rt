@@ -1,0 +1,20 @@
+//! Files in memory.
+use nextest_config::{ConfigPath, ConfigPaths, FileInput, ReadOutcome};
+use std::alloc::{AllocError, Global};
+
+/// A file of this text.
+pub fn file(alloc: Global, path: &str, text: &str) -> Result<FileInput, AllocError> {
+    Ok(FileInput {
+        path: ConfigPath::new(alloc, path)?,
+        outcome: ReadOutcome::Text(String::from_str(alloc, text)?),
+    })
+}
+
+/// The paths of a workspace whose own file has this text.
+pub fn workspace_paths(alloc: Global, shared: &str) -> Result<ConfigPaths, AllocError> {
+    let shared = file(alloc, "/w/.config/nextest.toml", shared)?;
+    Ok(ConfigPaths {
+        workspace_root: String::from_str(alloc, "/w")?,
+        shared,
+    })
+}
