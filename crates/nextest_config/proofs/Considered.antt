@@ -31,30 +31,30 @@ module _ {M A : Type 0} (test : Case M) (mode : NextestRunMode) (f : A → Rule 
   abbrev shown : List (Option A) → List (Option (Rule M))
   shown = map (option_map f)
 
-  abbrev wanted : Bool
-  wanted = wants_of (sets_of mode (f r)) slots settings
+  abbrev required_if : Bool
+  required_if = wants_of (sets_of mode (f r)) slots settings
 
-  pub slots-yes : (f r).on test.platform ≡ true → wanted ≡ true → filter_holds test.judge (f r).filter ≡ true
+  pub slots-yes : (f r).on test.platform ≡ true → required_if ≡ true → filter_holds test.judge (f r).filter ≡ true
       → shown (settled (sets_of mode (f r)) r settings slots) ≡ after_rule test mode (f r) (shown slots)
   slots-yes on wants met = rw (on, wants_seen f (sets_of mode (f r)) slots settings, wants, met) (seen_settled f (sets_of mode (f r)) r settings slots)
 
   pub slots-off : (f r).on test.platform ≡ false → shown slots ≡ after_rule test mode (f r) (shown slots)
   slots-off on = rw on refl
 
-  pub slots-unwanted : wanted ≡ false → shown slots ≡ after_rule test mode (f r) (shown slots)
+  pub slots-unwanted : required_if ≡ false → shown slots ≡ after_rule test mode (f r) (shown slots)
   slots-unwanted wants = rw (wants_seen f (sets_of mode (f r)) slots settings, wants) (elim ((f r).on test.platform) as (λ b. shown slots ≡ (if b && (false && filter_holds test.judge (f r).filter) then settled (sets_of mode (f r)) (f r) settings (shown slots) else shown slots)) [ true ↦ refl | false ↦ refl ])
 
-  pub slots-unmet : (f r).on test.platform ≡ true → wanted ≡ true → filter_holds test.judge (f r).filter ≡ false
+  pub slots-unmet : (f r).on test.platform ≡ true → required_if ≡ true → filter_holds test.judge (f r).filter ≡ false
       → shown slots ≡ after_rule test mode (f r) (shown slots)
   slots-unmet on wants met = rw (on, wants_seen f (sets_of mode (f r)) slots settings, wants, met) refl
 
   -- what was evaluated
-  pub asked-yes : (number : ℕ) → (f r).on test.platform ≡ true → wanted ≡ true
+  pub asked-yes : (number : ℕ) → (f r).on test.platform ≡ true → required_if ≡ true
       → asked_one test mode (f r) number (shown slots) ≡ (if is_some (f r).filter then number ∷ [] else [])
   asked-yes number on wants = rw (on, wants_seen f (sets_of mode (f r)) slots settings, wants) (elim (is_some (f r).filter) as (λ b. (if b && (true && true) then number ∷ [] else []) ≡ (if b then number ∷ [] else [])) [ true ↦ refl | false ↦ refl ])
 
   pub asked-off : (number : ℕ) → (f r).on test.platform ≡ false → asked_one test mode (f r) number (shown slots) ≡ []
   asked-off number on = rw on (elim (is_some (f r).filter) as (λ b. (if b && (false && wants_of (sets_of mode (f r)) (shown slots) settings) then number ∷ [] else []) ≡ []) [ true ↦ refl | false ↦ refl ])
 
-  pub asked-unwanted : (number : ℕ) → (f r).on test.platform ≡ true → wanted ≡ false → asked_one test mode (f r) number (shown slots) ≡ []
+  pub asked-unwanted : (number : ℕ) → (f r).on test.platform ≡ true → required_if ≡ false → asked_one test mode (f r) number (shown slots) ≡ []
   asked-unwanted number on wants = rw (on, wants_seen f (sets_of mode (f r)) slots settings, wants) (elim (is_some (f r).filter) as (λ b. (if b && (true && false) then number ∷ [] else []) ≡ []) [ true ↦ refl | false ↦ refl ])

@@ -7,11 +7,11 @@ use Rattle.nextest_elements.specs.declared.test_group.TestGroup.{TestGroup}
 use Rattle.nextest_elements.specs.declared.test_group.TestGroup.TheVariants.{Global}
 use Rattle.nextest_load.specs.Accepted.{Each}
 use Rattle.nextest_load.specs.Closed.{IsClosed}
-use Rattle.nextest_load.specs.Engines.{Test}
+use Rattle.nextest_engines.specs.Engines.{Test}
 use Rattle.nextest_load.specs.Groups.{IsAmong}
 use Rattle.nextest_load.specs.Whole.{Compiled, Layer, Whole}
-use Rattle.nextest_load.specs.declared.engines.BuildPlatforms.{BuildPlatforms}
-use Rattle.nextest_load.specs.declared.engines.TestQuery.{TestQuery}
+use Rattle.nextest_engines.specs.declared.queries.BuildPlatforms.{BuildPlatforms}
+use Rattle.nextest_engines.specs.declared.queries.TestQuery.{TestQuery}
 use Rattle.nextest_tables.specs.Written.{Name}
 use Rattle.nextest_config.specs.declared.settings.Setting.TheVariants as at
 use Rattle.nextest_config.specs.Apply.{rule_in, case_in, judged_on, meant_judged}
@@ -67,4 +67,4 @@ given_known {E} {M} {K} {P} meaning holds holds_on config name platforms mode qu
     let judged = mapped (λ r. IsAmong known r.written.test_group) (judged_on holds_on platforms) rules written in
     let meant = mapped (λ r. IsAmong known r.written.test_group) (meant_judged meaning) (map (judged_on holds_on platforms) rules) judged in
     let asked = mapped (λ r. IsAmong known (r.sets mode at.TestGroup)) rule_in (map (meant_judged meaning) (map (judged_on holds_on platforms) rules)) meant in
-    chosen known (case_in holds (meaning config.everything) query) mode _ asked
+    chosen known (case_in holds (meaning config.match_all) query) mode _ asked

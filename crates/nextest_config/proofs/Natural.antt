@@ -6,7 +6,7 @@ use Rattle.std.specs.List.{flat_map}
 use Rattle.std.specs.BTreeMap.{is_at}
 use Rattle.std.specs.Ordering.{nat_cmp}
 use Rattle.std.specs.Cmp.Lexicographic.{slice_cmp}
-use Rattle.nextest_load.specs.declared.engines.BuildPlatforms.{BuildPlatforms}
+use Rattle.nextest_engines.specs.declared.queries.BuildPlatforms.{BuildPlatforms}
 use Rattle.nextest_load.specs.Whole.{Compiled, Layer, Whole, at_name, meant_rule, meant_layer, meant_whole}
 use Rattle.nextest_tables.specs.Written.{Name}
 use Rattle.nextest_config.specs.Apply.{meant_judged, judged_on, spec_holds}
@@ -37,7 +37,7 @@ module _ {E N M K : Type 0} (meaning : E → M) (spec_meaning : N → K) where
     test_groups = c.test_groups;
     fields = (profile_of c name).fields;
     rules = of_names c.layers (names_of name) i;
-    everything = meaning c.everything;
+    match_all = meaning c.match_all;
   }
 
   spec_meant : {P : Type 0} (holds_on : K → P → Option Bool) (platform : P) (o : Option N) → spec_holds (λ spec platform. holds_on (spec_meaning spec) platform) o platform ≡ spec_holds holds_on (option_map spec_meaning o) platform
@@ -61,7 +61,7 @@ module _ {E N M K : Type 0} (meaning : E → M) (spec_meaning : N → K) where
     test_groups = p.test_groups;
     fallback = (decided_on holds_on platforms (meant_profile meaning spec_meaning p)).fallback;
     rules = rules_decided holds_on platforms p.rules i;
-    everything = meaning p.everything;
+    match_all = meaning p.match_all;
   }
 
   -- from a configuration that means `whole`, the profile that was asked for, and its platforms decided

@@ -1,15 +1,15 @@
 -- Rules on the platforms of a build.
 use Rattle.std.specs.Borrow.{Bor}
 use Rattle.std.specs.Prelude.{Option, None, Some, option_map, Bool, true, unwrap_or, ◌&&◌}
-use Rattle.nextest_load.specs.Engines.{Test, the_test}
+use Rattle.nextest_engines.specs.Engines.{Test, test_view}
 use Rattle.nextest_load.specs.Held.{rule_held}
 use Rattle.nextest_load.specs.Whole.{RuleId, Compiled}
 use Rattle.nextest_tables.specs.Written.{Written}
-use Rattle.nextest_load.specs.declared.engines.BuildPlatform.{BuildPlatform}
-use Rattle.nextest_load.specs.declared.engines.BuildPlatform.TheVariants.{Host, Target}
-use Rattle.nextest_load.specs.declared.engines.BuildPlatforms.{BuildPlatforms}
-use Rattle.nextest_load.specs.declared.engines.EvalContext.{EvalContext}
-use Rattle.nextest_load.specs.declared.engines.TestQuery.{TestQuery}
+use Rattle.nextest_engines.specs.declared.queries.BuildPlatform.{BuildPlatform}
+use Rattle.nextest_engines.specs.declared.queries.BuildPlatform.TheVariants.{Host, Target}
+use Rattle.nextest_engines.specs.declared.queries.BuildPlatforms.{BuildPlatforms}
+use Rattle.nextest_engines.specs.declared.queries.EvalContext.{EvalContext}
+use Rattle.nextest_engines.specs.declared.queries.TestQuery.{TestQuery}
 use Rattle.nextest_load.specs.declared.overrides.CompiledOverride.{CompiledOverride}
 use Rattle.nextest_config.specs.declared.apply.JudgedOverride.{JudgedOverride}
 use Rattle.nextest_config.specs.Rules.{Rule, Case}
@@ -68,7 +68,7 @@ rule_of meaning r = rule_in (meant_judged meaning (judged_held r))
 
 -- the test of a query, as an engine judges it where the default filter means `default`
 abbrev pub case_in : {M : Type 0} → (M → Test → M → Bool) → M → TestQuery → Case M
-case_in holds default query = record { platform = query.binary_query.platform; judge = λ m. holds m (the_test query) default }
+case_in holds default query = record { platform = query.binary_query.platform; judge = λ m. holds m (test_view query) default }
 
 -- the test of a query, as an engine judges it in a context
 abbrev pub case_of : {M E : Type 0} → (M → Test → M → Bool) → (E → M) → TestQuery → EvalContext E → Case M

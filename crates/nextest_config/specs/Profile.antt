@@ -6,7 +6,7 @@ use Rattle.std.specs.Str.{bytes_eq}
 use Rattle.nextest_elements.specs.TestGroup.{custom_group_text}
 use Rattle.nextest_elements.specs.declared.test_group.CustomTestGroup.{CustomTestGroup}
 use Rattle.nextest_elements.specs.declared.test_group.TestGroupConfig.{TestGroupConfig}
-use Rattle.nextest_load.specs.declared.engines.BuildPlatforms.{BuildPlatforms}
+use Rattle.nextest_engines.specs.declared.queries.BuildPlatforms.{BuildPlatforms}
 use Rattle.nextest_tables.specs.Seen.{fields_held}
 use Rattle.nextest_tables.specs.declared.profile_table.ProfileFields.{ProfileFields}
 use Rattle.nextest_load.specs.Whole.{Compiled, Layer, Whole, at_name, meant_rule}
@@ -47,7 +47,7 @@ pub record Profile (M K : Type 0) : Type 0 where
   pub test_groups : List (Name × TestGroupConfig)
   pub fields : List Fields
   pub rules : List (Compiled M K)
-  pub everything : M
+  pub match_all : M
 
 -- the profile of a name
 abbrev pub profile_of : {M K : Type 0} → Whole M K → Name → Profile M K
@@ -56,7 +56,7 @@ profile_of config name = record {
   test_groups = config.test_groups;
   fields = fields_of config.profiles (names_of name);
   rules = rules_of config.layers (names_of name);
-  everything = config.everything;
+  match_all = config.match_all;
 }
 
 -- where no profile was found, something holds of what is told
@@ -70,7 +70,7 @@ pub record Decided (M : Type 0) : Type 0 where
   pub test_groups : List (Name × TestGroupConfig)
   pub fallback : Fallback
   pub rules : List (Judged M)
-  pub everything : M
+  pub match_all : M
 
 -- a profile on the platforms of a build
 abbrev pub decided_on : {P M K : Type 0} → (K → P → Option Bool) → BuildPlatforms P → Profile M K → Decided M
@@ -79,7 +79,7 @@ decided_on holds_on platforms p = record {
   test_groups = p.test_groups;
   fallback = fallback_of_fields p.fields;
   rules = map (judged_on holds_on platforms) p.rules;
-  everything = p.everything;
+  match_all = p.match_all;
 }
 
 -- the same profile, as the engines mean its texts
@@ -89,7 +89,7 @@ meant_profile meaning spec_meaning p = record {
   test_groups = p.test_groups;
   fields = p.fields;
   rules = map (meant_rule meaning spec_meaning) p.rules;
-  everything = meaning p.everything;
+  match_all = meaning p.match_all;
 }
 
 -- the same profile, as the engine means its filters
@@ -99,5 +99,5 @@ meant_decided meaning p = record {
   test_groups = p.test_groups;
   fallback = p.fallback;
   rules = map (meant_judged meaning) p.rules;
-  everything = meaning p.everything;
+  match_all = meaning p.match_all;
 }

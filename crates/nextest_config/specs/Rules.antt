@@ -2,7 +2,7 @@
 use Rattle.std.specs.Prelude.{◌≡◌, ◌≤◌, ◌<◌, ◌+◌, slice_get, IsSome, List, ℕ, [], ◌∷◌, ◌++◌, length, Bool, true, false, Option, None, Some, unwrap_or, option_and_then, map, is_some, is_none, find, ◌&&◌, if◌then◌else◌}
 use Rattle.std.specs.List.{list_any}
 use Rattle.nextest_elements.specs.declared.run_mode.NextestRunMode.{NextestRunMode}
-use Rattle.nextest_load.specs.declared.engines.BuildPlatform.{BuildPlatform}
+use Rattle.nextest_engines.specs.declared.queries.BuildPlatform.{BuildPlatform}
 use Rattle.nextest_load.specs.Whole.{RuleId}
 use Rattle.nextest_config.specs.declared.settings.Setting.{Setting}
 use Rattle.nextest_config.specs.Settings.{ValueOf}

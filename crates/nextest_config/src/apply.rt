@@ -3,8 +3,8 @@ ghost use Rattle.std.specs.Prelude.{◌≡◌, map, IfOk};
 ghost use Rattle.nextest_load.specs.Held.{rule_held};
 ghost use Rattle.nextest_config.specs.Apply.{judged_on, judged_held, rule_behind, spec_holds};
 
+use nextest_engines::{BuildPlatform, BuildPlatforms, Filters, Specs};
 use nextest_load::CompiledOverride;
-use nextest_load::engines::{BuildPlatform, BuildPlatforms, Filters, Specs};
 use std::alloc::{AllocError, Global};
 
 /// A rule, and whether the platforms meet it for binaries of the host and for those of the target.

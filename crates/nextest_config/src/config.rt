@@ -9,7 +9,7 @@ ghost use Rattle.nextest_config.specs.Profile.{profile_of, IfNotFound};
 use crate::global_group::GlobalGroup;
 use crate::profile::{EarlyProfile, ProfileError, ProfileNotFound};
 use nextest_elements::ConfigExperimental;
-use nextest_load::engines::{Filters, ParseContext, Specs};
+use nextest_engines::{Filters, ParseContext, Specs};
 use nextest_load::{
     ConfigFileSelection, ConfigParseError, ConfigPaths, ConfigWarnings, DefaultConfigWarnings,
     FileInput, LoadedConfig, ProfileFields, ToolConfigFile,
@@ -58,7 +58,7 @@ fn names_known(
 
 impl<F: Filters, S: Specs> NextestConfig<F, S> {
     ghost use Rattle.std.specs.Prelude.{List, ℕ, Result, option_map};
-    ghost use Rattle.nextest_load.specs.declared.engines.FiltersetKind.TheVariants.{OverrideFilter};
+    ghost use Rattle.nextest_engines.specs.declared.queries.FiltersetKind.TheVariants.{OverrideFilter};
     ghost use Rattle.nextest_load.specs.Collected.{warnings_in};
     ghost use Rattle.nextest_load.specs.Inputs.{Given, given};
     ghost use Rattle.nextest_load.specs.Load.{IsLoad};
@@ -69,8 +69,8 @@ impl<F: Filters, S: Specs> NextestConfig<F, S> {
         warnings: DefaultConfigWarnings,
     ) -> Result<Self, ConfigParseError>
         ensures loads { (read : List ℕ → Result F.Meaning (List ℕ)) (g : Given)
-            → IsLoad (λ config. config) F.meaning S.spec_meaning F.everything read g loaded
-            → IsLoad (λ config. config.whole) F.meaning S.spec_meaning F.everything read g result }
+            → IsLoad (λ config. config) F.meaning S.spec_meaning F.match_all read g loaded
+            → IsLoad (λ config. config.whole) F.meaning S.spec_meaning F.match_all read g result }
         ensures kept { IfOk result (λ config. config.warnings ≡ warnings_in warnings) }
     {
         match loaded {
@@ -98,7 +98,7 @@ impl<F: Filters, S: Specs> NextestConfig<F, S> {
         tools: &[ToolConfigFile],
         _experimental: &BTreeSet<ConfigExperimental>,
     ) -> Result<Self, ConfigParseError>
-        ensures loads { IsLoad (λ config. config.whole) F.meaning S.spec_meaning F.everything (F.read pcx.now.filters.now OverrideFilter) (given shared.now config_file.entry tools.now) result }
+        ensures loads { IsLoad (λ config. config.whole) F.meaning S.spec_meaning F.match_all (F.read pcx.now.filters.now OverrideFilter) (given shared.now config_file.entry tools.now) result }
         ensures kept { IfOk result (λ config. config.warnings ≡ []) }
     {
         let mut warnings = DefaultConfigWarnings::new(alloc);
@@ -118,7 +118,7 @@ impl<F: Filters, S: Specs> NextestConfig<F, S> {
         experimental: &BTreeSet<ConfigExperimental>,
         warnings: &mut W,
     ) -> Result<Self, ConfigParseError>
-        ensures loads { IsLoad (λ config. config.whole) F.meaning S.spec_meaning F.everything (F.read pcx.now.filters.now OverrideFilter) (given shared.now config_file.entry tools.now) result }
+        ensures loads { IsLoad (λ config. config.whole) F.meaning S.spec_meaning F.match_all (F.read pcx.now.filters.now OverrideFilter) (given shared.now config_file.entry tools.now) result }
         ensures kept { IfOk result (λ config. config.warnings ≡ []) }
         ensures told { W.warnings warnings.new ≡ W.warnings warnings.old }
     {
@@ -147,7 +147,7 @@ impl<F: Filters, S: Specs> NextestConfig<F, S> {
         _experimental: &BTreeSet<ConfigExperimental>,
         warnings: &mut W,
     ) -> Result<Self, ConfigParseError>
-        ensures loads { IsLoad (λ config. config.whole) F.meaning S.spec_meaning F.everything (F.read pcx.now.filters.now OverrideFilter) (given shared.now selection.entry.config_file tools.now) result }
+        ensures loads { IsLoad (λ config. config.whole) F.meaning S.spec_meaning F.match_all (F.read pcx.now.filters.now OverrideFilter) (given shared.now selection.entry.config_file tools.now) result }
         ensures kept { IfOk result (λ config. config.warnings ≡ []) }
         ensures told { W.warnings warnings.new ≡ W.warnings warnings.old }
     {
@@ -165,7 +165,7 @@ impl<F: Filters, S: Specs> NextestConfig<F, S> {
         experimental: &BTreeSet<ConfigExperimental>,
         warnings: &mut W,
     ) -> Result<Self, ConfigParseError>
-        ensures loads { IsLoad (λ config. config.whole) F.meaning S.spec_meaning F.everything (F.read pcx.now.filters.now OverrideFilter) (given paths.now.shared selection.entry.config_file tools.now) result }
+        ensures loads { IsLoad (λ config. config.whole) F.meaning S.spec_meaning F.match_all (F.read pcx.now.filters.now OverrideFilter) (given paths.now.shared selection.entry.config_file tools.now) result }
         ensures kept { IfOk result (λ config. config.warnings ≡ []) }
         ensures told { W.warnings warnings.new ≡ W.warnings warnings.old }
     {

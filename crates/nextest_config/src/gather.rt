@@ -8,7 +8,7 @@ ghost use Rattle.nextest_config.specs.Apply.{rule_behind};
 ghost use Rattle.nextest_config.specs.Profile.{names_of, rules_in, rules_of, fields_of, fields_behind};
 
 use crate::profile::DEFAULT_PROFILE;
-use nextest_load::engines::{Filters, Specs};
+use nextest_engines::{Filters, Specs};
 use nextest_load::{CompiledOverride, LayerRules, ProfileFields};
 use std::alloc::{AllocError, Global};
 use std::collections::BTreeMap;

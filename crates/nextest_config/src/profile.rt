@@ -19,7 +19,7 @@ use nextest_elements::{
     NextestRunMode, RetryPolicy, SlowTimeout, StatusLevel, TestGroupConfig, TestOutputDisplay,
     TestThreads, ThreadsRequired,
 };
-use nextest_load::engines::{BuildPlatforms, Filters, Specs, TestQuery};
+use nextest_engines::{BuildPlatforms, Filters, Specs, TestQuery};
 use nextest_load::{CompiledOverride, LoadedConfig, ProfileFields};
 use std::alloc::{AllocError, Global};
 use std::collections::BTreeMap;
@@ -86,7 +86,7 @@ pub struct EarlyProfile<'cfg, F: Filters, S: Specs> {
     test_groups: &'cfg BTreeMap<CustomTestGroup, TestGroupConfig>,
     fields: Vec<&'cfg ProfileFields>,
     rules: Vec<&'cfg CompiledOverride<F, S>>,
-    everything: &'cfg F::Expr,
+    match_all: &'cfg F::Expr,
     global_group: &'cfg GlobalGroup,
 }
 
@@ -99,7 +99,7 @@ impl<'cfg, F: Filters, S: Specs> Model for EarlyProfile<'cfg, F, S> {
     ghost use Rattle.nextest_config.specs.Apply.{rule_behind};
     ghost use Rattle.nextest_config.specs.Profile.{fields_behind, groups_held};
 
-    ghost view = { λ p. record { name = string_bytes p.name; test_groups = groups_held p.test_groups.now; fields = map fields_behind p.fields.items; rules = map rule_behind p.rules.items; everything = p.everything.now } };
+    ghost view = { λ p. record { name = string_bytes p.name; test_groups = groups_held p.test_groups.now; fields = map fields_behind p.fields.items; rules = map rule_behind p.rules.items; match_all = p.match_all.now } };
 }
 
 impl<'cfg, F: Filters, S: Specs> EarlyProfile<'cfg, F, S> {
@@ -118,7 +118,7 @@ impl<'cfg, F: Filters, S: Specs> EarlyProfile<'cfg, F, S> {
             test_groups: loaded.test_groups(),
             fields: fields_of(alloc, loaded.profiles(), &names)?,
             rules: rules_of(alloc, loaded.layers(), &names)?,
-            everything: loaded.everything(),
+            match_all: loaded.match_all(),
             global_group,
         })
     }
@@ -146,7 +146,7 @@ impl<'cfg, F: Filters, S: Specs> EarlyProfile<'cfg, F, S> {
                     name,
                     test_groups,
                     fields,
-                    everything,
+                    match_all,
                     global_group,
                     ..
                 } = self;
@@ -155,7 +155,7 @@ impl<'cfg, F: Filters, S: Specs> EarlyProfile<'cfg, F, S> {
                     test_groups,
                     values: values_behind(&fields),
                     rules,
-                    everything,
+                    match_all,
                     global_group,
                 })
             }
@@ -171,7 +171,7 @@ pub struct EvaluatableProfile<'cfg, F: Filters, S: Specs> {
     test_groups: &'cfg BTreeMap<CustomTestGroup, TestGroupConfig>,
     values: ProfileValues<'cfg>,
     rules: Vec<JudgedOverride<'cfg, F, S>>,
-    everything: &'cfg F::Expr,
+    match_all: &'cfg F::Expr,
     global_group: &'cfg GlobalGroup,
 }
 
@@ -184,7 +184,7 @@ impl<'cfg, F: Filters, S: Specs> Model for EvaluatableProfile<'cfg, F, S> {
 
     ghost Value = { Decided F.Expr };
 
-    ghost view = { λ p. record { name = string_bytes p.name; test_groups = groups_held p.test_groups.now; fallback = values_held p.values; rules = map judged_held p.rules.items; everything = p.everything.now } };
+    ghost view = { λ p. record { name = string_bytes p.name; test_groups = groups_held p.test_groups.now; fallback = values_held p.values; rules = map judged_held p.rules.items; match_all = p.match_all.now } };
 }
 
 impl<'cfg, F: Filters, S: Specs> EvaluatableProfile<'cfg, F, S> {
@@ -310,7 +310,7 @@ impl<'cfg, F: Filters, S: Specs> EvaluatableProfile<'cfg, F, S> {
             self.values,
             self.global_group,
             &self.rules,
-            self.everything,
+            self.match_all,
             mode,
             query,
             tally,
@@ -334,7 +334,7 @@ impl<'cfg, F: Filters, S: Specs> EvaluatableProfile<'cfg, F, S> {
             self.values,
             self.global_group,
             &self.rules,
-            self.everything,
+            self.match_all,
             mode,
             query,
             tally,

@@ -22,8 +22,8 @@ use nextest_elements::{
     FlakyResult, JunitFlakyFailStatus, LeakTimeout, NextestRunMode, ReportSkipPolicy, RetryPolicy,
     SlowTimeout, TestGroup, TestOutputDisplay, TestPriority, ThreadsRequired,
 };
+use nextest_engines::{EvalContext, Filters, Specs, TestQuery};
 use nextest_load::OverrideSettings;
-use nextest_load::engines::{EvalContext, Filters, Specs, TestQuery};
 use pass::{SETTING_COUNT, winners};
 use source::TrackSource;
 use written::{report, slow_timeout};

@@ -1,5 +1,3 @@
-pub mod Values
-pub mod Built
 pub mod Maps
 pub mod Laying
 pub mod Steps

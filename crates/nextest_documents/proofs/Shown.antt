@@ -1,8 +1,11 @@
 -- The nodes of what was laid over.
-use Rattle.std.proofs.Common.{◌≡◌, ◌⊎◌, inl, inr, ℕ, List, [], ◌∷◌, ◌++◌, Option, Some, None, sym, ap, ◌∙◌, refl}
+use Rattle.std.proofs.Common.{◌≡◌, ◌⊎◌, inl, inr, ℕ, List, [], ◌∷◌, ◌++◌, Option, Some, None, Result, Ok, Err, IfOk, subst, sym, ap, ◌∙◌, refl}
 use Rattle.std.specs.List.{AllByRecursion}
 use Rattle.std.specs.Option.{option_and_then}
 use Rattle.nextest_tree.specs.Node.{Node, table, Entries, get}
+use Rattle.std.specs.declared.alloc.AllocError.{AllocError}
+use Rattle.nextest_tree.specs.View.{tree_view}
+use Rattle.nextest_tree.specs.declared.tree.Tree.{Tree}
 use Rattle.nextest_documents.specs.Merge.{over, merged}
 use Rattle.nextest_documents.specs.Shown.{Path, Kind, a_table, a_leaf, node_at, HasLeafAlong, Hides, by_leaf, by_table, IsShown, HasExactly}
 use Rattle.nextest_documents.proofs.Laying.{laid_over, get-entries_over}
@@ -153,3 +156,11 @@ shown_from (d ∷ ds) base p k (inr s) =
 -- the merged tree has exactly the nodes that nothing hides
 pub has_shown : (base : Node) (ds : List Node) → HasExactly (merged base ds) (IsShown (base ∷ ds))
 has_shown base ds p k = (λ h. cons base ds p k (shown_to ds base p k h), λ s. shown_from ds base p k (uncons base ds p k s))
+
+-- so has what is laid over one layer
+pub laid_nodes : (r : Result Tree AllocError) (above below : Node) → IfOk r (λ tree. tree_view tree ≡ over above below)
+    → IfOk r (λ tree. HasExactly (tree_view tree) (IsShown (below ∷ above ∷ [])))
+laid_nodes (Ok tree) above below is =
+    let P : Node → Type 0 = λ n. HasExactly n (IsShown (below ∷ above ∷ [])) in
+    subst P (sym is) (has_shown below (above ∷ []))
+laid_nodes (Err e) above below is = is

@@ -1,10 +1,13 @@
 -- What is laid over keeps the keys of each table in order.
-use Rattle.std.proofs.Common.{◌≡◌, ℕ, List, [], ◌∷◌, Option, Some, None, Ordering, Less, Equal, Greater, refl}
+use Rattle.std.proofs.Common.{◌≡◌, ℕ, List, [], ◌∷◌, Option, Some, None, Result, Ok, Err, IfOk, sym, subst, Ordering, Less, Equal, Greater, refl}
 use Rattle.std.proofs.lemmas.Cmp.{nat_list_cmp_total}
 use Rattle.std.specs.List.{AllByRecursion}
 use Rattle.std.specs.Option.{option_map_or}
 use Rattle.std.specs.Ordering.{match_ordering}
 use Rattle.nextest_tree.specs.Node.{Node, table, Entries, no_entries, entry, get, put, IsBefore, IsSorted, EntriesAreSorted}
+use Rattle.std.specs.declared.alloc.AllocError.{AllocError}
+use Rattle.nextest_tree.specs.View.{tree_view}
+use Rattle.nextest_tree.specs.declared.tree.Tree.{Tree}
 use Rattle.nextest_documents.specs.Merge.{over, entries_over, merged}
 use Rattle.nextest_documents.proofs.Laying.{cmp, turned}
 
@@ -51,7 +54,7 @@ laid_at n None ih h s = h
 laid_at n (Some lower) ih h s = ih lower s
 
 mutual
-  over_sorted : (above below : Node) → IsSorted above → IsSorted below → IsSorted (over above below)
+  pub over_sorted : (above below : Node) → IsSorted above → IsSorted below → IsSorted (over above below)
   over_sorted (table xs) (table ys) h s = entries_sorted xs ys h s
   over_sorted above below h s = h
 
@@ -63,3 +66,10 @@ mutual
 pub merged_sorted : (base : Node) (layers : List Node) → IsSorted base → AllByRecursion IsSorted layers → IsSorted (merged base layers)
 merged_sorted base [] h s = h
 merged_sorted base (layer ∷ layers) h s = merged_sorted (over layer base) layers (over_sorted layer base s.0 h) s.1
+
+pub laid_sorted : (r : Result Tree AllocError) (above below : Node) → IfOk r (λ tree. tree_view tree ≡ over above below)
+    → IsSorted below → IsSorted above → IfOk r (λ tree. IsSorted (tree_view tree))
+laid_sorted (Ok tree) above below is lower higher =
+    let P : Node → Type 0 = IsSorted in
+    subst P (sym is) (over_sorted above below higher lower)
+laid_sorted (Err e) above below is lower higher = is

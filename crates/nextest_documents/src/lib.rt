@@ -5,8 +5,6 @@
 
 mod merge;
 mod text;
-mod value;
 
 pub use merge::{copy_tree, lay_over, merge_layers};
 pub use text::{TextFault, tree_from_text};
-pub use value::tree_from_value;

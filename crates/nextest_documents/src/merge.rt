@@ -1,8 +1,8 @@
 //! One tree of several layers: a higher layer is laid over a lower one, path by path.
-ghost use Rattle.std.specs.Prelude.{◌∷◌, ◌≡◌, map, IfOk};
+ghost use Rattle.std.specs.Prelude.{◌∷◌, [], ◌≡◌, map, IfOk};
 ghost use Rattle.std.specs.List.{AllByRecursion};
 ghost use Rattle.nextest_tree.specs.Node.{IsSorted};
-ghost use Rattle.nextest_tree.specs.View.{node_of, items_of_trees, members_of_trees};
+ghost use Rattle.nextest_tree.specs.View.{tree_view, nodes_view, entries_view};
 ghost use Rattle.nextest_documents.specs.Merge.{over, entries_over, merged};
 ghost use Rattle.nextest_documents.specs.Shown.{HasExactly, IsShown};
 
@@ -13,9 +13,9 @@ use std::mem;
 
 /// Lays `layers`, the lowest first, over `base`.
 pub fn merge_layers(alloc: Global, base: Tree, layers: &[Tree]) -> Result<Tree, AllocError>
-    ensures is { IfOk result (λ tree. node_of tree ≡ merged (node_of base) (map node_of layers.now)) }
-    ensures nodes { IfOk result (λ tree. HasExactly (node_of tree) (IsShown (node_of base ∷ map node_of layers.now))) }
-    ensures sorted { IsSorted (node_of base) → AllByRecursion IsSorted (map node_of layers.now) → IfOk result (λ tree. IsSorted (node_of tree)) }
+    ensures is { IfOk result (λ tree. tree_view tree ≡ merged (tree_view base) (map tree_view layers.now)) }
+    ensures nodes { IfOk result (λ tree. HasExactly (tree_view tree) (IsShown (tree_view base ∷ map tree_view layers.now))) }
+    ensures sorted { IsSorted (tree_view base) → AllByRecursion IsSorted (map tree_view layers.now) → IfOk result (λ tree. IsSorted (tree_view tree)) }
 {
     let mut tree = base;
     for layer in layers {
@@ -27,9 +27,19 @@ pub fn merge_layers(alloc: Global, base: Tree, layers: &[Tree]) -> Result<Tree, 
 /// Lays `above` over `below`: two tables unite, and anything else replaces what stands below.
 ///
 /// An array is replaced as a whole.
-#[cycle(lay_over)]
 pub fn lay_over(alloc: Global, above: &Tree, below: Tree) -> Result<Tree, AllocError>
-    ensures { IfOk result (λ tree. node_of tree ≡ over (node_of above.now) (node_of below)) }
+    ensures is { IfOk result (λ tree. tree_view tree ≡ over (tree_view above.now) (tree_view below)) }
+    ensures nodes { let layers = tree_view below ∷ tree_view above.now ∷ [] in
+        IfOk result (λ tree. HasExactly (tree_view tree) (IsShown layers)) }
+    ensures sorted { IsSorted (tree_view below) → IsSorted (tree_view above.now)
+        → IfOk result (λ tree. IsSorted (tree_view tree)) }
+{
+    union_of(alloc, above, below)
+}
+
+#[cycle(union_of)]
+fn union_of(alloc: Global, above: &Tree, below: Tree) -> Result<Tree, AllocError>
+    ensures { IfOk result (λ tree. tree_view tree ≡ over (tree_view above.now) (tree_view below)) }
 {
     match (above, below) {
         (Tree::Table(higher), Tree::Table(lower)) => {
@@ -39,18 +49,18 @@ pub fn lay_over(alloc: Global, above: &Tree, below: Tree) -> Result<Tree, AllocE
     }
 }
 
-#[cycle(lay_over)]
+#[cycle(union_of)]
 fn merge_tables(
     alloc: Global,
     higher: &BTreeMap<String, Tree>,
     mut lower: BTreeMap<String, Tree>,
 ) -> Result<BTreeMap<String, Tree>, AllocError>
-    ensures { IfOk result (λ trees. members_of_trees trees.entries ≡ entries_over (members_of_trees higher.now.entries) (members_of_trees lower.entries)) }
+    ensures { IfOk result (λ trees. entries_view trees.entries ≡ entries_over (entries_view higher.now.entries) (entries_view lower.entries)) }
 {
     for (key, tree) in higher.iter() {
         if let Some(found) = lower.get_mut(key.as_str()) {
             let below = mem::replace(found, Tree::Opaque);
-            *found = lay_over(alloc, tree, below)?;
+            *found = union_of(alloc, tree, below)?;
         } else {
             let name = key.clone()?;
             drop(lower.insert(name, copy_tree(alloc, tree)?)?);
@@ -62,7 +72,7 @@ fn merge_tables(
 /// A copy of a tree.
 #[cycle(copy_tree)]
 pub fn copy_tree(alloc: Global, tree: &Tree) -> Result<Tree, AllocError>
-    ensures { IfOk result (λ copy. node_of copy ≡ node_of tree.now) }
+    ensures { IfOk result (λ copy. tree_view copy ≡ tree_view tree.now) }
 {
     match tree {
         Tree::Table(members) => Ok(Tree::Table(copy_members(alloc, members)?)),
@@ -76,7 +86,7 @@ pub fn copy_tree(alloc: Global, tree: &Tree) -> Result<Tree, AllocError>
 
 #[cycle(copy_tree)]
 fn copy_items(alloc: Global, items: &[Tree]) -> Result<Vec<Tree>, AllocError>
-    ensures { IfOk result (λ copies. items_of_trees copies.items ≡ items_of_trees items.now) }
+    ensures { IfOk result (λ copies. nodes_view copies.items ≡ nodes_view items.now) }
 {
     let mut copies = Vec::new(alloc);
     for item in items {
@@ -90,7 +100,7 @@ fn copy_members(
     alloc: Global,
     members: &BTreeMap<String, Tree>,
 ) -> Result<BTreeMap<String, Tree>, AllocError>
-    ensures { IfOk result (λ copies. members_of_trees copies.entries ≡ members_of_trees members.now.entries) }
+    ensures { IfOk result (λ copies. entries_view copies.entries ≡ entries_view members.now.entries) }
 {
     let mut copies = BTreeMap::new(alloc);
     for (key, member) in members.iter() {

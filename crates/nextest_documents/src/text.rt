@@ -1,11 +1,10 @@
 //! Trees of texts.
 ghost use Rattle.std.specs.Prelude.{◌≡◌, IfOk, IfErr, Some, None};
 ghost use Rattle.nextest_tree.specs.Node.{IsSorted};
-ghost use Rattle.nextest_tree.specs.View.{node_of};
+ghost use Rattle.nextest_tree.specs.View.{tree_view};
 ghost use Rattle.toml.specs.Errors.{IsMemory};
 ghost use Rattle.nextest_documents.specs.Text.{IsNotDocument, tree_of};
 
-use crate::value::tree_from_value;
 use nextest_tree::Tree;
 use std::alloc::{AllocError, Global};
 use thiserror::Error;
@@ -33,15 +32,15 @@ impl From<AllocError> for TextFault {
 
 /// The tree of a text that is a TOML document.
 pub fn tree_from_text(alloc: Global, text: &str) -> Result<Tree, TextFault>
-    ensures is { IfOk result (λ tree. tree_of text.now ≡ Some (node_of tree)) }
-    ensures sorted { IfOk result (λ tree. IsSorted (node_of tree)) }
+    ensures is { IfOk result (λ tree. tree_of text.now ≡ Some (tree_view tree)) }
+    ensures sorted { IfOk result (λ tree. IsSorted (tree_view tree)) }
     ensures refused { IfErr result (λ fault. IsNotDocument fault → tree_of text.now ≡ None) }
 {
     let document = match toml::table_from_str(alloc, text) {
         Ok(document) => document,
         Err(error) => return Err(fault_of(alloc, &error)),
     };
-    Ok(tree_from_value(alloc, &toml::Value::Table(document))?)
+    Ok(Tree::from_toml(alloc, &toml::Value::Table(document))?)
 }
 
 fn fault_of(alloc: Global, error: &toml::de::Error) -> TextFault

@@ -3,9 +3,9 @@ use Rattle.std.specs.Prelude.{ℕ, List, [], ◌∷◌, Result, codes}
 use Rattle.nextest_elements.specs.declared.flaky_result.FlakyResult.{FlakyResult}
 use Rattle.nextest_elements.specs.declared.flaky_result.FlakyResult.TheVariants as results
 use Rattle.nextest_tree.specs.Node.{Node}
-use Rattle.nextest_tree.specs.Schema.{Cause, Schema}
+use Rattle.nextest_tree.specs.Schema.{FaultCause, Schema}
 use Rattle.nextest_tree.specs.Leaf.{value, name_at}
-use Rattle.nextest_tree.specs.Spelling.{spelled}
+use Rattle.nextest_tree.specs.Spelling.{spellings}
 
 -- what becomes of a flaky test, as it is written
 abbrev pub flaky_result_text : FlakyResult → List ℕ
@@ -14,14 +14,14 @@ flaky_result_text results.Fail = codes "fail"
 
 -- its names
 unfoldable pub flaky_result_names : List (List ℕ × FlakyResult)
-flaky_result_names = spelled flaky_result_text (results.Pass ∷ results.Fail ∷ [])
+flaky_result_names = spellings flaky_result_text (results.Pass ∷ results.Fail ∷ [])
 
 -- what a refusal says was expected
 unfoldable pub flaky_result_expected : List ℕ
 flaky_result_expected = codes "`pass`, `fail`"
 
 -- what becomes of a flaky test, as a node spells it
-abbrev pub flaky_result_at : Node → Result FlakyResult Cause
+abbrev pub flaky_result_at : Node → Result FlakyResult FaultCause
 flaky_result_at = name_at flaky_result_names flaky_result_expected
 
 unfoldable pub a_flaky_result : Schema

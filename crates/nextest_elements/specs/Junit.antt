@@ -9,10 +9,10 @@ use Rattle.nextest_elements.specs.declared.junit.JunitImpl.{JunitImpl}
 use Rattle.nextest_elements.specs.declared.junit.JunitOverride.{JunitOverride}
 use Rattle.nextest_tree.specs.Key.{key_text}
 use Rattle.nextest_tree.specs.Node.{Node, Entries, get}
-use Rattle.nextest_tree.specs.Schema.{Cause, Schema, struct, Fields, may, no_more}
+use Rattle.nextest_tree.specs.Schema.{FaultCause, Schema, struct, Fields, may, no_more}
 use Rattle.nextest_tree.specs.Leaf.{value, Spells, name_at, IsText, a_text, bool_at, a_bool}
 use Rattle.nextest_tree.specs.Reads.{IsOptional}
-use Rattle.nextest_tree.specs.Spelling.{spelled}
+use Rattle.nextest_tree.specs.Spelling.{spellings}
 
 -- which skipped tests a report lists, as it is written
 abbrev pub report_skip_policy_text : ReportSkipPolicy → List ℕ
@@ -21,18 +21,22 @@ report_skip_policy_text policies.All = codes "all"
 
 -- its names
 unfoldable pub report_skip_policy_names : List (List ℕ × ReportSkipPolicy)
-report_skip_policy_names = spelled report_skip_policy_text (policies.None ∷ policies.All ∷ [])
+report_skip_policy_names = spellings report_skip_policy_text (policies.None ∷ policies.All ∷ [])
 
 -- what a refusal says was expected
 unfoldable pub report_skip_policy_expected : List ℕ
 report_skip_policy_expected = codes "`none`, `all`"
 
 -- which skipped tests a report lists, as a node spells it
-abbrev pub report_skip_policy_at : Node → Result ReportSkipPolicy Cause
+abbrev pub report_skip_policy_at : Node → Result ReportSkipPolicy FaultCause
 report_skip_policy_at = name_at report_skip_policy_names report_skip_policy_expected
 
 unfoldable pub a_report_skip_policy : Schema
 a_report_skip_policy = value report_skip_policy_at
+
+-- a report lists no skipped tests, where nothing else is said
+abbrev pub usual_report_skip_policy : ReportSkipPolicy
+usual_report_skip_policy = policies.None
 
 -- how a report marks a flaky test that counts as failed, as it is written
 abbrev pub junit_flaky_fail_status_text : JunitFlakyFailStatus → List ℕ
@@ -41,18 +45,22 @@ junit_flaky_fail_status_text statuses.Success = codes "success"
 
 -- its names
 unfoldable pub junit_flaky_fail_status_names : List (List ℕ × JunitFlakyFailStatus)
-junit_flaky_fail_status_names = spelled junit_flaky_fail_status_text (statuses.Failure ∷ statuses.Success ∷ [])
+junit_flaky_fail_status_names = spellings junit_flaky_fail_status_text (statuses.Failure ∷ statuses.Success ∷ [])
 
 -- what a refusal says was expected
 unfoldable pub junit_flaky_fail_status_expected : List ℕ
 junit_flaky_fail_status_expected = codes "`failure`, `success`"
 
 -- how a report marks a flaky test that counts as failed, as a node spells it
-abbrev pub junit_flaky_fail_status_at : Node → Result JunitFlakyFailStatus Cause
+abbrev pub junit_flaky_fail_status_at : Node → Result JunitFlakyFailStatus FaultCause
 junit_flaky_fail_status_at = name_at junit_flaky_fail_status_names junit_flaky_fail_status_expected
 
 unfoldable pub a_junit_flaky_fail_status : Schema
 a_junit_flaky_fail_status = value junit_flaky_fail_status_at
+
+-- a report marks such a test as failed, where nothing else is said
+abbrev pub usual_junit_flaky_fail_status : JunitFlakyFailStatus
+usual_junit_flaky_fail_status = statuses.Failure
 
 -- the fields that profiles and overrides share
 abbrev pub junit_override_fields : Fields

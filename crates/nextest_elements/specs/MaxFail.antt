@@ -5,7 +5,7 @@ use Rattle.nextest_elements.specs.declared.max_fail.MaxFail.{MaxFail}
 use Rattle.nextest_elements.specs.declared.max_fail.MaxFail.TheVariants as limits
 use Rattle.nextest_tree.specs.Key.{key_text}
 use Rattle.nextest_tree.specs.Node.{Node, table, int, bool, Entries, get}
-use Rattle.nextest_tree.specs.Schema.{Cause, Schema, any, fields, noted, Fields, may, must, no_more}
+use Rattle.nextest_tree.specs.Schema.{FaultCause, Schema, any, fields, noted, Fields, may, must, no_more}
 use Rattle.nextest_tree.specs.Leaf.{value, Spells, name_at, a_bool}
 use Rattle.nextest_tree.specs.Reads.{IsOptional}
 use Rattle.nextest_elements.specs.Positive.{positive_at}
@@ -19,12 +19,12 @@ unfoldable pub limit_expected : List ℕ
 limit_expected = codes "a positive number, `all`"
 
 -- so many failures, if they are a number
-abbrev pub limited : Result ℕ Cause → Result MaxFail Cause
+abbrev pub limited : Result ℕ FaultCause → Result MaxFail FaultCause
 limited (Ok n) = Ok (limits.Count n)
 limited (Err c) = Err c
 
 -- a table's `max-fail`, as a node spells it
-abbrev pub limit_at : Node → Result MaxFail Cause
+abbrev pub limit_at : Node → Result MaxFail FaultCause
 limit_at (int z) = limited (positive_at (int z))
 limit_at n = name_at limit_names limit_expected n
 

@@ -1,5 +1,5 @@
 -- How often a test is tried again.
-use Rattle.std.specs.Prelude.{◌≡◌, ℕ, pos, negsuc, List, [], ◌∷◌, Bool, true, false, Option, Some, None, Result, Ok, Err, unwrap_or, nat_lt, codes, if◌then◌else◌}
+use Rattle.std.specs.Prelude.{◌≡◌, ℕ, pos, negsuc, List, [], ◌∷◌, Bool, true, false, ◌&&◌, IsTrue, IsFalse, Option, Some, None, IsSome, option_map, option_and_then, Result, Ok, Err, unwrap_or, nat_lt, codes, if◌then◌else◌}
 use Rattle.nextest_tree.specs.declared.key.Key.TheVariants.{Backoff as backoff_key, Count as count_key, Delay, Jitter, MaxDelay}
 use Rattle.nextest_elements.specs.declared.retry_policy.Backoff.{Backoff}
 use Rattle.nextest_elements.specs.declared.retry_policy.Backoff.TheVariants as backoffs
@@ -8,12 +8,13 @@ use Rattle.nextest_elements.specs.declared.retry_policy.RetryPolicy.{RetryPolicy
 use Rattle.nextest_elements.specs.declared.retry_policy.RetryPolicy.TheVariants as policies
 use Rattle.nextest_tree.specs.Key.{key_text}
 use Rattle.nextest_tree.specs.Node.{Node, table, int, Entries, get}
-use Rattle.nextest_tree.specs.Schema.{Cause, wrong_kind, out_of_range, Schema, fields, noted, Fields, field, may, must, no_more}
-use Rattle.nextest_tree.specs.Leaf.{value, name_at, bool_at, a_bool, leaf_at, leaf_or}
+use Rattle.nextest_tree.specs.Schema.{FaultCause, wrong_kind, out_of_range, Schema, fields, noted, Fields, field, may, must, no_more}
+use Rattle.nextest_tree.specs.Leaf.{value, Spells, name_at, bool_at, a_bool, leaf_at}
+use Rattle.nextest_tree.specs.Reads.{IsOptional, IsRequired, IsDefaulted}
 use Rattle.nextest_texts.specs.Nanoseconds.{duration_at, a_duration}
 
 -- a number of tries, below 2 ^ 32
-abbrev pub count_at : Node → Result ℕ Cause
+abbrev pub count_at : Node → Result ℕ FaultCause
 count_at (int (pos n)) = if nat_lt n 4294967296 then Ok n else Err out_of_range
 count_at (int (negsuc n)) = Err out_of_range
 count_at _ = Err wrong_kind
@@ -28,7 +29,7 @@ backoff_names = (codes "fixed", backoffs.Fixed) ∷ (codes "exponential", backof
 unfoldable pub backoff_expected : List ℕ
 backoff_expected = codes "`fixed`, `exponential`"
 
-abbrev pub backoff_at : Node → Result Backoff Cause
+abbrev pub backoff_at : Node → Result Backoff FaultCause
 backoff_at = name_at backoff_names backoff_expected
 
 unfoldable pub a_backoff : Schema
@@ -39,57 +40,108 @@ abbrev pub is_exponential : Backoff → Bool
 is_exponential backoffs.Fixed = false
 is_exponential backoffs.Exponential = true
 
--- how the delays of a table grow
-abbrev pub backoff_in : Entries → Backoff
-backoff_in es = leaf_or backoffs.Fixed backoff_at (get (key_text backoff_key) es)
+-- whether delays grow: a backoff is written, and it is exponential
+abbrev pub grows : Option Backoff → Bool
+grows None = false
+grows (Some backoff) = is_exponential backoff
+
+-- whether both are there, and the first is below the second
+abbrev pub is_below : Option ℕ → Option ℕ → Bool
+is_below (Some most) (Some first) = nat_lt most first
+is_below _ _ = false
+
+-- whether a table says that delays grow
+abbrev pub grows_in : Entries → Bool
+grows_in es = grows (leaf_at backoff_at (get (key_text backoff_key) es))
 
 -- the fields of a table: the delay must be there where delays grow
 abbrev pub retry_fields : Fields
 retry_fields =
     must backoff_key a_backoff
     (must count_key a_count
-    (field Delay (λ es. is_exponential (backoff_in es)) a_duration
+    (field Delay grows_in a_duration
     (may Jitter a_bool
     (may MaxDelay a_duration
     no_more))))
 
--- what the fields of a table say
-abbrev pub retry_table : Entries → RetryTable
-retry_table es = record {
-  backoff = backoff_in es;
-  count = leaf_or 0 count_at (get (key_text count_key) es);
-  delay = leaf_at duration_at (get (key_text Delay) es);
-  jitter = leaf_at bool_at (get (key_text Jitter) es);
-  max_delay = leaf_at duration_at (get (key_text MaxDelay) es);
-}
-
--- the policy, unless the greatest delay is below the first
-abbrev pub policy_of : RetryTable → Option RetryPolicy
-policy_of t = if is_exponential t.backoff then exponential else Some (policies.Fixed t.count delay jitter)
-  where
-    delay : ℕ
-    delay = unwrap_or t.delay 0
-
-    jitter : Bool
-    jitter = unwrap_or t.jitter false
-
-    exponential : Option RetryPolicy
-    exponential = if nat_lt (unwrap_or t.max_delay delay) delay then None else Some (policies.Exponential t.count delay jitter t.max_delay)
-
--- a greatest delay below the first one is out of range, where delays grow
-abbrev pub retry_across : Entries → Option Cause
-retry_across es = elim (policy_of (retry_table es)) [ None ↦ Some out_of_range | Some p ↦ None ]
+-- where delays grow, a `max-delay` that is there and below `delay` is out of range
+abbrev pub retry_across : Entries → Option FaultCause
+retry_across es =
+    let max_delay = leaf_at duration_at (get (key_text MaxDelay) es) in
+    let delay = leaf_at duration_at (get (key_text Delay) es) in
+    if grows_in es && is_below max_delay delay then Some out_of_range else None
 
 -- a count, or a table
 abbrev pub retry : Schema
 retry = fields noted a_count retry_fields retry_across
 
+-- A table of `fixed` says a count, and may say a delay and a jitter; its `max-delay` has no effect.
+pub record IsFixedRetry (es : Entries) (count delay : ℕ) (jitter : Bool) : Type 0 where
+  pub says_backoff : IsRequired (Spells backoff_at) (get (key_text backoff_key) es) backoffs.Fixed
+  pub says_count : IsRequired (Spells count_at) (get (key_text count_key) es) count
+  pub says_delay : IsDefaulted 0 (Spells duration_at) (get (key_text Delay) es) delay
+  pub says_jitter : IsDefaulted false (Spells bool_at) (get (key_text Jitter) es) jitter
+
+-- A table of `exponential` says a count and a delay, and may say a jitter and a `max-delay`, which
+-- is not below the delay.
+pub record IsExponentialRetry (es : Entries) (count delay : ℕ) (jitter : Bool)
+    (max_delay : Option ℕ) : Type 0 where
+  pub says_backoff : IsRequired (Spells backoff_at) (get (key_text backoff_key) es) backoffs.Exponential
+  pub says_count : IsRequired (Spells count_at) (get (key_text count_key) es) count
+  pub says_delay : IsRequired (Spells duration_at) (get (key_text Delay) es) delay
+  pub says_jitter : IsDefaulted false (Spells bool_at) (get (key_text Jitter) es) jitter
+  pub says_max_delay : IsOptional (Spells duration_at) (get (key_text MaxDelay) es) max_delay
+  pub not_below : IsFalse (is_below max_delay (Some delay))
+
+-- the policy that a table says
+abbrev pub IsRetryTable : Entries → RetryPolicy → Type 0
+IsRetryTable es (policies.Fixed count delay jitter) = IsFixedRetry es count delay jitter
+IsRetryTable es (policies.Exponential count delay jitter max_delay) =
+    IsExponentialRetry es count delay jitter max_delay
+
 -- a count means so many tries without delay, and a table what its fields say
 abbrev pub IsRetry : Node → RetryPolicy → Type 0
-IsRetry (table es) p = policy_of (retry_table es) ≡ Some p
+IsRetry (table es) p = IsRetryTable es p
 IsRetry n p = (count : ℕ) × (count_at n ≡ Ok count) × (p ≡ policies.Fixed count 0 false)
 
 -- how often a test is tried again
 abbrev pub count_of : RetryPolicy → ℕ
 count_of (policies.Fixed count delay jitter) = count
 count_of (policies.Exponential count delay jitter max_delay) = count
+
+-- ---- the same as a function, by the fields as they are written: a law says that it gives what the
+-- relation gives
+
+-- The table has these fields; a delay is among them where delays grow.
+pub record HasRetryFields (es : Entries) (t : RetryTable) : Type 0 where
+  pub backoff : IsRequired (Spells backoff_at) (get (key_text backoff_key) es) t.backoff
+  pub count : IsRequired (Spells count_at) (get (key_text count_key) es) t.count
+  pub delay : IsOptional (Spells duration_at) (get (key_text Delay) es) t.delay
+  pub delay_there : IsTrue (is_exponential t.backoff) → IsSome t.delay
+  pub jitter : IsOptional (Spells bool_at) (get (key_text Jitter) es) t.jitter
+  pub max_delay : IsOptional (Spells duration_at) (get (key_text MaxDelay) es) t.max_delay
+
+-- what the fields of a table say, where those are there that must be
+abbrev pub retry_table : Entries → Option RetryTable
+retry_table es = option_and_then (λ backoff. option_map (λ count. record {
+  backoff = backoff;
+  count = count;
+  delay = leaf_at duration_at (get (key_text Delay) es);
+  jitter = leaf_at bool_at (get (key_text Jitter) es);
+  max_delay = leaf_at duration_at (get (key_text MaxDelay) es);
+}) (leaf_at count_at (get (key_text count_key) es))) (leaf_at backoff_at (get (key_text backoff_key) es))
+
+-- the policy, unless delays grow and the delay is not there or `max-delay` is below it
+abbrev pub policy_of : RetryTable → Option RetryPolicy
+policy_of t = if is_exponential t.backoff then option_and_then growing t.delay else Some steady
+  where
+    jitter : Bool
+    jitter = unwrap_or t.jitter false
+
+    steady : RetryPolicy
+    steady = policies.Fixed t.count (unwrap_or t.delay 0) jitter
+
+    growing : ℕ → Option RetryPolicy
+    growing delay =
+        if is_below t.max_delay (Some delay) then None
+        else Some (policies.Exponential t.count delay jitter t.max_delay)

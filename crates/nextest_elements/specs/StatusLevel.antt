@@ -5,9 +5,9 @@ use Rattle.nextest_elements.specs.declared.status_level.StatusLevel.TheVariants 
 use Rattle.nextest_elements.specs.declared.status_level.FinalStatusLevel.{FinalStatusLevel}
 use Rattle.nextest_elements.specs.declared.status_level.FinalStatusLevel.TheVariants as final_levels
 use Rattle.nextest_tree.specs.Node.{Node}
-use Rattle.nextest_tree.specs.Schema.{Cause, Schema}
+use Rattle.nextest_tree.specs.Schema.{FaultCause, Schema}
 use Rattle.nextest_tree.specs.Leaf.{value, name_at}
-use Rattle.nextest_tree.specs.Spelling.{spelled}
+use Rattle.nextest_tree.specs.Spelling.{spellings}
 
 -- which tests are told of while they run, as it is written
 abbrev pub status_level_text : StatusLevel → List ℕ
@@ -22,14 +22,14 @@ status_level_text levels.All = codes "all"
 
 -- its names
 unfoldable pub status_level_names : List (List ℕ × StatusLevel)
-status_level_names = spelled status_level_text (levels.None ∷ levels.Fail ∷ levels.Retry ∷ levels.Slow ∷ levels.Leak ∷ levels.Pass ∷ levels.Skip ∷ levels.All ∷ [])
+status_level_names = spellings status_level_text (levels.None ∷ levels.Fail ∷ levels.Retry ∷ levels.Slow ∷ levels.Leak ∷ levels.Pass ∷ levels.Skip ∷ levels.All ∷ [])
 
 -- what a refusal says was expected
 unfoldable pub status_level_expected : List ℕ
 status_level_expected = codes "`none`, `fail`, `retry`, `slow`, `leak`, `pass`, `skip`, `all`"
 
 -- which tests are told of while they run, as a node spells it
-abbrev pub status_level_at : Node → Result StatusLevel Cause
+abbrev pub status_level_at : Node → Result StatusLevel FaultCause
 status_level_at = name_at status_level_names status_level_expected
 
 unfoldable pub a_status_level : Schema
@@ -48,14 +48,14 @@ final_status_level_text final_levels.All = codes "all"
 
 -- its names; retry stands for flaky too
 unfoldable pub final_status_level_names : List (List ℕ × FinalStatusLevel)
-final_status_level_names = spelled final_status_level_text (final_levels.None ∷ final_levels.Fail ∷ final_levels.Flaky ∷ final_levels.Slow ∷ final_levels.Skip ∷ final_levels.Leak ∷ final_levels.Pass ∷ final_levels.All ∷ []) ++ (codes "retry", final_levels.Flaky) ∷ []
+final_status_level_names = spellings final_status_level_text (final_levels.None ∷ final_levels.Fail ∷ final_levels.Flaky ∷ final_levels.Slow ∷ final_levels.Skip ∷ final_levels.Leak ∷ final_levels.Pass ∷ final_levels.All ∷ []) ++ (codes "retry", final_levels.Flaky) ∷ []
 
 -- what a refusal says was expected
 unfoldable pub final_status_level_expected : List ℕ
 final_status_level_expected = codes "`none`, `fail`, `flaky`, `slow`, `skip`, `leak`, `pass`, `all`"
 
 -- which tests are told of at the end of a run, as a node spells it
-abbrev pub final_status_level_at : Node → Result FinalStatusLevel Cause
+abbrev pub final_status_level_at : Node → Result FinalStatusLevel FaultCause
 final_status_level_at = name_at final_status_level_names final_status_level_expected
 
 unfoldable pub a_final_status_level : Schema

@@ -3,7 +3,7 @@ use Rattle.std.specs.Prelude.{ℕ, pos, negsuc, zero, suc, List, [], ◌∷◌, 
 use Rattle.nextest_elements.specs.declared.test_threads.TestThreads.{TestThreads}
 use Rattle.nextest_elements.specs.declared.test_threads.TestThreads.TheVariants as threads
 use Rattle.nextest_tree.specs.Node.{Node, int}
-use Rattle.nextest_tree.specs.Schema.{Cause, out_of_range, Schema}
+use Rattle.nextest_tree.specs.Schema.{FaultCause, out_of_range, Schema}
 use Rattle.nextest_tree.specs.Leaf.{value, name_at}
 
 -- its one name
@@ -15,7 +15,7 @@ unfoldable pub test_threads_expected : List ℕ
 test_threads_expected = codes "a nonzero number, `num-cpus`"
 
 -- how many tests run at a time, as a node spells it: zero is out of range
-abbrev pub test_threads_at : Node → Result TestThreads Cause
+abbrev pub test_threads_at : Node → Result TestThreads FaultCause
 test_threads_at (int (pos zero)) = Err out_of_range
 test_threads_at (int z) = Ok (threads.Count z)
 test_threads_at n = name_at test_threads_names test_threads_expected n

@@ -4,10 +4,10 @@ use Rattle.std.specs.Fmt.{decimal}
 use Rattle.nextest_elements.specs.declared.threads_required.ThreadsRequired.{ThreadsRequired}
 use Rattle.nextest_elements.specs.declared.threads_required.ThreadsRequired.TheVariants as required
 use Rattle.nextest_tree.specs.Node.{Node, int}
-use Rattle.nextest_tree.specs.Schema.{Cause, Schema}
+use Rattle.nextest_tree.specs.Schema.{FaultCause, Schema}
 use Rattle.nextest_tree.specs.Leaf.{value, name_at}
 use Rattle.nextest_elements.specs.Positive.{positive_at}
-use Rattle.nextest_tree.specs.Spelling.{spelled}
+use Rattle.nextest_tree.specs.Spelling.{spellings}
 
 -- how many threads a test takes up, as it is written
 abbrev pub threads_required_text : ThreadsRequired → List ℕ
@@ -17,19 +17,19 @@ threads_required_text required.NumTestThreads = codes "num-test-threads"
 
 -- its names
 unfoldable pub threads_required_names : List (List ℕ × ThreadsRequired)
-threads_required_names = spelled threads_required_text (required.NumCpus ∷ required.NumTestThreads ∷ [])
+threads_required_names = spellings threads_required_text (required.NumCpus ∷ required.NumTestThreads ∷ [])
 
 -- what a refusal says was expected
 unfoldable pub threads_required_expected : List ℕ
 threads_required_expected = codes "a positive number, `num-cpus`, `num-test-threads`"
 
 -- so many threads, if they are a number
-abbrev pub counted : Result ℕ Cause → Result ThreadsRequired Cause
+abbrev pub counted : Result ℕ FaultCause → Result ThreadsRequired FaultCause
 counted (Ok n) = Ok (required.Count n)
 counted (Err c) = Err c
 
 -- how many threads a test takes up, as a node spells it
-abbrev pub threads_required_at : Node → Result ThreadsRequired Cause
+abbrev pub threads_required_at : Node → Result ThreadsRequired FaultCause
 threads_required_at (int z) = counted (positive_at (int z))
 threads_required_at n = name_at threads_required_names threads_required_expected n
 

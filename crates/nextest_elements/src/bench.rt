@@ -31,7 +31,7 @@ impl Record for BenchConfig {
 
     ghost is_record = { IsBench };
 
-    fn names() -> &'static [Key] {
+    fn keys() -> &'static [Key] {
         &[Key::SlowTimeout, Key::GlobalTimeout]
     }
 
@@ -49,7 +49,7 @@ impl Record for BenchConfig {
     }
 }
 
-#[tactic(auto, unfolding(nextest_tree::specs::Reads::reading, nextest_tree::specs::Reads::spot_of))]
+#[tactic(auto, unfolding(nextest_tree::specs::Reads::reading, nextest_tree::specs::Reads::walk_view))]
 impl Element for BenchConfig {
     ghost schema = { bench };
 
@@ -68,7 +68,7 @@ impl Record for BenchOverride {
 
     ghost is_record = { IsBenchOverride };
 
-    fn names() -> &'static [Key] {
+    fn keys() -> &'static [Key] {
         &[Key::SlowTimeout]
     }
 
@@ -83,7 +83,7 @@ impl Record for BenchOverride {
     }
 }
 
-#[tactic(auto, unfolding(nextest_tree::specs::Reads::reading, nextest_tree::specs::Reads::spot_of))]
+#[tactic(auto, unfolding(nextest_tree::specs::Reads::reading, nextest_tree::specs::Reads::walk_view))]
 impl Element for BenchOverride {
     ghost schema = { bench_override };
 

@@ -3,7 +3,7 @@ ghost use Rattle.std.specs.Prelude.{Some};
 ghost use Rattle.nextest_tree.specs.Leaf.{Spells};
 ghost use Rattle.nextest_elements.specs.FlakyResult.{flaky_result_at, flaky_result_text, a_flaky_result};
 
-use nextest_tree::{Element, ElementFault, Tree, Walk, named};
+use nextest_tree::{Element, ElementFault, Tree, Walk, read_one_of};
 use std::alloc::Global;
 use std::fmt;
 
@@ -16,7 +16,7 @@ pub enum FlakyResult {
     Fail,
 }
 
-#[tactic(auto, unfolding(nextest_tree::specs::Reads::reading, nextest_tree::specs::Reads::spot_of, crate::specs::FlakyResult::a_flaky_result, crate::specs::FlakyResult::flaky_result_names, crate::specs::FlakyResult::flaky_result_expected))]
+#[tactic(auto, unfolding(nextest_tree::specs::Reads::reading, nextest_tree::specs::Reads::walk_view, crate::specs::FlakyResult::a_flaky_result, crate::specs::FlakyResult::flaky_result_names, crate::specs::FlakyResult::flaky_result_expected))]
 impl Element for FlakyResult {
     ghost schema = { a_flaky_result };
 
@@ -24,7 +24,7 @@ impl Element for FlakyResult {
 
     fn read(alloc: Global, tree: &Tree, walk: &mut Walk) -> Result<Self, ElementFault> {
         let names = [("pass", FlakyResult::Pass), ("fail", FlakyResult::Fail)];
-        named(alloc, tree, walk, &names, "`pass`, `fail`")
+        read_one_of(alloc, tree, walk, &names, "`pass`, `fail`")
     }
 }
 

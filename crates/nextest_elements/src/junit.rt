@@ -5,23 +5,34 @@ ghost use Rattle.nextest_tree.specs.Reads.{InTable};
 ghost use Rattle.nextest_elements.specs.Junit.{report_skip_policy_at, report_skip_policy_text, a_report_skip_policy, junit_flaky_fail_status_at, junit_flaky_fail_status_text, a_junit_flaky_fail_status, a_junit, junit_fields, IsJunit, a_junit_override, junit_override_fields, IsJunitOverride};
 
 use nextest_tree::{
-    Element, ElementCause, ElementFault, Key, Record, Tree, Walk, named, optional, read_record,
+    Element, ElementCause, ElementFault, Key, Record, Tree, Walk, optional, read_one_of,
+    read_record,
 };
 use std::alloc::Global;
 use std::collections::BTreeMap;
 use std::fmt;
 
 /// Which skipped tests a report lists.
-#[derive(Clone, Copy, Debug, Default, PartialEq, Eq)]
+#[derive(Clone, Copy, Debug, PartialEq, Eq)]
 pub enum ReportSkipPolicy {
     /// None of them.
-    #[default]
     None,
     /// All of them.
     All,
 }
 
-#[tactic(auto, unfolding(nextest_tree::specs::Reads::reading, nextest_tree::specs::Reads::spot_of, crate::specs::Junit::a_report_skip_policy, crate::specs::Junit::report_skip_policy_names, crate::specs::Junit::report_skip_policy_expected))]
+impl Default for ReportSkipPolicy {
+    ghost use Rattle.std.specs.Prelude.{◌≡◌};
+    ghost use Rattle.nextest_elements.specs.Junit.{usual_report_skip_policy};
+
+    ghost is_default = { λ policy. policy ≡ usual_report_skip_policy };
+
+    fn default() -> Self {
+        ReportSkipPolicy::None
+    }
+}
+
+#[tactic(auto, unfolding(nextest_tree::specs::Reads::reading, nextest_tree::specs::Reads::walk_view, crate::specs::Junit::a_report_skip_policy, crate::specs::Junit::report_skip_policy_names, crate::specs::Junit::report_skip_policy_expected))]
 impl Element for ReportSkipPolicy {
     ghost schema = { a_report_skip_policy };
 
@@ -32,7 +43,7 @@ impl Element for ReportSkipPolicy {
             ("none", ReportSkipPolicy::None),
             ("all", ReportSkipPolicy::All),
         ];
-        named(alloc, tree, walk, &names, "`none`, `all`")
+        read_one_of(alloc, tree, walk, &names, "`none`, `all`")
     }
 }
 
@@ -48,16 +59,26 @@ impl fmt::Display for ReportSkipPolicy {
 }
 
 /// How a report marks a flaky test that counts as failed.
-#[derive(Clone, Copy, Debug, Default, PartialEq, Eq)]
+#[derive(Clone, Copy, Debug, PartialEq, Eq)]
 pub enum JunitFlakyFailStatus {
     /// As failed.
-    #[default]
     Failure,
     /// As passed.
     Success,
 }
 
-#[tactic(auto, unfolding(nextest_tree::specs::Reads::reading, nextest_tree::specs::Reads::spot_of, crate::specs::Junit::a_junit_flaky_fail_status, crate::specs::Junit::junit_flaky_fail_status_names, crate::specs::Junit::junit_flaky_fail_status_expected))]
+impl Default for JunitFlakyFailStatus {
+    ghost use Rattle.std.specs.Prelude.{◌≡◌};
+    ghost use Rattle.nextest_elements.specs.Junit.{usual_junit_flaky_fail_status};
+
+    ghost is_default = { λ status. status ≡ usual_junit_flaky_fail_status };
+
+    fn default() -> Self {
+        JunitFlakyFailStatus::Failure
+    }
+}
+
+#[tactic(auto, unfolding(nextest_tree::specs::Reads::reading, nextest_tree::specs::Reads::walk_view, crate::specs::Junit::a_junit_flaky_fail_status, crate::specs::Junit::junit_flaky_fail_status_names, crate::specs::Junit::junit_flaky_fail_status_expected))]
 impl Element for JunitFlakyFailStatus {
     ghost schema = { a_junit_flaky_fail_status };
 
@@ -68,7 +89,7 @@ impl Element for JunitFlakyFailStatus {
             ("failure", JunitFlakyFailStatus::Failure),
             ("success", JunitFlakyFailStatus::Success),
         ];
-        named(alloc, tree, walk, &names, "`failure`, `success`")
+        read_one_of(alloc, tree, walk, &names, "`failure`, `success`")
     }
 }
 
@@ -130,7 +151,7 @@ pub struct JunitConfig {
     pub flaky_fail_status: JunitFlakyFailStatus,
 }
 
-#[tactic(auto, unfolding(nextest_tree::specs::Reads::reading, nextest_tree::specs::Reads::spot_of, crate::specs::Junit::a_junit))]
+#[tactic(auto, unfolding(nextest_tree::specs::Reads::reading, nextest_tree::specs::Reads::walk_view, crate::specs::Junit::a_junit))]
 impl Element for JunitImpl {
     ghost schema = { a_junit };
 
@@ -149,7 +170,7 @@ impl Record for JunitImpl {
 
     ghost is_record = { IsJunit };
 
-    fn names() -> &'static [Key] {
+    fn keys() -> &'static [Key] {
         &[
             Key::Path,
             Key::ReportName,
@@ -182,7 +203,7 @@ impl Record for JunitImpl {
     }
 }
 
-#[tactic(auto, unfolding(nextest_tree::specs::Reads::reading, nextest_tree::specs::Reads::spot_of, crate::specs::Junit::a_junit_override))]
+#[tactic(auto, unfolding(nextest_tree::specs::Reads::reading, nextest_tree::specs::Reads::walk_view, crate::specs::Junit::a_junit_override))]
 impl Element for JunitOverride {
     ghost schema = { a_junit_override };
 
@@ -201,7 +222,7 @@ impl Record for JunitOverride {
 
     ghost is_record = { IsJunitOverride };
 
-    fn names() -> &'static [Key] {
+    fn keys() -> &'static [Key] {
         &[
             Key::StoreSuccessOutput,
             Key::StoreFailureOutput,

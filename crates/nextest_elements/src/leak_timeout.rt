@@ -5,18 +5,17 @@ ghost use Rattle.nextest_elements.specs.LeakTimeout.{leak_result_text, leak_resu
 
 use nextest_texts::Nanoseconds;
 use nextest_tree::{
-    Element, ElementCause, ElementFault, Key, Record, Tree, Walk, named, optional, read_record,
-    required,
+    Element, ElementCause, ElementFault, Key, Record, Tree, Walk, optional, read_one_of,
+    read_record, required,
 };
 use std::alloc::Global;
 use std::collections::BTreeMap;
 use std::fmt;
 
 /// What a leak makes of a test that passed.
-#[derive(Clone, Copy, Debug, Default, PartialEq, Eq)]
+#[derive(Clone, Copy, Debug, PartialEq, Eq)]
 pub enum LeakTimeoutResult {
     /// The test passes still.
-    #[default]
     Pass,
     /// The test fails.
     Fail,
@@ -29,6 +28,16 @@ pub struct LeakTimeout {
     pub period: u128,
     /// What a leak makes of the test.
     pub result: LeakTimeoutResult,
+}
+
+impl Default for LeakTimeoutResult {
+    ghost use Rattle.nextest_elements.specs.LeakTimeout.{usual_leak_result};
+
+    ghost is_default = { λ result. result ≡ usual_leak_result };
+
+    fn default() -> Self {
+        LeakTimeoutResult::Pass
+    }
 }
 
 impl LeakTimeoutResult {
@@ -63,7 +72,7 @@ impl LeakTimeout {
     }
 }
 
-#[tactic(auto, unfolding(nextest_tree::specs::Reads::reading, nextest_tree::specs::Reads::spot_of, crate::specs::LeakTimeout::a_leak_result, crate::specs::LeakTimeout::leak_result_names, crate::specs::LeakTimeout::leak_result_expected))]
+#[tactic(auto, unfolding(nextest_tree::specs::Reads::reading, nextest_tree::specs::Reads::walk_view, crate::specs::LeakTimeout::a_leak_result, crate::specs::LeakTimeout::leak_result_names, crate::specs::LeakTimeout::leak_result_expected))]
 impl Element for LeakTimeoutResult {
     ghost schema = { a_leak_result };
 
@@ -73,7 +82,7 @@ impl Element for LeakTimeoutResult {
         let pass = LeakTimeoutResult::Pass;
         let fail = LeakTimeoutResult::Fail;
         let names = [(pass.name(), pass), (fail.name(), fail)];
-        named(alloc, tree, walk, &names, "`pass`, `fail`")
+        read_one_of(alloc, tree, walk, &names, "`pass`, `fail`")
     }
 }
 
@@ -81,9 +90,9 @@ impl Element for LeakTimeoutResult {
 impl Record for LeakTimeout {
     ghost fields = { leak_fields };
 
-    ghost is_record = { λ es leak. leak ≡ leak_table es };
+    ghost is_record = { λ es leak. leak_table es ≡ Some leak };
 
-    fn names() -> &'static [Key] {
+    fn keys() -> &'static [Key] {
         &[Key::Period, Key::Result]
     }
 
@@ -101,7 +110,7 @@ impl Record for LeakTimeout {
     }
 }
 
-#[tactic(auto, unfolding(nextest_tree::specs::Reads::reading, nextest_tree::specs::Reads::spot_of, nextest_texts::specs::Nanoseconds::a_duration))]
+#[tactic(auto, unfolding(nextest_tree::specs::Reads::reading, nextest_tree::specs::Reads::walk_view, nextest_texts::specs::Nanoseconds::a_duration))]
 impl Element for LeakTimeout {
     ghost schema = { leak_timeout };
 

@@ -33,7 +33,7 @@ pub use nextest_texts::{
 };
 pub use nextest_tree::{
     Element, ElementCause, ElementFault, Ignored, Key, Name, Record, Tree, Walk, law_fault_order,
-    named, optional, read_closed_record, read_record, read_table, required, wanted,
+    optional, read_closed_record, read_record, read_table, required, required_if,
 };
 pub use positive::Positive;
 pub use retry_policy::RetryPolicy;

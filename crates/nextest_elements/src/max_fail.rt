@@ -4,7 +4,7 @@ ghost use Rattle.nextest_elements.specs.MaxFail.{limit_at, a_limit, a_max_fail, 
 
 use crate::positive::Positive;
 use nextest_tree::{
-    Element, ElementCause, ElementFault, Ignored, Key, Record, Tree, Walk, named, optional,
+    Element, ElementCause, ElementFault, Ignored, Key, Record, Tree, Walk, optional, read_one_of,
     read_record, required,
 };
 use std::alloc::Global;
@@ -23,7 +23,7 @@ pub enum MaxFail {
 #[derive(Clone, Copy, Debug, PartialEq, Eq)]
 struct Limit(MaxFail);
 
-#[tactic(auto, unfolding(nextest_tree::specs::Reads::reading, nextest_tree::specs::Reads::spot_of, crate::specs::Positive::a_positive, crate::specs::MaxFail::a_limit, crate::specs::MaxFail::limit_names, crate::specs::MaxFail::limit_expected))]
+#[tactic(auto, unfolding(nextest_tree::specs::Reads::reading, nextest_tree::specs::Reads::walk_view, crate::specs::Positive::a_positive, crate::specs::MaxFail::a_limit, crate::specs::MaxFail::limit_names, crate::specs::MaxFail::limit_expected))]
 impl Element for Limit {
     ghost use Rattle.std.specs.Prelude.{◌≡◌, Ok};
 
@@ -39,7 +39,7 @@ impl Element for Limit {
             }
             Tree::Text(_) => {
                 let names = [("all", MaxFail::All)];
-                let max_fail = named(alloc, tree, walk, &names, "a positive number, `all`")?;
+                let max_fail = read_one_of(alloc, tree, walk, &names, "a positive number, `all`")?;
                 Ok(Limit(max_fail))
             }
             _ => Err(walk.fault(alloc, ElementCause::WrongKind)),
@@ -47,7 +47,7 @@ impl Element for Limit {
     }
 }
 
-#[tactic(auto, unfolding(nextest_tree::specs::Reads::reading, nextest_tree::specs::Reads::spot_of, nextest_tree::specs::Leaf::a_bool, crate::specs::MaxFail::a_max_fail))]
+#[tactic(auto, unfolding(nextest_tree::specs::Reads::reading, nextest_tree::specs::Reads::walk_view, nextest_tree::specs::Leaf::a_bool, crate::specs::MaxFail::a_max_fail))]
 impl Element for MaxFail {
     ghost schema = { a_max_fail };
 
@@ -68,7 +68,7 @@ impl Record for MaxFail {
 
     ghost is_record = { IsMaxFailTable };
 
-    fn names() -> &'static [Key] {
+    fn keys() -> &'static [Key] {
         &[Key::MaxFail, Key::Terminate]
     }
 

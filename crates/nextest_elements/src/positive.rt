@@ -9,7 +9,7 @@ use std::alloc::Global;
 #[derive(Clone, Copy, Debug, PartialEq, Eq)]
 pub struct Positive(pub u64);
 
-#[tactic(auto, unfolding(nextest_tree::specs::Reads::reading, nextest_tree::specs::Reads::spot_of, crate::specs::Positive::a_positive))]
+#[tactic(auto, unfolding(nextest_tree::specs::Reads::reading, nextest_tree::specs::Reads::walk_view, crate::specs::Positive::a_positive))]
 impl Element for Positive {
     ghost schema = { a_positive };
 

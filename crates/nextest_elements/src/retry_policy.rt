@@ -1,15 +1,15 @@
 //! How often a test is tried again.
 ghost use Rattle.std.specs.Prelude.{◌≡◌, Ok, option_map, IfOk};
 ghost use Rattle.nextest_tree.specs.Node as Node;
-ghost use Rattle.nextest_tree.specs.View.{members_of_trees};
-ghost use Rattle.nextest_tree.specs.Reads.{Gives, reading, spot_of};
-ghost use Rattle.nextest_elements.specs.RetryPolicy.{backoff_at, a_backoff, count_at, a_count, retry, retry_fields, retry_table, policy_of, IsRetry};
+ghost use Rattle.nextest_tree.specs.View.{entries_view};
+ghost use Rattle.nextest_tree.specs.Reads.{Gives, reading, walk_view};
+ghost use Rattle.nextest_elements.specs.RetryPolicy.{backoff_at, a_backoff, count_at, a_count, retry, retry_fields, HasRetryFields, policy_of, IsRetry};
 ghost use Rattle.nextest_tree.specs.Leaf.{Spells};
 
 use nextest_texts::Nanoseconds;
 use nextest_tree::{
-    Element, ElementCause, ElementFault, Key, Record, Tree, Walk, named, optional, read_record,
-    required, wanted,
+    Element, ElementCause, ElementFault, Key, Record, Tree, Walk, optional, read_one_of,
+    read_record, required, required_if,
 };
 use std::alloc::Global;
 use std::collections::BTreeMap;
@@ -62,7 +62,7 @@ pub enum RetryPolicy {
     },
 }
 
-#[tactic(auto, unfolding(nextest_tree::specs::Reads::reading, nextest_tree::specs::Reads::spot_of, crate::specs::RetryPolicy::a_backoff, crate::specs::RetryPolicy::backoff_names, crate::specs::RetryPolicy::backoff_expected))]
+#[tactic(auto, unfolding(nextest_tree::specs::Reads::reading, nextest_tree::specs::Reads::walk_view, crate::specs::RetryPolicy::a_backoff, crate::specs::RetryPolicy::backoff_names, crate::specs::RetryPolicy::backoff_expected))]
 impl Element for Backoff {
     ghost schema = { a_backoff };
 
@@ -73,11 +73,11 @@ impl Element for Backoff {
             ("fixed", Backoff::Fixed),
             ("exponential", Backoff::Exponential),
         ];
-        named(alloc, tree, walk, &names, "`fixed`, `exponential`")
+        read_one_of(alloc, tree, walk, &names, "`fixed`, `exponential`")
     }
 }
 
-#[tactic(auto, unfolding(nextest_tree::specs::Reads::reading, nextest_tree::specs::Reads::spot_of, crate::specs::RetryPolicy::a_count))]
+#[tactic(auto, unfolding(nextest_tree::specs::Reads::reading, nextest_tree::specs::Reads::walk_view, crate::specs::RetryPolicy::a_count))]
 impl Element for RetryCount {
     ghost schema = { a_count };
 
@@ -98,9 +98,9 @@ impl Element for RetryCount {
 impl Record for RetryTable {
     ghost fields = { retry_fields };
 
-    ghost is_record = { λ es t. t ≡ retry_table es };
+    ghost is_record = { HasRetryFields };
 
-    fn names() -> &'static [Key] {
+    fn keys() -> &'static [Key] {
         &[
             Key::Backoff,
             Key::Count,
@@ -118,7 +118,7 @@ impl Record for RetryTable {
         let backoff = required(alloc, members, Key::Backoff, walk)?;
         let RetryCount(count) = required(alloc, members, Key::Count, walk)?;
         let must = backoff == Backoff::Exponential;
-        let delay = wanted(alloc, members, Key::Delay, must, walk)?;
+        let delay = required_if(alloc, members, Key::Delay, must, walk)?;
         let jitter = optional(alloc, members, Key::Jitter, walk)?;
         let max_delay = optional(alloc, members, Key::MaxDelay, walk)?;
         Ok(RetryTable {
@@ -131,29 +131,29 @@ impl Record for RetryTable {
     }
 }
 
-/// The policy of a table, unless its greatest delay is below its first one.
+/// The policy of a table, unless delays grow and the greatest one is below the first.
 fn policy(table: RetryTable) -> Option<RetryPolicy>
     ensures { result ≡ policy_of table }
 {
     let count = table.count;
-    let delay = table.delay.unwrap_or(0);
     let jitter = table.jitter.unwrap_or(false);
     match table.backoff {
         Backoff::Fixed => Some(RetryPolicy::Fixed {
             count,
-            delay,
+            delay: table.delay.unwrap_or(0),
             jitter,
         }),
         Backoff::Exponential => {
-            if table.max_delay.unwrap_or(delay) < delay {
-                return None;
+            let delay = table.delay?;
+            match table.max_delay {
+                Some(greatest) if greatest < delay => None,
+                max_delay => Some(RetryPolicy::Exponential {
+                    count,
+                    delay,
+                    jitter,
+                    max_delay,
+                }),
             }
-            Some(RetryPolicy::Exponential {
-                count,
-                delay,
-                jitter,
-                max_delay: table.max_delay,
-            })
         }
     }
 }
@@ -183,7 +183,7 @@ impl RetryPolicy {
     }
 }
 
-#[tactic(auto, unfolding(nextest_tree::specs::Reads::reading, nextest_tree::specs::Reads::spot_of, crate::specs::RetryPolicy::a_count))]
+#[tactic(auto, unfolding(nextest_tree::specs::Reads::reading, nextest_tree::specs::Reads::walk_view, crate::specs::RetryPolicy::a_count))]
 impl Element for RetryPolicy {
     ghost schema = { retry };
 
@@ -202,14 +202,14 @@ impl Element for RetryPolicy {
 }
 
 /// The policy of a table, or the first fault of it.
-#[tactic(auto, using(nextest_tree::proofs::Reading::reading_across), unfolding(nextest_tree::specs::Reads::spot_of))]
+#[tactic(auto, using(nextest_tree::proofs::Reading::reading_across), unfolding(nextest_tree::specs::Reads::walk_view))]
 fn retry_of(
     alloc: Global,
     members: &BTreeMap<String, Tree>,
     walk: &mut Walk,
 ) -> Result<RetryPolicy, ElementFault>
-    ensures value { IfOk result (λ policy. IsRetry (Node.table (members_of_trees members.now.entries)) policy) }
-    ensures reads { Gives result walk.new (reading retry (Node.table (members_of_trees members.now.entries)) (spot_of walk.old)) }
+    ensures value { IfOk result (λ policy. IsRetry (Node.table (entries_view members.now.entries)) policy) }
+    ensures reads { Gives result walk.new (reading retry (Node.table (entries_view members.now.entries)) (walk_view walk.old)) }
 {
     let table = read_record(alloc, members, walk)?;
     match policy(table) {

@@ -6,8 +6,8 @@ ghost use Rattle.nextest_elements.specs.SlowTimeout.{slow_result_text, slow_resu
 use crate::positive::Positive;
 use nextest_texts::Nanoseconds;
 use nextest_tree::{
-    Element, ElementCause, ElementFault, Key, Record, Tree, Walk, named, optional, read_record,
-    required,
+    Element, ElementCause, ElementFault, Key, Record, Tree, Walk, optional, read_one_of,
+    read_record, required,
 };
 use std::alloc::Global;
 use std::collections::BTreeMap;
@@ -17,10 +17,9 @@ use std::fmt;
 const USUAL_GRACE_PERIOD: u128 = 10_000_000_000;
 
 /// What comes of a test that is ended for its slowness.
-#[derive(Clone, Copy, Debug, Default, PartialEq, Eq)]
+#[derive(Clone, Copy, Debug, PartialEq, Eq)]
 pub enum SlowTimeoutResult {
     /// The test fails.
-    #[default]
     Fail,
     /// The test passes.
     Pass,
@@ -37,6 +36,16 @@ pub struct SlowTimeout {
     pub grace_period: u128,
     /// What comes of a test that is ended.
     pub on_timeout: SlowTimeoutResult,
+}
+
+impl Default for SlowTimeoutResult {
+    ghost use Rattle.nextest_elements.specs.SlowTimeout.{usual_slow_result};
+
+    ghost is_default = { λ result. result ≡ usual_slow_result };
+
+    fn default() -> Self {
+        SlowTimeoutResult::Fail
+    }
 }
 
 impl SlowTimeoutResult {
@@ -73,7 +82,7 @@ impl SlowTimeout {
     }
 }
 
-#[tactic(auto, unfolding(nextest_tree::specs::Reads::reading, nextest_tree::specs::Reads::spot_of, crate::specs::SlowTimeout::a_slow_result, crate::specs::SlowTimeout::slow_result_names, crate::specs::SlowTimeout::slow_result_expected))]
+#[tactic(auto, unfolding(nextest_tree::specs::Reads::reading, nextest_tree::specs::Reads::walk_view, crate::specs::SlowTimeout::a_slow_result, crate::specs::SlowTimeout::slow_result_names, crate::specs::SlowTimeout::slow_result_expected))]
 impl Element for SlowTimeoutResult {
     ghost schema = { a_slow_result };
 
@@ -83,7 +92,7 @@ impl Element for SlowTimeoutResult {
         let fail = SlowTimeoutResult::Fail;
         let pass = SlowTimeoutResult::Pass;
         let names = [(fail.name(), fail), (pass.name(), pass)];
-        named(alloc, tree, walk, &names, "`fail`, `pass`")
+        read_one_of(alloc, tree, walk, &names, "`fail`, `pass`")
     }
 }
 
@@ -91,9 +100,9 @@ impl Element for SlowTimeoutResult {
 impl Record for SlowTimeout {
     ghost fields = { slow_fields };
 
-    ghost is_record = { λ es slow. slow ≡ slow_table es };
+    ghost is_record = { λ es slow. slow_table es ≡ Some slow };
 
-    fn names() -> &'static [Key] {
+    fn keys() -> &'static [Key] {
         &[
             Key::Period,
             Key::TerminateAfter,
@@ -120,7 +129,7 @@ impl Record for SlowTimeout {
     }
 }
 
-#[tactic(auto, unfolding(nextest_tree::specs::Reads::reading, nextest_tree::specs::Reads::spot_of, nextest_texts::specs::Nanoseconds::a_duration))]
+#[tactic(auto, unfolding(nextest_tree::specs::Reads::reading, nextest_tree::specs::Reads::walk_view, nextest_texts::specs::Nanoseconds::a_duration))]
 impl Element for SlowTimeout {
     ghost schema = { slow_timeout };
 

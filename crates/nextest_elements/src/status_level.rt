@@ -3,7 +3,7 @@ ghost use Rattle.std.specs.Prelude.{Some};
 ghost use Rattle.nextest_tree.specs.Leaf.{Spells};
 ghost use Rattle.nextest_elements.specs.StatusLevel.{status_level_at, status_level_text, a_status_level, final_status_level_at, final_status_level_text, a_final_status_level};
 
-use nextest_tree::{Element, ElementFault, Tree, Walk, named};
+use nextest_tree::{Element, ElementFault, Tree, Walk, read_one_of};
 use std::alloc::Global;
 use std::fmt;
 
@@ -28,7 +28,7 @@ pub enum StatusLevel {
     All,
 }
 
-#[tactic(auto, unfolding(nextest_tree::specs::Reads::reading, nextest_tree::specs::Reads::spot_of, crate::specs::StatusLevel::a_status_level, crate::specs::StatusLevel::status_level_names, crate::specs::StatusLevel::status_level_expected))]
+#[tactic(auto, unfolding(nextest_tree::specs::Reads::reading, nextest_tree::specs::Reads::walk_view, crate::specs::StatusLevel::a_status_level, crate::specs::StatusLevel::status_level_names, crate::specs::StatusLevel::status_level_expected))]
 impl Element for StatusLevel {
     ghost schema = { a_status_level };
 
@@ -45,7 +45,7 @@ impl Element for StatusLevel {
             ("skip", StatusLevel::Skip),
             ("all", StatusLevel::All),
         ];
-        named(
+        read_one_of(
             alloc,
             tree,
             walk,
@@ -93,7 +93,7 @@ pub enum FinalStatusLevel {
     All,
 }
 
-#[tactic(auto, unfolding(nextest_tree::specs::Reads::reading, nextest_tree::specs::Reads::spot_of, crate::specs::StatusLevel::a_final_status_level, crate::specs::StatusLevel::final_status_level_names, crate::specs::StatusLevel::final_status_level_expected))]
+#[tactic(auto, unfolding(nextest_tree::specs::Reads::reading, nextest_tree::specs::Reads::walk_view, crate::specs::StatusLevel::a_final_status_level, crate::specs::StatusLevel::final_status_level_names, crate::specs::StatusLevel::final_status_level_expected))]
 impl Element for FinalStatusLevel {
     ghost schema = { a_final_status_level };
 
@@ -111,7 +111,7 @@ impl Element for FinalStatusLevel {
             ("all", FinalStatusLevel::All),
             ("retry", FinalStatusLevel::Flaky),
         ];
-        named(
+        read_one_of(
             alloc,
             tree,
             walk,

@@ -1,6 +1,6 @@
 //! Groups of tests.
 ghost use Rattle.std.specs.Prelude.{◌≡◌, List, Option, ℕ, Some};
-ghost use Rattle.nextest_tree.specs.Schema.{Cause};
+ghost use Rattle.nextest_tree.specs.Schema.{FaultCause};
 ghost use Rattle.nextest_tree.specs.Leaf.{Spells};
 ghost use Rattle.nextest_tree.specs.Reads.{InTable};
 ghost use Rattle.nextest_texts.specs.IdentifierReader.{identifier_cause, an_identifier};
@@ -130,7 +130,7 @@ impl Name for CustomTestGroup {
     ghost ordered = { λ a b. Prim.search rules };
 }
 
-#[tactic(auto, unfolding(nextest_tree::specs::Reads::reading, nextest_tree::specs::Reads::spot_of, crate::specs::TestGroup::a_test_group, crate::specs::TestGroup::global_text, nextest_texts::specs::IdentifierReader::an_identifier))]
+#[tactic(auto, unfolding(nextest_tree::specs::Reads::reading, nextest_tree::specs::Reads::walk_view, crate::specs::TestGroup::a_test_group, crate::specs::TestGroup::global_text, nextest_texts::specs::IdentifierReader::an_identifier))]
 impl Element for TestGroup {
     ghost schema = { a_test_group };
 
@@ -147,13 +147,13 @@ impl Element for TestGroup {
     }
 }
 
-#[tactic(auto, using(nextest_tree::proofs::Reading::leaf_there))]
+#[tactic(auto, using(nextest_tree::proofs::Reading::leaf_read))]
 impl Record for TestGroupConfig {
     ghost fields = { group_fields };
 
     ghost is_record = { IsGroupTable };
 
-    fn names() -> &'static [Key] {
+    fn keys() -> &'static [Key] {
         &[Key::MaxThreads]
     }
 
@@ -167,7 +167,7 @@ impl Record for TestGroupConfig {
     }
 }
 
-#[tactic(auto, unfolding(nextest_tree::specs::Reads::reading, nextest_tree::specs::Reads::spot_of))]
+#[tactic(auto, unfolding(nextest_tree::specs::Reads::reading, nextest_tree::specs::Reads::walk_view))]
 impl Element for TestGroupConfig {
     ghost schema = { group_config };
 

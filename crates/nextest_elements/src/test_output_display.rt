@@ -3,7 +3,7 @@ ghost use Rattle.std.specs.Prelude.{Some};
 ghost use Rattle.nextest_tree.specs.Leaf.{Spells};
 ghost use Rattle.nextest_elements.specs.TestOutputDisplay.{test_output_display_at, test_output_display_text, a_test_output_display};
 
-use nextest_tree::{Element, ElementFault, Tree, Walk, named};
+use nextest_tree::{Element, ElementFault, Tree, Walk, read_one_of};
 use std::alloc::Global;
 use std::fmt;
 
@@ -20,7 +20,7 @@ pub enum TestOutputDisplay {
     Never,
 }
 
-#[tactic(auto, unfolding(nextest_tree::specs::Reads::reading, nextest_tree::specs::Reads::spot_of, crate::specs::TestOutputDisplay::a_test_output_display, crate::specs::TestOutputDisplay::test_output_display_names, crate::specs::TestOutputDisplay::test_output_display_expected))]
+#[tactic(auto, unfolding(nextest_tree::specs::Reads::reading, nextest_tree::specs::Reads::walk_view, crate::specs::TestOutputDisplay::a_test_output_display, crate::specs::TestOutputDisplay::test_output_display_names, crate::specs::TestOutputDisplay::test_output_display_expected))]
 impl Element for TestOutputDisplay {
     ghost schema = { a_test_output_display };
 
@@ -33,7 +33,7 @@ impl Element for TestOutputDisplay {
             ("final", TestOutputDisplay::Final),
             ("never", TestOutputDisplay::Never),
         ];
-        named(
+        read_one_of(
             alloc,
             tree,
             walk,

@@ -6,10 +6,18 @@ use nextest_tree::{Element, ElementCause, ElementFault, Tree, Walk};
 use std::alloc::Global;
 
 /// The priority of a test, from -100 to 100: higher ones run first. The default is 0.
-#[derive(Clone, Copy, Debug, Default, PartialEq, Eq, PartialOrd, Ord)]
+#[derive(Clone, Copy, Debug, PartialEq, Eq)]
 pub struct TestPriority(pub i8);
 
-#[tactic(auto, unfolding(nextest_tree::specs::Reads::reading, nextest_tree::specs::Reads::spot_of, crate::specs::TestPriority::a_priority))]
+impl Default for TestPriority {
+    ghost is_default = { λ priority. priority.0 ≡ pos 0 };
+
+    fn default() -> Self {
+        TestPriority(0)
+    }
+}
+
+#[tactic(auto, unfolding(nextest_tree::specs::Reads::reading, nextest_tree::specs::Reads::walk_view, crate::specs::TestPriority::a_priority))]
 impl Element for TestPriority {
     ghost schema = { a_priority };
 

@@ -3,7 +3,7 @@ ghost use Rattle.std.specs.Prelude.{◌≡◌};
 ghost use Rattle.nextest_tree.specs.Leaf.{Spells};
 ghost use Rattle.nextest_elements.specs.TestThreads.{test_threads_at, a_test_threads};
 
-use nextest_tree::{Element, ElementCause, ElementFault, Tree, Walk, named};
+use nextest_tree::{Element, ElementCause, ElementFault, Tree, Walk, read_one_of};
 use std::alloc::Global;
 
 /// How many tests run at a time.
@@ -35,7 +35,7 @@ impl TestThreads {
     }
 }
 
-#[tactic(auto, unfolding(nextest_tree::specs::Reads::reading, nextest_tree::specs::Reads::spot_of, crate::specs::TestThreads::a_test_threads, crate::specs::TestThreads::test_threads_names, crate::specs::TestThreads::test_threads_expected))]
+#[tactic(auto, unfolding(nextest_tree::specs::Reads::reading, nextest_tree::specs::Reads::walk_view, crate::specs::TestThreads::a_test_threads, crate::specs::TestThreads::test_threads_names, crate::specs::TestThreads::test_threads_expected))]
 impl Element for TestThreads {
     ghost schema = { a_test_threads };
 
@@ -47,7 +47,7 @@ impl Element for TestThreads {
             Tree::Int(count) => Ok(TestThreads::Count(*count)),
             Tree::Text(_) => {
                 let names = [("num-cpus", TestThreads::NumCpus)];
-                named(alloc, tree, walk, &names, "a nonzero number, `num-cpus`")
+                read_one_of(alloc, tree, walk, &names, "a nonzero number, `num-cpus`")
             }
             _ => Err(walk.fault(alloc, ElementCause::WrongKind)),
         }

@@ -4,7 +4,7 @@ ghost use Rattle.nextest_tree.specs.Leaf.{Spells};
 ghost use Rattle.nextest_elements.specs.ThreadsRequired.{threads_required_at, threads_required_text, a_threads_required};
 
 use crate::positive::Positive;
-use nextest_tree::{Element, ElementCause, ElementFault, Tree, Walk, named};
+use nextest_tree::{Element, ElementCause, ElementFault, Tree, Walk, read_one_of};
 use std::alloc::Global;
 use std::fmt;
 
@@ -34,7 +34,7 @@ impl ThreadsRequired {
     }
 }
 
-#[tactic(auto, unfolding(nextest_tree::specs::Reads::reading, nextest_tree::specs::Reads::spot_of, crate::specs::Positive::a_positive, crate::specs::ThreadsRequired::a_threads_required, crate::specs::ThreadsRequired::threads_required_names, crate::specs::ThreadsRequired::threads_required_expected))]
+#[tactic(auto, unfolding(nextest_tree::specs::Reads::reading, nextest_tree::specs::Reads::walk_view, crate::specs::Positive::a_positive, crate::specs::ThreadsRequired::a_threads_required, crate::specs::ThreadsRequired::threads_required_names, crate::specs::ThreadsRequired::threads_required_expected))]
 impl Element for ThreadsRequired {
     ghost schema = { a_threads_required };
 
@@ -51,7 +51,7 @@ impl Element for ThreadsRequired {
                     ("num-cpus", ThreadsRequired::NumCpus),
                     ("num-test-threads", ThreadsRequired::NumTestThreads),
                 ];
-                named(
+                read_one_of(
                     alloc,
                     tree,
                     walk,

@@ -5,7 +5,7 @@ use nextest_config::{
     CONFIG_PATH, ConfigFileSelection, ConfigParseError, ConfigPath, ConfigPaths,
     DefaultConfigWarnings, FileInput, NextestConfig, ReadOutcome, ToolConfigFile,
 };
-use nextest_load::engines::ParseContext;
+use nextest_engines::ParseContext;
 use std::alloc::{AllocError, Global};
 use std::collections::BTreeSet;
 use toy_engines::filters::ToyFilters;

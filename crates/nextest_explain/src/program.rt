@@ -7,7 +7,7 @@ use crate::settings_lines::settings_text;
 use nextest_config::{
     ConfigParseError, ConfigParseErrorKind, EvaluatableProfile, ProfileError, ProfileNotFound,
 };
-use nextest_load::engines::{BinaryQuery, BuildPlatform, BuildPlatforms, TestQuery};
+use nextest_engines::{BinaryQuery, BuildPlatform, BuildPlatforms, TestQuery};
 use std::alloc::{AllocError, Global};
 use std::io::{self, Write};
 use toy_engines::filters::{ToyFilters, ToyTally};

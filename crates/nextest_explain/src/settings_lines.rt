@@ -1,7 +1,7 @@
 //! The lines of a test's settings.
 use nextest_config::{Setting, SettingSource, TestSettings};
 use nextest_elements::{LeakTimeout, RetryPolicy, SlowTimeout};
-use nextest_load::engines::{Filters, Specs};
+use nextest_engines::{Filters, Specs};
 use std::alloc::{AllocError, Global};
 use std::fmt;
 

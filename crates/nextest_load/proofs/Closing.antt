@@ -65,8 +65,8 @@ module _ {M : Type 0} (K : Type 0) (read : List ℕ → Result M (List ℕ)) whe
       each_profile (IsAmong (names_of (merged_tree ss))) s.source (own_text s).profiles
       (each_from (λ p all. each_from (λ o one. among_more (known_to below s) (names_of (merged_tree ss)) more o.written.test_group one) p.1.overrides all) (own_text s).profiles h)
 
-  sources_closed : (everything : M) (ss : List SourceText) → EachSource (λ s. faults root [] (own_tree s) ≡ []) ss → EachOver (λ below s. EachRule (λ o. IsAmong (known_to below s) o.written.test_group) (own_text s).profiles) ss → IsClosed (config_of {K = K} everything read ss)
-  sources_closed everything ss readable groups =
+  sources_closed : (match_all : M) (ss : List SourceText) → EachSource (λ s. faults root [] (own_tree s) ≡ []) ss → EachOver (λ below s. EachRule (λ o. IsAmong (known_to below s) o.written.test_group) (own_text s).profiles) ss → IsClosed (config_of {K = K} match_all read ss)
+  sources_closed match_all ss readable groups =
       let fine = each_split (λ s. faults root [] (own_tree s) ≡ []) [] ss readable in
       let P = λ (layer : Layer M K). Each (λ p. Each (λ rule. IsAmong (names_of (merged_tree ss)) rule.written.test_group) p.1) layer.rules in
       each_reversed P (map (layer_of read) ss)
@@ -81,8 +81,8 @@ unmeant meaning spec_meaning c h =
     (each_unmapped (λ layer. Each (λ p. Each (λ rule. IsAmong names rule.written.test_group) p.1) layer.rules) (meant_layer meaning spec_meaning) c.layers h)
 
 -- a configuration that was loaded is closed
-pub closed : {E N M K : Type 0} (read : List ℕ → Result M (List ℕ)) (meaning : E → M) (spec_meaning : N → K) (everything : M) (g : Given) (r : Result (Whole E N) ConfigParseError) → Found (load_fault read g) (ended r) → IfOk r (λ c. meant_whole meaning spec_meaning c ≡ config_of everything read (sources_in g)) → IfOk r (λ c. IsClosed c)
-closed {E} {N} {M} {K} read meaning spec_meaning everything g (Ok c) found means =
+pub closed : {E N M K : Type 0} (read : List ℕ → Result M (List ℕ)) (meaning : E → M) (spec_meaning : N → K) (match_all : M) (g : Given) (r : Result (Whole E N) ConfigParseError) → Found (load_fault read g) (ended r) → IfOk r (λ c. meant_whole meaning spec_meaning c ≡ config_of match_all read (sources_in g)) → IfOk r (λ c. IsClosed c)
+closed {E} {N} {M} {K} read meaning spec_meaning match_all g (Ok c) found means =
     let fine = accepted_from read g found in
-    unmeant meaning spec_meaning c (subst (λ w. IsClosed w) (sym means) (sources_closed K read everything (sources_in g) fine.readable fine.groups))
-closed read meaning spec_meaning everything g (Err e) found means = tt
+    unmeant meaning spec_meaning c (subst (λ w. IsClosed w) (sym means) (sources_closed K read match_all (sources_in g) fine.readable fine.groups))
+closed read meaning spec_meaning match_all g (Err e) found means = tt

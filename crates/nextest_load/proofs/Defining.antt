@@ -11,7 +11,7 @@ use Rattle.std.proofs.lemmas.Slice.Eq.{bytes_eq-Decides}
 use Rattle.nextest_tree.specs.declared.key.Key.TheVariants as keys
 use Rattle.nextest_tree.specs.Key.{key_text}
 use Rattle.nextest_tree.specs.Node.{Node, table, array, text, int, bool, opaque, Entries, no_entries, entry, get, put, as_table}
-use Rattle.nextest_tree.specs.Schema.{Cause, Schema, Fields, no_more, field, map_of, faults, fields_faults, field_faults, below, is_one_of}
+use Rattle.nextest_tree.specs.Schema.{FaultCause, Schema, Fields, no_more, field, map_of, faults, fields_faults, field_faults, below, is_one_of}
 use Rattle.nextest_tree.specs.declared.key.Key.{Key}
 use Rattle.nextest_texts.specs.IdentifierReader.{identifier_cause}
 use Rattle.nextest_elements.specs.TestGroup.{group_config}
@@ -222,7 +222,7 @@ unfolding schema_of
 field_fine name t no_more es found h = cc
 field_fine name t (field k must s fs) es found h = field_at (bytes_eq (key_text k) name) name k must s t fs es refl found h (field_fine name t fs es)
 
-map_table : (test : List ℕ → Option Cause) (s : Schema) (p : List ℕ) (n : Node) → faults (map_of test s) p n ≡ [] → IsTableIfThere (Some n)
+map_table : (test : List ℕ → Option FaultCause) (s : Schema) (p : List ℕ) (n : Node) → faults (map_of test s) p n ≡ [] → IsTableIfThere (Some n)
 map_table test s p (table es) h = tt
 map_table test s p (array ns) h = cc
 map_table test s p (text t) h = cc

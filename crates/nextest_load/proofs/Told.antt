@@ -6,7 +6,7 @@ use Rattle.std.proofs.lemmas.Result.{err_from_is_err_and}
 use Rattle.nextest_tree.specs.declared.walk.Walk.{Walk}
 use Rattle.nextest_tree.specs.declared.fault.ElementFault.{ElementFault}
 use Rattle.nextest_tree.specs.Node.{Node}
-use Rattle.nextest_tree.specs.Reads.{Spot, start, spot_of, noting, outcome, reading, told, Fails}
+use Rattle.nextest_tree.specs.Reads.{ReadState, start, walk_view, noting, outcome, reading, fault_view, Fails}
 use Rattle.nextest_tree.specs.Schema.{Fault, Schema, first, faults, unknown, is_one_of}
 use Rattle.nextest_load.specs.Errors.{Ended, passed, refused, no_memory, odd, kind_seen, ended_with, seen_at, source_of, error_seen, ended, Found, IsRefusal, Refuses}
 use Rattle.nextest_load.specs.Faults.{Cause, bad_element, LoadFault, at_source, fault_of, all_found, element_fault}
@@ -16,30 +16,30 @@ use Rattle.nextest_load.specs.declared.error.ConfigParseError.{ConfigParseError}
 use Rattle.nextest_load.specs.declared.error.ConfigParseErrorKind.{ConfigParseErrorKind}
 use Rattle.nextest_load.specs.declared.error.ConfigParseErrorKind.TheVariants as kinds
 
-passes : (fs : List Fault) (paths : List (List ℕ)) (at new : Spot) → outcome fs paths at ≡ Ok new → (fs ≡ []) × (noting paths at ≡ new)
+passes : (fs : List Fault) (paths : List (List ℕ)) (at new : ReadState) → outcome fs paths at ≡ Ok new → (fs ≡ []) × (noting paths at ≡ new)
 passes [] paths at new h = (refl, cc)
 passes (f ∷ fs) paths at new h = cc
 
-fails : (fs : List Fault) (paths : List (List ℕ)) (at : Spot) (f : Fault) → outcome fs paths at ≡ Err f → first fs ≡ Some f
+fails : (fs : List Fault) (paths : List (List ℕ)) (at : ReadState) (f : Fault) → outcome fs paths at ≡ Err f → first fs ≡ Some f
 fails [] paths at f h = cc
 fails (g ∷ fs) paths at f h = cc
 
 -- a reading that passes has met no fault
-pub none_found : (s : Schema) (n : Node) (new : Spot) → reading s n start ≡ Ok new → faults s [] n ≡ []
+pub none_found : (s : Schema) (n : Node) (new : ReadState) → reading s n start ≡ Ok new → faults s [] n ≡ []
 unfolding reading start
 none_found s n new h = (passes (faults s [] n) (unknown s [] n) start new h).0
 
 -- and it has noted the unknown paths, and no others
-pub noted_are : (s : Schema) (n : Node) (w : Walk) → reading s n start ≡ Ok (spot_of w) → (q : List ℕ) → contains_text w.unknown q ≡ is_one_of (unknown s [] n) q
-unfolding reading start spot_of
-noted_are s n w h q = sym (ap (λ at. at.seen q) (passes (faults s [] n) (unknown s [] n) start (spot_of w) h).1)
+pub noted_are : (s : Schema) (n : Node) (w : Walk) → reading s n start ≡ Ok (walk_view w) → (q : List ℕ) → contains_text w.unknown q ≡ is_one_of (unknown s [] n) q
+unfolding reading start walk_view
+noted_are s n w h q = sym (ap (λ at. at.is_noted q) (passes (faults s [] n) (unknown s [] n) start (walk_view w) h).1)
 
 -- a reading that fails has met the first fault
 first_found : (s : Schema) (n : Node) (f : Fault) → reading s n start ≡ Err f → first (faults s [] n) ≡ Some f
 unfolding reading start
 first_found s n f h = fails (faults s [] n) (unknown s [] n) start f h
 
-pub no_fault : (n : Node) (new : Spot) → reading root n start ≡ Ok new → element_fault n ≡ None
+pub no_fault : (n : Node) (new : ReadState) → reading root n start ≡ Ok new → element_fault n ≡ None
 no_fault n new h = rw (none_found root n new h) refl
 
 refused_found : (f : LoadFault) (o : Ended) → IsRefusal (Some f) o → Found (Some f) o
@@ -101,8 +101,8 @@ tells : (source : SourceSeen) (n : Node) (e : ConfigParseError) (t : Option Faul
 tells source n e None fault memory h = memory_found _ e (memory refl)
 tells source n e (Some f) fault memory h = rw (first_found root n f (fault f refl)) (refusal_found (at_source source (bad_element f)) e h)
 
-pub refusal_told : (source : SourceSeen) (n : Node) (fault : ElementFault) (e : ConfigParseError) → Fails fault (reading root n start) → (told fault ≡ None → error_seen e ≡ no_memory) → Refuses e (option_map (λ f. at_source source (bad_element f)) (told fault)) → Found (option_map (at_source source) (element_fault n)) (error_seen e)
-refusal_told source n fault e h memory refuses = tells source n e (told fault) h memory refuses
+pub refusal_told : (source : SourceSeen) (n : Node) (fault : ElementFault) (e : ConfigParseError) → Fails fault (reading root n start) → (fault_view fault ≡ None → error_seen e ≡ no_memory) → Refuses e (option_map (λ f. at_source source (bad_element f)) (fault_view fault)) → Found (option_map (at_source source) (element_fault n)) (error_seen e)
+refusal_told source n fault e h memory refuses = tells source n e (fault_view fault) h memory refuses
 
 -- all that was found is one refusal, where something was
 pub all_refused : {X Y : Type 0} (see : X → Y) (cause : List Y → Cause) (source : SourceSeen) (xs : List X) (e : ConfigParseError) → (xs ≡ [] → ⊥) → Refuses e (Some (at_source source (cause (map see xs)))) → Found (fault_of source (all_found cause (map see xs))) (error_seen e)

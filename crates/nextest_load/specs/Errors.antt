@@ -1,7 +1,7 @@
 -- What contracts see of a refusal.
 use Rattle.std.specs.Prelude.{◌≡◌, map, Option, Some, None, option_map, Result, Ok, Err, string_bytes}
 use Rattle.std.specs.BTreeSet.{contains_text}
-use Rattle.nextest_tree.specs.Reads.{told}
+use Rattle.nextest_tree.specs.Reads.{fault_view}
 use Rattle.nextest_elements.specs.TestGroup.{custom_group_text}
 use Rattle.nextest_texts.specs.IdentifierText.{tool_name_text}
 use Rattle.nextest_load.specs.Groups.{UnknownGroup}
@@ -42,7 +42,7 @@ abbrev pub kind_seen : SourceSeen → ConfigParseErrorKind → Option LoadFault
 kind_seen source (kinds.DuplicateToolConfigFile tool first) = Some (at_source source (duplicate_tool (tool_name_text tool) (path_text first)))
 kind_seen source (kinds.ReadError outcome) = Some (at_source source (not_read (outcome_seen outcome)))
 kind_seen source (kinds.BuildError message) = Some (at_source source not_document)
-kind_seen source (kinds.DeserializeError fault) = option_map (λ f. at_source source (bad_element f)) (told fault)
+kind_seen source (kinds.DeserializeError fault) = option_map (λ f. at_source source (bad_element f)) (fault_view fault)
 kind_seen source (kinds.CompileErrors errors) = Some (at_source source (not_compiled (map compile_error_seen errors.items)))
 kind_seen source (kinds.UnknownTestGroups errors known_groups) = Some (at_source source (unknown_groups (map group_error_seen errors.items) (contains_text known_groups)))
 kind_seen source kinds.Memory = None

@@ -1,5 +1,3 @@
-pub mod Engines
-pub mod RuleHistory
 pub mod Sources
 pub mod Whole
 pub mod Held

@@ -65,9 +65,9 @@ fields_in profiles = map (λ p. (p.0, p.1.fields)) profiles
 -- the configuration that sources mean, the lowest first: the fields and the groups of the merged tree, and the rules of
 -- every source
 abbrev pub config_of : {M K : Type 0} → M → (List ℕ → Result M (List ℕ)) → List SourceText → Whole M K
-config_of everything read ss = record {
+config_of match_all read ss = record {
   profiles = fields_in (root_in (merged_tree ss)).profiles;
   test_groups = (root_in (merged_tree ss)).test_groups;
   layers = reverse (map (layer_of read) ss);
-  everything = everything;
+  match_all = match_all;
 }

@@ -33,7 +33,7 @@ pub record Whole (M K : Type 0) : Type 0 where
   pub profiles : List (Name × Fields)
   pub test_groups : List (Name × TestGroupConfig)
   pub layers : List (Layer M K)
-  pub everything : M
+  pub match_all : M
 
 -- what stands at a name
 abbrev pub at_name : {X : Type 0} → Name → List (Name × X) → Option X
@@ -57,5 +57,5 @@ meant_whole meaning spec_meaning c = record {
   profiles = c.profiles;
   test_groups = c.test_groups;
   layers = map (meant_layer meaning spec_meaning) c.layers;
-  everything = meaning c.everything;
+  match_all = meaning c.match_all;
 }

@@ -1,6 +1,6 @@
 //! Compilation: what the engines make of the texts of rules, or everything that they refuse.
 ghost use Rattle.std.specs.Prelude.{◌≡◌, [], IfOk, None, MatchResult, map, Some, Ok, option_map};
-ghost use Rattle.nextest_load.specs.declared.engines.FiltersetKind.TheVariants.{OverrideFilter};
+ghost use Rattle.nextest_engines.specs.declared.queries.FiltersetKind.TheVariants.{OverrideFilter};
 ghost use Rattle.nextest_tables.specs.Seen.{named, override_seen, overrides_seen, profile_seen};
 ghost use Rattle.nextest_load.specs.Errors.{cause_seen, compile_error_seen};
 ghost use Rattle.nextest_load.specs.Faults.{in_override, override_cause, override_faults, compile_faults};
@@ -9,11 +9,11 @@ ghost use Rattle.nextest_load.specs.Sources.{source_seen};
 ghost use Rattle.nextest_load.specs.Texts.{rule_at, rules_of, rules_in};
 ghost use Rattle.nextest_load.specs.Whole.{meant_rule};
 
-use crate::engines::{FilterFault, Filters, FiltersetKind, Specs};
 use crate::error::{ConfigCompileError, ConfigCompileErrorKind, ConfigCompileSection};
 use crate::order::DefaultFirst;
 use crate::overrides::{CompiledOverride, OverrideId, PlatformSpecs};
 use crate::sources::ConfigSource;
+use nextest_engines::{FilterFault, Filters, FiltersetKind, Specs};
 use nextest_tables::{OverrideTable, ProfileTable};
 use std::alloc::{AllocError, Global};
 use std::collections::BTreeMap;

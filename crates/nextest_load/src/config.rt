@@ -1,8 +1,8 @@
 //! A loaded configuration.
-use crate::engines::{Filters, Specs};
 use crate::overrides::CompiledOverride;
 use crate::sources::ConfigSource;
 use nextest_elements::{CustomTestGroup, TestGroupConfig};
+use nextest_engines::{Filters, Specs};
 use nextest_tables::ProfileFields;
 use std::collections::BTreeMap;
 use std::marker::Model;
@@ -20,7 +20,7 @@ pub struct LoadedConfig<F: Filters, S: Specs> {
     profiles: BTreeMap<String, ProfileFields>,
     test_groups: BTreeMap<CustomTestGroup, TestGroupConfig>,
     layers: Vec<LayerRules<F, S>>,
-    everything: F::Expr,
+    match_all: F::Expr,
 }
 
 impl<F: Filters, S: Specs> Model for LoadedConfig<F, S> {
@@ -32,7 +32,7 @@ impl<F: Filters, S: Specs> Model for LoadedConfig<F, S> {
     ghost use Rattle.nextest_tables.specs.Seen.{named, fields_held};
     ghost use Rattle.nextest_load.specs.Held.{groups_held, layer_held};
 
-    ghost view = { λ c. record { profiles = named fields_held c.profiles.entries; test_groups = groups_held c.test_groups.entries; layers = map layer_held c.layers.items; everything = c.everything } };
+    ghost view = { λ c. record { profiles = named fields_held c.profiles.entries; test_groups = groups_held c.test_groups.entries; layers = map layer_held c.layers.items; match_all = c.match_all } };
 }
 
 impl<F: Filters, S: Specs> LoadedConfig<F, S> {
@@ -44,15 +44,15 @@ impl<F: Filters, S: Specs> LoadedConfig<F, S> {
         profiles: BTreeMap<String, ProfileFields>,
         test_groups: BTreeMap<CustomTestGroup, TestGroupConfig>,
         layers: Vec<LayerRules<F, S>>,
-        everything: F::Expr,
+        match_all: F::Expr,
     ) -> Self
-        ensures { result ≡ record { profiles = named fields_held profiles.entries; test_groups = groups_held test_groups.entries; layers = map layer_held layers.items; everything = everything } }
+        ensures { result ≡ record { profiles = named fields_held profiles.entries; test_groups = groups_held test_groups.entries; layers = map layer_held layers.items; match_all = match_all } }
     {
         LoadedConfig {
             profiles,
             test_groups,
             layers,
-            everything,
+            match_all,
         }
     }
 
@@ -78,9 +78,9 @@ impl<F: Filters, S: Specs> LoadedConfig<F, S> {
     }
 
     /// The filter that matches everything, as the engine made it.
-    pub fn everything(&self) -> &F::Expr
-        ensures { result.now ≡ self.now.everything }
+    pub fn match_all(&self) -> &F::Expr
+        ensures { result.now ≡ self.now.match_all }
     {
-        &self.everything
+        &self.match_all
     }
 }

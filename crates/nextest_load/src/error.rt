@@ -174,11 +174,11 @@ pub struct ConfigParseError {
     ghost placed: { is_some source ≡ not (is_memory kind) },
 }
 
-#[tactic(auto, unfolding(crate::specs::Errors::error_seen, nextest_tree::specs::Reads::told))]
+#[tactic(auto, unfolding(crate::specs::Errors::error_seen, nextest_tree::specs::Reads::fault_view))]
 impl ConfigParseError {
     ghost use Rattle.std.specs.Prelude.{◌≡◌, option_map, option_and_then, None, not, is_some, IsSome};
     ghost use Rattle.nextest_texts.specs.IdentifierText.{tool_name_text};
-    ghost use Rattle.nextest_tree.specs.Reads.{told};
+    ghost use Rattle.nextest_tree.specs.Reads.{fault_view};
     ghost use Rattle.nextest_load.specs.ErrorKinds.{is_memory};
     ghost use Rattle.nextest_load.specs.Errors.{source_of, error_seen, kind_seen, no_memory, Refuses};
     ghost use Rattle.nextest_load.specs.Faults.{at_source, bad_element};
@@ -238,8 +238,8 @@ impl ConfigParseError {
 
     /// The fault of an element of a source, or want of memory.
     pub(crate) fn element(source: &ConfigSource, fault: ElementFault) -> ConfigParseError
-        ensures fault { Refuses result (option_map (λ f. at_source (source_seen source.now) (bad_element f)) (told fault)) }
-        ensures memory { told fault ≡ None → error_seen result ≡ no_memory }
+        ensures fault { Refuses result (option_map (λ f. at_source (source_seen source.now) (bad_element f)) (fault_view fault)) }
+        ensures memory { fault_view fault ≡ None → error_seen result ≡ no_memory }
     {
         if let ElementCause::Memory = fault.cause {
             return ConfigParseError::memory();

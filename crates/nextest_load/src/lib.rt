@@ -1,9 +1,8 @@
-//! Loads a configuration: its sources, the engines that it asks, its rules, and what stands in the merged tree.
+//! Loads a configuration: its sources, its rules, and what stands in the merged tree.
 #![tactic(auto)]
 
 mod compile;
 mod config;
-pub mod engines;
 mod error;
 mod groups;
 mod inputs;

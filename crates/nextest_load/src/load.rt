@@ -4,12 +4,12 @@ ghost use Rattle.std.specs.List.{cons_option, flat_map};
 ghost use Rattle.std.specs.Option.{option_or};
 ghost use Rattle.std.specs.BTreeSet.{contains_text};
 ghost use Rattle.nextest_tree.specs.Schema.{is_one_of, unknown};
-ghost use Rattle.nextest_tree.specs.View.{node_of};
+ghost use Rattle.nextest_tree.specs.View.{tree_view};
 ghost use Rattle.nextest_tables.specs.Defaults.{defaults};
 ghost use Rattle.nextest_tables.specs.Seen.{named, fields_held, profile_seen, root_seen, items_seen};
 ghost use Rattle.nextest_tables.specs.Tables.{root};
 ghost use Rattle.nextest_tables.specs.Texts.{root_in};
-ghost use Rattle.nextest_load.specs.declared.engines.FiltersetKind.TheVariants.{OverrideFilter};
+ghost use Rattle.nextest_engines.specs.declared.queries.FiltersetKind.TheVariants.{OverrideFilter};
 ghost use Rattle.nextest_load.specs.Errors.{compile_error_seen, Found, ended};
 ghost use Rattle.nextest_load.specs.Faults.{fault_of, element_fault, stage_fault, unread, if_none, all_found, not_compiled, compile_cause, rules_fault, text_fault, source_fault, input_fault, inputs_fault, load_fault};
 ghost use Rattle.nextest_load.specs.Files.{file_text, input_seen};
@@ -25,7 +25,6 @@ ghost use Rattle.nextest_load.specs.Whole.{meant_layer, meant_whole};
 
 use crate::compile::compile_profiles;
 use crate::config::{LayerRules, LoadedConfig};
-use crate::engines::{Filters, ParseContext, Specs};
 use crate::error::{ConfigCompileError, ConfigParseError, ConfigParseErrorKind};
 use crate::groups::{groups_not_known, note_groups, refuse_groups};
 use crate::inputs::{SourceInput, gather, refuse_duplicates, repository_file, text_of};
@@ -33,6 +32,7 @@ use crate::sources::{ConfigFileSelection, ConfigSource, FileInput, ToolConfigFil
 use crate::warnings::ConfigWarnings;
 use nextest_documents::{TextFault, lay_over, merge_layers, tree_from_text};
 use nextest_elements::{CustomTestGroup, TestGroupConfig};
+use nextest_engines::{Filters, ParseContext, Specs};
 use nextest_tables::{ProfileFields, ProfileTable, RootTable, default_tree, read_root};
 use nextest_tree::{ElementCause, ElementFault, Tree, Walk};
 use std::alloc::{AllocError, Global};
@@ -81,7 +81,7 @@ impl<F: Filters, S: Specs> LoadedLayers<F, S> {
 /// The tree of a source's text.
 fn read_text(alloc: Global, file: &SourceFile<'_>) -> Result<Tree, ConfigParseError>
     ensures found { Found (fault_of (file_text file.now).source (if_none (tree_of (file_text file.now).text))) (ended result) }
-    ensures tree { IfOk result (λ tree. node_of tree ≡ tree_in (file_text file.now)) }
+    ensures tree { IfOk result (λ tree. tree_view tree ≡ tree_in (file_text file.now)) }
 {
     match tree_from_text(alloc, file.text) {
         Ok(tree) => Ok(tree),
@@ -99,9 +99,9 @@ fn read_elements(
     source: &ConfigSource,
     tree: &Tree,
 ) -> Result<(RootTable, BTreeSet<String>), ConfigParseError>
-    ensures found { Found (fault_of (source_seen source.now) (element_fault (node_of tree.now))) (ended result) }
-    ensures value { IfOk result (λ read. root_seen read.0 ≡ root_in (node_of tree.now)) }
-    ensures unknown { IfOk result (λ read. (q : List ℕ) → contains_text read.1 q ≡ is_one_of (unknown root [] (node_of tree.now)) q) }
+    ensures found { Found (fault_of (source_seen source.now) (element_fault (tree_view tree.now))) (ended result) }
+    ensures value { IfOk result (λ read. root_seen read.0 ≡ root_in (tree_view tree.now)) }
+    ensures unknown { IfOk result (λ read. (q : List ℕ) → contains_text read.1 q ≡ is_one_of (unknown root [] (tree_view tree.now)) q) }
 {
     let mut walk = Walk::new(alloc);
     match read_root(alloc, tree, &mut walk) {
@@ -203,8 +203,8 @@ fn compile_source<F: Filters, S: Specs>(
 
 /// The elements of a file over the defaults: a fault of one, or a key that is not read yet, is told at the source.
 fn read_own(alloc: Global, source: &ConfigSource, own: &Tree) -> Result<RootTable, ConfigParseError>
-    ensures found { Found (option_or (fault_of (source_seen source.now) (element_fault (node_of own.now))) (fault_of (source_seen source.now) (stage_fault (node_of own.now)))) (ended result) }
-    ensures value { IfOk result (λ table. root_seen table ≡ root_in (node_of own.now)) }
+    ensures found { Found (option_or (fault_of (source_seen source.now) (element_fault (tree_view own.now))) (fault_of (source_seen source.now) (stage_fault (tree_view own.now)))) (ended result) }
+    ensures value { IfOk result (λ table. root_seen table ≡ root_in (tree_view own.now)) }
 {
     let (table, unknown) = read_elements(alloc, source, own)?;
     refuse_unread(source, &unknown)?;
@@ -214,7 +214,7 @@ fn read_own(alloc: Global, source: &ConfigSource, own: &Tree) -> Result<RootTabl
 /// What a file over the defaults says, and its tree, or its first fault but those of its rules.
 fn read_source(alloc: Global, file: &SourceFile<'_>) -> Result<(Tree, RootTable), ConfigParseError>
     ensures found { Found (text_fault (file_text file.now)) (ended result) }
-    ensures tree { IfOk result (λ read. node_of read.0 ≡ tree_in (file_text file.now)) }
+    ensures tree { IfOk result (λ read. tree_view read.0 ≡ tree_in (file_text file.now)) }
     ensures table { IfOk result (λ read. root_seen read.1 ≡ own_text (file_text file.now)) }
 {
     let tree = read_text(alloc, file)?;
@@ -232,7 +232,7 @@ fn load_source<F: Filters, S: Specs>(
     file: &SourceFile<'_>,
 ) -> Result<(Tree, LayerRules<F, S>), ConfigParseError>
     ensures found { (below : List SourceText) → contains_text known.old ≡ is_one_of (defined_in below) → Found (source_fault (F.read filters.now OverrideFilter) below (file_text file.now)) (ended result) }
-    ensures tree { IfOk result (λ loaded. node_of loaded.0 ≡ tree_in (file_text file.now)) }
+    ensures tree { IfOk result (λ loaded. tree_view loaded.0 ≡ tree_in (file_text file.now)) }
     ensures rules { IfOk result (λ loaded. meant_layer F.meaning S.spec_meaning (layer_held loaded.1) ≡ layer_of (F.read filters.now OverrideFilter) (file_text file.now)) }
     ensures known { (below : List SourceText) → contains_text known.old ≡ is_one_of (defined_in below) → OnOk result (contains_text known.new ≡ is_one_of (known_to below (file_text file.now))) }
 {
@@ -255,7 +255,7 @@ fn load_input<F: Filters, S: Specs>(
     input: &SourceInput<'_>,
 ) -> Result<Option<(Tree, LayerRules<F, S>)>, ConfigParseError>
     ensures found { (below : List SourceText) → contains_text known.old ≡ is_one_of (defined_in below) → Found (input_fault (F.read filters.now OverrideFilter) below (input_seen input.now)) (ended result) }
-    ensures tree { IfOk result (λ loaded. cons_option (option_map (λ l. node_of l.0) loaded) [] ≡ map tree_in (texts_of (input_seen input.now))) }
+    ensures tree { IfOk result (λ loaded. cons_option (option_map (λ l. tree_view l.0) loaded) [] ≡ map tree_in (texts_of (input_seen input.now))) }
     ensures rules { IfOk result (λ loaded. cons_option (option_map (λ l. meant_layer F.meaning S.spec_meaning (layer_held l.1)) loaded) [] ≡ map (layer_of (F.read filters.now OverrideFilter)) (texts_of (input_seen input.now))) }
     ensures known { (below : List SourceText) → contains_text known.old ≡ is_one_of (defined_in below) → OnOk result (contains_text known.new ≡ is_one_of (defined_in (below ++ texts_of (input_seen input.now)))) }
 {
@@ -276,7 +276,7 @@ fn load_inputs<F: Filters, S: Specs>(
     inputs: &[SourceInput<'_>],
 ) -> Result<LoadedLayers<F, S>, ConfigParseError>
     ensures found { Found (inputs_fault (F.read filters.now OverrideFilter) [] (map input_seen inputs.now)) (ended result) }
-    ensures trees { IfOk result (λ loaded. map node_of loaded.trees.items ≡ map tree_in (flat_map texts_of (map input_seen inputs.now))) }
+    ensures trees { IfOk result (λ loaded. map tree_view loaded.trees.items ≡ map tree_in (flat_map texts_of (map input_seen inputs.now))) }
     ensures layers { IfOk result (λ loaded. map (λ layer. meant_layer F.meaning S.spec_meaning (layer_held layer)) loaded.layers.items ≡ map (layer_of (F.read filters.now OverrideFilter)) (flat_map texts_of (map input_seen inputs.now))) }
 {
     let mut known = BTreeSet::new(alloc);
@@ -315,8 +315,8 @@ fn read_merged(
     repository: &ConfigSource,
     trees: &[Tree],
 ) -> Result<RootTable, ConfigParseError>
-    ensures found { Found (fault_of (source_seen repository.now) (element_fault (merged defaults (map node_of trees.now)))) (ended result) }
-    ensures value { IfOk result (λ table. root_seen table ≡ root_in (merged defaults (map node_of trees.now))) }
+    ensures found { Found (fault_of (source_seen repository.now) (element_fault (merged defaults (map tree_view trees.now)))) (ended result) }
+    ensures value { IfOk result (λ table. root_seen table ≡ root_in (merged defaults (map tree_view trees.now))) }
 {
     let defaults = default_tree(alloc)?;
     let merged = merge_layers(alloc, defaults, trees)?;
@@ -333,7 +333,7 @@ fn load_all<F: Filters, S: Specs>(
 ) -> Result<LoadedConfig<F, S>, ConfigParseError>
     ensures found { Found (option_or (inputs_fault (F.read filters.now OverrideFilter) [] (map input_seen inputs.now))
         (fault_of (source_seen repository.now) (element_fault (merged_tree (flat_map texts_of (map input_seen inputs.now)))))) (ended result) }
-    ensures means { IfOk result (λ config. meant_whole F.meaning S.spec_meaning config ≡ config_of F.everything (F.read filters.now OverrideFilter) (flat_map texts_of (map input_seen inputs.now))) }
+    ensures means { IfOk result (λ config. meant_whole F.meaning S.spec_meaning config ≡ config_of F.match_all (F.read filters.now OverrideFilter) (flat_map texts_of (map input_seen inputs.now))) }
 {
     let LoadedLayers { trees, mut layers } = load_inputs(alloc, filters, inputs)?;
     let RootTable {
@@ -357,7 +357,7 @@ fn load_files<F: Filters, S: Specs>(
 ) -> Result<LoadedConfig<F, S>, ConfigParseError>
     ensures found { let files = given shared.now selection.entry.config_file tools.now in
         Found (option_or (inputs_fault (F.read filters.now OverrideFilter) [] (inputs_of files)) (fault_of (repository_of files) (element_fault (merged_tree (sources_in files))))) (ended result) }
-    ensures means { IfOk result (λ config. meant_whole F.meaning S.spec_meaning config ≡ config_of F.everything (F.read filters.now OverrideFilter) (sources_in (given shared.now selection.entry.config_file tools.now))) }
+    ensures means { IfOk result (λ config. meant_whole F.meaning S.spec_meaning config ≡ config_of F.match_all (F.read filters.now OverrideFilter) (sources_in (given shared.now selection.entry.config_file tools.now))) }
 {
     let repository = repository_file(shared, selection)?;
     let source = repository.source.clone()?;
@@ -374,7 +374,7 @@ fn load_given<F: Filters, S: Specs>(
     tools: &[ToolConfigFile],
 ) -> Result<LoadedConfig<F, S>, ConfigParseError>
     ensures found { Found (load_fault (F.read filters.now OverrideFilter) (given shared.now selection.entry.config_file tools.now)) (ended result) }
-    ensures means { IfOk result (λ config. meant_whole F.meaning S.spec_meaning config ≡ config_of F.everything (F.read filters.now OverrideFilter) (sources_in (given shared.now selection.entry.config_file tools.now))) }
+    ensures means { IfOk result (λ config. meant_whole F.meaning S.spec_meaning config ≡ config_of F.match_all (F.read filters.now OverrideFilter) (sources_in (given shared.now selection.entry.config_file tools.now))) }
 {
     refuse_duplicates(alloc, tools)?;
     load_files(alloc, filters, shared, selection, tools)
@@ -392,7 +392,7 @@ impl<F: Filters, S: Specs> LoadedConfig<F, S> {
         tools: &[ToolConfigFile],
         warnings: &mut W,
     ) -> Result<LoadedConfig<F, S>, ConfigParseError>
-        ensures loads { IsLoad (λ config. config) F.meaning S.spec_meaning F.everything (F.read pcx.now.filters.now OverrideFilter) (given shared.now selection.entry.config_file tools.now) result }
+        ensures loads { IsLoad (λ config. config) F.meaning S.spec_meaning F.match_all (F.read pcx.now.filters.now OverrideFilter) (given shared.now selection.entry.config_file tools.now) result }
         ensures told { W.warnings warnings.new ≡ W.warnings warnings.old }
     {
         let _warnings = warnings;

@@ -1,6 +1,6 @@
 //! Rules: what the overrides of a file say once the engines have read their texts.
-use crate::engines::{Filters, Specs};
 use crate::sources::ConfigSource;
+use nextest_engines::{Filters, Specs};
 use nextest_tables::OverrideSettings;
 
 /// Which override a value comes from.

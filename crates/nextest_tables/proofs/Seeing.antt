@@ -113,7 +113,7 @@ profiles_are (entry k n es) [] h = absurd h
 
 groups_are : (es : Entries) (xs : List (CustomTestGroup × TestGroupConfig)) → IsMap custom_group_text (InTable IsGroupTable) es xs → map (λ e. (custom_group_text e.0, e.1)) xs ≡ each_in group_in es
 groups_are no_entries [] h = refl
-groups_are (entry k n es) (x ∷ xs) h = let e = in_table IsGroupTable (λ x. x) group_in (λ es x h. h) n x.1 h.1 in let f = groups_are es xs h.2 in rw (h.0, e, f) refl
+groups_are (entry k n es) (x ∷ xs) h = let e = in_table IsGroupTable (λ x. x) group_in (λ es x h. rw h refl) n x.1 h.1 in let f = groups_are es xs h.2 in rw (h.0, e, f) refl
 groups_are no_entries (x ∷ xs) h = absurd h
 groups_are (entry k n es) [] h = absurd h
 

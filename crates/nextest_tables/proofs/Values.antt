@@ -17,7 +17,7 @@ use Rattle.nextest_tree.specs.Key.{key_text}
 use Rattle.nextest_tree.specs.Node.{Node, table, array, text, int, bool, opaque, Nodes, no_nodes, node, Entries, get, as_text}
 use Rattle.nextest_tree.specs.Reads.{IsOptional, IsList, InTable}
 use Rattle.nextest_tree.specs.Leaf.{IsText, Spells, leaf_at}
-use Rattle.nextest_tree.specs.Schema.{Cause}
+use Rattle.nextest_tree.specs.Schema.{FaultCause}
 use Rattle.nextest_texts.specs.Nanoseconds.{duration_at}
 use Rattle.nextest_elements.specs.Bench.{IsBench, IsBenchOverride}
 use Rattle.nextest_elements.specs.GlobalTimeout.{IsGlobalTimeout}
@@ -27,6 +27,7 @@ use Rattle.nextest_elements.specs.MaxFail.{limit_at, IsMaxFail}
 use Rattle.nextest_elements.specs.RetryPolicy.{count_at, IsRetry}
 use Rattle.nextest_elements.specs.SlowTimeout.{slow_of, IsSlowTimeout}
 use Rattle.nextest_elements.specs.TestPriority.{priority_at}
+use Rattle.nextest_elements.proofs.Retries.{retry_by_fields}
 use Rattle.nextest_tables.specs.Seen.{report_of}
 use Rattle.nextest_tables.specs.Tables.{AreTexts}
 use Rattle.nextest_tables.specs.Texts.{texts_in, arguments_in, policy_in, priority_in, slow_in, leak_in, global_in, max_fail_in, report_in, report_table, report_override_in, report_override_table, bench_in, bench_table, bench_override_in, bench_override_table}
@@ -58,7 +59,7 @@ in_table P show f each (bool b) x h = absurd h
 in_table P show f each opaque x h = absurd h
 
 -- a value that is a leaf
-pub leaf_seen : {X : Type 0} (read : Node → Result X Cause) (o : Option Node) (x : Option X) → IsOptional (Spells read) o x → x ≡ leaf_at read o
+pub leaf_seen : {X : Type 0} (read : Node → Result X FaultCause) (o : Option Node) (x : Option X) → IsOptional (Spells read) o x → x ≡ leaf_at read o
 leaf_seen read None None h = refl
 leaf_seen read (Some n) (Some x) h = rw h refl
 leaf_seen read None (Some x) h = absurd h
@@ -103,7 +104,7 @@ priority_seen None (Some p) h = absurd h
 priority_seen (Some n) None h = absurd h
 
 one_policy : (n : Node) (p : RetryPolicy) → IsRetry n p → Some p ≡ policy_in n
-one_policy (table es) p h = sym h
+one_policy (table es) p h = sym (retry_by_fields es p h)
 one_policy (text t) p h = by_leaf (λ count. policies.Fixed count 0 false) (count_at (text t)) p h
 one_policy (array ns) p h = by_leaf (λ count. policies.Fixed count 0 false) (count_at (array ns)) p h
 one_policy (int z) p h = by_leaf (λ count. policies.Fixed count 0 false) (count_at (int z)) p h
@@ -114,7 +115,7 @@ pub policy_seen : (o : Option Node) (x : Option RetryPolicy) → IsOptional IsRe
 policy_seen o x h = same_at IsRetry policy_in one_policy o x h
 
 one_slow : (n : Node) (x : SlowTimeout) → IsSlowTimeout n x → Some x ≡ slow_in n
-one_slow (table es) x h = λ i. Some (h i)
+one_slow (table es) x h = sym h
 one_slow (text t) x h = by_leaf slow_of (duration_at (text t)) x h
 one_slow (array ns) x h = by_leaf slow_of (duration_at (array ns)) x h
 one_slow (int z) x h = by_leaf slow_of (duration_at (int z)) x h
@@ -125,7 +126,7 @@ pub slow_seen : (o : Option Node) (x : Option SlowTimeout) → IsOptional IsSlow
 slow_seen o x h = same_at IsSlowTimeout slow_in one_slow o x h
 
 one_leak : (n : Node) (x : LeakTimeout) → IsLeakTimeout n x → Some x ≡ leak_in n
-one_leak (table es) x h = λ i. Some (h i)
+one_leak (table es) x h = sym h
 one_leak (text t) x h = by_leaf leak_of (duration_at (text t)) x h
 one_leak (array ns) x h = by_leaf leak_of (duration_at (array ns)) x h
 one_leak (int z) x h = by_leaf leak_of (duration_at (int z)) x h

@@ -18,6 +18,7 @@ use Rattle.nextest_elements.specs.declared.retry_policy.RetryPolicy.{RetryPolicy
 use Rattle.nextest_elements.specs.declared.retry_policy.RetryPolicy.TheVariants as policies
 use Rattle.nextest_elements.specs.declared.slow_timeout.SlowTimeout.{SlowTimeout}
 use Rattle.nextest_elements.specs.declared.test_group.TestGroupConfig.{TestGroupConfig}
+use Rattle.nextest_elements.specs.declared.test_threads.TestThreads.TheVariants.{NumCpus}
 use Rattle.nextest_elements.specs.declared.test_priority.TestPriority.{TestPriority}
 use Rattle.nextest_elements.specs.FlakyResult.{flaky_result_at}
 use Rattle.nextest_elements.specs.Junit.{report_skip_policy_at, junit_flaky_fail_status_at}
@@ -39,7 +40,7 @@ at_key k n = member_of (key_text k) n
 
 -- the policy that a node spells: a table what its fields say, a count so many tries without delay
 abbrev pub policy_in : Node → Option RetryPolicy
-policy_in (table es) = policy_of (retry_table es)
+policy_in (table es) = option_and_then policy_of (retry_table es)
 policy_in n = option_map (λ count. policies.Fixed count 0 false) (result_ok (count_at n))
 
 -- the priority that a node spells
@@ -57,12 +58,12 @@ arguments_in n = option_and_then texts_in (as_array n)
 
 -- the slow timeout that a node spells: a table what its fields say, a duration the period alone
 abbrev pub slow_in : Node → Option SlowTimeout
-slow_in (table es) = Some (slow_table es)
+slow_in (table es) = slow_table es
 slow_in n = option_map slow_of (result_ok (duration_at n))
 
 -- the leak timeout that a node spells: a table what its fields say, a duration the period alone
 abbrev pub leak_in : Node → Option LeakTimeout
-leak_in (table es) = Some (leak_table es)
+leak_in (table es) = leak_table es
 leak_in n = option_map leak_of (result_ok (duration_at n))
 
 -- the global timeout that a node spells
@@ -182,7 +183,8 @@ profile_in n = record {
 
 -- what the table of a group says; what is no table says what an empty one would
 abbrev pub group_in : Node → TestGroupConfig
-group_in n = group_table (unwrap_or (as_table n) no_entries)
+group_in n =
+    unwrap_or (option_and_then group_table (as_table n)) (record { max_threads = NumCpus })
 
 -- what f reads in each entry of a table, under its key
 abbrev pub each_in : {X : Type 0} → (Node → X) → Entries → List (Name × X)

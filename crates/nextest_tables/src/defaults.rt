@@ -2,7 +2,7 @@
 ghost use Rattle.std.specs.Prelude.{◌≡◌, [], IfOk};
 ghost use Rattle.nextest_tree.specs.Key.{key_text};
 ghost use Rattle.nextest_tree.specs.Schema.{faults, unknown};
-ghost use Rattle.nextest_tree.specs.View.{node_of, members_of_trees};
+ghost use Rattle.nextest_tree.specs.View.{tree_view, entries_view};
 ghost use Rattle.nextest_tree.specs.Node as Node;
 ghost use Rattle.nextest_tree.specs.Node.{IsSorted, put};
 ghost use Rattle.nextest_tables.specs.Defaults.{store_default, bench_default, junit_default, slow_default, with_runs_default, with_outputs_default, with_ends_default, profile_default, profiles_default, defaults};
@@ -55,7 +55,7 @@ fn with_entry(
     name: &str,
     value: Tree,
 ) -> Result<BTreeMap<String, Tree>, AllocError>
-    ensures { IfOk result (λ new. members_of_trees new.entries ≡ put name.now (node_of value) (members_of_trees rows.entries)) }
+    ensures { IfOk result (λ new. entries_view new.entries ≡ put name.now (tree_view value) (entries_view rows.entries)) }
 {
     drop(rows.insert(String::from_str(alloc, name)?, value)?);
     Ok(rows)
@@ -68,7 +68,7 @@ fn with_row(
     key: Key,
     value: Tree,
 ) -> Result<BTreeMap<String, Tree>, AllocError>
-    ensures { IfOk result (λ new. members_of_trees new.entries ≡ put (key_text key) (node_of value) (members_of_trees rows.entries)) }
+    ensures { IfOk result (λ new. entries_view new.entries ≡ put (key_text key) (tree_view value) (entries_view rows.entries)) }
 {
     with_entry(alloc, rows, key.text(), value)
 }
@@ -80,7 +80,7 @@ fn with_text(
     key: Key,
     value: &str,
 ) -> Result<BTreeMap<String, Tree>, AllocError>
-    ensures { IfOk result (λ new. members_of_trees new.entries ≡ put (key_text key) (Node.text value.now) (members_of_trees rows.entries)) }
+    ensures { IfOk result (λ new. entries_view new.entries ≡ put (key_text key) (Node.text value.now) (entries_view rows.entries)) }
 {
     let text = String::from_str(alloc, value)?;
     with_row(alloc, rows, key, Tree::Text(text))
@@ -88,7 +88,7 @@ fn with_text(
 
 /// A table of one row, of a text.
 fn table_of_text(alloc: Global, key: Key, value: &str) -> Result<Tree, AllocError>
-    ensures { IfOk result (λ tree. node_of tree ≡ Node.table (Node.entry (key_text key) (Node.text value.now) Node.no_entries)) }
+    ensures { IfOk result (λ tree. tree_view tree ≡ Node.table (Node.entry (key_text key) (Node.text value.now) Node.no_entries)) }
 {
     let rows = with_text(alloc, BTreeMap::new(alloc), key, value)?;
     Ok(Tree::Table(rows))
@@ -96,7 +96,7 @@ fn table_of_text(alloc: Global, key: Key, value: &str) -> Result<Tree, AllocErro
 
 #[tactic(auto, unfolding(crate::specs::Defaults::bench_default, nextest_tree::specs::Key::key_text))]
 fn bench_tree(alloc: Global) -> Result<Tree, AllocError>
-    ensures { IfOk result (λ tree. node_of tree ≡ bench_default) }
+    ensures { IfOk result (λ tree. tree_view tree ≡ bench_default) }
 {
     let slow = table_of_text(alloc, Key::Period, "30y")?;
     let rows = with_text(alloc, BTreeMap::new(alloc), Key::GlobalTimeout, "30y")?;
@@ -106,7 +106,7 @@ fn bench_tree(alloc: Global) -> Result<Tree, AllocError>
 
 #[tactic(auto, unfolding(crate::specs::Defaults::junit_default, nextest_tree::specs::Key::key_text))]
 fn junit_tree(alloc: Global) -> Result<Tree, AllocError>
-    ensures { IfOk result (λ tree. node_of tree ≡ junit_default) }
+    ensures { IfOk result (λ tree. tree_view tree ≡ junit_default) }
 {
     let rows = BTreeMap::new(alloc);
     let rows = with_text(alloc, rows, Key::ReportName, "nextest-run")?;
@@ -119,7 +119,7 @@ fn junit_tree(alloc: Global) -> Result<Tree, AllocError>
 
 #[tactic(auto, unfolding(crate::specs::Defaults::slow_default, nextest_tree::specs::Key::key_text))]
 fn slow_tree(alloc: Global) -> Result<Tree, AllocError>
-    ensures { IfOk result (λ tree. node_of tree ≡ slow_default) }
+    ensures { IfOk result (λ tree. tree_view tree ≡ slow_default) }
 {
     let rows = BTreeMap::new(alloc);
     let rows = with_text(alloc, rows, Key::Period, "60s")?;
@@ -129,7 +129,7 @@ fn slow_tree(alloc: Global) -> Result<Tree, AllocError>
 
 #[tactic(auto, unfolding(crate::specs::Defaults::store_default))]
 fn store_tree(alloc: Global) -> Result<Tree, AllocError>
-    ensures { IfOk result (λ tree. node_of tree ≡ store_default) }
+    ensures { IfOk result (λ tree. tree_view tree ≡ store_default) }
 {
     table_of_text(alloc, Key::Dir, "target/nextest")
 }
@@ -139,7 +139,7 @@ fn with_runs(
     alloc: Global,
     rows: BTreeMap<String, Tree>,
 ) -> Result<BTreeMap<String, Tree>, AllocError>
-    ensures { IfOk result (λ new. members_of_trees new.entries ≡ with_runs_default (members_of_trees rows.entries)) }
+    ensures { IfOk result (λ new. entries_view new.entries ≡ with_runs_default (entries_view rows.entries)) }
 {
     let rows = with_row(alloc, rows, Key::Retries, Tree::Int(0))?;
     let rows = with_text(alloc, rows, Key::FlakyResult, "pass")?;
@@ -153,7 +153,7 @@ fn with_outputs(
     alloc: Global,
     rows: BTreeMap<String, Tree>,
 ) -> Result<BTreeMap<String, Tree>, AllocError>
-    ensures { IfOk result (λ new. members_of_trees new.entries ≡ with_outputs_default (members_of_trees rows.entries)) }
+    ensures { IfOk result (λ new. entries_view new.entries ≡ with_outputs_default (entries_view rows.entries)) }
 {
     let rows = with_text(alloc, rows, Key::StatusLevel, "pass")?;
     let rows = with_text(alloc, rows, Key::FinalStatusLevel, "flaky")?;
@@ -166,7 +166,7 @@ fn with_ends(
     alloc: Global,
     rows: BTreeMap<String, Tree>,
 ) -> Result<BTreeMap<String, Tree>, AllocError>
-    ensures { IfOk result (λ new. members_of_trees new.entries ≡ with_ends_default (members_of_trees rows.entries)) }
+    ensures { IfOk result (λ new. entries_view new.entries ≡ with_ends_default (entries_view rows.entries)) }
 {
     let rows = with_row(alloc, rows, Key::FailFast, Tree::Bool(true))?;
     let rows = with_row(alloc, rows, Key::SlowTimeout, slow_tree(alloc)?)?;
@@ -177,7 +177,7 @@ fn with_ends(
 /// The profile that every configuration has.
 #[tactic(auto, unfolding(crate::specs::Defaults::profile_default, nextest_tree::specs::Key::key_text))]
 fn profile_tree(alloc: Global) -> Result<Tree, AllocError>
-    ensures { IfOk result (λ tree. node_of tree ≡ profile_default) }
+    ensures { IfOk result (λ tree. tree_view tree ≡ profile_default) }
 {
     let rows = with_runs(alloc, BTreeMap::new(alloc))?;
     let rows = with_outputs(alloc, rows)?;
@@ -190,7 +190,7 @@ fn profile_tree(alloc: Global) -> Result<Tree, AllocError>
 /// The default profiles. The second writes nothing.
 #[tactic(auto, unfolding(crate::specs::Defaults::profiles_default, nextest_tree::specs::Key::key_text))]
 fn profiles_tree(alloc: Global) -> Result<Tree, AllocError>
-    ensures { IfOk result (λ tree. node_of tree ≡ profiles_default) }
+    ensures { IfOk result (λ tree. tree_view tree ≡ profiles_default) }
 {
     let rows = BTreeMap::new(alloc);
     let rows = with_row(alloc, rows, Key::Default, profile_tree(alloc)?)?;
@@ -202,7 +202,7 @@ fn profiles_tree(alloc: Global) -> Result<Tree, AllocError>
 /// The default table.
 #[tactic(auto, unfolding(crate::specs::Defaults::defaults, nextest_tree::specs::Key::key_text))]
 pub fn default_tree(alloc: Global) -> Result<Tree, AllocError>
-    ensures { IfOk result (λ tree. node_of tree ≡ defaults) }
+    ensures { IfOk result (λ tree. tree_view tree ≡ defaults) }
 {
     let rows = BTreeMap::new(alloc);
     let rows = with_row(alloc, rows, Key::Store, store_tree(alloc)?)?;

@@ -64,7 +64,7 @@ impl Record for OverrideStart {
 
     ghost is_record = { IsOverrideStart };
 
-    fn names() -> &'static [Key] {
+    fn keys() -> &'static [Key] {
         &[
             Key::Filter,
             Key::Priority,
@@ -116,7 +116,7 @@ impl Record for OverrideRest {
 
     ghost is_record = { IsOverrideRest };
 
-    fn names() -> &'static [Key] {
+    fn keys() -> &'static [Key] {
         &[
             Key::LeakTimeout,
             Key::TestGroup,
@@ -155,7 +155,7 @@ impl Record for OverrideTable {
 
     ghost is_record = { IsOverride };
 
-    fn names() -> &'static [Key] {
+    fn keys() -> &'static [Key] {
         &[
             Key::Filter,
             Key::Priority,

@@ -66,7 +66,7 @@ impl Record for ProfileRuns {
 
     ghost is_record = { AreProfileRuns };
 
-    fn names() -> &'static [Key] {
+    fn keys() -> &'static [Key] {
         &[
             Key::Retries,
             Key::FlakyResult,
@@ -110,7 +110,7 @@ impl Record for ProfileOutputs {
 
     ghost is_record = { AreProfileOutputs };
 
-    fn names() -> &'static [Key] {
+    fn keys() -> &'static [Key] {
         &[
             Key::StatusLevel,
             Key::FinalStatusLevel,
@@ -151,7 +151,7 @@ impl Record for ProfileEnds {
 
     ghost is_record = { AreProfileEnds };
 
-    fn names() -> &'static [Key] {
+    fn keys() -> &'static [Key] {
         &[
             Key::FailFast,
             Key::SlowTimeout,
@@ -191,7 +191,7 @@ impl Record for ProfileTables {
 
     ghost is_record = { AreProfileTables };
 
-    fn names() -> &'static [Key] {
+    fn keys() -> &'static [Key] {
         &[Key::Overrides, Key::Junit, Key::Archive, Key::Bench]
     }
 
@@ -218,7 +218,7 @@ impl Record for ProfileTable {
 
     ghost is_record = { IsProfile };
 
-    fn names() -> &'static [Key] {
+    fn keys() -> &'static [Key] {
         &[
             Key::Retries,
             Key::FlakyResult,

@@ -1,7 +1,7 @@
 //! The table of a whole file.
 ghost use Rattle.std.specs.Prelude.{◌≡◌, IfOk};
-ghost use Rattle.nextest_tree.specs.Reads.{InTable, Gives, spot_of, reading};
-ghost use Rattle.nextest_tree.specs.View.{node_of};
+ghost use Rattle.nextest_tree.specs.Reads.{InTable, Gives, walk_view, reading};
+ghost use Rattle.nextest_tree.specs.View.{tree_view};
 ghost use Rattle.nextest_tables.specs.Tables.{a_store, store_fields, IsStore, root, root_fields, IsRoot};
 ghost use Rattle.nextest_tables.specs.Texts.{root_in};
 ghost use Rattle.nextest_tables.specs.Seen.{root_seen};
@@ -48,7 +48,7 @@ impl Record for StoreTable {
 
     ghost is_record = { IsStore };
 
-    fn names() -> &'static [Key] {
+    fn keys() -> &'static [Key] {
         &[Key::Dir]
     }
 
@@ -78,7 +78,7 @@ impl Record for RootTable {
 
     ghost is_record = { IsRoot };
 
-    fn names() -> &'static [Key] {
+    fn keys() -> &'static [Key] {
         &[
             Key::Store,
             Key::NextestVersion,
@@ -109,8 +109,8 @@ impl Record for RootTable {
 /// Reads a whole file: what it writes, or its first fault. The walk notes its unknown keys.
 #[tactic(auto, using(crate::proofs::Seeing::root_is))]
 pub fn read_root(alloc: Global, tree: &Tree, walk: &mut Walk) -> Result<RootTable, ElementFault>
-    ensures value { IfOk result (λ table. root_seen table ≡ root_in (node_of tree.now)) }
-    ensures reads { Gives result walk.new (reading root (node_of tree.now) (spot_of walk.old)) }
+    ensures value { IfOk result (λ table. root_seen table ≡ root_in (tree_view tree.now)) }
+    ensures reads { Gives result walk.new (reading root (tree_view tree.now) (walk_view walk.old)) }
 {
     RootTable::read(alloc, tree, walk)
 }

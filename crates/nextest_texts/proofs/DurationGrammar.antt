@@ -17,7 +17,9 @@ use Rattle.nextest_texts.specs.declared.duration.ByteKind.{ByteKind}
 use Rattle.nextest_texts.specs.declared.duration.ByteKind.TheVariants.{Space, Digit, Other}
 use Rattle.nextest_texts.specs.declared.duration.DurationError.{DurationError}
 use Rattle.nextest_texts.specs.declared.duration.DurationError.TheVariants.{Malformed, OutOfRange}
-use Rattle.nextest_texts.specs.Duration.{within_limit, longest_duration, duration_result, kind_of, same_kind, Run, run, with_byte, runs, without_spaces, words_of, sum_of, some_sum_of, duration_units, unit_size, IsUnit, Item, IsItem, spaces, spelling, nanoseconds, IsRow, IsDuration, duration_of, NotFirst}
+use Rattle.nextest_texts.specs.DurationSteps.{within_limit, NotFirst}
+use Rattle.nextest_texts.specs.Duration.{longest_duration, duration_units, IsUnit, Item, IsItem, spaces, spelling, nanoseconds, IsRow, IsDuration}
+use Rattle.nextest_texts.specs.DurationFunction.{duration_result, kind_of, same_kind, Run, run, with_byte, runs, without_spaces, words_of, sum_of, some_sum_of, unit_size, duration_of}
 use Rattle.nextest_texts.proofs.Durations.{AreOf, kind_of-digit, kind_of-space, kind_of-from_digit_value, digit_value-digit, words_of-spaces, words_of-run, words_of-nil, sum_of-nil, some_sum_of-cons, sum_of-pair, false_from}
 
 -- ---- units

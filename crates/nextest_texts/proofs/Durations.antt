@@ -12,7 +12,9 @@ use Rattle.std.proofs.lemmas.Bool.{and_parts, ltb-true, eqb-true, eqb-false}
 use Rattle.std.proofs.lemmas.Option.{none-some}
 use Rattle.nextest_texts.specs.declared.duration.ByteKind.{ByteKind}
 use Rattle.nextest_texts.specs.declared.duration.ByteKind.TheVariants.{Space, Digit, Other}
-use Rattle.nextest_texts.specs.Duration.{kind_of, same_kind, Run, run, with_byte, runs, without_spaces, words_of, sum_of, some_sum_of, within_limit, longest_duration, duration_units, unit_size, NotFirst, SplitsRun, TakesItem}
+use Rattle.nextest_texts.specs.DurationFunction.{kind_of, same_kind, Run, run, with_byte, runs, without_spaces, words_of, sum_of, some_sum_of, unit_size}
+use Rattle.nextest_texts.specs.DurationSteps.{within_limit, NotFirst, SplitsRun, TakesItem}
+use Rattle.nextest_texts.specs.Duration.{longest_duration, duration_units}
 
 -- ---- kinds
 

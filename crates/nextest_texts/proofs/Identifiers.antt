@@ -1,8 +1,9 @@
 -- The tests of texts say what the grammar of identifiers says.
-use Rattle.std.proofs.Common.{◌≡◌, ◌≢◌, ◌↔◌, ℕ, ◌+◌, ◌<◌, ◌≤◌, Bool, true, false, ◌||◌, ◌&&◌, eqb, IsTrue, Option, Some, None, IfNone, IfSome, Bor, List, [], ◌∷◌, ◌++◌, All, length, take, drop, get_or, codes, encode_utf8_all, refl, sym, ◌∙◌, ap, subst, inl, inr, ⊎_elim, arith, append_assoc}
+use native.Mathlib.Numerals.{unary_clauses}
+use Rattle.std.proofs.Common.{◌≡◌, ◌≢◌, ◌↔◌, ℕ, ◌+◌, ◌<◌, ◌≤◌, Bool, true, false, ◌||◌, ◌&&◌, eqb, IsTrue, Option, Some, None, Result, Ok, Err, IfErr, IfNone, IfSome, Bor, List, [], ◌∷◌, ◌++◌, All, length, take, drop, get_or, Contains, codes, encode_utf8_all, refl, sym, ◌∙◌, ap, subst, inl, inr, ⊎_elim, arith, append_assoc}
 use Rattle.std.proofs.Math.Seq.{take-append_seam, drop-append-add, get_or-append_seam}
 use Rattle.std.proofs.Math.Bool.{or-false}
-use Rattle.std.proofs.lemmas.Bool.{false≢true, and_parts, and_from, and_right, or_cases, or_left, or_right, eqb-true, eq-eqb, ne_eqb, cases_lt, false_from_ne_true}
+use Rattle.std.proofs.lemmas.Bool.{cases_Bool, false≢true, and_parts, and_from, and_right, or_cases, or_left, or_right, eqb-true, eq-eqb, ne_eqb, cases_lt, false_from_ne_true}
 use Rattle.std.proofs.lemmas.Bool.Decides.{Decides-eqb}
 use Rattle.std.proofs.lemmas.List.{length-append, get_or_append_left, drop_all}
 use Rattle.std.proofs.lemmas.List.Elements.{All-head, All-tail, All-weaker}
@@ -15,7 +16,9 @@ use Rattle.std.specs.List.{list_all, before_first, after_first, position_or_len}
 use Rattle.std.specs.Str.{IsUtf8, NonePass, chars, is_utf8, all_scalars}
 use Rattle.unicode_ident.specs.Ident.{is_xid_start, is_xid_continue}
 use Rattle.unicode_ident.proofs.IdentLemmas.{is_xid_start-ascii, is_xid_continue-ascii}
-use Rattle.nextest_texts.specs.Identifier.{ContinuesPart, IsPart, HasToolParts, IsToolIdentifier, IsIdentifier, are_part_characters, is_part, has_tool_prefix, tool_of, name_of, is_tool_identifier, is_identifier}
+use Rattle.nextest_texts.specs.Identifier.{ContinuesPart, IsPart, HasToolParts, IsToolIdentifier, IsIdentifier, are_part_characters, is_part, has_tool_prefix, tool_of, name_of, is_tool_identifier, is_identifier, StartsBadly, HasBadCharacter, HasPartFlaw, HasFlaw}
+use Rattle.nextest_texts.specs.declared.identifier.InvalidIdentifier.{InvalidIdentifier}
+use Rattle.nextest_texts.specs.declared.identifier.InvalidIdentifier.TheVariants as causes
 
 -- ---- characters of a part
 
@@ -254,3 +257,62 @@ split_is_parts text None identifier prefix tool name = prefix
 split_is_parts text (Some parts) identifier prefix tool name =
     subst (λ t. HasToolParts text t parts.1.now) (sym tool)
     (subst (λ n. HasToolParts text (tool_of text) n) (sym name) (parts_of_prefixed text identifier prefix))
+
+-- ---- flaws
+
+-- Where not all characters continue a part, one of them does not.
+pub bad_character_among : (cs : List ℕ) → list_all (λ c. is_xid_continue c || eqb c 45) cs ≡ false → (c : ℕ) × Contains cs c × (¬ ContinuesPart c)
+bad_character_among [] h = absurd (false≢true (sym h))
+bad_character_among (c ∷ cs) h =
+    let test : ℕ → Bool = λ d. is_xid_continue d || eqb d 45 in
+    elim (cases_Bool (test c)) [
+      | inl good ↦
+          let rest = bad_character_among cs (sym (ap (λ b. b && list_all test cs) good) ∙ h) in
+          (rest.0, (rest.1.0 + 1, omega (arith, rest.1.1), simp unary_clauses rest.1.2), rest.2)
+      | inr bad ↦ (c, (0, omega arith, refl), λ continues. false≢true (sym bad ∙ test_by_continues c continues))
+    ]
+
+-- A text whose first character may not begin a part starts badly.
+pub starts_badly : (text rest : List ℕ) (first : ℕ) → IsUtf8 text → text ≡ encode_utf8 first ++ rest → is_xid_start first ≡ false → StartsBadly text
+starts_badly text rest first utf8 e h =
+    record { first = first; others = chars rest; spelled = chars_past_char text rest first utf8 e; no_start = h }
+
+-- A text has a bad character where not all after the first continue a part.
+pub has_bad_character : (text rest : List ℕ) (first : ℕ) → IsUtf8 text → text ≡ encode_utf8 first ++ rest
+    → list_all (λ c. is_xid_continue c || eqb c 45) (chars rest) ≡ false → HasBadCharacter text
+has_bad_character text rest first utf8 e h =
+    let bad = bad_character_among (chars rest) h in
+    record {
+      first = first;
+      others = chars rest;
+      character = bad.0;
+      spelled = chars_past_char text rest first utf8 e;
+      stands = bad.1;
+      no_continue = bad.2;
+    }
+
+-- Where what stands before the colon is no part, the text is no tool's identifier.
+pub tool_no_part : (text tool : List ℕ) → tool ≡ tool_of text → is_part tool ≡ false → ¬ IsToolIdentifier text
+tool_no_part text tool e h parts =
+    let is : is_part parts.0 ≡ true = is_part-from_IsPart parts.0 parts.2.tool_is_part in
+    false≢true (sym h ∙ ap is_part (e ∙ tool_of_parts text parts.0 parts.1 parts.2) ∙ is)
+
+-- Where what stands after the colon is no part, the text is no tool's identifier.
+pub name_no_part : (text name : List ℕ) → name ≡ name_of text → is_part name ≡ false → ¬ IsToolIdentifier text
+name_no_part text name e h parts =
+    let is : is_part parts.1 ≡ true = is_part-from_IsPart parts.1 parts.2.name_is_part in
+    false≢true (sym h ∙ ap is_part (e ∙ name_of_parts text parts.0 parts.1 parts.2) ∙ is)
+
+-- What keeps a text without the prefix from being a part keeps it from being an identifier.
+pub flaw_of_part : (text : List ℕ) (cause : InvalidIdentifier) → has_tool_prefix text ≡ false → HasPartFlaw text cause → HasFlaw text cause
+flaw_of_part text causes.Empty plain flaw = (plain, flaw)
+flaw_of_part text causes.BadStart plain flaw = (plain, flaw)
+flaw_of_part text causes.BadCharacter plain flaw = (plain, flaw)
+flaw_of_part text causes.BadToolForm plain flaw = absurd flaw
+flaw_of_part text causes.Memory plain flaw = absurd flaw
+
+-- The same of what a test answers.
+pub flaws_of_part : {X : Type 0} (text : List ℕ) (r : Result X InvalidIdentifier) → has_tool_prefix text ≡ false
+    → IfErr r (HasPartFlaw text) → IfErr r (HasFlaw text)
+flaws_of_part text (Ok x) plain flaw = flaw
+flaws_of_part text (Err e) plain flaw = flaw_of_part text e plain flaw

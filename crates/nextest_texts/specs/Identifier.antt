@@ -1,8 +1,10 @@
 -- Which texts are identifiers.
-use Rattle.std.specs.Prelude.{◌≡◌, ℕ, ◌==◌, Bool, false, ◌||◌, ◌&&◌, IsTrue, List, [], ◌∷◌, ◌++◌, ◌⊎◌, All, codes, drop, nat_eq, encode_utf8_all}
+use Rattle.std.specs.Prelude.{◌≡◌, ℕ, ◌==◌, Bool, false, ◌||◌, ◌&&◌, IsTrue, IsFalse, Contains, List, [], ◌∷◌, ◌++◌, ◌⊎◌, All, codes, drop, nat_eq, encode_utf8_all}
 use Rattle.std.specs.List.{list_all, starts_with, before_first, after_first}
 use Rattle.std.specs.Str.{all_scalars, chars, is_utf8}
 use Rattle.unicode_ident.specs.Ident.{is_xid_start, is_xid_continue}
+use Rattle.nextest_texts.specs.declared.identifier.InvalidIdentifier.{InvalidIdentifier}
+use Rattle.nextest_texts.specs.declared.identifier.InvalidIdentifier.TheVariants as causes
 
 -- After its first character a part has XID_Continue characters and hyphens.
 abbrev pub ContinuesPart : ℕ → Type 0
@@ -58,3 +60,33 @@ is_tool_identifier text = has_tool_prefix text && (is_part (tool_of text) && is_
 -- Whether a text is an identifier.
 unfoldable pub is_identifier : List ℕ → Bool
 is_identifier text = is_part text || is_tool_identifier text
+
+-- The first character of the text is no XID_Start character.
+pub record StartsBadly (text : List ℕ) : Type 0 where
+  pub first : ℕ
+  pub others : List ℕ
+  pub spelled : chars text ≡ first ∷ others
+  pub no_start : IsFalse (is_xid_start first)
+
+-- After the first character of the text some character does not continue a part.
+pub record HasBadCharacter (text : List ℕ) : Type 0 where
+  pub first : ℕ
+  pub others : List ℕ
+  pub character : ℕ
+  pub spelled : chars text ≡ first ∷ others
+  pub stands : Contains others character
+  pub no_continue : ¬ ContinuesPart character
+
+-- What keeps a text from being a part: it is empty, it starts badly, or it has a bad character.
+abbrev pub HasPartFlaw : List ℕ → InvalidIdentifier → Type 0
+HasPartFlaw text causes.Empty = text ≡ []
+HasPartFlaw text causes.BadStart = StartsBadly text
+HasPartFlaw text causes.BadCharacter = HasBadCharacter text
+HasPartFlaw text causes.BadToolForm = ⊥
+HasPartFlaw text causes.Memory = ⊥
+
+-- What keeps a text from being an identifier: with the prefix of tools, that it is no tool's
+-- identifier, and without it a flaw of a part.
+abbrev pub HasFlaw : List ℕ → InvalidIdentifier → Type 0
+HasFlaw text causes.BadToolForm = IsTrue (has_tool_prefix text) × (¬ IsToolIdentifier text)
+HasFlaw text cause = IsFalse (has_tool_prefix text) × HasPartFlaw text cause

@@ -2,7 +2,7 @@
 use Rattle.std.specs.Prelude.{◌≡◌, ℕ, List, Option, Some, None, Result, Ok, Err, codes, if◌then◌else◌}
 use Rattle.nextest_texts.specs.declared.identifier.ConfigIdentifier.{ConfigIdentifier}
 use Rattle.nextest_tree.specs.Node.{Node, text}
-use Rattle.nextest_tree.specs.Schema.{Cause, wrong_kind, bad_value, Schema}
+use Rattle.nextest_tree.specs.Schema.{FaultCause, wrong_kind, bad_value, Schema}
 use Rattle.nextest_tree.specs.Leaf.{value}
 use Rattle.nextest_texts.specs.Identifier.{is_identifier}
 use Rattle.nextest_texts.specs.IdentifierText.{identifier_text}
@@ -12,11 +12,11 @@ unfoldable pub identifier_expected : List ℕ
 identifier_expected = codes "an identifier"
 
 -- a text that is no identifier is refused
-abbrev pub identifier_cause : List ℕ → Option Cause
+abbrev pub identifier_cause : List ℕ → Option FaultCause
 identifier_cause s = if is_identifier s then None else Some (bad_value s identifier_expected)
 
 -- the text of an identifier
-abbrev pub identifier_at : Node → Result (List ℕ) Cause
+abbrev pub identifier_at : Node → Result (List ℕ) FaultCause
 identifier_at (text s) = if is_identifier s then Ok s else Err (bad_value s identifier_expected)
 identifier_at _ = Err wrong_kind
 

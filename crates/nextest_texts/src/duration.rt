@@ -5,7 +5,11 @@ ghost use Rattle.std.specs.Map.{lookup};
 ghost use Rattle.std.specs.Str.{bytes_eq};
 ghost use Rattle.std.specs.Str.Parse.{digits_value};
 ghost use Rattle.nextest_tree.specs.Leaf.{names_in};
-ghost use Rattle.nextest_texts.specs.Duration.{duration_of, duration_result, IsDuration, kind_of, longest_duration, unit_size, within_limit, ReadsItem, ReadsItems, SplitsRun};
+ghost use Rattle.nextest_texts.specs.DurationFunction.{duration_of, duration_result, kind_of, unit_size};
+ghost use Rattle.nextest_texts.specs.Duration.{IsDuration, longest_duration};
+ghost use Rattle.nextest_texts.specs.DurationSteps.{within_limit, ReadsItem, ReadsItems, SplitsRun};
+
+use thiserror::Error;
 
 const MICROSECOND: u128 = 1_000;
 
@@ -43,11 +47,13 @@ const UNITS: [(&str, u128); 40] = [
 ];
 
 /// Why a text is no duration.
-#[derive(Clone, Copy, Debug, PartialEq, Eq)]
+#[derive(Clone, Copy, Debug, PartialEq, Eq, Error)]
 pub enum DurationError {
     /// The text is neither `0` nor a row of numbers with units.
+    #[error("a duration has numbers with units, as `1h 30m`")]
     Malformed,
     /// The text is a duration of more than 18446744073709551615 seconds.
+    #[error("a duration is at most 18446744073709551615 seconds")]
     OutOfRange,
 }
 
@@ -93,7 +99,7 @@ fn size_among(units: &[(&str, u128)], name: &[u8]) -> Option<u128>
 }
 
 // The size of the unit of this name in nanoseconds.
-#[tactic(auto, unfolding(crate::specs::Duration::unit_size, crate::specs::Duration::duration_units))]
+#[tactic(auto, unfolding(crate::specs::DurationFunction::unit_size, crate::specs::Duration::duration_units))]
 fn unit_size(name: &[u8]) -> Option<u128>
     ensures size { result ≡ unit_size name.now }
     ensures positive { IfSome result (λ size. 0 < size) }

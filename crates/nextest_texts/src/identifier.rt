@@ -1,15 +1,17 @@
 //! Names that a configuration defines, and the names of tools.
 ghost use Rattle.std.specs.Prelude.{◌≡◌, ◌↔◌, ◌≢◌, IsTrue, IsFalse, IfOk, OnOk, IfErr, IfSome, IfNone, Err, string_bytes, is_ok, ◌==◌, drop, length};
 ghost use Rattle.std.specs.List.{position_or_len};
-ghost use Rattle.nextest_texts.specs.Identifier.{IsPart, HasToolParts, IsToolIdentifier, IsIdentifier, is_part, is_identifier, has_tool_prefix, tool_of, name_of};
+ghost use Rattle.nextest_texts.specs.Identifier.{IsPart, HasToolParts, IsToolIdentifier, IsIdentifier, HasPartFlaw, HasFlaw, is_part, is_identifier, has_tool_prefix, tool_of, name_of};
 
 use std::alloc::Global;
 use std::marker::Model;
 use thiserror::Error;
 
+mod name_text;
 mod tool_name;
 mod traits;
 
+use name_text::NameText;
 pub use tool_name::ToolName;
 
 /// Why a text is no identifier, or no name of a tool.
@@ -37,20 +39,22 @@ pub enum InvalidIdentifier {
 }
 
 /// The name of a group or of a script, as `build-db` or `@tool:my-tool:build-db`.
-#[derive(Debug, Drop)]
+#[derive(Debug, Drop, PartialEq, Eq, PartialOrd, Ord, Hash)]
 pub struct ConfigIdentifier {
-    text: String,
+    text: NameText,
 }
 
 impl Model for ConfigIdentifier {
-    ghost use Rattle.std.specs.Prelude.{ℕ, List, string_bytes};
+    ghost use Rattle.std.specs.Prelude.{ℕ, List};
     ghost use Rattle.nextest_texts.specs.Identifier.{IsIdentifier};
 
     ghost Value = { List ℕ };
 
-    ghost view = { λ identifier. string_bytes identifier.text };
+    ghost view = { λ identifier. identifier.text };
 
-    ghost invariant = { λ identifier. IsIdentifier (string_bytes identifier.text) };
+    ghost invariant = { λ identifier. IsIdentifier identifier.text };
+
+    ghost inverse = { λ text. record { text = text } };
 }
 
 impl ConfigIdentifier {
@@ -66,10 +70,11 @@ impl ConfigIdentifier {
         ensures refused { IfErr result (λ e. e ≢ InvalidIdentifier.Memory → ¬ IsIdentifier text.now) }
         ensures refused_by_test { IfErr result (λ e. e ≢ InvalidIdentifier.Memory → IsFalse (is_identifier text.now)) }
         ensures memory { result ≡ Err InvalidIdentifier.Memory → IsIdentifier text.now }
+        ensures flaw { IfErr result (λ e. e ≢ InvalidIdentifier.Memory → HasFlaw text.now e) }
         ensures test { IsTrue (is_identifier text.now) ↔ IsIdentifier text.now }
     {
         check_identifier(text)?;
-        let text = copy_text(alloc, text)?;
+        let text = NameText::new(alloc, text)?;
         Ok(ConfigIdentifier { text })
     }
 
@@ -97,17 +102,11 @@ impl ConfigIdentifier {
     }
 }
 
-fn copy_text(alloc: Global, text: &str) -> Result<String, InvalidIdentifier>
-    ensures text { IfOk result (λ copy. string_bytes copy ≡ text.now) }
-    ensures memory { IfErr result (λ e. e ≡ InvalidIdentifier.Memory) }
-{
-    String::from_str(alloc, text).map_err(|_| InvalidIdentifier::Memory)
-}
-
 #[tactic(auto, using(crate::proofs::Identifiers::plain_identifier, crate::proofs::Identifiers::prefixed_identifier, crate::proofs::Identifiers::unsplit_identifier))]
 fn check_identifier(text: &str) -> Result<(), InvalidIdentifier>
     ensures verdict { is_ok result ≡ is_identifier text.now }
     ensures cause { result ≢ Err InvalidIdentifier.Memory }
+    ensures flaw { IfErr result (HasFlaw text.now) }
 {
     if !has_tool_prefix(text) {
         return check_part(text);
@@ -144,6 +143,7 @@ fn is_part(text: &str) -> bool
 fn check_part(text: &str) -> Result<(), InvalidIdentifier>
     ensures verdict { is_ok result ≡ is_part text.now }
     ensures cause { result ≢ Err InvalidIdentifier.Memory }
+    ensures flaw { IfErr result (HasPartFlaw text.now) }
 {
     let mut characters = text.chars();
     let Some(first) = characters.next() else {

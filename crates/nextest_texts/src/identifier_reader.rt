@@ -2,19 +2,19 @@
 ghost use Rattle.std.specs.Prelude.{◌≡◌, IfOk, IfErr, OnOk, List, Option, ℕ, None};
 ghost use Rattle.nextest_texts.specs.IdentifierText.{identifier_text};
 ghost use Rattle.nextest_texts.specs.IdentifierReader.{identifier_cause, an_identifier, IsIdentifierAt};
-ghost use Rattle.nextest_tree.specs.Schema.{Cause};
-ghost use Rattle.nextest_tree.specs.Reads.{Fails, checked, spot_of};
+ghost use Rattle.nextest_tree.specs.Schema.{FaultCause};
+ghost use Rattle.nextest_tree.specs.Reads.{Fails, test_outcome, walk_view};
 
 use crate::identifier::{ConfigIdentifier, InvalidIdentifier};
 use nextest_tree::{Element, ElementCause, ElementFault, Name, Tree, Walk};
 use std::alloc::Global;
 
 /// The identifier of the text that stands at the walk's path.
-#[tactic(auto, unfolding(nextest_tree::specs::Reads::spot_of, crate::specs::IdentifierReader::identifier_expected))]
+#[tactic(auto, unfolding(nextest_tree::specs::Reads::walk_view, crate::specs::IdentifierReader::identifier_expected))]
 fn identifier_of(alloc: Global, text: &str, walk: &Walk) -> Result<ConfigIdentifier, ElementFault>
     ensures value { IfOk result (λ identifier. identifier_text identifier ≡ text.now) }
     ensures passed { OnOk result (identifier_cause text.now ≡ None) }
-    ensures fault { IfErr result (λ e. Fails e (checked (identifier_cause text.now) (spot_of walk.now))) }
+    ensures fault { IfErr result (λ e. Fails e (test_outcome (identifier_cause text.now) (walk_view walk.now))) }
 {
     match ConfigIdentifier::new(alloc, text) {
         Ok(identifier) => Ok(identifier),
@@ -23,7 +23,7 @@ fn identifier_of(alloc: Global, text: &str, walk: &Walk) -> Result<ConfigIdentif
     }
 }
 
-#[tactic(auto, unfolding(nextest_tree::specs::Reads::reading, nextest_tree::specs::Reads::spot_of, crate::specs::IdentifierReader::an_identifier))]
+#[tactic(auto, unfolding(nextest_tree::specs::Reads::reading, nextest_tree::specs::Reads::walk_view, crate::specs::IdentifierReader::an_identifier))]
 impl Element for ConfigIdentifier {
     ghost schema = { an_identifier };
 

@@ -22,7 +22,7 @@ impl Nanoseconds {
     }
 }
 
-#[tactic(auto, unfolding(nextest_tree::specs::Reads::reading, nextest_tree::specs::Reads::spot_of, crate::specs::Nanoseconds::a_duration, crate::specs::Nanoseconds::duration_expected))]
+#[tactic(auto, unfolding(nextest_tree::specs::Reads::reading, nextest_tree::specs::Reads::walk_view, crate::specs::Nanoseconds::a_duration, crate::specs::Nanoseconds::duration_expected))]
 impl Element for Nanoseconds {
     ghost schema = { a_duration };
 

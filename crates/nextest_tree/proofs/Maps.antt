@@ -9,7 +9,7 @@ use Rattle.std.specs.Ordering.{ordering_reverse}
 use Rattle.std.specs.BTreeMap.{insert_entry}
 use Rattle.std.specs.String.{string_cmp}
 use Rattle.nextest_tree.specs.Node.{Node}
-use Rattle.nextest_tree.specs.View.{node_of, members_of_trees}
+use Rattle.nextest_tree.specs.View.{tree_view, entries_view}
 use Rattle.nextest_tree.specs.Reads.{IsMap}
 use Rattle.nextest_tree.specs.declared.tree.Tree.{Tree}
 
@@ -17,11 +17,11 @@ below_middle : (first : String Global × Tree) (es : List (String Global × Tree
 below_middle first [] e more h = h.0
 below_middle first (x ∷ es) e more h = below_middle first es e more h.1
 
--- the values so far and one more, under a key that is above theirs
+-- the values so far and one more, below_step a key that is above theirs
 pub map_more : {K X : Type 0} (cmp : K → K → Ordering) (text : K → List ℕ) (P : Node → X → Type 0) → ((a b : K) → cmp a b ≡ slice_cmp nat_cmp (text a) (text b))
     → (done : List (String Global × Tree)) (e : String Global × Tree) (more : List (String Global × Tree)) (xs : List (K × X)) (k : K) (x : X)
-    → IsStrictlySortedBy string_cmp (keys_of (done ++ e ∷ more)) → IsMap text P (members_of_trees done) xs → text k ≡ string_bytes e.0 → P (node_of e.1) x
-    → IsMap text P (members_of_trees (done ++ e ∷ [])) (insert_entry cmp xs k x)
+    → IsStrictlySortedBy string_cmp (keys_of (done ++ e ∷ more)) → IsMap text P (entries_view done) xs → text k ≡ string_bytes e.0 → P (tree_view e.1) x
+    → IsMap text P (entries_view (done ++ e ∷ [])) (insert_entry cmp xs k x)
 unfolding IsStrictlySortedBy
 map_more cmp text P same [] e more [] k x h m t p = (t, p, tt)
 map_more cmp text P same [] e more (y ∷ ys) k x h m t p = absurd m

@@ -6,31 +6,31 @@ use Rattle.std.specs.Result.{result_ok}
 use Rattle.std.specs.Map.{lookup}
 use Rattle.std.specs.Str.{bytes_eq}
 use Rattle.nextest_tree.specs.Node.{Node, text, bool}
-use Rattle.nextest_tree.specs.Schema.{Cause, wrong_kind, bad_value, Schema, leaf}
+use Rattle.nextest_tree.specs.Schema.{FaultCause, wrong_kind, bad_value, Schema, leaf}
 
 -- a leaf is refused with the cause that its function gives
-abbrev pub cause_of : {X : Type 0} → Result X Cause → Option Cause
+abbrev pub cause_of : {X : Type 0} → Result X FaultCause → Option FaultCause
 cause_of (Ok x) = None
 cause_of (Err c) = Some c
 
 -- the schema of a leaf
-abbrev pub value : {X : Type 0} → (Node → Result X Cause) → Schema
+abbrev pub value : {X : Type 0} → (Node → Result X FaultCause) → Schema
 value read = leaf (λ n. cause_of (read n))
 
 -- the node spells the value
-abbrev pub Spells : {X : Type 0} → (Node → Result X Cause) → Node → X → Type 0
+abbrev pub Spells : {X : Type 0} → (Node → Result X FaultCause) → Node → X → Type 0
 Spells read n x = read n ≡ Ok x
 
 -- the value of a field that may be absent, and of one with a default
-abbrev pub leaf_at : {X : Type 0} → (Node → Result X Cause) → Option Node → Option X
+abbrev pub leaf_at : {X : Type 0} → (Node → Result X FaultCause) → Option Node → Option X
 leaf_at read None = None
 leaf_at read (Some n) = result_ok (read n)
 
-abbrev pub leaf_or : {X : Type 0} → X → (Node → Result X Cause) → Option Node → X
+abbrev pub leaf_or : {X : Type 0} → X → (Node → Result X FaultCause) → Option Node → X
 leaf_or d read o = unwrap_or (leaf_at read o) d
 
 -- a text
-abbrev pub text_at : Node → Result (List ℕ) Cause
+abbrev pub text_at : Node → Result (List ℕ) FaultCause
 text_at (text s) = Ok s
 text_at _ = Err wrong_kind
 
@@ -41,7 +41,7 @@ abbrev pub IsText : Node → String Global → Type 0
 IsText n s = text_at n ≡ Ok (string_bytes s)
 
 -- a truth value
-abbrev pub bool_at : Node → Result Bool Cause
+abbrev pub bool_at : Node → Result Bool FaultCause
 bool_at (bool b) = Ok b
 bool_at _ = Err wrong_kind
 
@@ -53,10 +53,10 @@ abbrev pub names_in : {X : Type 0} → List (Bor (List ℕ) × X) → List (List
 names_in names = map (λ p. (p.0.now, p.1)) names
 
 -- one of these names, of which the refusal says what was expected
-abbrev pub name_at : {X : Type 0} → List (List ℕ × X) → List ℕ → Node → Result X Cause
+abbrev pub name_at : {X : Type 0} → List (List ℕ × X) → List ℕ → Node → Result X FaultCause
 name_at names expected (text s) = ok_or (lookup (bytes_eq s) names) (bad_value s expected)
 name_at names expected _ = Err wrong_kind
 
 -- a map whose keys are any texts refuses none
-abbrev pub any_key : List ℕ → Option Cause
+abbrev pub any_key : List ℕ → Option FaultCause
 any_key k = None

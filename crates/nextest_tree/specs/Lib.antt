@@ -4,5 +4,7 @@ pub mod Key
 pub mod Schema
 pub mod Place
 pub mod Reads
+pub mod ReadSteps
 pub mod Leaf
 pub mod Spelling
+pub mod Value

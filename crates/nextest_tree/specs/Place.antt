@@ -7,7 +7,7 @@ use Rattle.std.specs.Fmt.{decimal}
 use Rattle.nextest_tree.specs.declared.key.Key.{Key}
 use Rattle.nextest_tree.specs.Key.{key_text}
 use Rattle.nextest_tree.specs.Node.{Node, table, array, Nodes, no_nodes, node, Entries, no_entries, entry, get, IsSorted}
-use Rattle.nextest_tree.specs.Schema.{Cause, wrong_kind, missing, unknown_field, Fault, below, Others, noted, refused, Schema, any, leaf, fields, map_of, items_of, Fields, no_more, field, names_of, others, faults}
+use Rattle.nextest_tree.specs.Schema.{FaultCause, wrong_kind, missing, unknown_field, Fault, below, Others, noted, refused, Schema, any, leaf, fields, map_of, items_of, Fields, no_more, field, names_of, others, faults}
 
 -- one step of a place
 pub data Step : Type 0 where
@@ -49,87 +49,87 @@ pub data StandsBefore : Place → Place → Type 0 where
   later : {a : Step} {p q : Place} → StandsBefore p q → StandsBefore (a ∷ p) (a ∷ q)
 
 -- a cause at its place
-pub record Sited : Type 0 where
+pub record SitedCause : Type 0 where
   pub place : Place
-  pub cause : Cause
+  pub cause : FaultCause
 
 -- the place stands before all of these
-abbrev pub StandsBeforeAll : Place → List Sited → Type 0
+abbrev pub StandsBeforeAll : Place → List SitedCause → Type 0
 StandsBeforeAll p [] = Unit {0}
 StandsBeforeAll p (x ∷ xs) = StandsBefore p x.place × StandsBeforeAll p xs
 
 -- the places strictly ascend: each stands before all that follow it
-abbrev pub Ascends : List Sited → Type 0
+abbrev pub Ascends : List SitedCause → Type 0
 Ascends [] = Unit {0}
 Ascends (x ∷ xs) = StandsBeforeAll x.place xs × Ascends xs
 
 -- the path that a step adds to: the steps of keys and positions spell themselves
-abbrev pub stepped : List ℕ → Step → List ℕ
-stepped p (other_key k) = below p k
-stepped p (in_field i) = p
-stepped p all_fields = p
-stepped p (at_key k) = below p k
-stepped p the_key = p
-stepped p the_value = p
-stepped p (at_position i) = below p (decimal i)
-stepped p all_items = p
+abbrev pub path_after : List ℕ → Step → List ℕ
+path_after p (other_key k) = below p k
+path_after p (in_field i) = p
+path_after p all_fields = p
+path_after p (at_key k) = below p k
+path_after p the_key = p
+path_after p the_value = p
+path_after p (at_position i) = below p (decimal i)
+path_after p all_items = p
 
 -- the path of a place that starts at a path
 abbrev pub path_from : List ℕ → Place → List ℕ
 path_from p [] = p
-path_from p (a ∷ q) = path_from (stepped p a) q
+path_from p (a ∷ q) = path_from (path_after p a) q
 
 -- a cause at its place, as a fault at its path
-abbrev pub rendered : List ℕ → Sited → Fault
-rendered p x = record { path = path_from p x.place; cause = x.cause }
+abbrev pub fault_at_place : List ℕ → SitedCause → Fault
+fault_at_place p x = record { path = path_from p x.place; cause = x.cause }
 
 -- a cause right here, if there is one
-abbrev pub sited_here : Option Cause → List Sited
-sited_here None = []
-sited_here (Some c) = record { place = []; cause = c } ∷ []
+abbrev pub cause_here : Option FaultCause → List SitedCause
+cause_here None = []
+cause_here (Some c) = record { place = []; cause = c } ∷ []
 
 -- the same, one step further down
-abbrev pub under : Step → List Sited → List Sited
-under a xs = map (λ x. record { place = a ∷ x.place; cause = x.cause }) xs
+abbrev pub below_step : Step → List SitedCause → List SitedCause
+below_step a xs = map (λ x. record { place = a ∷ x.place; cause = x.cause }) xs
 
 -- the causes at one field
-unfoldable pub field_sited : Key → Bool → (Node → List Sited) → Option Node → List Sited
-field_sited k must f None = if must then sited_here (Some (missing (key_text k))) else []
-field_sited k must f (Some n) = under (at_key (key_text k)) (f n)
+unfoldable pub field_causes : Key → Bool → (Node → List SitedCause) → Option Node → List SitedCause
+field_causes k must f None = if must then cause_here (Some (missing (key_text k))) else []
+field_causes k must f (Some n) = below_step (at_key (key_text k)) (f n)
 
 -- the causes of the keys that a table refuses
-abbrev pub others_sited : Others → List (List ℕ) → List Sited
-others_sited noted ks = []
-others_sited refused ks = map (λ k. record { place = other_key k ∷ []; cause = unknown_field }) ks
+abbrev pub other_causes : Others → List (List ℕ) → List SitedCause
+other_causes noted ks = []
+other_causes refused ks = map (λ k. record { place = other_key k ∷ []; cause = unknown_field }) ks
 
-abbrev pub items_sited : (Node → List Sited) → ℕ → Nodes → List Sited
-items_sited f i no_nodes = []
-items_sited f i (node n ns) = under (at_position i) (f n) ++ items_sited f (i + 1) ns
+abbrev pub item_causes : (Node → List SitedCause) → ℕ → Nodes → List SitedCause
+item_causes f i no_nodes = []
+item_causes f i (node n ns) = below_step (at_position i) (f n) ++ item_causes f (i + 1) ns
 
-abbrev pub entries_sited : (List ℕ → Option Cause) → (Node → List Sited) → Entries → List Sited
-entries_sited test f no_entries = []
-entries_sited test f (entry k n es) = under (at_key k) (under the_key (sited_here (test k)) ++ under the_value (f n)) ++ entries_sited test f es
+abbrev pub entry_causes : (List ℕ → Option FaultCause) → (Node → List SitedCause) → Entries → List SitedCause
+entry_causes test f no_entries = []
+entry_causes test f (entry k n es) = below_step (at_key k) (below_step the_key (cause_here (test k)) ++ below_step the_value (f n)) ++ entry_causes test f es
 
 -- all causes of a node, each at its place
 abbrev mutual
-  pub sited : Schema → Node → List Sited
-  sited any n = []
-  sited (leaf test) n = sited_here (test n)
-  sited (fields how other fs across) (table es) = others_sited how (others (names_of fs) es) ++ (fields_sited 0 fs es ++ under all_fields (sited_here (across es)))
-  sited (fields how other fs across) n = sited other n
-  sited (map_of test s) (table es) = entries_sited test (sited s) es
-  sited (map_of test s) n = sited_here (Some wrong_kind)
-  sited (items_of other s across) (array ns) = items_sited (sited s) 0 ns ++ under all_items (sited_here (across ns))
-  sited (items_of other s across) n = sited other n
+  pub sited_causes : Schema → Node → List SitedCause
+  sited_causes any n = []
+  sited_causes (leaf test) n = cause_here (test n)
+  sited_causes (fields how other fs across) (table es) = other_causes how (others (names_of fs) es) ++ (fields_causes 0 fs es ++ below_step all_fields (cause_here (across es)))
+  sited_causes (fields how other fs across) n = sited_causes other n
+  sited_causes (map_of test s) (table es) = entry_causes test (sited_causes s) es
+  sited_causes (map_of test s) n = cause_here (Some wrong_kind)
+  sited_causes (items_of other s across) (array ns) = item_causes (sited_causes s) 0 ns ++ below_step all_items (cause_here (across ns))
+  sited_causes (items_of other s across) n = sited_causes other n
 
-  pub fields_sited : ℕ → Fields → Entries → List Sited
-  fields_sited i no_more es = []
-  fields_sited i (field k must s fs) es = under (in_field i) (field_sited k (must es) (sited s) (get (key_text k) es)) ++ fields_sited (i + 1) fs es
+  pub fields_causes : ℕ → Fields → Entries → List SitedCause
+  fields_causes i no_more es = []
+  fields_causes i (field k must s fs) es = below_step (in_field i) (field_causes k (must es) (sited_causes s) (get (key_text k) es)) ++ fields_causes (i + 1) fs es
 
 -- the faults of a node are its causes at their places, in the order of places
 pub record AreInOrder (s : Schema) (p : List ℕ) (n : Node) : Type 0 where
-  pub at_places : faults s p n ≡ map (rendered p) (sited s n)
-  pub ascending : Ascends (sited s n)
+  pub at_places : faults s p n ≡ map (fault_at_place p) (sited_causes s n)
+  pub ascending : Ascends (sited_causes s n)
 
 -- so it is for every node in whose tables the keys ascend
 abbrev pub HasOrderedFaults : Schema → Type 0

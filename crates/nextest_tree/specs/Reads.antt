@@ -1,6 +1,5 @@
 -- What a reader answers, and where it leaves the walk.
 use Rattle.std.specs.Prelude.{◌≡◌, ℕ, List, [], ◌∷◌, Bool, false, ◌||◌, Option, Some, None, Result, Ok, Err, string_bytes, ◌+◌}
-use Rattle.std.specs.Fmt.{decimal}
 use Rattle.std.specs.BTreeSet.{contains_text}
 use Rattle.nextest_tree.specs.declared.key.Key.{Key}
 use Rattle.nextest_tree.specs.declared.walk.Walk.{Walk}
@@ -9,39 +8,39 @@ use Rattle.nextest_tree.specs.declared.fault.ElementCause.{ElementCause}
 use Rattle.nextest_tree.specs.declared.fault.ElementCause.TheVariants as causes
 use Rattle.nextest_tree.specs.Key.{key_text}
 use Rattle.nextest_tree.specs.Node.{Node, array, Nodes, no_nodes, node, table, Entries, no_entries, entry, get}
-use Rattle.nextest_tree.specs.Schema.{Cause, wrong_kind, missing, bad_value, out_of_range, unknown_field, Fault, is_one_of, below, names_of, Others, refused, others_faults, others_unknown, Schema, Fields, no_more, field, faults, unknown, field_faults, field_unknown}
+use Rattle.nextest_tree.specs.Schema.{FaultCause, wrong_kind, missing, bad_value, out_of_range, unknown_field, Fault, is_one_of, below, names_of, Others, refused, others_faults, others_unknown, Schema, Fields, no_more, field, faults, unknown, field_faults, field_unknown}
 
 -- a walk: the path where it stands, and which paths it has noted
-pub record Spot : Type 0 where
+pub record ReadState : Type 0 where
   pub path : List ℕ
-  pub seen : List ℕ → Bool
+  pub is_noted : List ℕ → Bool
 
 -- at the root, with nothing noted
-unfoldable pub start : Spot
-start = record { path = []; seen = λ q. false }
+unfoldable pub start : ReadState
+start = record { path = []; is_noted = λ q. false }
 
 -- the spot of a reader's walk
-unfoldable pub spot_of : Walk → Spot
-spot_of w = record { path = string_bytes w.path; seen = contains_text w.unknown }
+unfoldable pub walk_view : Walk → ReadState
+walk_view w = record { path = string_bytes w.path; is_noted = contains_text w.unknown }
 
 -- these paths are noted too, and no others
-abbrev pub noting : List (List ℕ) → Spot → Spot
-noting paths at = record { path = at.path; seen = λ q. at.seen q || is_one_of paths q }
+abbrev pub noting : List (List ℕ) → ReadState → ReadState
+noting paths at = record { path = at.path; is_noted = λ q. at.is_noted q || is_one_of paths q }
 
 -- at what stands at a key, and back at a path
-abbrev pub inside : List ℕ → Spot → Spot
-inside k at = record { path = below at.path k; seen = at.seen }
+abbrev pub inside : List ℕ → ReadState → ReadState
+inside k at = record { path = below at.path k; is_noted = at.is_noted }
 
-abbrev pub back_at : List ℕ → Spot → Spot
-back_at p at = record { path = p; seen = at.seen }
+abbrev pub back_at : List ℕ → ReadState → ReadState
+back_at p at = record { path = p; is_noted = at.is_noted }
 
 -- With no fault, the unknown paths are noted and the walk stands where it stood; else the first fault is told.
-abbrev pub outcome : List Fault → List (List ℕ) → Spot → Result Spot Fault
+abbrev pub outcome : List Fault → List (List ℕ) → ReadState → Result ReadState Fault
 outcome [] paths at = Ok (noting paths at)
 outcome (f ∷ fs) paths at = Err f
 
 -- what reading a node by a schema gives at a spot: this is the contract of every reader
-unfoldable pub reading : Schema → Node → Spot → Result Spot Fault
+unfoldable pub reading : Schema → Node → ReadState → Result ReadState Fault
 reading s n at = outcome (faults s at.path n) (unknown s at.path n) at
 
 -- one step, and then the next if it met no fault
@@ -50,45 +49,24 @@ abbrev pub ◌>>=◌ : {A B : Type 0} → Result A Fault → (A → Result B Fau
 (Ok x) >>= f = f x
 (Err e) >>= f = Err e
 
--- reading what stands at a key, and going back
-unfoldable pub reading_below : List ℕ → Schema → Node → Spot → Result Spot Fault
-reading_below k s n at = reading s n (inside k at) >>= λ mid. Ok (back_at at.path mid)
-
 -- reading one field of a table, and some fields in order
-unfoldable pub reading_field : Key → Bool → Schema → Entries → Spot → Result Spot Fault
+unfoldable pub reading_field : Key → Bool → Schema → Entries → ReadState → Result ReadState Fault
 reading_field k must s es at = outcome (field_faults k must (faults s) at.path (get (key_text k) es)) (field_unknown k (unknown s) at.path (get (key_text k) es)) at
 
-abbrev pub reading_fields : Fields → Entries → Spot → Result Spot Fault
+abbrev pub reading_fields : Fields → Entries → ReadState → Result ReadState Fault
 reading_fields no_more es at = Ok at
 reading_fields (field k must s fs) es at = reading_field k (must es) s es at >>= reading_fields fs es
 
--- a table refuses the first of the keys that are not among the names, if it refuses such keys
-unfoldable pub refusing_others : Others → List Key → Entries → Spot → Result Spot Fault
-refusing_others how names es at = outcome (others_faults how names at.path es) [] at
-
--- a table notes the keys that are not among the names, if it notes such keys
-abbrev pub noting_others : Others → List Key → Entries → Spot → Spot
-noting_others how names es at = noting (others_unknown how names at.path es) at
-
--- reading a table that refuses its other keys: these come before its fields
-unfoldable pub reading_closed : Fields → Entries → Spot → Result Spot Fault
-reading_closed fs es at = refusing_others refused (names_of fs) es at >>= reading_fields fs es
-
--- reading the items of an array from a position on
-abbrev pub reading_items : Schema → ℕ → Nodes → Spot → Result Spot Fault
-reading_items s i no_nodes at = Ok at
-reading_items s i (node n ns) at = reading_below (decimal i) s n at >>= reading_items s (i + 1) ns
-
 -- a test of what stands at the spot
-abbrev pub checked : Option Cause → Spot → Result Spot Fault
-checked None at = Ok at
-checked (Some c) at = Err (record { path = at.path; cause = c })
+abbrev pub test_outcome : Option FaultCause → ReadState → Result ReadState Fault
+test_outcome None at = Ok at
+test_outcome (Some c) at = Err (record { path = at.path; cause = c })
 
 -- reading the entries of a map in order: each key, and then its value
-unfoldable pub reading_entry : (List ℕ → Option Cause) → Schema → List ℕ → Node → Spot → Result Spot Fault
-reading_entry test s k n at = (checked (test k) (inside k at) >>= reading s n) >>= λ mid. Ok (back_at at.path mid)
+unfoldable pub reading_entry : (List ℕ → Option FaultCause) → Schema → List ℕ → Node → ReadState → Result ReadState Fault
+reading_entry test s k n at = (test_outcome (test k) (inside k at) >>= reading s n) >>= λ mid. Ok (back_at at.path mid)
 
-abbrev pub reading_entries : (List ℕ → Option Cause) → Schema → Entries → Spot → Result Spot Fault
+abbrev pub reading_entries : (List ℕ → Option FaultCause) → Schema → Entries → ReadState → Result ReadState Fault
 reading_entries test s no_entries at = Ok at
 reading_entries test s (entry k n es) at = reading_entry test s k n at >>= reading_entries test s es
 
@@ -102,16 +80,16 @@ fault_at p causes.UnknownField = Some (record { path = p; cause = unknown_field 
 fault_at p causes.Memory = None
 
 -- the fault that a reader's refusal tells
-unfoldable pub told : ElementFault → Option Fault
-told e = fault_at (string_bytes e.path) e.cause
+unfoldable pub fault_view : ElementFault → Option Fault
+fault_view e = fault_at (string_bytes e.path) e.cause
 
--- the fault that is told, if one is, is the one that reading meets
-abbrev pub Fails : ElementFault → Result Spot Fault → Type 0
-Fails e read = (f : Fault) → told e ≡ Some f → read ≡ Err f
+-- the fault that is fault_view, if one is, is the one that reading meets
+abbrev pub Fails : ElementFault → Result ReadState Fault → Type 0
+Fails e read = (f : Fault) → fault_view e ≡ Some f → read ≡ Err f
 
 -- What a reader answered and where it left the walk is what reading gives, unless memory ran out.
-abbrev pub Gives : {X : Type 0} → Result X ElementFault → Walk → Result Spot Fault → Type 0
-Gives (Ok x) new read = read ≡ Ok (spot_of new)
+abbrev pub Gives : {X : Type 0} → Result X ElementFault → Walk → Result ReadState Fault → Type 0
+Gives (Ok x) new read = read ≡ Ok (walk_view new)
 Gives (Err e) new read = Fails e read
 
 -- the value at a key is there exactly where the key is
@@ -120,6 +98,15 @@ IsOptional P None None = Unit {0}
 IsOptional P (Some n) (Some x) = P n x
 IsOptional P None (Some x) = ⊥
 IsOptional P (Some n) None = ⊥
+
+-- the value of a key that is there
+abbrev pub IsRequired : {X : Type 0} → (Node → X → Type 0) → Option Node → X → Type 0
+IsRequired P o x = IsOptional P o (Some x)
+
+-- the value of a key, which is the given one where the key is absent
+abbrev pub IsDefaulted : {X : Type 0} → X → (Node → X → Type 0) → Option Node → X → Type 0
+IsDefaulted d P None x = x ≡ d
+IsDefaulted d P (Some n) x = P n x
 
 -- the values of the items, one for each
 abbrev pub IsList : {X : Type 0} → (Node → X → Type 0) → Nodes → List X → Type 0

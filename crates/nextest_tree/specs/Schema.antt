@@ -8,17 +8,17 @@ use Rattle.nextest_tree.specs.Key.{key_text}
 use Rattle.nextest_tree.specs.Node.{Node, table, array, Nodes, no_nodes, node, Entries, no_entries, entry, get, keys}
 
 -- why a value is refused
-pub data Cause : Type 0 where
-  wrong_kind : Cause
-  missing : (key : List ℕ) → Cause
-  bad_value : (given expected : List ℕ) → Cause
-  out_of_range : Cause
-  unknown_field : Cause
+pub data FaultCause : Type 0 where
+  wrong_kind : FaultCause
+  missing : (key : List ℕ) → FaultCause
+  bad_value : (given expected : List ℕ) → FaultCause
+  out_of_range : FaultCause
+  unknown_field : FaultCause
 
 -- where something is refused, and why
 pub record Fault : Type 0 where
   pub path : List ℕ
-  pub cause : Cause
+  pub cause : FaultCause
 
 -- the first of a list
 abbrev pub first : {A : Type 0} → List A → Option A
@@ -40,13 +40,13 @@ mutual
     -- known, and never looked into
     any : Schema
     -- a value of one test
-    leaf : (Node → Option Cause) → Schema
+    leaf : (Node → Option FaultCause) → Schema
     -- a table of these fields, with a test over several of them; what is no table has the other schema
-    fields : Others → Schema → Fields → (Entries → Option Cause) → Schema
+    fields : Others → Schema → Fields → (Entries → Option FaultCause) → Schema
     -- a table with one test for its keys and one schema for all its values
-    map_of : (List ℕ → Option Cause) → Schema → Schema
+    map_of : (List ℕ → Option FaultCause) → Schema → Schema
     -- an array with one schema for its items and a test of the whole; what is no array has the other schema
-    items_of : Schema → Schema → (Nodes → Option Cause) → Schema
+    items_of : Schema → Schema → (Nodes → Option FaultCause) → Schema
 
   pub data Fields : Type 0 where
     no_more : Fields
@@ -72,7 +72,7 @@ abbrev pub others : List Key → Entries → List (List ℕ)
 others names es = filter (λ k. not (is_one_of (map key_text names) k)) (keys es)
 
 -- a fault at the path, if there is a cause
-abbrev pub at : List ℕ → Option Cause → List Fault
+abbrev pub at : List ℕ → Option FaultCause → List Fault
 at p None = []
 at p (Some c) = record { path = p; cause = c } ∷ []
 
@@ -140,11 +140,11 @@ abbrev mutual
   fields_unknown (field k must s fs) p es = field_unknown k (unknown s) p (get (key_text k) es) ++ fields_unknown fs p es
 
 -- what is no table is of the wrong kind, and so is what is no array
-abbrev pub not_table : Node → Option Cause
+abbrev pub not_table : Node → Option FaultCause
 not_table (table es) = None
 not_table _ = Some wrong_kind
 
-abbrev pub not_array : Node → Option Cause
+abbrev pub not_array : Node → Option FaultCause
 not_array (array ns) = None
 not_array _ = Some wrong_kind
 

@@ -22,11 +22,11 @@ node_step (Tree-F.Int z) = int z
 node_step (Tree-F.Bool b) = bool b
 node_step Tree-F.Opaque = opaque
 
-abbrev pub node_of : Tree → Node
-node_of = fold-Tree Node node_step
+abbrev pub tree_view : Tree → Node
+tree_view = fold-Tree Node node_step
 
-abbrev pub items_of_trees : List Tree → Nodes
-items_of_trees ts = nodes_of (map node_of ts)
+abbrev pub nodes_view : List Tree → Nodes
+nodes_view ts = nodes_of (map tree_view ts)
 
-abbrev pub members_of_trees : List (String Global × Tree) → Entries
-members_of_trees es = entries_of (map (λ e. (e.0, node_of e.1)) es)
+abbrev pub entries_view : List (String Global × Tree) → Entries
+entries_view es = entries_of (map (λ e. (e.0, tree_view e.1)) es)

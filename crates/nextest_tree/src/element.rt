@@ -7,9 +7,9 @@ ghost use Rattle.std.specs.Prelude.{◌≡◌, IfOk, IfErr, OnOk, List, Option, 
 ghost use Rattle.std.specs.Ordering.{nat_cmp};
 ghost use Rattle.std.specs.Cmp.Lexicographic.{slice_cmp};
 ghost use Rattle.nextest_tree.specs.Node.{Node, Entries};
-ghost use Rattle.nextest_tree.specs.View.{node_of, members_of_trees};
-ghost use Rattle.nextest_tree.specs.Schema.{Cause, Schema, Fields, names_of};
-ghost use Rattle.nextest_tree.specs.Reads.{Gives, Fails, checked, spot_of, reading, reading_fields};
+ghost use Rattle.nextest_tree.specs.View.{tree_view, entries_view};
+ghost use Rattle.nextest_tree.specs.Schema.{FaultCause, Schema, Fields, names_of};
+ghost use Rattle.nextest_tree.specs.Reads.{Gives, Fails, test_outcome, walk_view, reading, reading_fields};
 
 use crate::fault::ElementFault;
 use crate::key::Key;
@@ -28,8 +28,8 @@ pub trait Element: Sized + Drop {
 
     /// Reads the value of a tree.
     fn read(alloc: Global, tree: &Tree, walk: &mut Walk) -> Result<Self, ElementFault>
-        ensures value { IfOk result (is_value (node_of tree.now)) }
-        ensures reads { Gives result walk.new (reading schema (node_of tree.now) (spot_of walk.old)) };
+        ensures value { IfOk result (is_value (tree_view tree.now)) }
+        ensures reads { Gives result walk.new (reading schema (tree_view tree.now) (walk_view walk.old)) };
 }
 
 /// A value that a table of fields spells.
@@ -41,7 +41,7 @@ pub trait Record: Sized + Drop {
     ghost is_record: { Entries → Self → Type 0 };
 
     /// The keys that the table knows.
-    fn names() -> &'static [Key]
+    fn keys() -> &'static [Key]
         ensures { result.now ≡ names_of fields };
 
     /// Reads the fields in order.
@@ -50,14 +50,14 @@ pub trait Record: Sized + Drop {
         members: &BTreeMap<String, Tree>,
         walk: &mut Walk,
     ) -> Result<Self, ElementFault>
-        ensures value { IfOk result (is_record (members_of_trees members.now.entries)) }
-        ensures reads { Gives result walk.new (reading_fields fields (members_of_trees members.now.entries) (spot_of walk.old)) };
+        ensures value { IfOk result (is_record (entries_view members.now.entries)) }
+        ensures reads { Gives result walk.new (reading_fields fields (entries_view members.now.entries) (walk_view walk.old)) };
 }
 
 /// A name that keys a map.
 pub trait Name: Sized + Drop + Ord {
     /// Which texts are refused.
-    ghost test: { List ℕ → Option Cause };
+    ghost test: { List ℕ → Option FaultCause };
 
     /// The text of the name.
     ghost text: { Self → List ℕ };
@@ -66,7 +66,7 @@ pub trait Name: Sized + Drop + Ord {
     fn read_name(alloc: Global, key: &str, walk: &Walk) -> Result<Self, ElementFault>
         ensures value { IfOk result (λ name. text name ≡ key.now) }
         ensures passed { OnOk result (test key.now ≡ None) }
-        ensures fault { IfErr result (λ e. Fails e (checked (test key.now) (spot_of walk.now))) };
+        ensures fault { IfErr result (λ e. Fails e (test_outcome (test key.now) (walk_view walk.now))) };
 
     /// Names are ordered by their texts.
     ghost ordered: { (a b : Self) → Self.cmp a b ≡ slice_cmp nat_cmp (text a) (text b) };

@@ -44,12 +44,12 @@ pub enum ElementCause {
 
 impl ElementFault {
     ghost use Rattle.std.specs.Prelude.{◌≡◌, None};
-    ghost use Rattle.nextest_tree.specs.Reads.{told};
+    ghost use Rattle.nextest_tree.specs.Reads.{fault_view};
 
     /// Want of memory.
-    #[tactic(auto, unfolding(crate::specs::Reads::told))]
+    #[tactic(auto, unfolding(crate::specs::Reads::fault_view))]
     pub fn memory(alloc: Global) -> ElementFault
-        ensures { told result ≡ None }
+        ensures { fault_view result ≡ None }
     {
         ElementFault {
             path: String::new(alloc),

@@ -7,7 +7,7 @@ use crate::element::Element;
 /// least one and not merely the first of a list.
 ///
 /// The order is stated by itself in `specs/Place.antt`. It asks that the keys of each table ascend, which
-/// `nextest_documents::tree_from_value` ensures of every tree that it makes.
+/// `Tree::from_toml` ensures of every tree that it makes.
 pub fn law_fault_order<T: Element>()
     ensures { HasOrderedFaults T.schema }
 {}

@@ -14,14 +14,15 @@ mod name;
 mod table;
 mod text;
 mod tree;
+mod value;
 mod walk;
 
 pub use element::{Element, Name, Record};
 pub use fault::{ElementCause, ElementFault};
-pub use field::{optional, required, wanted};
+pub use field::{optional, required, required_if};
 pub use key::Key;
 pub use law::law_fault_order;
-pub use name::named;
+pub use name::read_one_of;
 pub use table::{read_closed_record, read_record, read_table};
 pub use text::Ignored;
 pub use tree::Tree;

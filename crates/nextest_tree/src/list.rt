@@ -1,9 +1,10 @@
 //! The reader of a list.
 ghost use Rattle.std.specs.Prelude.{◌≡◌, IfOk};
 ghost use Rattle.nextest_tree.specs.Node as Node;
-ghost use Rattle.nextest_tree.specs.View.{items_of_trees};
+ghost use Rattle.nextest_tree.specs.View.{nodes_view};
 ghost use Rattle.nextest_tree.specs.Schema.{list_of};
-ghost use Rattle.nextest_tree.specs.Reads.{IsList, InArray, Gives, spot_of, reading, reading_items};
+ghost use Rattle.nextest_tree.specs.Reads.{IsList, InArray, Gives, walk_view, reading};
+ghost use Rattle.nextest_tree.specs.ReadSteps.{reading_items};
 
 use crate::element::Element;
 use crate::fault::{ElementCause, ElementFault};
@@ -18,8 +19,8 @@ fn read_items<T: Element>(
     items: &[Tree],
     walk: &mut Walk,
 ) -> Result<Vec<T>, ElementFault>
-    ensures value { IfOk result (λ values. IsList T.is_value (items_of_trees items.now) values.items) }
-    ensures reads { Gives result walk.new (reading_items T.schema 0 (items_of_trees items.now) (spot_of walk.old)) }
+    ensures value { IfOk result (λ values. IsList T.is_value (nodes_view items.now) values.items) }
+    ensures reads { Gives result walk.new (reading_items T.schema 0 (nodes_view items.now) (walk_view walk.old)) }
 {
     let mut values = Vec::new(alloc);
     for (position, item) in items.iter().enumerate() {
@@ -40,14 +41,14 @@ fn read_list<T: Element>(
     items: &[Tree],
     walk: &mut Walk,
 ) -> Result<Vec<T>, ElementFault>
-    ensures value { IfOk result (λ values. IsList T.is_value (items_of_trees items.now) values.items) }
-    ensures reads { Gives result walk.new (reading (list_of T.schema) (Node.array (items_of_trees items.now)) (spot_of walk.old)) }
+    ensures value { IfOk result (λ values. IsList T.is_value (nodes_view items.now) values.items) }
+    ensures reads { Gives result walk.new (reading (list_of T.schema) (Node.array (nodes_view items.now)) (walk_view walk.old)) }
 {
     let values = read_items(alloc, items, walk)?;
     Ok(values)
 }
 
-#[tactic(auto, unfolding(crate::specs::Reads::reading, crate::specs::Reads::spot_of))]
+#[tactic(auto, unfolding(crate::specs::Reads::reading, crate::specs::Reads::walk_view))]
 impl<T: Element> Element for Vec<T> {
     ghost schema = { list_of T.schema };
 

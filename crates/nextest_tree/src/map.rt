@@ -1,9 +1,9 @@
 //! The reader of a map, whose keys are judged.
 ghost use Rattle.std.specs.Prelude.{◌≡◌, IfOk};
 ghost use Rattle.nextest_tree.specs.Node as Node;
-ghost use Rattle.nextest_tree.specs.View.{node_of, members_of_trees};
+ghost use Rattle.nextest_tree.specs.View.{tree_view, entries_view};
 ghost use Rattle.nextest_tree.specs.Schema.{map_of};
-ghost use Rattle.nextest_tree.specs.Reads.{IsMap, InTable, Gives, spot_of, reading, reading_entry, reading_entries};
+ghost use Rattle.nextest_tree.specs.Reads.{IsMap, InTable, Gives, walk_view, reading, reading_entry, reading_entries};
 
 use crate::element::{Element, Name};
 use crate::fault::{ElementCause, ElementFault};
@@ -20,8 +20,8 @@ fn read_entry<K: Name, T: Element>(
     walk: &mut Walk,
 ) -> Result<(K, T), ElementFault>
     ensures name { IfOk result (λ e. K.text e.0 ≡ key.now) }
-    ensures value { IfOk result (λ e. T.is_value (node_of tree.now) e.1) }
-    ensures reads { Gives result walk.new (reading_entry K.test T.schema key.now (node_of tree.now) (spot_of walk.old)) }
+    ensures value { IfOk result (λ e. T.is_value (tree_view tree.now) e.1) }
+    ensures reads { Gives result walk.new (reading_entry K.test T.schema key.now (tree_view tree.now) (walk_view walk.old)) }
 {
     let outer = walk.enter(alloc, key)?;
     let name = K::read_name(alloc, key, walk)?;
@@ -36,8 +36,8 @@ fn read_entries<K: Name, T: Element>(
     members: &BTreeMap<String, Tree>,
     walk: &mut Walk,
 ) -> Result<BTreeMap<K, T>, ElementFault>
-    ensures value { IfOk result (λ values. IsMap K.text T.is_value (members_of_trees members.now.entries) values.entries) }
-    ensures reads { Gives result walk.new (reading_entries K.test T.schema (members_of_trees members.now.entries) (spot_of walk.old)) }
+    ensures value { IfOk result (λ values. IsMap K.text T.is_value (entries_view members.now.entries) values.entries) }
+    ensures reads { Gives result walk.new (reading_entries K.test T.schema (entries_view members.now.entries) (walk_view walk.old)) }
 {
     let mut values = BTreeMap::new(alloc);
     for (key, tree) in members.iter() {
@@ -55,14 +55,14 @@ fn read_map<K: Name, T: Element>(
     members: &BTreeMap<String, Tree>,
     walk: &mut Walk,
 ) -> Result<BTreeMap<K, T>, ElementFault>
-    ensures value { IfOk result (λ values. IsMap K.text T.is_value (members_of_trees members.now.entries) values.entries) }
-    ensures reads { Gives result walk.new (reading (map_of K.test T.schema) (Node.table (members_of_trees members.now.entries)) (spot_of walk.old)) }
+    ensures value { IfOk result (λ values. IsMap K.text T.is_value (entries_view members.now.entries) values.entries) }
+    ensures reads { Gives result walk.new (reading (map_of K.test T.schema) (Node.table (entries_view members.now.entries)) (walk_view walk.old)) }
 {
     let values = read_entries(alloc, members, walk)?;
     Ok(values)
 }
 
-#[tactic(auto, unfolding(crate::specs::Reads::reading, crate::specs::Reads::spot_of))]
+#[tactic(auto, unfolding(crate::specs::Reads::reading, crate::specs::Reads::walk_view))]
 impl<K: Name, T: Element> Element for BTreeMap<K, T> {
     ghost schema = { map_of K.test T.schema };
 

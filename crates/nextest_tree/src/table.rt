@@ -3,9 +3,10 @@ ghost use Rattle.std.specs.Prelude.{◌≡◌, [], IfOk, IfErr, OnOk, None, map}
 ghost use Rattle.std.specs.Option.{option_copied};
 ghost use Rattle.nextest_tree.specs.Node as Node;
 ghost use Rattle.nextest_tree.specs.Key.{key_text};
-ghost use Rattle.nextest_tree.specs.View.{node_of, members_of_trees};
-ghost use Rattle.nextest_tree.specs.Schema.{struct, noted, refused, first, others, is_one_of};
-ghost use Rattle.nextest_tree.specs.Reads.{InTable, Gives, Fails, told, spot_of, noting_others, refusing_others, reading, reading_closed};
+ghost use Rattle.nextest_tree.specs.View.{tree_view, entries_view};
+ghost use Rattle.nextest_tree.specs.Schema.{Schema, struct, closed, noted, refused, first, others, is_one_of};
+ghost use Rattle.nextest_tree.specs.Reads.{InTable, Gives, Fails, fault_view, walk_view, reading};
+ghost use Rattle.nextest_tree.specs.ReadSteps.{noting_others, refusing_others};
 
 use crate::element::Record;
 use crate::fault::{ElementCause, ElementFault};
@@ -16,16 +17,19 @@ use std::alloc::Global;
 use std::collections::BTreeMap;
 
 /// Reads a table of fields that refuses its other keys: the first of them is refused before any field is looked at.
-#[tactic(auto, unfolding(crate::specs::Reads::reading_closed))]
+///
+/// What stands for a value that is no table says the other schema, and is not read here.
+#[tactic(auto, using(crate::proofs::Reading::closed_table), unfolding(crate::specs::ReadSteps::reading_closed))]
 pub fn read_closed_record<T: Record>(
     alloc: Global,
     members: &BTreeMap<String, Tree>,
     walk: &mut Walk,
 ) -> Result<T, ElementFault>
-    ensures value { IfOk result (T.is_record (members_of_trees members.now.entries)) }
-    ensures reads { Gives result walk.new (reading_closed T.fields (members_of_trees members.now.entries) (spot_of walk.old)) }
+    ensures value { IfOk result (T.is_record (entries_view members.now.entries)) }
+    ensures reads { let es = entries_view members.now.entries in (other : Schema)
+        → Gives result walk.new (reading (closed other T.fields) (Node.table es) (walk_view walk.old)) }
 {
-    refuse_others(alloc, members, T::names(), walk)?;
+    refuse_others(alloc, members, T::keys(), walk)?;
     let value = T::read_fields(alloc, members, walk)?;
     Ok(value)
 }
@@ -37,19 +41,19 @@ pub fn read_record<T: Record>(
     members: &BTreeMap<String, Tree>,
     walk: &mut Walk,
 ) -> Result<T, ElementFault>
-    ensures value { IfOk result (T.is_record (members_of_trees members.now.entries)) }
-    ensures reads { Gives result walk.new (reading (struct T.fields) (Node.table (members_of_trees members.now.entries)) (spot_of walk.old)) }
+    ensures value { IfOk result (T.is_record (entries_view members.now.entries)) }
+    ensures reads { Gives result walk.new (reading (struct T.fields) (Node.table (entries_view members.now.entries)) (walk_view walk.old)) }
 {
     let value = T::read_fields(alloc, members, walk)?;
-    note_others(alloc, members, T::names(), walk)?;
+    note_others(alloc, members, T::keys(), walk)?;
     Ok(value)
 }
 
 /// Reads a value that only a table of fields spells: anything else is of the wrong kind.
-#[tactic(auto, unfolding(crate::specs::Reads::reading, crate::specs::Reads::spot_of))]
+#[tactic(auto, unfolding(crate::specs::Reads::reading, crate::specs::Reads::walk_view))]
 pub fn read_table<T: Record>(alloc: Global, tree: &Tree, walk: &mut Walk) -> Result<T, ElementFault>
-    ensures value { IfOk result (InTable T.is_record (node_of tree.now)) }
-    ensures reads { Gives result walk.new (reading (struct T.fields) (node_of tree.now) (spot_of walk.old)) }
+    ensures value { IfOk result (InTable T.is_record (tree_view tree.now)) }
+    ensures reads { Gives result walk.new (reading (struct T.fields) (tree_view tree.now) (walk_view walk.old)) }
 {
     match tree {
         Tree::Table(members) => read_record(alloc, members, walk),
@@ -59,7 +63,7 @@ pub fn read_table<T: Record>(alloc: Global, tree: &Tree, walk: &mut Walk) -> Res
 
 /// The first of the keys, in their order, that is not among the names.
 fn first_other<'a>(members: &'a BTreeMap<String, Tree>, names: &[Key]) -> Option<&'a str>
-    ensures { option_copied result ≡ first (others names.now (members_of_trees members.now.entries)) }
+    ensures { option_copied result ≡ first (others names.now (entries_view members.now.entries)) }
 {
     for key in members.keys() {
         if !is_among(names, key.as_str()) {
@@ -77,7 +81,7 @@ fn refuse_others(
     names: &[Key],
     walk: &mut Walk,
 ) -> Result<(), ElementFault>
-    ensures { Gives result walk.new (refusing_others refused names.now (members_of_trees members.now.entries) (spot_of walk.old)) }
+    ensures { Gives result walk.new (refusing_others refused names.now (entries_view members.now.entries) (walk_view walk.old)) }
 {
     match first_other(members, names) {
         None => Ok(()),
@@ -95,8 +99,8 @@ fn note_others(
     names: &[Key],
     walk: &mut Walk,
 ) -> Result<(), ElementFault>
-    ensures ok { OnOk result (spot_of walk.new ≡ noting_others noted names.now (members_of_trees members.now.entries) (spot_of walk.old)) }
-    ensures err { IfErr result (λ e. told e ≡ None) }
+    ensures ok { OnOk result (walk_view walk.new ≡ noting_others noted names.now (entries_view members.now.entries) (walk_view walk.old)) }
+    ensures err { IfErr result (λ e. fault_view e ≡ None) }
 {
     for key in members.keys() {
         if !is_among(names, key.as_str()) {

@@ -1,7 +1,7 @@
 //! The readers of texts and truth values, and of what is known and never looked into.
 ghost use Rattle.std.specs.Prelude.{◌≡◌, Ok, List, Option, ℕ, None};
 ghost use Rattle.nextest_tree.specs.Leaf.{Spells, IsText, a_text, bool_at, a_bool};
-ghost use Rattle.nextest_tree.specs.Schema.{any, Cause};
+ghost use Rattle.nextest_tree.specs.Schema.{any, FaultCause};
 
 use crate::element::{Element, Name};
 use crate::fault::{ElementCause, ElementFault};
@@ -9,7 +9,7 @@ use crate::tree::Tree;
 use crate::walk::Walk;
 use std::alloc::Global;
 
-#[tactic(auto, unfolding(crate::specs::Reads::reading, crate::specs::Reads::spot_of, crate::specs::Leaf::a_text))]
+#[tactic(auto, unfolding(crate::specs::Reads::reading, crate::specs::Reads::walk_view, crate::specs::Leaf::a_text))]
 impl Element for String {
     ghost schema = { a_text };
 
@@ -26,7 +26,7 @@ impl Element for String {
     }
 }
 
-#[tactic(auto, unfolding(crate::specs::Reads::spot_of))]
+#[tactic(auto, unfolding(crate::specs::Reads::walk_view))]
 impl Name for String {
     ghost use Rattle.std.proofs.Common.{rules};
     ghost use Rattle.std.specs.Prelude.{string_bytes};
@@ -46,7 +46,7 @@ impl Name for String {
     ghost ordered = { λ a b. Prim.search rules };
 }
 
-#[tactic(auto, unfolding(crate::specs::Reads::reading, crate::specs::Reads::spot_of, crate::specs::Leaf::a_bool))]
+#[tactic(auto, unfolding(crate::specs::Reads::reading, crate::specs::Reads::walk_view, crate::specs::Leaf::a_bool))]
 impl Element for bool {
     ghost schema = { a_bool };
 

@@ -2,7 +2,7 @@
 ghost use Rattle.std.specs.Prelude.{◌≡◌, option_map};
 ghost use Rattle.std.specs.Option.{option_copied};
 ghost use Rattle.nextest_tree.specs.Node.{as_table, as_array, as_text, as_int, as_bool, member_of};
-ghost use Rattle.nextest_tree.specs.View.{node_of, items_of_trees, members_of_trees};
+ghost use Rattle.nextest_tree.specs.View.{tree_view, nodes_view, entries_view};
 
 use std::collections::BTreeMap;
 
@@ -28,7 +28,7 @@ pub enum Tree {
 impl Tree {
     /// The entries of a table.
     pub fn as_table(&self) -> Option<&BTreeMap<String, Tree>>
-        ensures { option_map (λ members. members_of_trees members.now.entries) result ≡ as_table (node_of self.now) }
+        ensures { option_map (λ members. entries_view members.now.entries) result ≡ as_table (tree_view self.now) }
     {
         match self {
             Tree::Table(members) => Some(members),
@@ -38,7 +38,7 @@ impl Tree {
 
     /// The items of an array.
     pub fn as_array(&self) -> Option<&[Tree]>
-        ensures { option_map (λ items. items_of_trees items.now) result ≡ as_array (node_of self.now) }
+        ensures { option_map (λ items. nodes_view items.now) result ≡ as_array (tree_view self.now) }
     {
         match self {
             Tree::Array(items) => Some(items),
@@ -48,7 +48,7 @@ impl Tree {
 
     /// A text.
     pub fn as_str(&self) -> Option<&str>
-        ensures { option_copied result ≡ as_text (node_of self.now) }
+        ensures { option_copied result ≡ as_text (tree_view self.now) }
     {
         match self {
             Tree::Text(text) => Some(text.as_str()),
@@ -58,7 +58,7 @@ impl Tree {
 
     /// A whole number.
     pub fn as_integer(&self) -> Option<i64>
-        ensures { result ≡ as_int (node_of self.now) }
+        ensures { result ≡ as_int (tree_view self.now) }
     {
         match self {
             Tree::Int(number) => Some(*number),
@@ -68,7 +68,7 @@ impl Tree {
 
     /// A truth value.
     pub fn as_bool(&self) -> Option<bool>
-        ensures { result ≡ as_bool (node_of self.now) }
+        ensures { result ≡ as_bool (tree_view self.now) }
     {
         match self {
             Tree::Bool(flag) => Some(*flag),
@@ -78,7 +78,7 @@ impl Tree {
 
     /// What a table has at a key. Nothing but a table has anything there.
     pub fn get(&self, key: &str) -> Option<&Tree>
-        ensures { option_map (λ tree. node_of tree.now) result ≡ member_of key.now (node_of self.now) }
+        ensures { option_map (λ tree. tree_view tree.now) result ≡ member_of key.now (tree_view self.now) }
     {
         match self {
             Tree::Table(members) => members.get(key),

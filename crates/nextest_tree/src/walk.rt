@@ -1,11 +1,11 @@
 //! Where a reader stands, and what it has noted.
-ghost use Rattle.std.specs.Prelude.{◌≡◌, IfOk, IfErr, OnOk, string_bytes, Some, None, Err, ◌∷◌, []};
+ghost use Rattle.std.specs.Prelude.{◌≡◌, IfOk, IfErr, OnOk, string_bytes, Some, None, Err, ◌∷◌, [], length, take};
+ghost use Rattle.std.specs.String.Boundary.{IsSplitPoint};
 ghost use Rattle.nextest_tree.specs.Schema.{Fault, below, bad_value, missing};
 
 use crate::fault::{ElementCause, ElementFault};
 use std::alloc::{AllocError, Global};
 use std::collections::BTreeSet;
-use std::mem;
 
 /// The walk of a reader over a tree: the path that it is at, and the unknown paths that it met.
 ///
@@ -18,24 +18,32 @@ pub struct Walk {
     pub unknown: BTreeSet<String>,
 }
 
+// Goes down a path by one key.
+fn push_key(path: &mut String, key: &str) -> Result<(), AllocError>
+    ensures { OnOk result (string_bytes path.new ≡ below (string_bytes path.old) key.now) }
+{
+    if !path.is_empty() {
+        path.push_str(".")?;
+    }
+    path.push_str(key)
+}
+
+// The path of what stands at a key.
 fn joined(alloc: Global, path: &str, key: &str) -> Result<String, AllocError>
     ensures { IfOk result (λ text. string_bytes text ≡ below path.now key.now) }
 {
     let mut text = String::from_str(alloc, path)?;
-    if !path.is_empty() {
-        text.push_str(".")?;
-    }
-    text.push_str(key)?;
+    push_key(&mut text, key)?;
     Ok(text)
 }
 
-#[tactic(auto, unfolding(crate::specs::Reads::told, crate::specs::Reads::spot_of))]
+#[tactic(auto, unfolding(crate::specs::Reads::fault_view, crate::specs::Reads::walk_view))]
 impl Walk {
-    ghost use Rattle.nextest_tree.specs.Reads.{start, spot_of, noting, inside, back_at, fault_at, told, Fails};
+    ghost use Rattle.nextest_tree.specs.Reads.{start, walk_view, noting, inside, back_at, fault_at, fault_view, Fails};
 
     /// The walk that stands at the root and has noted nothing.
     pub fn new(alloc: Global) -> Walk
-        ensures { spot_of result ≡ start }
+        ensures { walk_view result ≡ start }
     {
         Walk {
             path: String::new(alloc),
@@ -45,7 +53,7 @@ impl Walk {
 
     /// The fault of this cause at the path, or want of memory.
     pub fn fault(&self, alloc: Global, cause: ElementCause) -> ElementFault
-        ensures { (f : Fault) → told result ≡ Some f → fault_at (spot_of self.now).path cause ≡ Some f }
+        ensures { (f : Fault) → fault_view result ≡ Some f → fault_at (walk_view self.now).path cause ≡ Some f }
     {
         match String::from_str(alloc, self.path.as_str()) {
             Ok(path) => ElementFault { path, cause },
@@ -55,7 +63,7 @@ impl Walk {
 
     /// That the text or key at the path is refused, or want of memory.
     pub fn bad_value(&self, alloc: Global, given: &str, expected: &'static str) -> ElementFault
-        ensures { Fails result (Err (record { path = (spot_of self.now).path; cause = bad_value given.now expected.now })) }
+        ensures { Fails result (Err (record { path = (walk_view self.now).path; cause = bad_value given.now expected.now })) }
     {
         match String::from_str(alloc, given) {
             Ok(given) => self.fault(alloc, ElementCause::BadValue { given, expected }),
@@ -65,7 +73,7 @@ impl Walk {
 
     /// That the table at the path lacks a key, or want of memory.
     pub fn missing(&self, alloc: Global, key: &str) -> ElementFault
-        ensures { Fails result (Err (record { path = (spot_of self.now).path; cause = missing key.now })) }
+        ensures { Fails result (Err (record { path = (walk_view self.now).path; cause = missing key.now })) }
     {
         match String::from_str(alloc, key) {
             Ok(key) => self.fault(alloc, ElementCause::Missing(key)),
@@ -75,8 +83,8 @@ impl Walk {
 
     /// Notes that no schema knows what stands at a key.
     pub fn note(&mut self, alloc: Global, key: &str) -> Result<(), ElementFault>
-        ensures ok { OnOk result (spot_of self.new ≡ noting (below (spot_of self.old).path key.now ∷ []) (spot_of self.old)) }
-        ensures err { IfErr result (λ e. told e ≡ None) }
+        ensures ok { OnOk result (walk_view self.new ≡ noting (below (walk_view self.old).path key.now ∷ []) (walk_view self.old)) }
+        ensures err { IfErr result (λ e. fault_view e ≡ None) }
     {
         let Ok(path) = joined(alloc, self.path.as_str(), key) else {
             return Err(ElementFault::memory(alloc));
@@ -87,22 +95,25 @@ impl Walk {
         Ok(())
     }
 
-    /// Goes to what stands at a key, and answers the path to go back to.
-    pub fn enter(&mut self, alloc: Global, key: &str) -> Result<String, ElementFault>
-        ensures ok { OnOk result (spot_of self.new ≡ inside key.now (spot_of self.old)) }
-        ensures outer { IfOk result (λ path. string_bytes path ≡ (spot_of self.old).path) }
-        ensures err { IfErr result (λ e. told e ≡ None) }
+    /// Goes to what stands at a key, and answers how long the path was before.
+    pub fn enter(&mut self, alloc: Global, key: &str) -> Result<usize, ElementFault>
+        ensures ok { OnOk result (walk_view self.new ≡ inside key.now (walk_view self.old)) }
+        ensures outer { IfOk result (λ outer. outer ≡ length (walk_view self.old).path) }
+        ensures err { IfErr result (λ e. fault_view e ≡ None) }
     {
-        match joined(alloc, self.path.as_str(), key) {
-            Ok(inner) => Ok(mem::replace(&mut self.path, inner)),
+        let outer = self.path.len();
+        match push_key(&mut self.path, key) {
+            Ok(()) => Ok(outer),
             Err(_) => Err(ElementFault::memory(alloc)),
         }
     }
 
-    /// Goes back to a path.
-    pub fn leave(&mut self, outer: String)
-        ensures { spot_of self.new ≡ back_at (string_bytes outer) (spot_of self.old) }
+    /// Goes back to where the path was this long.
+    pub fn leave(&mut self, outer: usize)
+        requires { IsSplitPoint (walk_view self.old).path outer }
+        ensures { let path = take outer (walk_view self.old).path in
+            walk_view self.new ≡ back_at path (walk_view self.old) }
     {
-        self.path = outer;
+        self.path.truncate(outer);
     }
 }

@@ -1,8 +1,8 @@
 -- A default filter with no part that only a test can answer has an answer for each binary.
 use Rattle.std.proofs.Common.{◌≡◌, ℕ, zero, suc, Bool, true, false, ◌||◌, List, [], ◌∷◌, ◌++◌, Option, None, Some, Ok, Err, IsSome, option_map, not, refl, sym, ◌∙◌, ap}
 use Rattle.std.specs.List.{fold, list_any, flat_map}
-use Rattle.nextest_load.specs.Engines.{Binary}
-use Rattle.nextest_load.specs.declared.engines.FiltersetKind.TheVariants.{DefaultFilter}
+use Rattle.nextest_engines.specs.Engines.{Binary}
+use Rattle.nextest_engines.specs.declared.queries.FiltersetKind.TheVariants.{DefaultFilter}
 use Rattle.toy_engines.specs.FilterValues.{Atom, Always, Never, AsTheDefault, NameHas, BinaryIs, Term, Filter, Subject, known_and, known_or, negated, atom_value, term_value, terms_value}
 use Rattle.toy_engines.specs.FilterTexts.{filter_in}
 use Rattle.toy_engines.specs.Filters.{binary_subject, filter_holds_binary, filter_read, read_for, filter_leaves, term_leaves, atom_leaves, is_default_atom, is_default, asks_default, default_in_default}

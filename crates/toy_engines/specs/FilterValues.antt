@@ -48,12 +48,12 @@ abbrev pub lists_of : List (Vec term.Term Global) → Filter
 lists_of lists = map terms_of lists
 
 -- The filter that asks nothing.
-abbrev pub everything : Filter
-everything = (record { negations = 0; atom = Always } ∷ []) ∷ []
+abbrev pub match_all : Filter
+match_all = (record { negations = 0; atom = Always } ∷ []) ∷ []
 
 -- What an expression says.
 abbrev pub filter_of : ToyExpr → Filter
-filter_of Everything = everything
+filter_of Everything = match_all
 filter_of (AnyOf alternatives) = lists_of alternatives.items
 
 -- A filter is asked about a binary, and perhaps one of its tests.

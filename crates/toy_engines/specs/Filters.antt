@@ -1,8 +1,8 @@
 use Rattle.std.specs.Prelude.{ℕ, Bool, true, false, List, [], ◌∷◌, Option, None, Some, Result, Ok, Err, codes, unwrap_or, if◌then◌else◌}
 use Rattle.std.specs.List.{list_any, flat_map}
-use Rattle.nextest_load.specs.Engines as engines
-use Rattle.nextest_load.specs.declared.engines.FiltersetKind.{FiltersetKind}
-use Rattle.nextest_load.specs.declared.engines.FiltersetKind.TheVariants.{DefaultFilter}
+use Rattle.nextest_engines.specs.Engines as engines
+use Rattle.nextest_engines.specs.declared.queries.FiltersetKind.{FiltersetKind}
+use Rattle.nextest_engines.specs.declared.queries.FiltersetKind.TheVariants.{DefaultFilter}
 use Rattle.toy_engines.specs.FilterValues.{Atom, AsTheDefault, NameHas, Term, Filter, Subject, filter_value}
 use Rattle.toy_engines.specs.FilterTexts.{filter_in, spelled_atom}
 

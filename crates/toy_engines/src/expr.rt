@@ -29,7 +29,7 @@ pub struct Term {
 /// A filter.
 #[derive(Debug, Drop)]
 pub enum ToyExpr {
-    /// Holds of everything.
+    /// Holds of match_all.
     Everything,
     /// Holds where each term of one of the lists does.
     AnyOf(Vec<Vec<Term>>),

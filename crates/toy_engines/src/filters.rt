@@ -1,15 +1,15 @@
 //! The engine of filters.
 ghost use Rattle.std.specs.Prelude.{◌≡◌, ◌++◌, [], Some, Ok, Err, IfOk, IfErr, map, refl, string_bytes};
 ghost use Rattle.std.specs.List.{flat_map, list_any};
-ghost use Rattle.nextest_load.specs.Engines.{IfFilterRefused};
-ghost use Rattle.toy_engines.specs.FilterValues.{Filter, everything as nothing_asked, term_of, lists_of, filter_of, subject_of};
+ghost use Rattle.nextest_engines.specs.Engines.{IfFilterRefused};
+ghost use Rattle.toy_engines.specs.FilterValues.{Filter, match_all as nothing_asked, term_of, lists_of, filter_of, subject_of};
 ghost use Rattle.toy_engines.specs.Filters.{filter_read, read_for, filter_holds, filter_holds_binary, filter_leaves, term_leaves, value_beside as value_beside_default, asks_default, is_default as asks_for_default};
 ghost use Rattle.toy_engines.specs.Decided.{default_filter_decides};
 
 use crate::expr::{Leaf, Subject, Term, ToyExpr};
 use crate::parse::read_filter;
-use nextest_load::engines::history::RuleHistory;
-use nextest_load::engines::{
+use nextest_engines::history::RuleHistory;
+use nextest_engines::{
     BinaryQuery, EvalContext, FilterFault, Filters, FiltersetKind, Tally, TestQuery,
 };
 use std::alloc::{AllocError, Global};
@@ -71,7 +71,7 @@ fn with_leaves(alloc: Global, found: Vec<String>, terms: &[Term]) -> Result<Vec<
 }
 
 fn refused(alloc: Global, message: &str) -> FilterFault
-    ensures { IfFilterRefused result (λ told. told ≡ message.now) }
+    ensures { IfFilterRefused result (λ text. text ≡ message.now) }
 {
     match String::from_str(alloc, message) {
         Ok(message) => FilterFault::Refused(message),
@@ -118,7 +118,7 @@ impl Filters for ToyFilters {
 
     ghost read = { λ _ kind text. filter_read kind text };
 
-    ghost everything = { nothing_asked };
+    ghost match_all = { nothing_asked };
 
     ghost holds = { filter_holds };
 
@@ -183,9 +183,9 @@ impl Filters for ToyFilters {
         Ok(found)
     }
 
-    ghost everything_holds = { λ _ _. refl };
+    ghost match_all_matches = { λ _ _. refl };
 
-    ghost everything_holds_binary = { λ _ _. refl };
+    ghost match_all_matches_binaries = { λ _ _. refl };
 
-    ghost decided = { λ _ text filter read none binary default. default_filter_decides text filter read none binary default };
+    ghost default_filters_answer = { λ _ text filter read none binary default. default_filter_decides text filter read none binary default };
 }

@@ -1,12 +1,12 @@
 //! The engine of platforms. A platform is a triple, kept as a text.
 ghost use Rattle.std.specs.Prelude.{◌≡◌, ◌||◌, Some, IfOk, option_map, string_bytes};
 ghost use Rattle.std.specs.List.{list_all};
-ghost use Rattle.nextest_load.specs.Engines.{IfSpecRefused};
+ghost use Rattle.nextest_engines.specs.Engines.{IfSpecRefused};
 ghost use Rattle.toy_engines.specs.Platforms.{Platforms, platforms_of, spec_in, spec_read, other_spec, meets, OnUnix, is_triple_byte};
 ghost use Rattle.toy_engines.specs.Platforms.{is_cfg as cfg_test, is_triple as triple_test};
 
 use crate::texts::{after, contains, is_ended_by};
-use nextest_load::engines::{SpecFault, Specs};
+use nextest_engines::{SpecFault, Specs};
 use std::alloc::{AllocError, Global};
 
 /// A platform spec.
@@ -82,7 +82,7 @@ fn read_spec(alloc: Global, text: &str) -> Result<Option<ToySpec>, AllocError>
 }
 
 fn refused(alloc: Global, message: &str) -> SpecFault
-    ensures { IfSpecRefused result (λ told. told ≡ message.now) }
+    ensures { IfSpecRefused result (λ text. text ≡ message.now) }
 {
     match String::from_str(alloc, message) {
         Ok(message) => SpecFault::Refused(message),

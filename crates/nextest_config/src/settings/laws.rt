@@ -7,15 +7,15 @@ ghost use Rattle.nextest_load.specs.Closed.{IsClosed};
 ghost use Rattle.nextest_load.specs.Groups.{IsAmong};
 ghost use Rattle.nextest_load.specs.Texts.{SourceText, config_of};
 ghost use Rattle.nextest_load.specs.Whole.{Layer, Whole, meant_whole};
-ghost use Rattle.nextest_load.specs.declared.engines.BuildPlatforms.{BuildPlatforms};
-ghost use Rattle.nextest_load.specs.declared.engines.TestQuery.{TestQuery};
+ghost use Rattle.nextest_engines.specs.declared.queries.BuildPlatforms.{BuildPlatforms};
+ghost use Rattle.nextest_engines.specs.declared.queries.TestQuery.{TestQuery};
 ghost use Rattle.nextest_tables.specs.Written.{Name};
 ghost use Rattle.nextest_config.specs.Order.{AreInOrder};
 ghost use Rattle.nextest_config.specs.Profile.{Profile, Decided, rules_of, profile_of, decided_on, meant_decided};
 ghost use Rattle.nextest_config.specs.Given.{value_given, origin_given, asked_given};
 ghost use Rattle.nextest_config.specs.Rules.{Case, Rule, Rising, HasFilter, asked_from, winner, decides, IsLeast};
 
-use nextest_load::engines::{Filters, Specs};
+use nextest_engines::{Filters, Specs};
 
 /// The rules that are evaluated are a strictly rising list of numbers of rules that have a filter, also where their numbers
 /// go on from rules ahead of them: so there are never more evaluations than rules with a filter.
@@ -44,12 +44,12 @@ pub fn law_rule_order<F: Filters, S: Specs>()
 pub fn law_settings_of_texts<F: Filters, S: Specs>()
     ensures { (read : List ℕ → Result F.Meaning (List ℕ)) (sources : List SourceText) (name : Name) (platforms : BuildPlatforms S.Platform)
         (config : Whole F.Expr S.Spec) (early : Profile F.Expr S.Spec) (profile : Decided F.Expr)
-        → meant_whole F.meaning S.spec_meaning config ≡ config_of F.everything read sources
+        → meant_whole F.meaning S.spec_meaning config ≡ config_of F.match_all read sources
         → early ≡ profile_of config name
         → profile ≡ decided_on (λ spec platform. S.holds_on (S.spec_meaning spec) platform) platforms early
         → (mode : NextestRunMode) (query : TestQuery)
         → let told = meant_decided F.meaning profile in
-        let meant = decided_on S.holds_on platforms (profile_of (config_of F.everything read sources) name) in
+        let meant = decided_on S.holds_on platforms (profile_of (config_of F.match_all read sources) name) in
         ((s : Setting) → value_given F.holds told mode query s ≡ value_given F.holds meant mode query s)
         × ((s : Setting) → origin_given F.holds told mode query s ≡ origin_given F.holds meant mode query s)
         × (asked_given F.holds told mode query ≡ asked_given F.holds meant mode query) }

@@ -11,8 +11,8 @@ use crate::apply::JudgedOverride;
 use crate::settings::Setting;
 use crate::settings::written::is_set;
 use nextest_elements::NextestRunMode;
+use nextest_engines::{EvalContext, Filters, Specs, Tally, TestQuery};
 use nextest_load::OverrideSettings;
-use nextest_load::engines::{EvalContext, Filters, Specs, Tally, TestQuery};
 
 /// How many settings there are.
 pub const SETTING_COUNT: usize = 15;

@@ -3,8 +3,8 @@ ghost use Rattle.std.specs.Prelude.{◌≡◌, ⊤};
 ghost use Rattle.nextest_load.specs.Held.{rule_held};
 ghost use Rattle.nextest_config.specs.Source.{Origin, ByDefault, ByProfile, ByOverride, origin_of};
 
+use nextest_engines::{Filters, Specs};
 use nextest_load::CompiledOverride;
-use nextest_load::engines::{Filters, Specs};
 
 /// A mark of what decides a setting, or no mark at all.
 pub trait TrackSource<'p, F: Filters, S: Specs> {

@@ -1,28 +1,31 @@
 //! The names of tools.
 ghost use Rattle.std.specs.Prelude.{◌≡◌, ◌↔◌, ◌≢◌, IsTrue, IsFalse, IfOk, OnOk, IfErr};
-ghost use Rattle.nextest_texts.specs.Identifier.{IsPart, is_part};
+ghost use Rattle.nextest_texts.specs.Identifier.{IsPart, HasPartFlaw, is_part};
 
-use super::{InvalidIdentifier, check_part, copy_text};
+use super::name_text::NameText;
+use super::{InvalidIdentifier, check_part};
 use std::alloc::Global;
 use std::marker::Model;
 
 mod traits;
 
 /// The name of a tool, as `my-tool`.
-#[derive(Debug, Drop)]
+#[derive(Debug, Drop, PartialEq, Eq, PartialOrd, Ord, Hash)]
 pub struct ToolName {
-    text: String,
+    text: NameText,
 }
 
 impl Model for ToolName {
-    ghost use Rattle.std.specs.Prelude.{ℕ, List, string_bytes};
+    ghost use Rattle.std.specs.Prelude.{ℕ, List};
     ghost use Rattle.nextest_texts.specs.Identifier.{IsPart};
 
     ghost Value = { List ℕ };
 
-    ghost view = { λ name. string_bytes name.text };
+    ghost view = { λ name. name.text };
 
-    ghost invariant = { λ name. IsPart (string_bytes name.text) };
+    ghost invariant = { λ name. IsPart name.text };
+
+    ghost inverse = { λ text. record { text = text } };
 }
 
 impl ToolName {
@@ -38,10 +41,11 @@ impl ToolName {
         ensures refused { IfErr result (λ e. e ≢ InvalidIdentifier.Memory → ¬ IsPart text.now) }
         ensures refused_by_test { IfErr result (λ e. e ≢ InvalidIdentifier.Memory → IsFalse (is_part text.now)) }
         ensures memory { result ≡ Err InvalidIdentifier.Memory → IsPart text.now }
+        ensures flaw { IfErr result (λ e. e ≢ InvalidIdentifier.Memory → HasPartFlaw text.now e) }
         ensures test { IsTrue (is_part text.now) ↔ IsPart text.now }
     {
         check_part(text)?;
-        let text = copy_text(alloc, text)?;
+        let text = NameText::new(alloc, text)?;
         Ok(ToolName { text })
     }
 

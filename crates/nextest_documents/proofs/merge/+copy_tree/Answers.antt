@@ -2,7 +2,7 @@ use Rattle.std.proofs.Common.{◌≡◌, [], ◌∷◌, ◌++◌, string_bytes, 
 use Rattle.std.specs.List.Sorted.{IsStrictlySortedBy}
 use Rattle.std.specs.Map.{keys_of}
 use Rattle.std.specs.String.{string_cmp}
-use Rattle.nextest_tree.specs.View.{members_of_trees}
+use Rattle.nextest_tree.specs.View.{entries_view}
 use Rattle.nextest_documents.proofs.Maps.{Entry, put_last}
 use Rattle.nextest_tree.proofs.Trees.{members-insert_entry}
 use Rattle.nextest_documents.proofs.merge.+copy_tree.Goals as goal
@@ -18,5 +18,5 @@ copy_members-loop-key-preserved t c =
     let named : string_bytes c.in_ok-name.name ≡ string_bytes e.0 = c.in_ok-name.ensures.cases in (
       done ++ e ∷ [],
       all ∙ sym (append_assoc done (e ∷ []) left),
-      ap members_of_trees c.in_ok-insert.ensures.entries ∙ members-insert_entry l.copies.entries c.in_ok-name.name c.in_ok-copy_tree.field-0 ∙ rw (named, c.in_ok-copy_tree.ensures, l.invariant.2) last,
+      ap entries_view c.in_ok-insert.ensures.entries ∙ members-insert_entry l.copies.entries c.in_ok-name.name c.in_ok-copy_tree.field-0 ∙ rw (named, c.in_ok-copy_tree.ensures, l.invariant.2) last,
     )

@@ -1,5 +1,5 @@
 use Rattle.std.proofs.Common.{◌≡◌, [], ◌++◌, map}
-use Rattle.nextest_load.specs.declared.engines.FiltersetKind.TheVariants.{OverrideFilter}
+use Rattle.nextest_engines.specs.declared.queries.FiltersetKind.TheVariants.{OverrideFilter}
 use Rattle.nextest_tables.specs.Seen.{overrides_seen}
 use Rattle.nextest_load.specs.Errors.{compile_error_seen}
 use Rattle.nextest_load.specs.Held.{rule_held}

@@ -4,7 +4,7 @@ use Rattle.nextest_tables.specs.Seen.{named, profile_seen}
 use Rattle.nextest_tables.specs.Texts.{ProfileText}
 use Rattle.nextest_tables.specs.Written.{Name}
 use Rattle.nextest_tables.specs.declared.profile_table.ProfileTable.{ProfileTable}
-use Rattle.nextest_load.specs.declared.engines.FiltersetKind.TheVariants.{OverrideFilter}
+use Rattle.nextest_engines.specs.declared.queries.FiltersetKind.TheVariants.{OverrideFilter}
 use Rattle.nextest_load.specs.Errors.{compile_error_seen}
 use Rattle.nextest_load.specs.Faults.{override_faults}
 use Rattle.nextest_load.specs.Held.{rule_held}

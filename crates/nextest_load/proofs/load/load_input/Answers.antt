@@ -1,6 +1,6 @@
 use Rattle.std.proofs.Common.{◌≡◌, [], ◌∷◌, ◌++◌, sym, ap, ◌∙◌}
 use Rattle.nextest_tree.specs.Schema.{is_one_of}
-use Rattle.nextest_load.specs.declared.engines.FiltersetKind.TheVariants.{OverrideFilter}
+use Rattle.nextest_engines.specs.declared.queries.FiltersetKind.TheVariants.{OverrideFilter}
 use Rattle.nextest_load.specs.Errors.{Found, error_seen}
 use Rattle.nextest_load.specs.Faults.{fault_of, read_cause, sources_fault}
 use Rattle.nextest_load.specs.Files.{input_seen}

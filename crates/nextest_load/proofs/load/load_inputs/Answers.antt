@@ -5,8 +5,8 @@ use Rattle.std.specs.Option.{option_or}
 use Rattle.std.proofs.lemmas.List.{drop_more, take_more, map-append}
 use Rattle.std.proofs.lemmas.List.Concat.{flat_map-append}
 use Rattle.nextest_tree.specs.Schema.{is_one_of}
-use Rattle.nextest_tree.specs.View.{node_of}
-use Rattle.nextest_load.specs.declared.engines.FiltersetKind.TheVariants.{OverrideFilter}
+use Rattle.nextest_tree.specs.View.{tree_view}
+use Rattle.nextest_engines.specs.declared.queries.FiltersetKind.TheVariants.{OverrideFilter}
 use Rattle.nextest_load.specs.declared.config.LayerRules.{LayerRules}
 use Rattle.nextest_load.specs.Errors.{Found, error_seen}
 use Rattle.nextest_load.specs.Faults.{inputs_fault}
@@ -25,7 +25,7 @@ none_at : (names : BTreeSet (String Global)) → names.keys ≡ [] → (name : L
 none_at names none name = rw none refl
 
 pub loop-input-init : goal.loop-input-init
-loop-input-init g c = (refl, λ j name. none_at c.new-known.result c.new-known.ensures.empty name j, ap (map node_of) c.new-loaded.ensures.trees, ap (map _) c.new-loaded.ensures.layers)
+loop-input-init g c = (refl, λ j name. none_at c.new-known.result c.new-known.ensures.empty name j, ap (map tree_view) c.new-loaded.ensures.trees, ap (map _) c.new-loaded.ensures.layers)
 
 pub returns-in_err-load_input-clause-found : goal.returns-in_err-load_input-clause-found
 returns-in_err-load_input-clause-found g c =
@@ -63,6 +63,6 @@ loop-input-preserved g c =
     let fine = ap (λ o. option_or o (inputs_fault read (below ++ texts) rest)) (c.in_ok-load_input.ensures.found below inv.1) in (
       inv.0 ∙ ap (λ is. inputs_fault read below (map input_seen is)) next ∙ fine ∙ ap (λ b. inputs_fault read b rest) (sym more),
       c.in_ok-load_input.ensures.known below inv.1 ∙ ap (λ b. is_one_of (defined_in b)) (sym more),
-      more_seen node_of tree_in c.loop-input.loaded.trees.items c.add.new.self.trees.items _ below texts c.in_ok-add.ensures.trees inv.2 (given_seen (λ l. l.0) node_of given ∙ c.in_ok-load_input.ensures.tree) ∙ ap (map tree_in) (sym more),
+      more_seen tree_view tree_in c.loop-input.loaded.trees.items c.add.new.self.trees.items _ below texts c.in_ok-add.ensures.trees inv.2 (given_seen (λ l. l.0) tree_view given ∙ c.in_ok-load_input.ensures.tree) ∙ ap (map tree_in) (sym more),
       more_seen seen (layer_of {K = g.S.Specs.SpecMeaning} read) c.loop-input.loaded.layers.items c.add.new.self.layers.items _ below texts c.in_ok-add.ensures.layers inv.3 (given_seen (λ l. l.1) seen given ∙ c.in_ok-load_input.ensures.rules) ∙ ap (map (layer_of read)) (sym more),
     )

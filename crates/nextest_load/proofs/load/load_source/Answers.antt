@@ -1,6 +1,6 @@
 use Rattle.std.proofs.Common.{ap, ◌∙◌, subst}
 use Rattle.std.specs.BTreeSet.{contains_text}
-use Rattle.nextest_load.specs.declared.engines.FiltersetKind.TheVariants.{OverrideFilter}
+use Rattle.nextest_engines.specs.declared.queries.FiltersetKind.TheVariants.{OverrideFilter}
 use Rattle.nextest_load.specs.Errors.{Found, passed, error_seen}
 use Rattle.nextest_load.specs.Faults.{rules_fault, text_fault}
 use Rattle.nextest_load.specs.Files.{file_text}

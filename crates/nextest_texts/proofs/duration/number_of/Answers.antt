@@ -1,7 +1,7 @@
 -- Once the number is above the limit, so is the whole.
 use Rattle.std.proofs.Common.{◌≡◌, ◌+◌, ◌-◌, ◌*◌, ◌∙◌, sym, ap, get_or, arith}
 use Rattle.std.specs.Prelude.{None}
-use Rattle.nextest_texts.specs.Duration.{within_limit}
+use Rattle.nextest_texts.specs.DurationSteps.{within_limit}
 use Rattle.nextest_texts.proofs.Durations.{number_above}
 use Rattle.nextest_texts.proofs.duration.number_of.Goals as goal
 

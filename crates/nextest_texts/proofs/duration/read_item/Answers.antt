@@ -1,7 +1,7 @@
 -- The five runs are the parts of an item.
 use Rattle.std.proofs.Common.{◌∙◌, refl, sym, subst}
 use Rattle.nextest_texts.proofs.Durations.{no_digits, no_unit, takes_item, positive_length, empty_length}
-use Rattle.nextest_texts.specs.Duration.{TakesItem}
+use Rattle.nextest_texts.specs.DurationSteps.{TakesItem}
 use Rattle.nextest_texts.proofs.duration.read_item.Goals as goal
 
 pub returns-then-is_empty : goal.returns-then-is_empty

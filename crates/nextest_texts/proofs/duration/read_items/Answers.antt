@@ -1,7 +1,7 @@
 -- The total and an item more are the total of what has been read then.
 use Rattle.std.proofs.Common.{◌≡◌, ◌+◌, ◌∙◌, [], sym, ap}
 use Rattle.std.specs.Prelude.{option_map}
-use Rattle.nextest_texts.specs.Duration.{TakesItem}
+use Rattle.nextest_texts.specs.DurationSteps.{TakesItem}
 use Rattle.nextest_texts.proofs.Durations.{empty_length, positive_length, more_items, last_item, some_sum_of-sum_of}
 use Rattle.nextest_texts.proofs.duration.read_items.Goals as goal
 

@@ -1,6 +1,7 @@
 use Rattle.std.proofs.Common.{◌≡◌, ℕ, ◌+◌, length}
 use Rattle.std.specs.Prelude.{option_map}
-use Rattle.nextest_texts.specs.Duration.{some_sum_of, within_limit, words_of}
+use Rattle.nextest_texts.specs.DurationFunction.{some_sum_of, words_of}
+use Rattle.nextest_texts.specs.DurationSteps.{within_limit}
 use Rattle.nextest_texts.proofs.duration.read_items.Given as goal
 
 -- the total so far and the sum of the rest are the sum of the text

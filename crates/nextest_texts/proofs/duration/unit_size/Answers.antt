@@ -1,7 +1,8 @@
 -- No unit is of no length.
 use Rattle.std.proofs.Common.{◌≡◌, ◌<◌, sym, subst, rules}
 use Rattle.std.specs.Prelude.{IfSome}
-use Rattle.nextest_texts.specs.Duration.{duration_units, unit_size}
+use Rattle.nextest_texts.specs.Duration.{duration_units}
+use Rattle.nextest_texts.specs.DurationFunction.{unit_size}
 use Rattle.nextest_texts.proofs.Durations.{unit_size-positive}
 use Rattle.nextest_texts.proofs.duration.unit_size.Goals as goal
 

@@ -6,7 +6,7 @@ use Rattle.std.proofs.lemmas.Str.{IsUtf8-past_char}
 use Rattle.std.specs.List.{list_all}
 use Rattle.std.specs.Str.{chars, IsUtf8}
 use Rattle.unicode_ident.specs.Ident.{is_xid_start, is_xid_continue}
-use Rattle.nextest_texts.proofs.Identifiers.{empty_no_part, part_after_first}
+use Rattle.nextest_texts.proofs.Identifiers.{empty_no_part, part_after_first, starts_badly, has_bad_character}
 use Rattle.nextest_texts.proofs.identifier.check_part.Goals as goal
 
 pub returns-in_default-clause-verdict : goal.returns-in_default-clause-verdict
@@ -34,3 +34,16 @@ returns-clause-verdict c =
     let continue : c.all.result ≡ list_all (λ ch. is_xid_continue ch || eqb ch 45) (chars c.next.new.self.rest.now) =
     all_from_yields_List (λ ch. is_xid_continue ch || eqb ch 45) _ _ c.all.result c.all.ensures.ran (YieldsList-from_chars c.next.new.self.rest.now utf8 refl) (λ x b q k. search (rules, tests)) in
     sym (and_from (is_xid_start c.in-Some.first) _ starts (sym continue ∙ c.if-not-all.false)) ∙ part_after_first c.args.text.now c.next.new.self.rest.now c.in-Some.first c.utf8.text spelled
+
+pub returns-then-not-is_xid_start-clause-flaw : goal.returns-then-not-is_xid_start-clause-flaw
+returns-then-not-is_xid_start-clause-flaw c =
+    let spelled : c.args.text.now ≡ encode_utf8 c.in-Some.first ++ c.next.new.self.rest.now = sym c.chars-characters.ensures.rest ∙ c.in-Some.ensures.steps.0 in
+    starts_badly c.args.text.now c.next.new.self.rest.now c.in-Some.first c.utf8.text spelled (sym c.is_xid_start.ensures.value ∙ c.if-not-is_xid_start.true)
+
+pub returns-then-not-all-clause-flaw : goal.returns-then-not-all-clause-flaw
+returns-then-not-all-clause-flaw c =
+    let spelled : c.args.text.now ≡ encode_utf8 c.in-Some.first ++ c.next.new.self.rest.now = sym c.chars-characters.ensures.rest ∙ c.in-Some.ensures.steps.0 in
+    let utf8 : IsUtf8 c.next.new.self.rest.now = IsUtf8-past_char c.args.text.now c.next.new.self.rest.now c.in-Some.first c.utf8.text spelled in
+    let continue : c.all.result ≡ list_all (λ ch. is_xid_continue ch || eqb ch 45) (chars c.next.new.self.rest.now) =
+    all_from_yields_List (λ ch. is_xid_continue ch || eqb ch 45) _ _ c.all.result c.all.ensures.ran (YieldsList-from_chars c.next.new.self.rest.now utf8 refl) (λ x b q k. search (rules, tests)) in
+    has_bad_character c.args.text.now c.next.new.self.rest.now c.in-Some.first c.utf8.text spelled (sym continue ∙ c.if-not-all.true)

@@ -1,5 +1,5 @@
 use Rattle.std.proofs.Common.{refl}
-use Rattle.nextest_load.specs.declared.engines.FiltersetKind.TheVariants.{OverrideFilter}
+use Rattle.nextest_engines.specs.declared.queries.FiltersetKind.TheVariants.{OverrideFilter}
 use Rattle.nextest_load.specs.Inputs.{given}
 use Rattle.nextest_load.proofs.Accepting.{verdict}
 use Rattle.nextest_load.proofs.Closing.{closed}
@@ -13,7 +13,7 @@ returns-clause-loads g c =
       verdict = verdict read all c.load_given.result c.load_given.ensures.found;
       found = c.load_given.ensures.found;
       means = c.load_given.ensures.means;
-      closed = closed read g.F.Filters.meaning g.S.Specs.spec_meaning g.F.Filters.everything all c.load_given.result c.load_given.ensures.found c.load_given.ensures.means;
+      closed = closed read g.F.Filters.meaning g.S.Specs.spec_meaning g.F.Filters.match_all all c.load_given.result c.load_given.ensures.found c.load_given.ensures.means;
     }
 
 pub returns-clause-told : goal.returns-clause-told

@@ -1,0 +1,50 @@
+-- What engines make of texts: all that a statement about a configuration knows of them.
+use Rattle.std.specs.Prelude.{◌≡◌, ℕ, List, [], Bool, true, Option, Result, Ok, IsSome}
+use Rattle.nextest_engines.specs.Engines.{Test, Binary}
+use Rattle.nextest_engines.specs.declared.queries.FiltersetKind.{FiltersetKind}
+use Rattle.nextest_engines.specs.declared.queries.FiltersetKind.TheVariants.{DefaultFilter}
+
+-- a text, as its bytes
+abbrev pub Text : Type 0
+Text = List ℕ
+
+-- What two engines make of texts: M is what filters mean, K what platform specs mean, P the
+-- platforms.
+pub record Readings (M K P : Type 0) : Type 0 where
+  -- what the text of a filter means that is written for something, or the message of its refusal
+  pub read_filter : FiltersetKind → Text → Result M Text
+  -- what the text of a platform spec means, or the message of its refusal
+  pub read_spec : Text → Result K Text
+  -- the meaning of the filter that matches everything
+  pub match_all : M
+  -- whether a filter matches a test, where the default filter has the second meaning
+  pub matches_test : M → Test → M → Bool
+  -- whether a filter matches a binary, or none where that depends on the test
+  pub matches_binary : M → Binary → M → Option Bool
+  -- the parts of a filter that only a test can answer, as they are written
+  pub leaves : M → List Text
+  -- whether a platform meets a spec, or none where that is unknown
+  pub meets : K → P → Option Bool
+
+-- The laws of engines: what matches everything matches each test, and a default filter without
+-- parts that only a test can answer has an answer for each binary.
+pub record AreLawful {M K P : Type 0} (engines : Readings M K P) : Type 0 where
+  pub everything : (test : Test) (default : M)
+      → engines.matches_test engines.match_all test default ≡ true
+  pub binaries : (t : Text) (m : M) → engines.read_filter DefaultFilter t ≡ Ok m
+      → engines.leaves m ≡ []
+      → (binary : Binary) (default : M) → IsSome (engines.matches_binary m binary default)
+
+-- the readings of two engines, of which contracts know these members
+abbrev pub readings_view : {M K P : Type 0} → (FiltersetKind → Text → Result M Text)
+    → (Text → Result K Text) → M → (M → Test → M → Bool) → (M → Binary → M → Option Bool)
+    → (M → List Text) → (K → P → Option Bool) → Readings M K P
+readings_view read read_spec match_all holds holds_binary leaves holds_on = record {
+  read_filter = read;
+  read_spec = read_spec;
+  match_all = match_all;
+  matches_test = holds;
+  matches_binary = holds_binary;
+  leaves = leaves;
+  meets = holds_on;
+}

@@ -1,0 +1,48 @@
+//! The language of platforms.
+ghost use Rattle.std.specs.Prelude.{◌≡◌, List, ℕ, Bool, Option, Result, Ok, Err, IfOk, IfErr};
+ghost use Rattle.nextest_engines.specs.Engines.{IfSpecRefused};
+
+use std::alloc::Global;
+use thiserror::Error;
+
+/// Why a platform spec was not read.
+#[derive(Debug, Drop, Error)]
+pub enum SpecFault {
+    /// The text is no platform spec. It holds the engine's message.
+    #[error("{0}")]
+    Refused(String),
+    /// A growth of memory was refused.
+    #[error("out of memory")]
+    Memory,
+}
+
+/// The language of platforms.
+pub trait Specs {
+    /// A platform spec that was read.
+    type Spec: Drop;
+    /// A platform.
+    type Platform;
+
+    /// What specs mean.
+    ghost SpecMeaning: { Type 0 };
+
+    /// What a spec means.
+    ghost spec_meaning: { Self.Spec → SpecMeaning };
+
+    /// What a text means, or the message with which it is refused.
+    ghost read_spec: { Self → List ℕ → Result SpecMeaning (List ℕ) };
+
+    /// Whether a platform meets a spec, or none where that is unknown.
+    ghost holds_on: { SpecMeaning → Self.Platform → Option Bool };
+
+    /// Reads a platform spec.
+    fn parse(&self, alloc: Global, text: &str) -> Result<Self::Spec, SpecFault>
+        ensures ok { IfOk result (λ spec. read_spec self.now text.now ≡ Ok (spec_meaning spec)) }
+        ensures err { IfErr result
+            (λ fault. IfSpecRefused fault
+            (λ message. read_spec self.now text.now ≡ Err message)) };
+
+    /// Whether a platform meets a spec, or `None` where that is unknown.
+    fn eval(spec: &Self::Spec, platform: &Self::Platform) -> Option<bool>
+        ensures { result ≡ holds_on (spec_meaning spec.now) platform.now };
+}

@@ -1,9 +1,0 @@
-use Rattle.std.proofs.Common.{◌≡◌, drop, string_bytes}
-use Rattle.std.specs.Map.{lookup}
-use Rattle.std.specs.Str.{bytes_eq}
-use Rattle.nextest_tree.specs.Leaf.{names_in}
-use Rattle.nextest_tree.proofs.name.named.Given as goal
-
--- none of the names so far is the text
-abbrev pub invariant-loop-name : goal.invariant-loop-name
-invariant-loop-name g l = lookup (bytes_eq (string_bytes l.text)) (names_in (drop l.name-index l.names)) ≡ lookup (bytes_eq (string_bytes l.text)) (names_in l.names)
