@@ -1,2 +1,4 @@
+pub mod CommandLines
 pub mod ShellSplits
 pub mod ShellSteps
+pub mod Variables

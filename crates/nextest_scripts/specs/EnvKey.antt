@@ -1,5 +1,5 @@
 -- Keys of environment variables.
-use Rattle.std.specs.Prelude.{◌≡◌, ◌==◌, ◌||◌, ℕ, List, [], ◌∷◌, Bool, false, codes, nat_eq, IsTrue, IsFalse, ⊤}
+use Rattle.std.specs.Prelude.{◌≡◌, ◌==◌, ◌||◌, ◌&&◌, ℕ, List, [], ◌∷◌, Bool, false, not, codes, nat_eq, IsTrue, IsFalse, ⊤}
 use Rattle.std.specs.Char.{is_ascii_alphabetic, is_ascii_alphanumeric}
 use Rattle.std.specs.List.{list_all, starts_with}
 use Rattle.std.specs.String.{string_bytes}
@@ -25,9 +25,17 @@ pub record IsEnvVarKey (key : List ℕ) : Type 0 where
   pub plain : IsTrue (is_plain key)
   pub free : IsFalse (is_reserved key)
 
--- An error names the key, and the first of the three conditions that fails; want of memory names none.
+-- The same as one test.
+abbrev pub is_env_var_key : List ℕ → Bool
+is_env_var_key key = starts_well key && is_plain key && not (is_reserved key)
+
+-- An error names the key, and the first of the three conditions that fails; want of memory names
+-- none.
 abbrev pub IsFaultOf : List ℕ → EnvVarError → Type 0
 IsFaultOf key (InvalidKeyStartChar named) = (string_bytes named ≡ key) × IsFalse (starts_well key)
-IsFaultOf key (InvalidKey named) = (string_bytes named ≡ key) × IsTrue (starts_well key) × IsFalse (is_plain key)
-IsFaultOf key (ReservedKey named) = (string_bytes named ≡ key) × IsTrue (starts_well key) × IsTrue (is_plain key) × IsTrue (is_reserved key)
+IsFaultOf key (InvalidKey named) =
+    (string_bytes named ≡ key) × IsTrue (starts_well key) × IsFalse (is_plain key)
+IsFaultOf key (ReservedKey named) =
+    (string_bytes named ≡ key) × IsTrue (starts_well key) × IsTrue (is_plain key)
+    × IsTrue (is_reserved key)
 IsFaultOf key Memory = ⊤

@@ -1,5 +1,13 @@
+pub mod Command
+pub mod CommandLine
 pub mod EnvKey
+pub mod EnvMap
+pub mod Paths
+pub mod ScriptId
+pub mod ScriptIdReader
 pub mod ScriptType
+pub mod SetupScript
 pub mod ShellReading
 pub mod ShellWords
-pub mod ScriptId
+pub mod WrapperScript
+pub mod ScriptTexts

@@ -1,4 +1,7 @@
--- How a command line is read from each place that a reader can be at: the words from there on, or `None` where a quote stays open. The readers' own clauses cite these functions; what a command line means is `SplitsInto` of ShellWords, which `split_shell_words` promises.
+-- How a command line is read from each place that a reader can be at: the words from there on, or
+-- `None` where a quote stays open. The readers' own clauses cite these functions; what a command
+-- line means is `SplitsInto` of ShellWords, which `split_shell_words` promises, and
+-- `law_shell_words` says that the two are the same.
 use Rattle.std.specs.Prelude.{◌==◌, ◌&&◌, ◌∷◌, ◌++◌, ℕ, List, [], Option, Some, None, is_none, unwrap_or, option_map, if◌then◌else◌}
 use Rattle.nextest_scripts.specs.ShellWords.{is_delimiter, is_escapable, line_feed, double_quote, number_sign, single_quote, backslash}
 
@@ -27,13 +30,15 @@ unfoldable mutual
   pub words_from_escape : Option (List ℕ) → List ℕ → Option (List (List ℕ))
   words_from_escape begun [] = Some ((so_far begun ++ backslash ∷ []) ∷ [])
   words_from_escape begun (c ∷ rest) =
-      if c == line_feed then words_from begun rest else words_from (Some (so_far begun ++ c ∷ [])) rest
+      if c == line_feed then words_from begun rest
+      else words_from (Some (so_far begun ++ c ∷ [])) rest
 
   -- The words from a place in single quotes on, where the word has this so far.
   pub words_from_single : List ℕ → List ℕ → Option (List (List ℕ))
   words_from_single word [] = None
   words_from_single word (c ∷ rest) =
-      if c == single_quote then words_from (Some word) rest else words_from_single (word ++ c ∷ []) rest
+      if c == single_quote then words_from (Some word) rest
+      else words_from_single (word ++ c ∷ []) rest
 
   -- The words from a place in double quotes on, where the word has this so far.
   pub words_from_double : List ℕ → List ℕ → Option (List (List ℕ))
@@ -54,4 +59,9 @@ unfoldable mutual
   -- The words from a place in a comment on.
   pub words_from_comment : List ℕ → Option (List (List ℕ))
   words_from_comment [] = Some []
-  words_from_comment (c ∷ rest) = if c == line_feed then words_from None rest else words_from_comment rest
+  words_from_comment (c ∷ rest) =
+      if c == line_feed then words_from None rest else words_from_comment rest
+
+-- The words of a command line, where it splits into any.
+abbrev pub words_in : List ℕ → Option (List (List ℕ))
+words_in text = words_from None text

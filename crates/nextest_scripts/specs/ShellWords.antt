@@ -1,4 +1,5 @@
--- What it means that a command line splits into words: a relation between a whole text and its words, both as lists of characters.
+-- What it means that a command line splits into words: a relation between a whole text and its
+-- words, both as lists of characters.
 use Rattle.std.specs.Prelude.{◌≡◌, ◌≢◌, ◌==◌, ◌||◌, ℕ, List, [], ◌∷◌, ◌++◌, Bool, IsTrue, IsFalse, ⊤, map, String, Vec, string_bytes}
 use Rattle.std.specs.declared.alloc.Global.{Global}
 use Rattle.std.specs.Str.{chars}
@@ -35,32 +36,46 @@ is_escapable c = c == 36 || c == 96 || c == double_quote || c == backslash
 abbrev pub is_special : ℕ → Bool
 is_special c = is_delimiter c || c == backslash || c == single_quote || c == double_quote
 
--- The text behind a single quote: the characters up to the next single quote, as they stand, and then the rest.
+-- The text behind a single quote: the characters up to the next single quote, as they stand, and
+-- then the rest.
 pub data SingleQuoted : (text gives rest : List ℕ) → Type 0 where
   closed : {rest : List ℕ} → SingleQuoted (single_quote ∷ rest) [] rest
-  literal : {c : ℕ} {text gives rest : List ℕ} → c ≢ single_quote → SingleQuoted text gives rest → SingleQuoted (c ∷ text) (c ∷ gives) rest
+  literal : {c : ℕ} {text gives rest : List ℕ} → c ≢ single_quote → SingleQuoted text gives rest
+      → SingleQuoted (c ∷ text) (c ∷ gives) rest
 
--- The text behind a double quote: characters as they stand, a backslash that escapes one, a backslash and a line feed that give nothing, or a backslash that stays with the character after it, up to the next double quote, and then the rest.
+-- The text behind a double quote: characters as they stand, a backslash that escapes one, a
+-- backslash and a line feed that give nothing, or a backslash that stays with the character after
+-- it, up to the next double quote, and then the rest.
 pub data DoubleQuoted : (text gives rest : List ℕ) → Type 0 where
   closed : {rest : List ℕ} → DoubleQuoted (double_quote ∷ rest) [] rest
-  literal : {c : ℕ} {text gives rest : List ℕ} → c ≢ double_quote → c ≢ backslash → DoubleQuoted text gives rest → DoubleQuoted (c ∷ text) (c ∷ gives) rest
-  escaped : {c : ℕ} {text gives rest : List ℕ} → IsTrue (is_escapable c) → DoubleQuoted text gives rest → DoubleQuoted (backslash ∷ c ∷ text) (c ∷ gives) rest
-  continued : {text gives rest : List ℕ} → DoubleQuoted text gives rest → DoubleQuoted (backslash ∷ line_feed ∷ text) gives rest
-  kept : {c : ℕ} {text gives rest : List ℕ} → c ≢ line_feed → IsFalse (is_escapable c) → DoubleQuoted text gives rest → DoubleQuoted (backslash ∷ c ∷ text) (backslash ∷ c ∷ gives) rest
+  literal : {c : ℕ} {text gives rest : List ℕ} → c ≢ double_quote → c ≢ backslash
+      → DoubleQuoted text gives rest → DoubleQuoted (c ∷ text) (c ∷ gives) rest
+  escaped : {c : ℕ} {text gives rest : List ℕ} → IsTrue (is_escapable c)
+      → DoubleQuoted text gives rest → DoubleQuoted (backslash ∷ c ∷ text) (c ∷ gives) rest
+  continued : {text gives rest : List ℕ} → DoubleQuoted text gives rest
+      → DoubleQuoted (backslash ∷ line_feed ∷ text) gives rest
+  kept : {c : ℕ} {text gives rest : List ℕ} → c ≢ line_feed → IsFalse (is_escapable c)
+      → DoubleQuoted text gives rest
+      → DoubleQuoted (backslash ∷ c ∷ text) (backslash ∷ c ∷ gives) rest
 
--- A text begins with a piece that gives these characters, before the rest: a character that is not special, a character behind a backslash, a backslash and a line feed that give nothing, a text in single or in double quotes, or a lone backslash at the very end.
+-- A text begins with a piece that gives these characters, before the rest: a character that is not
+-- special, a character behind a backslash, a backslash and a line feed that give nothing, a text in
+-- single or in double quotes, or a lone backslash at the very end.
 pub data Piece : (text gives rest : List ℕ) → Type 0 where
   plain : {c : ℕ} {rest : List ℕ} → IsFalse (is_special c) → Piece (c ∷ rest) (c ∷ []) rest
   escaped : {c : ℕ} {rest : List ℕ} → c ≢ line_feed → Piece (backslash ∷ c ∷ rest) (c ∷ []) rest
   continued : {rest : List ℕ} → Piece (backslash ∷ line_feed ∷ rest) [] rest
-  single_quoted : {text gives rest : List ℕ} → SingleQuoted text gives rest → Piece (single_quote ∷ text) gives rest
-  double_quoted : {text gives rest : List ℕ} → DoubleQuoted text gives rest → Piece (double_quote ∷ text) gives rest
+  single_quoted : {text gives rest : List ℕ} → SingleQuoted text gives rest
+      → Piece (single_quote ∷ text) gives rest
+  double_quoted : {text gives rest : List ℕ} → DoubleQuoted text gives rest
+      → Piece (double_quote ∷ text) gives rest
   lone_backslash : Piece (backslash ∷ []) (backslash ∷ []) []
 
 -- One or more pieces, with nothing between, give what each gives, in order.
 pub data Pieces : (text gives rest : List ℕ) → Type 0 where
   last : {text gives rest : List ℕ} → Piece text gives rest → Pieces text gives rest
-  more : {text gives next others rest : List ℕ} → Piece text gives next → Pieces next others rest → Pieces text (gives ++ others) rest
+  more : {text gives next others rest : List ℕ} → Piece text gives next → Pieces next others rest
+      → Pieces text (gives ++ others) rest
 
 -- The text begins with a line feed.
 abbrev pub BeginsWithLineFeed : List ℕ → Type 0
@@ -77,19 +92,26 @@ abbrev pub EndsWord : List ℕ → Type 0
 EndsWord [] = ⊤
 EndsWord (c ∷ rest) = IsTrue (is_delimiter c)
 
--- The text behind a number sign: what stands before the next line feed, or before the end, is the comment.
+-- The text behind a number sign: what stands before the next line feed, or before the end, is the
+-- comment.
 pub data Comment : (text rest : List ℕ) → Type 0 where
   at_end : Comment [] []
   at_line_feed : {rest : List ℕ} → Comment (line_feed ∷ rest) (line_feed ∷ rest)
   more : {c : ℕ} {text rest : List ℕ} → c ≢ line_feed → Comment text rest → Comment (c ∷ text) rest
 
--- The empty text has no word. A delimiter, a backslash and a line feed, or a comment leaves the words of the rest. A word, before the end or a delimiter, stands before the words of the rest.
+-- The empty text has no word. A delimiter, a backslash and a line feed, or a comment leaves the
+-- words of the rest. A word, before the end or a delimiter, stands before the words of the rest.
 pub data SplitsInto : (text : List ℕ) (words : List (List ℕ)) → Type 0 where
   no_word : SplitsInto [] []
-  delimiter : {c : ℕ} {rest : List ℕ} {words : List (List ℕ)} → IsTrue (is_delimiter c) → SplitsInto rest words → SplitsInto (c ∷ rest) words
-  continued : {rest : List ℕ} {words : List (List ℕ)} → SplitsInto rest words → SplitsInto (backslash ∷ line_feed ∷ rest) words
-  comment : {text rest : List ℕ} {words : List (List ℕ)} → Comment text rest → SplitsInto rest words → SplitsInto (number_sign ∷ text) words
-  word : {text gives rest : List ℕ} {words : List (List ℕ)} → MayBeginWord text → Pieces text gives rest → EndsWord rest → SplitsInto rest words → SplitsInto text (gives ∷ words)
+  delimiter : {c : ℕ} {rest : List ℕ} {words : List (List ℕ)} → IsTrue (is_delimiter c)
+      → SplitsInto rest words → SplitsInto (c ∷ rest) words
+  continued : {rest : List ℕ} {words : List (List ℕ)} → SplitsInto rest words
+      → SplitsInto (backslash ∷ line_feed ∷ rest) words
+  comment : {text rest : List ℕ} {words : List (List ℕ)} → Comment text rest
+      → SplitsInto rest words → SplitsInto (number_sign ∷ text) words
+  word : {text gives rest : List ℕ} {words : List (List ℕ)} → MayBeginWord text
+      → Pieces text gives rest → EndsWord rest → SplitsInto rest words
+      → SplitsInto text (gives ∷ words)
 
 -- The texts of a list of words, each as its list of characters.
 abbrev pub texts_of : Vec (String Global) Global → List (List ℕ)

@@ -1,7 +1,7 @@
 //! Keys of environment variables that a script may set.
 
-ghost use Rattle.std.specs.Prelude.{◌≡◌, ◌↔◌, IfErr, IsOk};
-ghost use Rattle.nextest_scripts.specs.EnvKey.{IsEnvVarKey, IsFaultOf, is_plain, is_reserved, starts_well};
+ghost use Rattle.std.specs.Prelude.{◌≡◌, ◌↔◌, IfErr, IsOk, IsTrue};
+ghost use Rattle.nextest_scripts.specs.EnvKey.{IsEnvVarKey, IsFaultOf, is_env_var_key, is_plain, is_reserved, starts_well};
 
 use std::alloc::{AllocError, Global};
 use thiserror::Error;
@@ -50,6 +50,14 @@ pub fn validate_env_var_key(alloc: Global, key: &str) -> Result<(), EnvVarError>
         return Err(EnvVarError::ReservedKey(String::from_str(alloc, key)?));
     }
     Ok(())
+}
+
+/// Whether a key passes the three tests.
+pub fn is_env_var_key(key: &str) -> bool
+    ensures value { result ≡ is_env_var_key key.now }
+    ensures meaning { IsTrue result ↔ IsEnvVarKey key.now }
+{
+    has_good_start(key) && has_plain_characters(key) && !begins_reserved(key)
 }
 
 fn has_good_start(key: &str) -> bool

@@ -1,6 +1,6 @@
 //! The ids of scripts.
 ghost use Rattle.std.specs.Prelude.{◌≡◌, ◌≢◌, IfOk, OnOk, IfErr, Err, Some, string_bytes};
-ghost use Rattle.nextest_texts.specs.Identifier.{IsIdentifier};
+ghost use Rattle.nextest_texts.specs.Identifier.{IsIdentifier, HasFlaw};
 ghost use Rattle.nextest_texts.specs.IdentifierText.{identifier_text};
 ghost use Rattle.nextest_texts.specs.declared.identifier.InvalidIdentifier.{InvalidIdentifier};
 ghost use Rattle.nextest_scripts.specs.ScriptId.{script_text, unique_text};
@@ -35,6 +35,7 @@ impl ScriptId {
         ensures ok { OnOk result (IsIdentifier id.now) }
         ensures refused { IfErr result (λ e. e.0 ≢ InvalidIdentifier.Memory → ¬ IsIdentifier id.now) }
         ensures memory { IfErr result (λ e. e.0 ≡ InvalidIdentifier.Memory → IsIdentifier id.now) }
+        ensures flaw { IfErr result (λ e. e.0 ≢ InvalidIdentifier.Memory → HasFlaw id.now e.0) }
     {
         match ConfigIdentifier::new(alloc, id) {
             Ok(identifier) => Ok(ScriptId(identifier)),

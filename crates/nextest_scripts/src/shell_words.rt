@@ -1,9 +1,9 @@
 //! Words of a command line, as a shell would split it.
 
-ghost use Rattle.std.specs.Prelude.{◌≡◌, ◌<◌, ◌≤◌, ◌++◌, ◌∷◌, [], ℕ, List, None, Some, Ok, Err, length, map, IfOk, OnOk, IfSome, IsTrue, IsFalse, MatchOption};
+ghost use Rattle.std.specs.Prelude.{◌≡◌, ◌↔◌, ◌<◌, ◌≤◌, ◌++◌, ◌∷◌, [], ℕ, List, None, Some, Ok, Err, length, map, IfOk, OnOk, IfSome, IsTrue, IsFalse, MatchOption};
 ghost use Rattle.std.specs.Str.{chars};
 ghost use Rattle.std.specs.String.{string_bytes};
-ghost use Rattle.nextest_scripts.specs.ShellReading.{behind, words_from, words_from_comment, words_from_double, words_from_double_escape, words_from_escape, words_from_single};
+ghost use Rattle.nextest_scripts.specs.ShellReading.{behind, words_in, words_from, words_from_comment, words_from_double, words_from_double_escape, words_from_escape, words_from_single};
 ghost use Rattle.nextest_scripts.specs.ShellWords.{SplitsInto, is_delimiter, is_escapable, texts_of};
 
 use std::alloc::{AllocError, AllocFailed, Global};
@@ -42,14 +42,14 @@ impl<T: Drop> From<AllocFailed<T>> for ShellWordsError {
 
 /// Splits a command line into words, in one pass.
 ///
-/// Spaces, tabs and line feeds part words, and `#` where a word could begin starts a comment. Quotes
-/// and backslashes make characters literal; nothing is expanded.
+/// Spaces, tabs and line feeds part words, and `#` where a word could begin starts a comment.
+/// Quotes and backslashes make characters literal; nothing is expanded.
 pub fn split_shell_words(alloc: Global, text: &str) -> Result<Vec<String>, ShellWordsError>
     ensures words { IfOk result (λ words. SplitsInto (chars text.now) (texts_of words)) }
 
     // No other list of words would do.
-    ensures alone { IfOk result (λ words. (others : List (List ℕ)) → SplitsInto (chars text.now) others
-        → others ≡ texts_of words) }
+    ensures alone { IfOk result (λ words. (others : List (List ℕ))
+        → SplitsInto (chars text.now) others → others ≡ texts_of words) }
     ensures unclosed { result ≡ Err ShellWordsError.Unclosed → (words : List (List ℕ))
         → ¬ SplitsInto (chars text.now) words }
 {
@@ -63,6 +63,12 @@ pub fn split_shell_words(alloc: Global, text: &str) -> Result<Vec<String>, Shell
     Ok(words)
 }
 
+/// The words that are read of a line are those that it splits into.
+pub fn law_shell_words()
+    ensures { (text : List ℕ) (words : List (List ℕ))
+        → (words_in text ≡ Some words) ↔ SplitsInto text words }
+{}
+
 /// The first character of the next word, past delimiters, comments, and backslashes before a line
 /// feed; and what follows it.
 #[tactic(auto, using(crate::proofs::ShellSteps::none_steps))]
@@ -71,7 +77,8 @@ fn next_word(text: &str) -> Option<(char, &str)>
     ensures begins { IfSome result (λ found. words_from None (chars text.now)
         ≡ words_from (Some []) (found.0 ∷ chars found.1.now)) }
     ensures in_word { IfSome result (λ found. IsFalse (is_delimiter found.0)) }
-    ensures shorter { IfSome result (λ found. length (chars found.1.now) < length (chars text.now)) }
+    ensures shorter { let before = length (chars text.now) in
+        IfSome result (λ found. length (chars found.1.now) < before) }
 {
     let mut rest = text;
     while let Some((first, after)) = split_first(rest) {
@@ -104,8 +111,8 @@ fn skip_comment(text: &str) -> &str
     rest
 }
 
-/// The word that begins with a character, and what follows it: nothing, or a text that begins with a
-/// delimiter.
+/// The word that begins with a character, and what follows it: nothing, or a text that begins with
+/// a delimiter.
 #[tactic(auto, using(crate::proofs::ShellSteps::end_steps))]
 fn read_word(alloc: Global, first: char, text: &str) -> Result<(String, &str), ShellWordsError>
     requires { IsFalse (is_delimiter first) }
@@ -130,7 +137,8 @@ fn read_word(alloc: Global, first: char, text: &str) -> Result<(String, &str), S
 #[tactic(auto, using(crate::proofs::ShellSteps::some_steps))]
 fn read_piece<'a>(word: &mut String, first: char, text: &'a str) -> Result<&'a str, ShellWordsError>
     requires { IsFalse (is_delimiter first) }
-    ensures read { IfOk result (λ rest. words_from (Some (chars (string_bytes word.old))) (first ∷ chars text.now)
+    ensures read { IfOk result (λ rest.
+        words_from (Some (chars (string_bytes word.old))) (first ∷ chars text.now)
         ≡ words_from (Some (chars (string_bytes word.new))) (chars rest.now)) }
     ensures within { IfOk result (λ rest. length (chars rest.now) ≤ length (chars text.now)) }
     ensures unclosed { result ≡ Err ShellWordsError.Unclosed
@@ -150,7 +158,8 @@ fn read_piece<'a>(word: &mut String, first: char, text: &'a str) -> Result<&'a s
 /// Reads up to the next single quote, and answers what follows it.
 #[tactic(auto, using(crate::proofs::ShellSteps::single_steps))]
 fn read_single_quoted<'a>(word: &mut String, text: &'a str) -> Result<&'a str, ShellWordsError>
-    ensures read { IfOk result (λ rest. words_from_single (chars (string_bytes word.old)) (chars text.now)
+    ensures read { IfOk result (λ rest.
+        words_from_single (chars (string_bytes word.old)) (chars text.now)
         ≡ words_from (Some (chars (string_bytes word.new))) (chars rest.now)) }
     ensures within { IfOk result (λ rest. length (chars rest.now) ≤ length (chars text.now)) }
     ensures unclosed { result ≡ Err ShellWordsError.Unclosed
@@ -170,7 +179,8 @@ fn read_single_quoted<'a>(word: &mut String, text: &'a str) -> Result<&'a str, S
 /// Reads up to the next double quote that no backslash escapes, and answers what follows it.
 #[tactic(auto, using(crate::proofs::ShellSteps::double_steps))]
 fn read_double_quoted<'a>(word: &mut String, text: &'a str) -> Result<&'a str, ShellWordsError>
-    ensures read { IfOk result (λ rest. words_from_double (chars (string_bytes word.old)) (chars text.now)
+    ensures read { IfOk result (λ rest.
+        words_from_double (chars (string_bytes word.old)) (chars text.now)
         ≡ words_from (Some (chars (string_bytes word.new))) (chars rest.now)) }
     ensures within { IfOk result (λ rest. length (chars rest.now) ≤ length (chars text.now)) }
     ensures unclosed { result ≡ Err ShellWordsError.Unclosed
@@ -193,7 +203,8 @@ fn read_double_quoted<'a>(word: &mut String, text: &'a str) -> Result<&'a str, S
 /// Reads what follows a backslash in double quotes.
 #[tactic(auto, using(crate::proofs::ShellSteps::double_escape_steps))]
 fn read_quoted_escape<'a>(word: &mut String, text: &'a str) -> Result<&'a str, ShellWordsError>
-    ensures read { IfOk result (λ rest. words_from_double_escape (chars (string_bytes word.old)) (chars text.now)
+    ensures read { IfOk result (λ rest.
+        words_from_double_escape (chars (string_bytes word.old)) (chars text.now)
         ≡ words_from_double (chars (string_bytes word.new)) (chars rest.now)) }
     ensures within { IfOk result (λ rest. length (chars rest.now) ≤ length (chars text.now)) }
     ensures unclosed { result ≡ Err ShellWordsError.Unclosed
@@ -215,7 +226,8 @@ fn read_quoted_escape<'a>(word: &mut String, text: &'a str) -> Result<&'a str, S
 /// Reads what follows a backslash outside quotes.
 #[tactic(auto, using(crate::proofs::ShellSteps::escape_steps))]
 fn read_escaped<'a>(word: &mut String, text: &'a str) -> Result<&'a str, AllocError>
-    ensures read { IfOk result (λ rest. words_from_escape (Some (chars (string_bytes word.old))) (chars text.now)
+    ensures read { IfOk result (λ rest.
+        words_from_escape (Some (chars (string_bytes word.old))) (chars text.now)
         ≡ words_from (Some (chars (string_bytes word.new))) (chars rest.now)) }
     ensures within { IfOk result (λ rest. length (chars rest.now) ≤ length (chars text.now)) }
 {
@@ -231,7 +243,8 @@ fn read_escaped<'a>(word: &mut String, text: &'a str) -> Result<&'a str, AllocEr
 
 /// Adds a character to a word.
 fn push_literal(word: &mut String, c: char) -> Result<(), AllocError>
-    ensures { OnOk result (chars (string_bytes word.new) ≡ chars (string_bytes word.old) ++ c ∷ []) }
+    ensures { OnOk result
+        (chars (string_bytes word.new) ≡ chars (string_bytes word.old) ++ c ∷ []) }
 {
     word.push(c)?;
     Ok(())
@@ -239,7 +252,8 @@ fn push_literal(word: &mut String, c: char) -> Result<(), AllocError>
 
 /// The first character, and what follows it.
 fn split_first(text: &str) -> Option<(char, &str)>
-    ensures { MatchOption result (chars text.now ≡ []) (λ found. chars text.now ≡ found.0 ∷ chars found.1.now) }
+    ensures { MatchOption result (chars text.now ≡ [])
+        (λ found. chars text.now ≡ found.0 ∷ chars found.1.now) }
 {
     let mut rest = text.chars();
     let first = rest.next()?;

@@ -1,0 +1,14 @@
+//! The order in which a file's tables define their ids: an id stands where the first lines that
+//! define it end.
+//!
+//! A table of a document is kept by its keys, so its own order is lost. It is found again from the
+//! text: by which first lines of it are a document, and which ids these define.
+#![tactic(auto)]
+
+mod ids;
+mod law;
+mod lines;
+mod order;
+
+pub use law::law_longer_documents_keep;
+pub use order::ids_in_order;
