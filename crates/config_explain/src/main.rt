@@ -36,6 +36,3 @@ fn main(rt: HostRuntime) -> io::Result<ExitCode> {
     );
     Ok(ExitCode::from(status))
 }
-
-#[cfg(test)]
-mod tests;

@@ -2,15 +2,23 @@
 use nextest_config::DEFAULT_CONFIG;
 use nextest_documents::tree_from_text;
 use nextest_tables::default_tree;
+use std::alloc::Global;
 use std::test::Fail;
+
+fn read_table(alloc: Global, text: &str) -> Result<String, Fail> {
+    let tree = tree_from_text(alloc, text)?;
+    Ok(format!(in alloc; "{tree:?}")?)
+}
+
+fn built_table(alloc: Global) -> Result<String, Fail> {
+    let tree = default_tree(alloc)?;
+    Ok(format!(in alloc; "{tree:?}")?)
+}
 
 #[test]
 fn text_and_table_agree(rt: HostRuntime) -> Result<(), Fail> {
-    let alloc = rt.alloc();
-    let read = tree_from_text(alloc, DEFAULT_CONFIG)?;
-    let built = default_tree(alloc)?;
-    let read = format!(in alloc; "{read:?}")?;
-    let built = format!(in alloc; "{built:?}")?;
-    assert_eq!(rt; read.as_str(), built.as_str());
+    let read = read_table(rt.alloc(), DEFAULT_CONFIG)?;
+    let built = built_table(rt.alloc())?;
+    assert!(rt; read == built, "{read} is not {built}");
     Ok(())
 }

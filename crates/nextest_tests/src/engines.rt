@@ -9,8 +9,8 @@ use nextest_config::{
     ConfigFileSelection, DefaultConfigWarnings, EvaluatableProfile, NextestConfig,
 };
 use nextest_elements::NextestRunMode;
-use nextest_load::engines::history::RuleHistory;
-use nextest_load::engines::{
+use nextest_engines::history::RuleHistory;
+use nextest_engines::{
     BinaryQuery, BuildPlatform, BuildPlatforms, EvalContext, FilterFault, Filters, FiltersetKind,
     ParseContext, SpecFault, Specs, Tally, TestQuery,
 };
@@ -75,14 +75,14 @@ impl Counted {
     }
 }
 
-/// Whether the text of a filter is one digit, of this rule.
+/// The texts that spell the rules' numbers.
+static NUMBERS: [&str; RULES] = ["0", "1", "2", "3", "4", "5", "6", "7", "8", "9"];
+
+/// Whether the text of a filter spells this rule's number.
 fn is_number(expr: &Name, rule: usize) -> bool {
-    match &expr.0 {
-        Some(name) => match name.as_bytes() {
-            [digit] => usize::from(digit.wrapping_sub(b'0')) == rule,
-            _ => false,
-        },
-        None => false,
+    match (&expr.0, NUMBERS.get(rule)) {
+        (Some(name), Some(number)) => name.as_str() == *number,
+        _ => false,
     }
 }
 
@@ -97,7 +97,7 @@ impl Filters for Names {
 
     ghost read = { λ _ _ text. Ok (if length text == 0 then None else Some text) };
 
-    ghost everything = { None };
+    ghost match_all = { None };
 
     ghost holds = { λ filter test _. option_map_or (λ name. bytes_eq name test.name) filter true };
 
@@ -159,11 +159,11 @@ impl Filters for Names {
         Ok(found)
     }
 
-    ghost everything_holds = { λ _ _. refl };
+    ghost match_all_matches = { λ _ _. refl };
 
-    ghost everything_holds_binary = { λ _ _. refl };
+    ghost match_all_matches_binaries = { λ _ _. refl };
 
-    ghost decided = { λ _ text filter read none binary default. Prim.search rules };
+    ghost default_filters_answer = { λ _ text filter read none binary default. Prim.search rules };
 }
 
 /// Platforms that every spec holds on.
@@ -232,8 +232,8 @@ fn test_of(name: &str) -> TestQuery<'_> {
 fn a_tally_can_count(rt: HostRuntime) -> Result<(), Fail> {
     let mut tally = Counted::new();
     let answers = ask_both(rt.alloc(), &Names, ["3", "4"], &test_of("3"), &mut tally)?;
-    assert_eq!(rt; answers, (true, false));
-    assert_eq!(rt; tally.counts.times, [0, 0, 0, 1, 0, 1, 0, 0, 0, 0]);
+    assert!(rt; answers == (true, false));
+    assert!(rt; tally.counts.times == [0, 0, 0, 1, 0, 1, 0, 0, 0, 0]);
     assert!(rt; !tally.counts.is_numbered);
     Ok(())
 }
@@ -338,17 +338,28 @@ fn check_asked(rt: &impl Abort, profile: &EvaluatableProfile<'_, Names, Anywhere
     let mut tally = Counted::new();
     let query = test_of(asked.test);
     let settings = profile.settings_for(NextestRunMode::Test, &query, &mut tally);
-    assert_eq!(rt; settings.retries().count(), asked.retries);
-    assert_eq!(rt; tally.counts.times, asked.times);
+    assert!(rt;
+        settings.retries().count() == asked.retries,
+        "{}",
+        asked.test
+    );
+    assert!(rt; tally.counts.times == asked.times, "{}", asked.test);
     assert!(rt; tally.counts.is_numbered);
+}
+
+/// Asks for each of the tests, one after the other.
+fn check_all(
+    rt: &(impl AllocGlobal + Abort),
+    config: &NextestConfig<Names, Anywhere>,
+) -> Result<(), Fail> {
+    let profile = profile_of_ten(rt.alloc(), config)?;
+    for asked in &ASKED {
+        check_asked(rt, &profile, asked);
+    }
+    Ok(())
 }
 
 #[test]
 fn each_filter_is_evaluated_at_most_once(rt: HostRuntime) -> Result<(), Fail> {
-    let config = load_ten(rt.alloc())?;
-    let profile = profile_of_ten(rt.alloc(), &config)?;
-    for asked in &ASKED {
-        check_asked(&rt, &profile, asked);
-    }
-    Ok(())
+    check_all(&rt, &load_ten(rt.alloc())?)
 }

@@ -4,7 +4,7 @@ use nextest_config::{
     ConfigFileSelection, ConfigParseError, ConfigPath, ConfigPaths, DefaultConfigWarnings,
     FileInput, NextestConfig, ReadOutcome, ToolConfigFile, ToolName,
 };
-use nextest_load::engines::{BuildPlatforms, ParseContext};
+use nextest_engines::{BuildPlatforms, ParseContext};
 use std::alloc::{AllocError, Global};
 use std::collections::BTreeSet;
 use std::process::Abort;
@@ -28,31 +28,27 @@ struct Inputs {
     tools: Vec<ToolConfigFile>,
 }
 
-/// A workspace whose own file has this text, and nothing else.
-fn workspace(alloc: Global, shared: &str) -> Result<Inputs, AllocError> {
+/// A workspace whose own file has this text, and the file that a user names.
+fn workspace(alloc: Global, shared: &str, named: Option<FileInput>) -> Result<Inputs, AllocError> {
     Ok(Inputs {
         paths: workspace_paths(alloc, shared)?,
-        named: None,
+        named,
         tools: Vec::new(alloc),
     })
 }
 
-/// The inputs, and a file of a tool.
-fn with_tool(alloc: Global, inputs: Inputs, path: &str, text: &str) -> Result<Inputs, Fail> {
-    let mut inputs = inputs;
-    inputs.tools.push(ToolConfigFile {
-        tool: ToolName::new(alloc, "my-tool")?,
-        config_file: file(alloc, path, text)?,
-    })?;
-    Ok(inputs)
+/// A file of the tool `my-tool`.
+fn tool_file(alloc: Global, path: &str, text: &str) -> Result<ToolConfigFile, Fail> {
+    let tool = ToolName::new(alloc, "my-tool")?;
+    let config_file = file(alloc, path, text)?;
+    Ok(ToolConfigFile { tool, config_file })
 }
 
-/// The inputs, where a user names a file with this outcome.
-fn with_named(alloc: Global, inputs: Inputs, outcome: ReadOutcome) -> Result<Inputs, AllocError> {
-    let mut inputs = inputs;
-    let path = ConfigPath::new(alloc, "p.toml")?;
-    inputs.named = Some(FileInput { path, outcome });
-    Ok(inputs)
+/// Adds a file of a tool.
+fn add_tool(alloc: Global, inputs: &mut Inputs, path: &str, text: &str) -> Result<(), Fail> {
+    let file = tool_file(alloc, path, text)?;
+    inputs.tools.push(file)?;
+    Ok(())
 }
 
 fn by_sources(alloc: Global, inputs: &Inputs) -> Result<Config, ConfigParseError> {
@@ -124,11 +120,13 @@ fn retries_of(alloc: Global, config: &Config) -> Result<u32, Fail> {
 /// Asks what was loaded how often tests are tried again.
 fn assert_loaded(
     rt: &(impl AllocGlobal + Abort),
-    loaded: Result<Config, ConfigParseError>,
+    loaded: &Result<Config, ConfigParseError>,
     retries: u32,
 ) -> Result<(), Fail> {
-    let config = loaded?;
-    assert_eq!(rt; retries_of(rt.alloc(), &config)?, retries);
+    let Ok(config) = loaded else {
+        return Err("refused".into());
+    };
+    assert!(rt; retries_of(rt.alloc(), config)? == retries);
     assert!(rt; config.warnings().warnings().is_empty());
     Ok(())
 }
@@ -140,35 +138,37 @@ fn assert_loads(
     retries: u32,
 ) -> Result<(), Fail> {
     let alloc = rt.alloc();
-    assert_loaded(rt, by_sources(alloc, inputs), retries)?;
-    assert_loaded(rt, by_warnings(alloc, inputs), retries)?;
-    assert_loaded(rt, by_selection(alloc, inputs), retries)?;
-    assert_loaded(rt, by_paths(alloc, inputs), retries)
+    assert_loaded(rt, &by_sources(alloc, inputs), retries)?;
+    assert_loaded(rt, &by_warnings(alloc, inputs), retries)?;
+    assert_loaded(rt, &by_selection(alloc, inputs), retries)?;
+    assert_loaded(rt, &by_paths(alloc, inputs), retries)
 }
 
-/// Loads the shared file and a tool's, which says two retries, and also the file that a user names.
+/// The shared file and a tool's, which says two retries, and the file that a user names.
+fn inputs_of(alloc: Global, shared: &str, named: Option<&str>) -> Result<Inputs, Fail> {
+    let named = match named {
+        Some(text) => Some(file(alloc, "p.toml", text)?),
+        None => None,
+    };
+    let mut inputs = workspace(alloc, shared, named)?;
+    add_tool(alloc, &mut inputs, "a.toml", "profile.default.retries = 2")?;
+    Ok(inputs)
+}
+
+/// Loads the shared file, a tool's and the file that a user names.
 fn tool_loads(
     rt: &(impl AllocGlobal + Abort),
     shared: &str,
     named: Option<&str>,
     retries: u32,
 ) -> Result<(), Fail> {
-    let alloc = rt.alloc();
-    let inputs = workspace(alloc, shared)?;
-    let inputs = with_tool(alloc, inputs, "a.toml", "profile.default.retries = 2")?;
-    let inputs = match named {
-        Some(text) => {
-            let text = String::from_str(alloc, text)?;
-            with_named(alloc, inputs, ReadOutcome::Text(text))?
-        }
-        None => inputs,
-    };
+    let inputs = inputs_of(rt.alloc(), shared, named)?;
     assert_loads(rt, &inputs, retries)
 }
 
 #[test]
 fn each_call_loads(rt: HostRuntime) -> Result<(), Fail> {
-    let empty = workspace(rt.alloc(), "")?;
+    let empty = workspace(rt.alloc(), "", None)?;
     assert_loads(&rt, &empty, 0)?;
     tool_loads(&rt, "", None, 2)?;
     tool_loads(&rt, "profile.default.retries = 1", None, 1)?;
@@ -183,16 +183,18 @@ fn each_call_loads(rt: HostRuntime) -> Result<(), Fail> {
 /// Compares a refusal with a number, the path of the file and the tool that provides it.
 fn assert_refused(
     rt: &impl Abort,
-    loaded: Result<Config, ConfigParseError>,
+    loaded: &Result<Config, ConfigParseError>,
     number: u8,
     path: &str,
     tool: Option<&str>,
 ) -> Result<(), Fail> {
-    let error = loaded.err().ok_or("loaded")?;
-    assert_eq!(rt; error.kind().number(), number, "at {path}");
+    let Err(error) = loaded else {
+        return Err("loaded".into());
+    };
     let told = error.config_file().ok_or("no file")?;
-    assert_eq!(rt; told.absolute_path(), path);
-    assert_eq!(rt; error.tool().map(|tool| tool.as_str()), tool, "at {path}");
+    assert!(rt; error.kind().number() == number, "at {path}");
+    assert!(rt; told.absolute_path() == path, "at {path}");
+    assert!(rt; error.tool().map(|tool| tool.as_str()) == tool, "at {path}");
     Ok(())
 }
 
@@ -205,22 +207,23 @@ fn assert_refuses(
     tool: Option<&str>,
 ) -> Result<(), Fail> {
     let alloc = rt.alloc();
-    assert_refused(rt, by_sources(alloc, inputs), number, path, tool)?;
-    assert_refused(rt, by_warnings(alloc, inputs), number, path, tool)?;
-    assert_refused(rt, by_selection(alloc, inputs), number, path, tool)?;
-    assert_refused(rt, by_paths(alloc, inputs), number, path, tool)
+    assert_refused(rt, &by_sources(alloc, inputs), number, path, tool)?;
+    assert_refused(rt, &by_warnings(alloc, inputs), number, path, tool)?;
+    assert_refused(rt, &by_selection(alloc, inputs), number, path, tool)?;
+    assert_refused(rt, &by_paths(alloc, inputs), number, path, tool)
 }
 
 /// The text of a tool's file is refused.
 fn tool_refused(rt: &(impl AllocGlobal + Abort), text: &str, number: u8) -> Result<(), Fail> {
     let alloc = rt.alloc();
-    let inputs = with_tool(alloc, workspace(alloc, "")?, "a.toml", text)?;
+    let mut inputs = workspace(alloc, "", None)?;
+    add_tool(alloc, &mut inputs, "a.toml", text)?;
     assert_refuses(rt, &inputs, number, "a.toml", Some("my-tool"))
 }
 
 /// The text of the shared file is refused.
 fn shared_refused(rt: &(impl AllocGlobal + Abort), text: &str, number: u8) -> Result<(), Fail> {
-    let inputs = workspace(rt.alloc(), text)?;
+    let inputs = workspace(rt.alloc(), text, None)?;
     assert_refuses(rt, &inputs, number, "/w/.config/nextest.toml", None)
 }
 
@@ -238,23 +241,33 @@ fn each_call_refuses(rt: HostRuntime) -> Result<(), Fail> {
 }
 
 #[test]
-fn each_call_asks_for_its_files(rt: HostRuntime) -> Result<(), Fail> {
-    let alloc = rt.alloc();
-    let one = with_tool(alloc, workspace(alloc, "")?, "a.toml", "")?;
-    let two = with_tool(alloc, one, "b.toml", "")?;
-    assert_refuses(&rt, &two, 1, "b.toml", Some("my-tool"))?;
-    let missing = with_named(alloc, workspace(alloc, "")?, ReadOutcome::NotFound)?;
-    assert_refuses(&rt, &missing, 2, "p.toml", None)
+fn a_second_file_of_a_tool_is_refused(rt: HostRuntime) -> Result<(), Fail> {
+    let mut inputs = workspace(rt.alloc(), "", None)?;
+    add_tool(rt.alloc(), &mut inputs, "a.toml", "")?;
+    add_tool(rt.alloc(), &mut inputs, "b.toml", "")?;
+    assert_refuses(&rt, &inputs, 1, "b.toml", Some("my-tool"))
+}
+
+fn missing_file(alloc: Global, path: &str) -> Result<FileInput, AllocError> {
+    Ok(FileInput {
+        path: ConfigPath::new(alloc, path)?,
+        outcome: ReadOutcome::NotFound,
+    })
+}
+
+#[test]
+fn a_missing_file_that_a_user_names_is_refused(rt: HostRuntime) -> Result<(), Fail> {
+    let named = missing_file(rt.alloc(), "p.toml")?;
+    let inputs = workspace(rt.alloc(), "", Some(named))?;
+    assert_refuses(&rt, &inputs, 2, "p.toml", None)
 }
 
 #[test]
 fn selections(rt: HostRuntime) -> Result<(), Fail> {
-    let none = ConfigFileSelection::new(None);
-    assert!(rt; none.explicit_config_file().is_none());
+    let none = ConfigFileSelection::new(None).explicit_config_file();
+    assert!(rt; none.is_none());
     let named = file(rt.alloc(), "p.toml", "")?;
-    let selected = ConfigFileSelection::new(Some(&named))
-        .explicit_config_file()
-        .ok_or("no file")?;
-    assert_eq!(rt; selected.path.absolute_path(), "p.toml");
+    let some = ConfigFileSelection::new(Some(&named)).explicit_config_file();
+    assert!(rt; some.is_some_and(|file| file.path.absolute_path() == "p.toml"));
     Ok(())
 }

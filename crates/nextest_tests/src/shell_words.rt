@@ -1,68 +1,8 @@
-//! Command lines with their words.
+//! Words of command lines: a refused growth, and each short text by the cases of the definition.
 use crate::showing::assert_shown;
 use nextest_scripts::{ShellWordsError, split_shell_words};
 use std::alloc::{AllocError, Global};
 use std::test::Fail;
-
-static ROWS: [(&str, Option<&[&str]>); 30] = [
-    (
-        r#"a 'b c' "d\"e" f\ g # h"#,
-        Some(&["a", "b c", "d\"e", "f g"]),
-    ),
-    ("'x", None),
-    ("\"x", None),
-    ("\"x\\", None),
-    ("\"x\\\"", None),
-    ("", Some(&[])),
-    ("  # only", Some(&[])),
-    ("''", Some(&[""])),
-    ("\"\"", Some(&[""])),
-    ("''#x", Some(&["#x"])),
-    ("a\\\n#b", Some(&["a#b"])),
-    ("a#b", Some(&["a#b"])),
-    ("\\\n#x", Some(&[])),
-    ("\\\n\\\n", Some(&[])),
-    ("a\\", Some(&["a\\"])),
-    ("\\", Some(&["\\"])),
-    ("\\#x", Some(&["#x"])),
-    ("a # b\nc", Some(&["a", "c"])),
-    ("# it's\nc", Some(&["c"])),
-    ("a\tb\nc  d ", Some(&["a", "b", "c", "d"])),
-    ("a\rb", Some(&["a\rb"])),
-    ("a\\\nb", Some(&["ab"])),
-    ("'a\\b'", Some(&["a\\b"])),
-    ("'a\\'b", Some(&["a\\b"])),
-    ("'a\\\nb'", Some(&["a\\\nb"])),
-    ("\"a\\\nb\"", Some(&["ab"])),
-    (r#""\$\`\\\n""#, Some(&[r"$`\\n"])),
-    ("x'y z'\"w\"", Some(&["xy zw"])),
-    ("$HOME *", Some(&["$HOME", "*"])),
-    (
-        "\u{e9}\\\u{1f980} '\u{a0}'",
-        Some(&["\u{e9}\u{1f980}", "\u{a0}"]),
-    ),
-];
-
-fn is_split(words: &[String], wanted: &[&str]) -> bool {
-    words.len() == wanted.len()
-        && words
-            .iter()
-            .zip(wanted)
-            .all(|(word, text)| word.as_str() == *text)
-}
-
-#[test]
-fn rows(rt: HostRuntime) {
-    for &(text, wanted) in &ROWS {
-        let found = split_shell_words(rt.alloc(), text);
-        let agrees = match (&found, wanted) {
-            (Ok(words), Some(wanted)) => is_split(words.as_slice(), wanted),
-            (Err(ShellWordsError::Unclosed), None) => true,
-            _ => false,
-        };
-        assert!(rt; agrees, "{text:?} gives {found:?}");
-    }
-}
 
 /// Refused growths are found by running this test with each allocation failing in turn: whichever
 /// fails, the answer is `Memory` or the words.
@@ -77,7 +17,6 @@ fn refused_growth(rt: HostRuntime) {
 
 #[test]
 fn texts_of_errors(rt: HostRuntime) -> Result<(), Fail> {
-    assert_shown(&rt, &ShellWordsError::Unclosed, "a quote is not closed")?;
     assert_shown(&rt, &ShellWordsError::Memory, "out of memory")
 }
 

@@ -1,12 +1,22 @@
-//! The rows of writers that fail.
-use super::{Files, WORDS, words_of};
-use nextest_explain::explain;
+//! Writers that fail: nothing follows, and the status says so.
+use nextest_config::ReadOutcome;
+use nextest_explain::{FileReader, explain};
+use std::alloc::{AllocError, Global};
 use std::io::{self, ErrorKind, Write};
 use std::process::Abort;
 use std::test::Fail;
 
+/// A disk without files.
+struct NoFiles;
+
+impl FileReader for NoFiles {
+    fn read(&self, _alloc: Global, _path: &str) -> Result<ReadOutcome, AllocError> {
+        Ok(ReadOutcome::NotFound)
+    }
+}
+
 /// A writer that takes this many bytes and then fails, and counts what comes after that.
-#[derive(Drop)]
+#[derive(Clone, Copy)]
 struct Failing {
     room: usize,
     taken: usize,
@@ -43,29 +53,45 @@ fn failing_after(room: usize) -> Failing {
     }
 }
 
-/// Runs the program where no file is found and both writers fail after so many bytes, and asks how many bytes each took.
+/// The words of a line, parted by spaces.
+fn words_of(alloc: Global, line: &str) -> Result<Vec<String>, AllocError> {
+    line.split(' ')
+        .map(|word| String::from_str(alloc, word))
+        .try_collect(alloc)
+}
+
+/// The status of the program with these words.
+fn status_of(
+    alloc: Global,
+    line: &str,
+    out: &mut Failing,
+    err: &mut Failing,
+) -> Result<u8, AllocError> {
+    let words = words_of(alloc, line)?;
+    Ok(explain(alloc, &words, &NoFiles, out, err))
+}
+
+/// Runs the program where both writers fail after so many bytes, and asks how many bytes each took.
 fn check_failing(
     rt: &(impl AllocGlobal + Abort),
     room: usize,
     line: &str,
     taken: (usize, usize),
 ) -> Result<(), Fail> {
-    let alloc = rt.alloc();
-    let words = words_of(alloc, line)?;
     let mut out = failing_after(room);
     let mut err = failing_after(room);
-    let status = explain(alloc, &words, &Files(&[]), &mut out, &mut err);
-    assert_eq!(rt; status, 6, "at {line}");
-    assert_eq!(rt; (out.taken, err.taken), taken, "at {line}");
-    assert_eq!(rt; (out.tries_after, err.tries_after), (0, 0), "at {line}");
+    let status = status_of(rt.alloc(), line, &mut out, &mut err)?;
+    assert!(rt; status == 6, "at {line}");
+    assert!(rt; out.taken == taken.0 && err.taken == taken.1, "at {line}");
+    assert!(rt; out.tries_after == 0 && err.tries_after == 0, "at {line}");
     Ok(())
 }
 
 /// The bytes that fit, the words, and the bytes that each of the two writers takes.
 static ROWS: [(usize, &str, (usize, usize)); 4] = [
-    (0, WORDS, (0, 0)),
+    (0, "/w default test b t", (0, 0)),
     (0, "/w x test b t", (0, 0)),
-    (3, WORDS, (3, 0)),
+    (3, "/w default test b t", (3, 0)),
     (3, "/w x test b t", (0, 3)),
 ];
 

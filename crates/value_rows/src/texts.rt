@@ -1,0 +1,96 @@
+//! What readers of texts answer.
+use nextest_documents::{TextFault, merge_layers, tree_from_text};
+use nextest_elements::{ConfigIdentifier, ToolName, Tree, parse_duration};
+use nextest_scripts::{ScriptId, split_shell_words, validate_env_var_key};
+use std::alloc::{AllocError, Global};
+use std::fmt::Display;
+
+/// The answer of a reader of texts, where there is one of this name.
+pub fn text_answer(alloc: Global, reader: &str, text: &str) -> Option<Result<String, AllocError>> {
+    Some(match reader {
+        "duration" => duration_answer(alloc, text),
+        "identifier" => identifier_answer(alloc, text),
+        "tool-name" => shown(alloc, ToolName::new(alloc, text)),
+        "script-id" => shown(alloc, ScriptId::new(alloc, text).map_err(|error| error.0)),
+        "shell-words" => words_answer(alloc, text),
+        "env-key" => key_answer(alloc, text),
+        "document" => document_answer(alloc, text),
+        _ => return None,
+    })
+}
+
+/// The value, or the cause of the refusal.
+fn shown<T: Display + Drop, E: Display + Drop>(
+    alloc: Global,
+    read: Result<T, E>,
+) -> Result<String, AllocError> {
+    match read {
+        Ok(value) => value.to_string(alloc),
+        Err(cause) => refusal(alloc, &cause),
+    }
+}
+
+fn refusal<E: Display>(alloc: Global, cause: &E) -> Result<String, AllocError> {
+    format!(in alloc; "refused: {cause}")
+}
+
+fn duration_answer(alloc: Global, text: &str) -> Result<String, AllocError> {
+    match parse_duration(text) {
+        Ok(nanoseconds) => format!(in alloc; "{nanoseconds}ns"),
+        Err(cause) => format!(in alloc; "refused: {cause:?}"),
+    }
+}
+
+/// The identifier, and its parts where it is one of a tool.
+fn identifier_answer(alloc: Global, text: &str) -> Result<String, AllocError> {
+    match ConfigIdentifier::new(alloc, text) {
+        Ok(identifier) => match identifier.tool_components() {
+            Some((tool, name)) => format!(in alloc; "{identifier}, `{name}` of tool `{tool}`"),
+            None => identifier.to_string(alloc),
+        },
+        Err(cause) => refusal(alloc, &cause),
+    }
+}
+
+fn words_answer(alloc: Global, text: &str) -> Result<String, AllocError> {
+    match split_shell_words(alloc, text) {
+        Ok(words) => format!(in alloc; "{words:?}"),
+        Err(cause) => refusal(alloc, &cause),
+    }
+}
+
+fn key_answer(alloc: Global, text: &str) -> Result<String, AllocError> {
+    match validate_env_var_key(alloc, text) {
+        Ok(()) => String::from_str(alloc, "accepted"),
+        Err(cause) => refusal(alloc, &cause),
+    }
+}
+
+/// The tree of a document. What the cause of a refusal says is TOML's.
+fn document_answer(alloc: Global, text: &str) -> Result<String, AllocError> {
+    match tree_from_text(alloc, text) {
+        Ok(tree) => format!(in alloc; "{tree:?}"),
+        Err(TextFault::NotDocument(_)) => String::from_str(alloc, "refused: no document"),
+        Err(TextFault::Memory) => Err(AllocError),
+    }
+}
+
+/// The tree that documents merge to, the lowest first.
+pub fn merged_answer(alloc: Global, documents: &[Tree]) -> Result<String, AllocError> {
+    match merged(alloc, documents) {
+        Ok(tree) => format!(in alloc; "{tree:?}"),
+        Err(TextFault::NotDocument(_)) => String::from_str(alloc, "refused: no document"),
+        Err(TextFault::Memory) => Err(AllocError),
+    }
+}
+
+fn merged(alloc: Global, documents: &[Tree]) -> Result<Tree, TextFault> {
+    let mut layers = Vec::new(alloc);
+    for document in documents {
+        let text = document.as_str().unwrap_or("");
+        layers
+            .push(tree_from_text(alloc, text)?)
+            .map_err(AllocError::from)?;
+    }
+    Ok(merge_layers(alloc, tree_from_text(alloc, "")?, &layers)?)
+}
