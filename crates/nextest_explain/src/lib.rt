@@ -3,10 +3,10 @@
 
 mod command;
 mod files;
-mod lines;
-mod load;
+mod options;
 mod program;
-mod settings_lines;
+mod row_lines;
+mod sources;
 
 pub use files::FileReader;
 pub use program::{explain, refuse_for_memory};

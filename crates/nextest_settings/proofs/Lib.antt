@@ -1,0 +1,15 @@
+pub mod Named
+pub mod Gathering
+pub mod Nearer
+pub mod Settled
+pub mod Considered
+pub mod Turns
+pub mod Closed
+pub mod Alone
+pub mod Scripts
+pub mod Behind
+pub mod Shown
+pub mod Places
+pub mod Few
+pub mod Least
+pub mod Assigned

@@ -1,0 +1,21 @@
+-- What contracts see of the source of a setting.
+use Rattle.std.specs.Prelude.{Option, None, Some}
+use Rattle.nextest_rules.specs.View.{override_rule_view}
+use Rattle.nextest_settings.specs.Queries.{Origin, by_default, by_profile, by_override, by_script}
+use Rattle.nextest_settings.specs.declared.source.SettingSource.{SettingSource}
+use Rattle.nextest_settings.specs.declared.source.SettingSource.TheVariants.{Default, Profile, Override, Script}
+
+-- the origin that a source tells
+abbrev pub source_view : {F S E T N P : Type 0} → SettingSource F S E T N P → Origin
+source_view Default = by_default
+source_view Profile = by_profile
+source_view (Override rule) = by_override (override_rule_view rule.now).writes.id
+source_view (Script rule) = by_script
+
+-- a mark is there exactly where an origin is, and is right for it
+abbrev pub MarksOrigin : {Source : Type 0} → (Source → Origin → Type 0) → Option Source
+    → Option Origin → Type 0
+MarksOrigin shows None None = Unit {0}
+MarksOrigin shows (Some source) (Some origin) = shows source origin
+MarksOrigin shows None (Some origin) = ⊥
+MarksOrigin shows (Some source) None = ⊥
