@@ -3,10 +3,10 @@
 
 mod command;
 mod files;
-mod options;
+mod lines;
+mod load;
 mod program;
-mod row_lines;
-mod sources;
+mod settings_lines;
 
 pub use files::FileReader;
 pub use program::{explain, refuse_for_memory};

@@ -27,9 +27,10 @@ use Rattle.nextest_elements.specs.MaxFail.{limit_at, IsMaxFail}
 use Rattle.nextest_elements.specs.RetryPolicy.{count_at, IsRetry}
 use Rattle.nextest_elements.specs.SlowTimeout.{slow_of, IsSlowTimeout}
 use Rattle.nextest_elements.specs.TestPriority.{priority_at}
-use Rattle.nextest_tables.specs.Values.{AreTexts}
+use Rattle.nextest_elements.proofs.Retries.{retry_by_fields}
+use Rattle.nextest_tables.specs.Seen.{report_of}
+use Rattle.nextest_tables.specs.Tables.{AreTexts}
 use Rattle.nextest_tables.specs.Texts.{texts_in, arguments_in, policy_in, priority_in, slow_in, leak_in, global_in, max_fail_in, report_in, report_table, report_override_in, report_override_table, bench_in, bench_table, bench_override_in, bench_override_table}
-use Rattle.nextest_tables.specs.View.{report_view}
 
 -- what each value shows, a value that may be absent shows
 pub seen_at : {X Y : Type 0} (P : Node → X → Type 0) (show : X → Y) (f : Node → Option Y) → ((n : Node) (x : X) → P n x → Some (show x) ≡ f n)
@@ -103,7 +104,7 @@ priority_seen None (Some p) h = absurd h
 priority_seen (Some n) None h = absurd h
 
 one_policy : (n : Node) (p : RetryPolicy) → IsRetry n p → Some p ≡ policy_in n
-one_policy (table es) p h = sym h
+one_policy (table es) p h = sym (retry_by_fields es p h)
 one_policy (text t) p h = by_leaf (λ count. policies.Fixed count 0 false) (count_at (text t)) p h
 one_policy (array ns) p h = by_leaf (λ count. policies.Fixed count 0 false) (count_at (array ns)) p h
 one_policy (int z) p h = by_leaf (λ count. policies.Fixed count 0 false) (count_at (int z)) p h
@@ -114,7 +115,7 @@ pub policy_seen : (o : Option Node) (x : Option RetryPolicy) → IsOptional IsRe
 policy_seen o x h = same_at IsRetry policy_in one_policy o x h
 
 one_slow : (n : Node) (x : SlowTimeout) → IsSlowTimeout n x → Some x ≡ slow_in n
-one_slow (table es) x h = λ i. Some (h i)
+one_slow (table es) x h = sym h
 one_slow (text t) x h = by_leaf slow_of (duration_at (text t)) x h
 one_slow (array ns) x h = by_leaf slow_of (duration_at (array ns)) x h
 one_slow (int z) x h = by_leaf slow_of (duration_at (int z)) x h
@@ -125,7 +126,7 @@ pub slow_seen : (o : Option Node) (x : Option SlowTimeout) → IsOptional IsSlow
 slow_seen o x h = same_at IsSlowTimeout slow_in one_slow o x h
 
 one_leak : (n : Node) (x : LeakTimeout) → IsLeakTimeout n x → Some x ≡ leak_in n
-one_leak (table es) x h = λ i. Some (h i)
+one_leak (table es) x h = sym h
 one_leak (text t) x h = by_leaf leak_of (duration_at (text t)) x h
 one_leak (array ns) x h = by_leaf leak_of (duration_at (array ns)) x h
 one_leak (int z) x h = by_leaf leak_of (duration_at (int z)) x h
@@ -152,7 +153,7 @@ one_max_fail opaque x h = absurd h
 pub max_fail_seen : (o : Option Node) (x : Option MaxFail) → IsOptional IsMaxFail o x → x ≡ option_and_then max_fail_in o
 max_fail_seen o x h = same_at IsMaxFail max_fail_in one_max_fail o x h
 
-report_is : (es : Entries) (x : JunitImpl) → IsJunit es x → Some (report_view x) ≡ Some (report_table es)
+report_is : (es : Entries) (x : JunitImpl) → IsJunit es x → Some (report_of x) ≡ Some (report_table es)
 report_is es x h =
     let a = text_seen (get (key_text keys.Path) es) x.path h.path in
     let b = text_seen (get (key_text keys.ReportName) es) x.report_name h.report_name in
@@ -162,8 +163,8 @@ report_is es x h =
     let f = leaf_seen _ (get (key_text keys.FlakyFailStatus) es) x.flaky_fail_status h.flaky_fail_status in
     rw (a, b, c, d, e, f) refl
 
-pub report_seen : (o : Option Node) (x : Option JunitImpl) → IsOptional (InTable IsJunit) o x → option_map report_view x ≡ option_and_then report_in o
-report_seen o x h = seen_at (InTable IsJunit) report_view report_in (in_table IsJunit (λ x. Some (report_view x)) report_in report_is) o x h
+pub report_seen : (o : Option Node) (x : Option JunitImpl) → IsOptional (InTable IsJunit) o x → option_map report_of x ≡ option_and_then report_in o
+report_seen o x h = seen_at (InTable IsJunit) report_of report_in (in_table IsJunit (λ x. Some (report_of x)) report_in report_is) o x h
 
 report_override_is : (es : Entries) (x : JunitOverride) → IsJunitOverride es x → Some x ≡ Some (report_override_table es)
 report_override_is es x h =

@@ -1,9 +1,6 @@
 pub mod Written
 pub mod Tables
 pub mod Texts
-pub mod FileTexts
-pub mod View
-pub mod Scripts
+pub mod Seen
 pub mod Defaults
-pub mod Complete
-pub mod Values
+pub mod DefaultValues

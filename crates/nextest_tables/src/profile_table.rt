@@ -1,11 +1,8 @@
 //! The table of a profile.
 ghost use Rattle.nextest_tree.specs.Reads.{InTable};
-ghost use Rattle.nextest_tables.specs.Values.{AreProfileEnds, AreProfileOutputs, AreProfileRuns, IsProfile, IsProfileRest};
-ghost use Rattle.nextest_tables.specs.Tables.{a_profile, profile_end_fields, profile_fields, profile_output_fields, profile_rest_fields, profile_run_fields};
+ghost use Rattle.nextest_tables.specs.Tables.{a_profile, profile_fields, IsProfile, profile_run_fields, AreProfileRuns, profile_output_fields, AreProfileOutputs, profile_end_fields, AreProfileEnds, profile_table_fields, AreProfileTables};
 
-use crate::fields::list_at;
 use crate::override_table::OverrideTable;
-use crate::script_rule_table::ScriptRuleTable;
 use nextest_elements::{
     BenchConfig, FinalStatusLevel, FlakyResult, GlobalTimeout, JunitImpl, LeakTimeout, MaxFail,
     RetryPolicy, SlowTimeout, StatusLevel, TestOutputDisplay, TestThreads, ThreadsRequired,
@@ -14,67 +11,54 @@ use nextest_tree::{Element, ElementFault, Ignored, Key, Record, Tree, Walk, opti
 use std::alloc::Global;
 use std::collections::BTreeMap;
 
-/// How a profile has tests run.
-#[derive(Drop)]
-pub struct ProfileRuns {
+/// What a profile writes for each of its fields.
+#[derive(Debug, Drop)]
+pub struct ProfileFields {
     pub retries: Option<RetryPolicy>,
     pub flaky_result: Option<FlakyResult>,
     pub test_threads: Option<TestThreads>,
     pub threads_required: Option<ThreadsRequired>,
     pub run_extra_args: Option<Vec<String>>,
-}
-
-/// What a profile has shown.
-#[derive(Drop)]
-pub struct ProfileOutputs {
     pub status_level: Option<StatusLevel>,
     pub final_status_level: Option<FinalStatusLevel>,
     pub failure_output: Option<TestOutputDisplay>,
     pub success_output: Option<TestOutputDisplay>,
-}
-
-/// When a profile has a run or a test ended.
-#[derive(Drop)]
-pub struct ProfileEnds {
     pub max_fail: Option<MaxFail>,
     pub slow_timeout: Option<SlowTimeout>,
     pub global_timeout: Option<GlobalTimeout>,
     pub leak_timeout: Option<LeakTimeout>,
-}
-
-/// What a profile writes for each of its fields.
-#[derive(Drop)]
-pub struct ProfileFields {
-    pub runs: ProfileRuns,
-    pub outputs: ProfileOutputs,
-    pub ends: ProfileEnds,
     pub junit: Option<JunitImpl>,
     pub bench: Option<BenchConfig>,
 }
 
 /// A profile as a file writes it.
-#[derive(Drop)]
+#[derive(Debug, Drop)]
 pub struct ProfileTable {
-    /// The text of its default filter.
-    pub default_filter: Option<String>,
     /// What it writes for each field.
     pub fields: ProfileFields,
     /// Its overrides, in the order of the file.
-    pub overrides: Vec<OverrideTable>,
-    /// Its script rules, in the order of the file.
-    pub scripts: Vec<ScriptRuleTable>,
-    /// The profile that it inherits from.
-    pub inherits: Option<String>,
+    pub overrides: Option<Vec<OverrideTable>>,
 }
 
-/// The lists and tables of a profile, and the profile that it inherits from.
+#[tactic(auto, unfolding(crate::specs::Tables::a_profile))]
+impl Element for ProfileTable {
+    ghost schema = { a_profile };
+
+    ghost is_value = { InTable IsProfile };
+
+    fn read(alloc: Global, tree: &Tree, walk: &mut Walk) -> Result<Self, ElementFault> {
+        read_table(alloc, tree, walk)
+    }
+}
+
+/// How a profile has tests run.
 #[derive(Drop)]
-struct ProfileRest {
-    overrides: Vec<OverrideTable>,
-    scripts: Vec<ScriptRuleTable>,
-    junit: Option<JunitImpl>,
-    bench: Option<BenchConfig>,
-    inherits: Option<String>,
+struct ProfileRuns {
+    retries: Option<RetryPolicy>,
+    flaky_result: Option<FlakyResult>,
+    test_threads: Option<TestThreads>,
+    threads_required: Option<ThreadsRequired>,
+    run_extra_args: Option<Vec<String>>,
 }
 
 impl Record for ProfileRuns {
@@ -112,6 +96,15 @@ impl Record for ProfileRuns {
     }
 }
 
+/// What a profile has shown.
+#[derive(Drop)]
+struct ProfileOutputs {
+    status_level: Option<StatusLevel>,
+    final_status_level: Option<FinalStatusLevel>,
+    failure_output: Option<TestOutputDisplay>,
+    success_output: Option<TestOutputDisplay>,
+}
+
 impl Record for ProfileOutputs {
     ghost fields = { profile_output_fields };
 
@@ -142,6 +135,15 @@ impl Record for ProfileOutputs {
             success_output,
         })
     }
+}
+
+/// When a profile has a run or a test ended.
+#[derive(Drop)]
+struct ProfileEnds {
+    max_fail: Option<MaxFail>,
+    slow_timeout: Option<SlowTimeout>,
+    global_timeout: Option<GlobalTimeout>,
+    leak_timeout: Option<LeakTimeout>,
 }
 
 impl Record for ProfileEnds {
@@ -176,20 +178,21 @@ impl Record for ProfileEnds {
     }
 }
 
-impl Record for ProfileRest {
-    ghost fields = { profile_rest_fields };
+/// The lists and tables of a profile.
+#[derive(Drop)]
+struct ProfileTables {
+    overrides: Option<Vec<OverrideTable>>,
+    junit: Option<JunitImpl>,
+    bench: Option<BenchConfig>,
+}
 
-    ghost is_record = { IsProfileRest };
+impl Record for ProfileTables {
+    ghost fields = { profile_table_fields };
+
+    ghost is_record = { AreProfileTables };
 
     fn keys() -> &'static [Key] {
-        &[
-            Key::Overrides,
-            Key::Scripts,
-            Key::Junit,
-            Key::Archive,
-            Key::Bench,
-            Key::Inherits,
-        ]
+        &[Key::Overrides, Key::Junit, Key::Archive, Key::Bench]
     }
 
     fn read_fields(
@@ -197,18 +200,14 @@ impl Record for ProfileRest {
         members: &BTreeMap<String, Tree>,
         walk: &mut Walk,
     ) -> Result<Self, ElementFault> {
-        let overrides = list_at(alloc, members, Key::Overrides, walk)?;
-        let scripts = list_at(alloc, members, Key::Scripts, walk)?;
+        let overrides = optional(alloc, members, Key::Overrides, walk)?;
         let junit = optional(alloc, members, Key::Junit, walk)?;
         let _archive: Option<Ignored> = optional(alloc, members, Key::Archive, walk)?;
         let bench = optional(alloc, members, Key::Bench, walk)?;
-        let inherits = optional(alloc, members, Key::Inherits, walk)?;
-        Ok(ProfileRest {
+        Ok(ProfileTables {
             overrides,
-            scripts,
             junit,
             bench,
-            inherits,
         })
     }
 }
@@ -221,7 +220,6 @@ impl Record for ProfileTable {
 
     fn keys() -> &'static [Key] {
         &[
-            Key::DefaultFilter,
             Key::Retries,
             Key::FlakyResult,
             Key::TestThreads,
@@ -236,11 +234,9 @@ impl Record for ProfileTable {
             Key::GlobalTimeout,
             Key::LeakTimeout,
             Key::Overrides,
-            Key::Scripts,
             Key::Junit,
             Key::Archive,
             Key::Bench,
-            Key::Inherits,
         ]
     }
 
@@ -249,34 +245,29 @@ impl Record for ProfileTable {
         members: &BTreeMap<String, Tree>,
         walk: &mut Walk,
     ) -> Result<Self, ElementFault> {
-        let default_filter = optional(alloc, members, Key::DefaultFilter, walk)?;
         let runs = ProfileRuns::read_fields(alloc, members, walk)?;
         let outputs = ProfileOutputs::read_fields(alloc, members, walk)?;
         let ends = ProfileEnds::read_fields(alloc, members, walk)?;
-        let rest = ProfileRest::read_fields(alloc, members, walk)?;
+        let tables = ProfileTables::read_fields(alloc, members, walk)?;
         Ok(ProfileTable {
-            default_filter,
             fields: ProfileFields {
-                runs,
-                outputs,
-                ends,
-                junit: rest.junit,
-                bench: rest.bench,
+                retries: runs.retries,
+                flaky_result: runs.flaky_result,
+                test_threads: runs.test_threads,
+                threads_required: runs.threads_required,
+                run_extra_args: runs.run_extra_args,
+                status_level: outputs.status_level,
+                final_status_level: outputs.final_status_level,
+                failure_output: outputs.failure_output,
+                success_output: outputs.success_output,
+                max_fail: ends.max_fail,
+                slow_timeout: ends.slow_timeout,
+                global_timeout: ends.global_timeout,
+                leak_timeout: ends.leak_timeout,
+                junit: tables.junit,
+                bench: tables.bench,
             },
-            overrides: rest.overrides,
-            scripts: rest.scripts,
-            inherits: rest.inherits,
+            overrides: tables.overrides,
         })
-    }
-}
-
-#[tactic(auto, unfolding(crate::specs::Tables::a_profile))]
-impl Element for ProfileTable {
-    ghost schema = { a_profile };
-
-    ghost is_value = { InTable IsProfile };
-
-    fn read(alloc: Global, tree: &Tree, walk: &mut Walk) -> Result<Self, ElementFault> {
-        read_table(alloc, tree, walk)
     }
 }

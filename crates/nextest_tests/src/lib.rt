@@ -17,11 +17,7 @@ mod identifiers;
 #[cfg(test)]
 mod loading;
 #[cfg(test)]
-mod profile_values;
-#[cfg(test)]
 mod profiles;
-#[cfg(test)]
-mod runs;
 #[cfg(test)]
 mod script_ids;
 #[cfg(test)]
@@ -29,11 +25,7 @@ mod shell_words;
 #[cfg(test)]
 mod showing;
 #[cfg(test)]
-mod sinks;
-#[cfg(test)]
 mod toy_languages;
-#[cfg(test)]
-mod toys;
 #[cfg(test)]
 mod trees;
 #[cfg(test)]

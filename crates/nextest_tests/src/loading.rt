@@ -1,14 +1,24 @@
 //! The four calls that load a configuration.
 use crate::files::{file, workspace_paths};
-use crate::toys::{Config, ENGINES, LINUX, host_build};
 use nextest_config::{
     ConfigFileSelection, ConfigParseError, ConfigPath, ConfigPaths, DefaultConfigWarnings,
     FileInput, NextestConfig, ReadOutcome, ToolConfigFile, ToolName,
 };
+use nextest_engines::{BuildPlatforms, ParseContext};
 use std::alloc::{AllocError, Global};
 use std::collections::BTreeSet;
 use std::process::Abort;
 use std::test::Fail;
+use toy_engines::filters::ToyFilters;
+use toy_engines::platforms::ToySpecs;
+
+type Config = NextestConfig<ToyFilters, ToySpecs>;
+
+/// The engines that a load asks.
+const ENGINES: ParseContext<'static, ToyFilters, ToySpecs> = ParseContext {
+    filters: &ToyFilters,
+    specs: &ToySpecs,
+};
 
 /// The files of a load.
 #[derive(Drop)]
@@ -96,7 +106,10 @@ fn by_paths(alloc: Global, inputs: &Inputs) -> Result<Config, ConfigParseError> 
 
 /// How often a configuration tries tests again.
 fn retries_of(alloc: Global, config: &Config) -> Result<u32, Fail> {
-    let platforms = host_build(alloc, LINUX)?;
+    let platforms = BuildPlatforms {
+        host: String::from_str(alloc, "x86_64-unknown-linux-gnu")?,
+        target: None,
+    };
     let profile = config.profile(alloc, "default")?;
     match profile.apply_build_platforms(alloc, &platforms) {
         Ok(profile) => Ok(profile.retries().count()),

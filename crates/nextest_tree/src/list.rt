@@ -11,7 +11,6 @@ use crate::fault::{ElementCause, ElementFault};
 use crate::field::read_below;
 use crate::tree::Tree;
 use crate::walk::Walk;
-use itoa::Buffer;
 use std::alloc::Global;
 
 /// Reads each item of an array.
@@ -25,8 +24,10 @@ fn read_items<T: Element>(
 {
     let mut values = Vec::new(alloc);
     for (position, item) in items.iter().enumerate() {
-        let mut digits = Buffer::new();
-        let value = read_below(alloc, item, digits.format(position), walk)?;
+        let Ok(step) = position.to_string(alloc) else {
+            return Err(ElementFault::memory(alloc));
+        };
+        let value = read_below(alloc, item, step.as_str(), walk)?;
         let Ok(()) = values.push(value) else {
             return Err(ElementFault::memory(alloc));
         };

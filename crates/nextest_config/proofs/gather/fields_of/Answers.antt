@@ -1,0 +1,23 @@
+use Rattle.std.proofs.Common.{◌≡◌, ◌++◌, [], map, append-nil, ap, sym, ◌∙◌, get_or, refl}
+use Rattle.std.proofs.lemmas.List.{map-append}
+use Rattle.std.specs.List.{cons_option}
+use Rattle.nextest_tables.specs.Seen.{named, fields_held}
+use Rattle.nextest_config.specs.Profile.{fields_behind}
+use Rattle.nextest_load.specs.Whole.{at_name}
+use Rattle.nextest_config.proofs.Gathering.{filter_turn}
+use Rattle.nextest_config.proofs.gather.fields_of.Goals as goal
+use Rattle.nextest_config.proofs.gather.fields_of.Goals.{in-Some+in_ok-push, in_default}
+
+pub loop-name-preserved : goal.loop-name-preserved
+loop-name-preserved c =
+    let profiles = named fields_held c.args.profiles.now.entries in
+    let old = map fields_behind c.loop-name.found.items in
+    let x = get_or c.args.names.now c.loop-name.name-index (record { ref_ptr = (0, 0); now = [] }) in
+    let new : map fields_behind c.match-fields_at.found.items ≡ old ++ cons_option (at_name x.now profiles) [] =
+    elim c.match-fields_at.branch [
+      | in-Some+in_ok-push w ↦
+          rw (w.found-is, ← w.in-Some.ensures) (ap (map fields_behind) w.in_ok-push.ensures.items ∙ map-append fields_behind c.loop-name.found.items _)
+      | in_default w ↦
+          rw (w.found-is, ← c.fields_at.ensures, w.in_default.is) (sym (append-nil old))
+    ] in
+    filter_turn (λ name. at_name name profiles) (λ name. name.now) c.args.names.now c.loop-name.name-index old _ x _ c.loop-name.invariant c.loop-name-test.true refl new

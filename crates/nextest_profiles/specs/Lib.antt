@@ -1,6 +1,0 @@
-pub mod View
-pub mod Profiles
-pub mod Junit
-pub mod KnownGroups
-pub mod Known
-pub mod Meaning
