@@ -1,70 +1,54 @@
--- Each group that a profile of a closed configuration gives is one that the configuration defines.
-use Rattle.std.proofs.Common.{◌≡◌, Bool, true, false, ◌&&◌, List, [], ◌∷◌, ◌++◌, map, Option, Some, None, unwrap_or, option_and_then, is_some, if◌then◌else◌, find, refl}
-use Rattle.std.specs.List.{flat_map}
+-- Names of profiles that a map has or has not.
+use Rattle.std.proofs.Common.{◌≡◌, ◌∙◌, ◌||◌, Bool, true, false, cond, List, [], ◌∷◌, map, Option, Some, None, is_some, option_map, String, Global, string_bytes, Less, nat_cmp, refl, sym, ap}
+use Rattle.std.proofs.lemmas.Cmp.{nat_list_eq_equiv}
+use Rattle.std.proofs.lemmas.Map.Text.{is_eq-slice_cmp}
+use Rattle.std.specs.BTreeMap.{is_at}
+use Rattle.std.specs.Cmp.Lexicographic.{slice_cmp}
+use Rattle.std.specs.List.{AllByRecursion}
+use Rattle.std.specs.List.Sorted.{IsStrictlySortedBy}
 use Rattle.std.specs.Map.{lookup}
-use Rattle.nextest_elements.specs.declared.run_mode.NextestRunMode.{NextestRunMode}
-use Rattle.nextest_elements.specs.declared.test_group.TestGroup.{TestGroup}
-use Rattle.nextest_elements.specs.declared.test_group.TestGroup.TheVariants.{Global}
-use Rattle.nextest_load.specs.Accepted.{Each}
-use Rattle.nextest_load.specs.Closed.{IsClosed}
-use Rattle.nextest_engines.specs.Engines.{Test}
-use Rattle.nextest_load.specs.Groups.{IsAmong}
-use Rattle.nextest_load.specs.Whole.{Compiled, Layer, Whole}
-use Rattle.nextest_engines.specs.declared.queries.BuildPlatforms.{BuildPlatforms}
-use Rattle.nextest_engines.specs.declared.queries.TestQuery.{TestQuery}
+use Rattle.std.specs.Str.{bytes_eq}
+use Rattle.std.specs.String.{string_cmp}
+use Rattle.nextest_tables.specs.FileTexts.{names_in}
+use Rattle.nextest_tables.specs.View.{by_name}
 use Rattle.nextest_tables.specs.Written.{Name}
-use Rattle.nextest_config.specs.declared.settings.Setting.TheVariants as at
-use Rattle.nextest_config.specs.Apply.{rule_in, case_in, judged_on, meant_judged}
-use Rattle.nextest_config.specs.Given.{value_given}
-use Rattle.nextest_config.specs.Profile.{Decided, rules_in, rules_of, names_of, profile_of, decided_on, meant_decided}
-use Rattle.nextest_config.specs.Rules.{Case, Rule, rule_holds}
-use Rattle.nextest_config.specs.Settings.{ValueOf, fallback_of}
+use Rattle.nextest_tree.specs.Schema.{is_one_of}
+use Rattle.nextest_profiles.proofs.Closing.{fused}
 
-joined : {X : Type 0} (P : X → Type 0) (xs ys : List X) → Each P xs → Each P ys → Each P (xs ++ ys)
-joined P [] ys h g = g
-joined P (x ∷ xs) ys h g = (h.0, joined P xs ys h.1 g)
+key_at : {X : Type 0} (found same : Bool) (x : X) (later : Option X) (seen : Bool) → found ≡ same → is_some later ≡ seen → is_some (cond found (Some x) later) ≡ (same || seen)
+key_at true same x later seen is rest = ap (λ b. b || seen) is
+key_at false same x later seen is rest = rest ∙ ap (λ b. b || seen) is
 
-mapped : {X Y : Type 0} (Q : Y → Type 0) (f : X → Y) (xs : List X) → Each (λ x. Q (f x)) xs → Each Q (map f xs)
-mapped Q f [] h = tt
-mapped Q f (x ∷ xs) h = (h.0, mapped Q f xs h.1)
+-- a name is one of these exactly where the map has it
+known_at : {X : Type 0} (es : List (String Global × X)) (name : Name)
+    → is_some (lookup (is_at (λ key. slice_cmp nat_cmp name (string_bytes key))) es) ≡ is_one_of (map (λ e. string_bytes e.0) es) name
+known_at [] name = refl
+known_at (e ∷ es) name =
+    key_at (is_at (λ key. slice_cmp nat_cmp name (string_bytes key)) e.0) (bytes_eq (string_bytes e.0) name) e.1
+    (lookup (is_at (λ key. slice_cmp nat_cmp name (string_bytes key))) es) (is_one_of (map (λ e. string_bytes e.0) es) name)
+    (is_eq-slice_cmp name (string_bytes e.0) ∙ nat_list_eq_equiv.symm name (string_bytes e.0)) (known_at es name)
 
-looked_up : {K X : Type 0} (P : X → Type 0) (test : K → Bool) (es : List (K × List X)) → Each (λ e. Each P e.1) es → Each P (unwrap_or (lookup test es) [])
-looked_up P test [] h = tt
-looked_up P test (e ∷ es) h = elim (test e.0) as (λ b. Each P (unwrap_or (if b then Some e.1 else lookup test es) [])) [ true ↦ h.0 | false ↦ looked_up P test es h.1 ]
+-- the same, of the names in what contracts see of the map
+pub known_in : {X Y : Type 0} (f : X → Y) (es : List (String Global × X)) (name : Name)
+    → is_some (lookup (is_at (λ key. slice_cmp nat_cmp name (string_bytes key))) es) ≡ is_one_of (names_in (by_name f es)) name
+known_in f es name = known_at es name ∙ ap (λ names. is_one_of names name) (sym (fused (λ p. p.0) (λ e. (string_bytes e.0, f e.1)) es))
 
-module _ {M K : Type 0} (P : Compiled M K → Type 0) where
-  in_layers : (name : Name) (ls : List (Layer M K)) → Each (λ l. Each (λ e. Each P e.1) l.rules) ls → Each P (flat_map (rules_in name) ls)
-  in_layers name [] h = tt
-  in_layers name (l ∷ ls) h = joined P (rules_in name l) (flat_map (rules_in name) ls) (looked_up P _ l.rules h.0) (in_layers name ls h.1)
+-- the names in what contracts see of a map
+pub names_of_view : {X Y : Type 0} (f : X → Y) (es : List (String Global × X)) → names_in (by_name f es) ≡ map (λ e. string_bytes e.0) es
+names_of_view f es = fused (λ p. p.0) (λ e. (string_bytes e.0, f e.1)) es
 
-  of_names : (ls : List (Layer M K)) (names : List Name) → Each (λ l. Each (λ e. Each P e.1) l.rules) ls → Each P (rules_of ls names)
-  of_names ls [] h = tt
-  of_names ls (name ∷ names) h = joined P (flat_map (rules_in name) ls) (rules_of ls names) (in_layers name ls h) (of_names ls names h)
+-- whether a look-up finds something
+pub some_found : {X Y : Type 0} (f : X → Y) (o : Option X) (r : Option Y) → option_map f o ≡ r → is_some r ≡ is_some o
+some_found f None r is = ap is_some (sym is)
+some_found f (Some x) r is = ap is_some (sym is)
 
--- the first rule that holds and writes a group, or a later one
-first_or_later : {R : Type 0} (known : List Name) (group : R → Option TestGroup) (r : R) (later : Option R) (o : Option TestGroup) → group r ≡ o → IsAmong known o
-    → IsAmong known (Some (unwrap_or (option_and_then group later) Global)) → IsAmong known (Some (unwrap_or (option_and_then group (if is_some o then Some r else later)) Global))
-first_or_later known group r later (Some g) e h k = rw e h
-first_or_later known group r later None e h k = k
+below_names : (k : String Global) (ks : List (String Global)) → AllByRecursion (λ l. string_cmp k l ≡ Less) ks
+    → AllByRecursion (λ name. slice_cmp nat_cmp (string_bytes k) name ≡ Less) (map string_bytes ks)
+below_names k [] h = tt
+below_names k (l ∷ ks) h = (h.0, below_names k ks h.1)
 
-chosen : {M : Type 0} (known : List Name) (test : Case M) (mode : NextestRunMode) (rules : List (Rule M)) → Each (λ r. IsAmong known (r.sets mode at.TestGroup)) rules
-    → IsAmong known (Some (unwrap_or (option_and_then (λ r. r.sets mode at.TestGroup) (find (λ r. rule_holds test r && is_some (r.sets mode at.TestGroup)) rules)) Global))
-chosen known test mode [] h = tt
-chosen {M} known test mode (r ∷ rules) h =
-    let passes : Rule M → Bool = λ r. rule_holds test r && is_some (r.sets mode at.TestGroup) in
-    let group : Rule M → Option TestGroup = λ r. r.sets mode at.TestGroup in
-    elim (rule_holds test r) as (λ b. IsAmong known (Some (unwrap_or (option_and_then group (if b && is_some (group r) then Some r else find passes rules)) Global))) [
-      | true ↦ first_or_later known group r (find passes rules) (group r) refl h.0 (chosen known test mode rules h.1)
-      | false ↦ chosen known test mode rules h.1
-    ]
-
-pub given_known : {E M K P : Type 0} (meaning : E → M) (holds : M → Test → M → Bool) (holds_on : K → P → Option Bool) (config : Whole E K) (name : Name) (platforms : BuildPlatforms P) (mode : NextestRunMode) (query : TestQuery)
-    → IsClosed config → IsAmong (map (λ e. e.0) config.test_groups) (Some (value_given holds (meant_decided meaning (decided_on holds_on platforms (profile_of config name))) mode query at.TestGroup))
-given_known {E} {M} {K} {P} meaning holds holds_on config name platforms mode query closed =
-    let known : List Name = map (λ e. e.0) config.test_groups in
-    let rules = (profile_of config name).rules in
-    let written = of_names (λ rule. IsAmong known rule.written.test_group) config.layers (names_of name) closed in
-    let judged = mapped (λ r. IsAmong known r.written.test_group) (judged_on holds_on platforms) rules written in
-    let meant = mapped (λ r. IsAmong known r.written.test_group) (meant_judged meaning) (map (judged_on holds_on platforms) rules) judged in
-    let asked = mapped (λ r. IsAmong known (r.sets mode at.TestGroup)) rule_in (map (meant_judged meaning) (map (judged_on holds_on platforms) rules)) meant in
-    chosen known (case_in holds (meaning config.match_all) query) mode _ asked
+-- the names of a map ascend
+pub names_ascend : (ks : List (String Global)) → IsStrictlySortedBy string_cmp ks → IsStrictlySortedBy (slice_cmp nat_cmp) (map string_bytes ks)
+unfolding IsStrictlySortedBy
+names_ascend [] h = tt
+names_ascend (k ∷ ks) h = (below_names k ks h.0, names_ascend ks h.1)

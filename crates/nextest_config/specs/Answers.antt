@@ -1,21 +1,55 @@
--- What contracts see of the settings of a test.
-use Rattle.std.specs.Prelude.{List, Option, option_map, unwrap_or, option_and_then, slice_get}
-use Rattle.std.specs.Option.{option_or}
-use Rattle.nextest_config.specs.declared.settings.Setting.{Setting}
-use Rattle.nextest_config.specs.declared.settings.TestSettings.{TestSettings}
-use Rattle.nextest_config.specs.Apply.{rule_behind}
-use Rattle.nextest_config.specs.Held.{values_held}
-use Rattle.nextest_config.specs.Settings.{ValueOf, sets, fallback_of, index_of}
-use Rattle.nextest_config.specs.Source.{Origin, ByOverride, fallback_origin}
+-- What one profile of a configuration answers for tests, before it is held against what was asked.
+use Rattle.std.specs.Prelude.{◌≡◌, ◌++◌, ℕ, List, Bool, Option, Result, IfOk}
+use Rattle.std.specs.List.{AllZip, flat_map}
+use Rattle.nextest_elements.specs.declared.run_mode.NextestRunMode.{NextestRunMode}
+use Rattle.nextest_engines.specs.Engines.{Test}
+use Rattle.nextest_engines.specs.declared.queries.BuildPlatforms.{BuildPlatforms}
+use Rattle.nextest_inheritance.specs.Parents.{parents_in, IsChain}
+use Rattle.nextest_load.specs.Config.{config_parents}
+use Rattle.nextest_settings.specs.Profile.{Configured, EvaluatableModel, profile_of, profile_on}
+use Rattle.nextest_tables.specs.FileTexts.{names_in, IsIn}
+use Rattle.nextest_tables.specs.Written.{Name}
+use Rattle.nextest_config.specs.Headline.{Row, Refusal, IfBadConfig, IfNoProfile, IfRefused, IsMissing, IsRow, numbers_for}
 
--- what the slot of a setting holds
-abbrev pub slot_at : {R : Type 0} → List (Option R) → Setting → Option R
-slot_at slots s = option_and_then (λ slot. slot) (slice_get slots (index_of s))
+-- what is asked of a configuration
+pub record Question (P : Type 0) : Type 0 where
+  pub profile : Name
+  pub platforms : BuildPlatforms P
+  pub mode : NextestRunMode
+  pub tests : List Test
 
--- the value of a setting
-abbrev pub value_at : {F S Src E T N P : Type 0} → TestSettings F S Src E T N P → (s : Setting) → ValueOf s
-value_at t s = unwrap_or (option_and_then (λ r. sets (rule_behind r.rule).written t.mode s) (slot_at t.winners s)) (fallback_of (values_held t.values) t.mode s)
+-- A profile on the platforms that are asked for: that of the name, by its chain.
+pub record IsAskedProfile {M K P : Type 0} (meets : K → P → Option Bool)
+    (configured : Configured M K) (question : Question P) (profile : EvaluatableModel M) : Type 0
+  where
+    pub chain : List Name
+    pub is_chain : IsChain (parents_in (config_parents configured.config)) question.profile chain
+    pub is_profile : profile
+        ≡ profile_on meets question.platforms (profile_of configured question.profile chain)
 
--- the origin of a setting, if it has one
-abbrev pub origin_at : {F S Src E T N P : Type 0} → TestSettings F S Src E T N P → Setting → Option Origin
-origin_at t s = option_or (option_map (λ r. ByOverride (rule_behind r.rule).id) (slot_at t.winners s)) (fallback_origin s)
+-- Rows are those of tests in a profile, one for each in order, and these numbers of rules were
+-- evaluated.
+pub record AreRowsIn {M : Type 0} (matches : M → Test → M → Bool) (profile : EvaluatableModel M)
+    (mode : NextestRunMode) (tests : List Test) (rows : List Row) (numbers : List ℕ) : Type 0 where
+  pub each : AllZip (IsRow matches profile mode) tests rows
+  pub evaluated : numbers ≡ flat_map (numbers_for matches profile mode) tests
+
+-- Rows are those of the tests that are asked about, in the profile that is asked for.
+pub record AreAskedRows {M K P : Type 0} (meets : K → P → Option Bool)
+    (matches : M → Test → M → Bool) (configured : Configured M K) (question : Question P)
+    (rows : List Row) (numbers : List ℕ) : Type 0 where
+  pub known : IsIn (names_in configured.config.profiles) question.profile
+  pub profile : EvaluatableModel M
+  pub is_profile : IsAskedProfile meets configured question profile
+  pub are_rows : AreRowsIn matches profile question.mode question.tests rows numbers
+
+-- What a configuration answers: rows, or that the profile is missing, or want of memory.
+pub record Answers {M K P : Type 0} (meets : K → P → Option Bool) (matches : M → Test → M → Bool)
+    (configured : Configured M K) (question : Question P) (answer : Result (List Row) Refusal)
+    (old new : List ℕ) : Type 0 where
+  pub accepted : IfBadConfig answer (λ _. ⊥)
+  pub absence :
+      IfNoProfile answer (IsMissing (names_in configured.config.profiles) question.profile)
+  pub unasked : IfRefused answer (new ≡ old)
+  pub rows : (numbers : List ℕ) × (new ≡ old ++ numbers) × IfOk answer
+      (λ rows. AreAskedRows meets matches configured question rows numbers)

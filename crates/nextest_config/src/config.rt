@@ -1,19 +1,31 @@
-//! A loaded configuration.
-ghost use Rattle.std.specs.Prelude.{◌≡◌, [], map, None, IfOk, IfErr, IsSome, string_bytes};
+//! A configuration: how it is loaded, and its profiles.
+ghost use Rattle.std.specs.Prelude.{◌≡◌, [], List, IfOk, IfErr, map, string_bytes};
 ghost use Rattle.std.specs.Cmp.Lexicographic.{slice_cmp};
 ghost use Rattle.std.specs.List.Sorted.{IsStrictlySortedBy};
 ghost use Rattle.std.specs.Ordering.{nat_cmp};
-ghost use Rattle.nextest_load.specs.Whole.{at_name};
-ghost use Rattle.nextest_config.specs.Profile.{profile_of, IfNotFound};
+ghost use Rattle.nextest_engines.specs.Readings.{Readings, readings_view};
+ghost use Rattle.nextest_load.specs.Load.{IsLoad};
+ghost use Rattle.nextest_load.specs.Meaning.{loaded_meaning};
+ghost use Rattle.nextest_profiles.specs.Profiles.{IsProfileOf};
+ghost use Rattle.nextest_rules.specs.Definitions.{Features};
+ghost use Rattle.nextest_rules.specs.KnownView.{features_view};
+ghost use Rattle.nextest_sources.specs.Inputs.{LoadInputs, load_inputs_view};
+ghost use Rattle.nextest_sources.specs.Warnings.{Warning};
+ghost use Rattle.nextest_sources.specs.WarningsView.{warnings_view};
+ghost use Rattle.nextest_tables.specs.FileTexts.{names_in, IsIn};
+ghost use Rattle.nextest_config.specs.ConfigView.{loaded_in, loaded_by};
+ghost use Rattle.nextest_config.specs.ProfileError.{IsNotFound};
 
-use crate::global_group::GlobalGroup;
-use crate::profile::{EarlyProfile, ProfileError, ProfileNotFound};
+use crate::profile_error::{ProfileError, ProfileNotFound};
 use nextest_elements::ConfigExperimental;
 use nextest_engines::{Filters, ParseContext, Specs};
-use nextest_load::{
+use nextest_load::{LoadedConfig, MergedProfile};
+use nextest_profiles::{DEFAULT_PROFILE, EarlyProfile};
+use nextest_sources::{
     ConfigFileSelection, ConfigParseError, ConfigPaths, ConfigWarnings, DefaultConfigWarnings,
-    FileInput, LoadedConfig, ProfileFields, ToolConfigFile,
+    FileInput, ToolConfigFile,
 };
+use nextest_tables::DEFAULT_CONFIG;
 use std::alloc::{AllocError, Global};
 use std::collections::{BTreeMap, BTreeSet};
 use std::marker::Model;
@@ -24,87 +36,132 @@ pub const CONFIG_PATH: &str = ".config/nextest.toml";
 /// What the names of nextest's environment variables begin with.
 pub const ENVIRONMENT_PREFIX: &str = "NEXTEST";
 
+/// The name of the profile of runs under Miri.
+pub const DEFAULT_MIRI_PROFILE: &str = "default-miri";
+
+/// The names of the profiles that every configuration has.
+pub const DEFAULT_PROFILES: &[&str] = &[DEFAULT_PROFILE, DEFAULT_MIRI_PROFILE];
+
 /// A configuration.
 #[derive(Drop)]
 pub struct NextestConfig<F: Filters, S: Specs> {
+    workspace_root: String,
     loaded: LoadedConfig<F, S>,
     warnings: DefaultConfigWarnings,
-    global_group: GlobalGroup,
 }
 
 impl<F: Filters, S: Specs> Model for NextestConfig<F, S> {
-    ghost use Rattle.nextest_load.specs.Collected.{warnings_in};
-    ghost use Rattle.nextest_config.specs.Configured.{Configured};
+    ghost use Rattle.std.specs.Prelude.{string_bytes};
+    ghost use Rattle.nextest_settings.specs.Profile.{Configured};
 
     ghost Value = { Configured F.Expr S.Spec };
 
-    ghost view = { λ config. record { whole = config.loaded; warnings = warnings_in config.warnings } };
+    ghost use Rattle.nextest_sources.specs.WarningsView.{warnings_view};
+
+    ghost view = { λ c. record {
+      root = string_bytes c.workspace_root;
+      config = c.loaded.config;
+      scripts = c.loaded.scripts;
+      warnings = warnings_view c.warnings;
+    } };
 }
 
-/// The names of the profiles, in the order of their bytes.
-fn names_known(
+/// The names of profiles, in the order of their bytes.
+fn names_of_profiles(
     alloc: Global,
-    profiles: &BTreeMap<String, ProfileFields>,
+    profiles: &BTreeMap<String, MergedProfile>,
 ) -> Result<Vec<String>, AllocError>
-    ensures names { IfOk result (λ known. map string_bytes known.items ≡ map (λ e. string_bytes e.0) profiles.now.entries) }
-    ensures order { IfOk result (λ known. IsStrictlySortedBy (slice_cmp nat_cmp) (map string_bytes known.items)) }
+    ensures all { IfOk result (λ names. map string_bytes names.items
+        ≡ map (λ e. string_bytes e.0) profiles.now.entries) }
+    ensures ascending { IfOk result (λ names.
+        IsStrictlySortedBy (slice_cmp nat_cmp) (map string_bytes names.items)) }
 {
-    let mut known = Vec::new(alloc);
+    let mut names = Vec::new(alloc);
     for name in profiles.keys() {
-        known.push(name.clone()?)?;
+        names.push(name.clone()?)?;
     }
-    Ok(known)
+    Ok(names)
 }
 
 impl<F: Filters, S: Specs> NextestConfig<F, S> {
-    ghost use Rattle.std.specs.Prelude.{List, ℕ, Result, option_map};
-    ghost use Rattle.nextest_engines.specs.declared.queries.FiltersetKind.TheVariants.{OverrideFilter};
-    ghost use Rattle.nextest_load.specs.Collected.{warnings_in};
-    ghost use Rattle.nextest_load.specs.Inputs.{Given, given};
-    ghost use Rattle.nextest_load.specs.Load.{IsLoad};
+    /// Where its files are found by default, below the root of a workspace.
+    pub const CONFIG_PATH: &'static str = CONFIG_PATH;
+
+    /// What the names of nextest's environment variables begin with.
+    pub const ENVIRONMENT_PREFIX: &'static str = ENVIRONMENT_PREFIX;
+
+    /// The name of the profile that every configuration has.
+    pub const DEFAULT_PROFILE: &'static str = DEFAULT_PROFILE;
+
+    /// The name of the profile of runs under Miri.
+    pub const DEFAULT_MIRI_PROFILE: &'static str = DEFAULT_MIRI_PROFILE;
+
+    /// The names of the profiles that every configuration has.
+    pub const DEFAULT_PROFILES: &'static [&'static str] = DEFAULT_PROFILES;
+
+    /// The text of the defaults, the lowest of all sources.
+    pub const DEFAULT_CONFIG: &'static str = DEFAULT_CONFIG;
 
     /// The configuration that a load answers, with the warnings that were kept of it.
-    fn configured(
+    fn from_load(
+        workspace_root: String,
         loaded: Result<LoadedConfig<F, S>, ConfigParseError>,
         warnings: DefaultConfigWarnings,
     ) -> Result<Self, ConfigParseError>
-        ensures loads { (read : List ℕ → Result F.Meaning (List ℕ)) (g : Given)
-            → IsLoad (λ config. config) F.meaning S.spec_meaning F.match_all read g loaded
-            → IsLoad (λ config. config.whole) F.meaning S.spec_meaning F.match_all read g result }
-        ensures kept { IfOk result (λ config. config.warnings ≡ warnings_in warnings) }
+        ensures loads { (engines : Readings F.Meaning S.SpecMeaning S.Platform)
+            (features : Features) (files : LoadInputs) (old new : List Warning)
+            → IsLoad (loaded_meaning F.meaning S.spec_meaning) engines features files old new loaded
+            → IsLoad (loaded_by F.meaning S.spec_meaning) engines features files old new result }
+        ensures root { IfOk result (λ config. config.root ≡ string_bytes workspace_root) }
+        ensures kept { IfOk result (λ config. config.warnings ≡ warnings_view warnings) }
     {
         match loaded {
             Ok(loaded) => Ok(NextestConfig {
+                workspace_root,
                 loaded,
                 warnings,
-                global_group: GlobalGroup::new(),
             }),
             Err(error) => Err(error),
         }
     }
 
-    /// Loads the defaults, the files of tools and the repository's file, in this order, each above those before it, and keeps
-    /// the warnings.
+    /// Loads the defaults, the files of tools and the repository's file, in this order, each above
+    /// those before it, and keeps the warnings.
     ///
-    /// The repository's file is the one that a user named, and else the shared one, which may be missing. Of tools' files the
-    /// first is the highest. The workspace's root and the features that are switched on are not looked at yet, and no warning
-    /// is told yet.
+    /// The repository's file is the one that a user named, and else the shared one, which may be
+    /// missing. Of tools' files the first is the highest. Where it refuses, the warnings are
+    /// dropped.
     pub fn from_sources(
         alloc: Global,
-        _workspace_root: &str,
+        workspace_root: &str,
         shared: &FileInput,
         pcx: &ParseContext<'_, F, S>,
         config_file: Option<&FileInput>,
         tools: &[ToolConfigFile],
-        _experimental: &BTreeSet<ConfigExperimental>,
+        experimental: &BTreeSet<ConfigExperimental>,
     ) -> Result<Self, ConfigParseError>
-        ensures loads { IsLoad (λ config. config.whole) F.meaning S.spec_meaning F.match_all (F.read pcx.now.filters.now OverrideFilter) (given shared.now config_file.entry tools.now) result }
-        ensures kept { IfOk result (λ config. config.warnings ≡ []) }
+        ensures loads { let engines = readings_view (F.read pcx.now.filters.now)
+            (S.read_spec pcx.now.specs.now) F.match_all F.holds F.holds_binary F.leaves
+            S.holds_on in
+            (all : List Warning) × IsLoad (loaded_by F.meaning S.spec_meaning) engines
+            (features_view experimental.now)
+            (load_inputs_view shared.now config_file.entry tools.now) [] all result
+            × IfOk result (λ config. config.warnings ≡ all) }
+        ensures root { IfOk result (λ config. config.root ≡ workspace_root.now) }
     {
+        let root = String::from_str(alloc, workspace_root)?;
         let mut warnings = DefaultConfigWarnings::new(alloc);
         let selection = ConfigFileSelection::new(config_file);
-        let loaded = LoadedConfig::load(alloc, shared, pcx, selection, tools, &mut warnings);
-        Self::configured(loaded, warnings)
+        let loaded = LoadedConfig::load(
+            alloc,
+            shared,
+            pcx,
+            selection,
+            tools,
+            experimental,
+            &mut warnings,
+        );
+        Self::from_load(root, loaded, warnings)
     }
 
     /// Loads as `from_sources` does, and tells the warnings in place of keeping them.
@@ -118,9 +175,14 @@ impl<F: Filters, S: Specs> NextestConfig<F, S> {
         experimental: &BTreeSet<ConfigExperimental>,
         warnings: &mut W,
     ) -> Result<Self, ConfigParseError>
-        ensures loads { IsLoad (λ config. config.whole) F.meaning S.spec_meaning F.match_all (F.read pcx.now.filters.now OverrideFilter) (given shared.now config_file.entry tools.now) result }
+        ensures loads { let engines = readings_view (F.read pcx.now.filters.now)
+            (S.read_spec pcx.now.specs.now) F.match_all F.holds F.holds_binary F.leaves
+            S.holds_on in
+            IsLoad (loaded_by F.meaning S.spec_meaning) engines (features_view experimental.now)
+            (load_inputs_view shared.now config_file.entry tools.now)
+            (W.warnings warnings.old) (W.warnings warnings.new) result }
+        ensures root { IfOk result (λ config. config.root ≡ workspace_root.now) }
         ensures kept { IfOk result (λ config. config.warnings ≡ []) }
-        ensures told { W.warnings warnings.new ≡ W.warnings warnings.old }
     {
         Self::from_sources_with_selection(
             alloc,
@@ -134,25 +196,38 @@ impl<F: Filters, S: Specs> NextestConfig<F, S> {
         )
     }
 
-    /// Loads as `from_sources_with_warnings` does, with the choice of the repository's file as a value.
-    ///
-    /// The workspace's root and the features that are switched on are not looked at yet.
+    /// Loads as `from_sources_with_warnings` does, with the choice of the repository's file as a
+    /// value.
     pub fn from_sources_with_selection<W: ConfigWarnings>(
         alloc: Global,
-        _workspace_root: &str,
+        workspace_root: &str,
         shared: &FileInput,
         pcx: &ParseContext<'_, F, S>,
         selection: ConfigFileSelection<'_>,
         tools: &[ToolConfigFile],
-        _experimental: &BTreeSet<ConfigExperimental>,
+        experimental: &BTreeSet<ConfigExperimental>,
         warnings: &mut W,
     ) -> Result<Self, ConfigParseError>
-        ensures loads { IsLoad (λ config. config.whole) F.meaning S.spec_meaning F.match_all (F.read pcx.now.filters.now OverrideFilter) (given shared.now selection.entry.config_file tools.now) result }
+        ensures loads { let engines = readings_view (F.read pcx.now.filters.now)
+            (S.read_spec pcx.now.specs.now) F.match_all F.holds F.holds_binary F.leaves
+            S.holds_on in
+            IsLoad (loaded_by F.meaning S.spec_meaning) engines (features_view experimental.now)
+            (load_inputs_view shared.now selection.entry.config_file tools.now)
+            (W.warnings warnings.old) (W.warnings warnings.new) result }
+        ensures root { IfOk result (λ config. config.root ≡ workspace_root.now) }
         ensures kept { IfOk result (λ config. config.warnings ≡ []) }
-        ensures told { W.warnings warnings.new ≡ W.warnings warnings.old }
     {
-        let loaded = LoadedConfig::load(alloc, shared, pcx, selection, tools, warnings);
-        Self::configured(loaded, DefaultConfigWarnings::new(alloc))
+        let root = String::from_str(alloc, workspace_root)?;
+        let loaded = LoadedConfig::load(
+            alloc,
+            shared,
+            pcx,
+            selection,
+            tools,
+            experimental,
+            warnings,
+        );
+        Self::from_load(root, loaded, DefaultConfigWarnings::new(alloc))
     }
 
     /// Loads as `from_sources_with_selection` does, from the paths of a workspace.
@@ -165,9 +240,14 @@ impl<F: Filters, S: Specs> NextestConfig<F, S> {
         experimental: &BTreeSet<ConfigExperimental>,
         warnings: &mut W,
     ) -> Result<Self, ConfigParseError>
-        ensures loads { IsLoad (λ config. config.whole) F.meaning S.spec_meaning F.match_all (F.read pcx.now.filters.now OverrideFilter) (given paths.now.shared selection.entry.config_file tools.now) result }
+        ensures loads { let engines = readings_view (F.read pcx.now.filters.now)
+            (S.read_spec pcx.now.specs.now) F.match_all F.holds F.holds_binary F.leaves
+            S.holds_on in
+            IsLoad (loaded_by F.meaning S.spec_meaning) engines (features_view experimental.now)
+            (load_inputs_view paths.now.shared selection.entry.config_file tools.now)
+            (W.warnings warnings.old) (W.warnings warnings.new) result }
+        ensures root { IfOk result (λ config. config.root ≡ string_bytes paths.now.workspace_root) }
         ensures kept { IfOk result (λ config. config.warnings ≡ []) }
-        ensures told { W.warnings warnings.new ≡ W.warnings warnings.old }
     {
         Self::from_sources_with_selection(
             alloc,
@@ -183,28 +263,29 @@ impl<F: Filters, S: Specs> NextestConfig<F, S> {
 
     /// The warnings that `from_sources` kept. There are none after the other calls.
     pub fn warnings(&self) -> &DefaultConfigWarnings
-        ensures { warnings_in result.now ≡ self.now.warnings }
+        ensures { warnings_view result.now ≡ self.now.warnings }
     {
         &self.warnings
     }
 
-    /// The profile of a name.
+    /// The profile of a name, by its chain.
     pub fn profile(&self, alloc: Global, name: &str) -> Result<EarlyProfile<'_, F, S>, ProfileError>
-        ensures ok { IfOk result (λ profile. profile ≡ profile_of self.now.whole name.now) }
-        ensures known { IfOk result (λ _. IsSome (at_name name.now self.now.whole.profiles)) }
-        ensures unknown { IfErr result (λ error. IfNotFound error (λ _. at_name name.now self.now.whole.profiles ≡ None)) }
-        ensures name { IfErr result (λ error. IfNotFound error (λ missing. string_bytes missing.name ≡ name.now)) }
-        ensures names { IfErr result (λ error. IfNotFound error (λ missing.
-            map string_bytes missing.known.items ≡ map (λ e. e.0) self.now.whole.profiles)) }
-        ensures order { IfErr result (λ error. IfNotFound error (λ missing. IsStrictlySortedBy (slice_cmp nat_cmp) (map string_bytes missing.known.items))) }
+        ensures known { IfOk result (λ _. IsIn (names_in self.now.config.profiles) name.now) }
+        ensures found { IfOk result (IsProfileOf self.now name.now) }
+        ensures missing { IfErr result (IsNotFound (names_in self.now.config.profiles) name.now) }
     {
         let profiles = self.loaded.profiles();
-        if !profiles.contains_key(name) {
-            return Err(ProfileError::NotFound(ProfileNotFound {
+        match profiles.get_key_value(name) {
+            Some((known_name, _)) => Ok(EarlyProfile::new(
+                alloc,
+                &self.workspace_root,
+                &self.loaded,
+                known_name,
+            )?),
+            None => Err(ProfileError::NotFound(ProfileNotFound {
                 name: String::from_str(alloc, name)?,
-                known: names_known(alloc, profiles)?,
-            }));
+                known: names_of_profiles(alloc, profiles)?,
+            })),
         }
-        Ok(EarlyProfile::new(alloc, name, &self.loaded, &self.global_group)?)
     }
 }

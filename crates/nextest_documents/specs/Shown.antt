@@ -32,12 +32,14 @@ pub record HasLeafAlong (layer : Node) (p : Path) : Type 0 where
   pub splits : p ≡ front ++ rest
   pub leaf : node_at front layer ≡ Some (a_leaf value)
 
--- a layer hides a lower layer's node by a leaf along the node's path, and where that node is a leaf also by a table at the path
+-- a layer hides a lower layer's node by a leaf along the node's path, and where that node is a leaf
+-- also by a table at the path
 pub data Hides (layer : Node) (p : Path) : Kind → Type 0 where
   by_leaf : {k : Kind} → HasLeafAlong layer p → Hides layer p k
   by_table : {v : Node} → node_at p layer ≡ Some a_table → Hides layer p (a_leaf v)
 
--- some layer has this node at the path, and no layer above that one hides it; the lowest layer stands first
+-- some layer has this node at the path, and no layer above that one hides it; the lowest layer
+-- stands first
 pub record IsShown (layers : List Node) (p : Path) (k : Kind) : Type 0 where
   pub below : List Node
   pub layer : Node

@@ -13,9 +13,12 @@ use std::mem;
 
 /// Lays `layers`, the lowest first, over `base`.
 pub fn merge_layers(alloc: Global, base: Tree, layers: &[Tree]) -> Result<Tree, AllocError>
-    ensures is { IfOk result (λ tree. tree_view tree ≡ merged (tree_view base) (map tree_view layers.now)) }
-    ensures nodes { IfOk result (λ tree. HasExactly (tree_view tree) (IsShown (tree_view base ∷ map tree_view layers.now))) }
-    ensures sorted { IsSorted (tree_view base) → AllByRecursion IsSorted (map tree_view layers.now) → IfOk result (λ tree. IsSorted (tree_view tree)) }
+    ensures is { IfOk result
+        (λ tree. tree_view tree ≡ merged (tree_view base) (map tree_view layers.now)) }
+    ensures nodes { IfOk result (λ tree. HasExactly (tree_view tree)
+        (IsShown (tree_view base ∷ map tree_view layers.now))) }
+    ensures sorted { IsSorted (tree_view base) → AllByRecursion IsSorted (map tree_view layers.now)
+        → IfOk result (λ tree. IsSorted (tree_view tree)) }
 {
     let mut tree = base;
     for layer in layers {
@@ -28,7 +31,8 @@ pub fn merge_layers(alloc: Global, base: Tree, layers: &[Tree]) -> Result<Tree, 
 ///
 /// An array is replaced as a whole.
 pub fn lay_over(alloc: Global, above: &Tree, below: Tree) -> Result<Tree, AllocError>
-    ensures is { IfOk result (λ tree. tree_view tree ≡ over (tree_view above.now) (tree_view below)) }
+    ensures is { IfOk result
+        (λ tree. tree_view tree ≡ over (tree_view above.now) (tree_view below)) }
     ensures nodes { let layers = tree_view below ∷ tree_view above.now ∷ [] in
         IfOk result (λ tree. HasExactly (tree_view tree) (IsShown layers)) }
     ensures sorted { IsSorted (tree_view below) → IsSorted (tree_view above.now)
@@ -55,7 +59,8 @@ fn merge_tables(
     higher: &BTreeMap<String, Tree>,
     mut lower: BTreeMap<String, Tree>,
 ) -> Result<BTreeMap<String, Tree>, AllocError>
-    ensures { IfOk result (λ trees. entries_view trees.entries ≡ entries_over (entries_view higher.now.entries) (entries_view lower.entries)) }
+    ensures { IfOk result (λ trees. entries_view trees.entries
+        ≡ entries_over (entries_view higher.now.entries) (entries_view lower.entries)) }
 {
     for (key, tree) in higher.iter() {
         if let Some(found) = lower.get_mut(key.as_str()) {
@@ -100,7 +105,8 @@ fn copy_members(
     alloc: Global,
     members: &BTreeMap<String, Tree>,
 ) -> Result<BTreeMap<String, Tree>, AllocError>
-    ensures { IfOk result (λ copies. entries_view copies.entries ≡ entries_view members.now.entries) }
+    ensures { IfOk result
+        (λ copies. entries_view copies.entries ≡ entries_view members.now.entries) }
 {
     let mut copies = BTreeMap::new(alloc);
     for (key, member) in members.iter() {

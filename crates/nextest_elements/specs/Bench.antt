@@ -16,8 +16,10 @@ bench_fields = may keys.SlowTimeout slow_timeout (may keys.GlobalTimeout a_durat
 
 -- what the fields of a profile's table say
 pub record IsBench (es : Entries) (bench : BenchConfig) : Type 0 where
-  pub slow_timeout : IsOptional IsSlowTimeout (get (key_text keys.SlowTimeout) es) bench.slow_timeout
-  pub global_timeout : IsOptional IsGlobalTimeout (get (key_text keys.GlobalTimeout) es) bench.global_timeout
+  pub slow_timeout :
+      IsOptional IsSlowTimeout (get (key_text keys.SlowTimeout) es) bench.slow_timeout
+  pub global_timeout :
+      IsOptional IsGlobalTimeout (get (key_text keys.GlobalTimeout) es) bench.global_timeout
 
 -- a table of these fields
 abbrev pub bench : Schema
@@ -29,7 +31,8 @@ bench_override_fields = may keys.SlowTimeout slow_timeout no_more
 
 -- what the field of an override's table says
 abbrev pub IsBenchOverride : Entries → BenchOverride → Type 0
-IsBenchOverride es bench = IsOptional IsSlowTimeout (get (key_text keys.SlowTimeout) es) bench.slow_timeout
+IsBenchOverride es bench =
+    IsOptional IsSlowTimeout (get (key_text keys.SlowTimeout) es) bench.slow_timeout
 
 -- a table of this field
 abbrev pub bench_override : Schema

@@ -24,5 +24,6 @@ flaky_result_expected = codes "`pass`, `fail`"
 abbrev pub flaky_result_at : Node → Result FlakyResult FaultCause
 flaky_result_at = name_at flaky_result_names flaky_result_expected
 
+-- a name of a result
 unfoldable pub a_flaky_result : Schema
 a_flaky_result = value flaky_result_at

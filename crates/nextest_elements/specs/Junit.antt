@@ -31,6 +31,7 @@ report_skip_policy_expected = codes "`none`, `all`"
 abbrev pub report_skip_policy_at : Node → Result ReportSkipPolicy FaultCause
 report_skip_policy_at = name_at report_skip_policy_names report_skip_policy_expected
 
+-- a name of such a choice
 unfoldable pub a_report_skip_policy : Schema
 a_report_skip_policy = value report_skip_policy_at
 
@@ -45,7 +46,8 @@ junit_flaky_fail_status_text statuses.Success = codes "success"
 
 -- its names
 unfoldable pub junit_flaky_fail_status_names : List (List ℕ × JunitFlakyFailStatus)
-junit_flaky_fail_status_names = spellings junit_flaky_fail_status_text (statuses.Failure ∷ statuses.Success ∷ [])
+junit_flaky_fail_status_names =
+    spellings junit_flaky_fail_status_text (statuses.Failure ∷ statuses.Success ∷ [])
 
 -- what a refusal says was expected
 unfoldable pub junit_flaky_fail_status_expected : List ℕ
@@ -55,6 +57,7 @@ junit_flaky_fail_status_expected = codes "`failure`, `success`"
 abbrev pub junit_flaky_fail_status_at : Node → Result JunitFlakyFailStatus FaultCause
 junit_flaky_fail_status_at = name_at junit_flaky_fail_status_names junit_flaky_fail_status_expected
 
+-- a name of such a mark
 unfoldable pub a_junit_flaky_fail_status : Schema
 a_junit_flaky_fail_status = value junit_flaky_fail_status_at
 
@@ -77,10 +80,16 @@ a_junit_override = struct junit_override_fields
 
 -- each field says what stands at its key
 pub record IsJunitOverride (es : Entries) (junit : JunitOverride) : Type 0 where
-  pub store_success_output : IsOptional (Spells bool_at) (get (key_text StoreSuccessOutput) es) junit.store_success_output
-  pub store_failure_output : IsOptional (Spells bool_at) (get (key_text StoreFailureOutput) es) junit.store_failure_output
-  pub report_skipped : IsOptional (Spells report_skip_policy_at) (get (key_text ReportSkipped) es) junit.report_skipped
-  pub flaky_fail_status : IsOptional (Spells junit_flaky_fail_status_at) (get (key_text FlakyFailStatus) es) junit.flaky_fail_status
+  pub store_success_output :
+      IsOptional (Spells bool_at) (get (key_text StoreSuccessOutput) es) junit.store_success_output
+  pub store_failure_output :
+      IsOptional (Spells bool_at) (get (key_text StoreFailureOutput) es) junit.store_failure_output
+  pub report_skipped :
+      IsOptional (Spells report_skip_policy_at)
+      (get (key_text ReportSkipped) es) junit.report_skipped
+  pub flaky_fail_status :
+      IsOptional (Spells junit_flaky_fail_status_at)
+      (get (key_text FlakyFailStatus) es) junit.flaky_fail_status
 
 -- the fields of a profile's table
 abbrev pub junit_fields : Fields
@@ -94,7 +103,13 @@ a_junit = struct junit_fields
 pub record IsJunit (es : Entries) (junit : JunitImpl) : Type 0 where
   pub path : IsOptional IsText (get (key_text Path) es) junit.path
   pub report_name : IsOptional IsText (get (key_text ReportName) es) junit.report_name
-  pub store_success_output : IsOptional (Spells bool_at) (get (key_text StoreSuccessOutput) es) junit.store_success_output
-  pub store_failure_output : IsOptional (Spells bool_at) (get (key_text StoreFailureOutput) es) junit.store_failure_output
-  pub report_skipped : IsOptional (Spells report_skip_policy_at) (get (key_text ReportSkipped) es) junit.report_skipped
-  pub flaky_fail_status : IsOptional (Spells junit_flaky_fail_status_at) (get (key_text FlakyFailStatus) es) junit.flaky_fail_status
+  pub store_success_output :
+      IsOptional (Spells bool_at) (get (key_text StoreSuccessOutput) es) junit.store_success_output
+  pub store_failure_output :
+      IsOptional (Spells bool_at) (get (key_text StoreFailureOutput) es) junit.store_failure_output
+  pub report_skipped :
+      IsOptional (Spells report_skip_policy_at)
+      (get (key_text ReportSkipped) es) junit.report_skipped
+  pub flaky_fail_status :
+      IsOptional (Spells junit_flaky_fail_status_at)
+      (get (key_text FlakyFailStatus) es) junit.flaky_fail_status

@@ -28,6 +28,7 @@ leak_result_expected = codes "`pass`, `fail`"
 abbrev pub leak_result_at : Node → Result LeakTimeoutResult FaultCause
 leak_result_at = name_at leak_result_names leak_result_expected
 
+-- a name of a result
 unfoldable pub a_leak_result : Schema
 a_leak_result = value leak_result_at
 

@@ -28,6 +28,7 @@ abbrev pub limit_at : Node → Result MaxFail FaultCause
 limit_at (int z) = limited (positive_at (int z))
 limit_at n = name_at limit_names limit_expected n
 
+-- a positive number, or the one name
 unfoldable pub a_limit : Schema
 a_limit = value limit_at
 
@@ -41,7 +42,8 @@ a_max_fail = fields noted a_bool max_fail_fields (λ es. None)
 
 -- a table says what its `max-fail` says
 abbrev pub IsMaxFailTable : Entries → MaxFail → Type 0
-IsMaxFailTable es limit = IsOptional (Spells limit_at) (get (key_text fail_keys.MaxFail) es) (Some limit)
+IsMaxFailTable es limit =
+    IsOptional (Spells limit_at) (get (key_text fail_keys.MaxFail) es) (Some limit)
 
 -- true means one failure and false means all tests
 abbrev pub IsMaxFail : Node → MaxFail → Type 0

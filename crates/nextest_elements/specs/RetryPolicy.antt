@@ -19,6 +19,7 @@ count_at (int (pos n)) = if nat_lt n 4294967296 then Ok n else Err out_of_range
 count_at (int (negsuc n)) = Err out_of_range
 count_at _ = Err wrong_kind
 
+-- a number of tries, as it may stand in a tree
 unfoldable pub a_count : Schema
 a_count = value count_at
 
@@ -26,12 +27,15 @@ a_count = value count_at
 unfoldable pub backoff_names : List (List ℕ × Backoff)
 backoff_names = (codes "fixed", backoffs.Fixed) ∷ (codes "exponential", backoffs.Exponential) ∷ []
 
+-- what a refusal says was expected
 unfoldable pub backoff_expected : List ℕ
 backoff_expected = codes "`fixed`, `exponential`"
 
+-- the way in which delays grow, as a node spells it
 abbrev pub backoff_at : Node → Result Backoff FaultCause
 backoff_at = name_at backoff_names backoff_expected
 
+-- a name of such a way
 unfoldable pub a_backoff : Schema
 a_backoff = value backoff_at
 
@@ -86,7 +90,8 @@ pub record IsFixedRetry (es : Entries) (count delay : ℕ) (jitter : Bool) : Typ
 -- is not below the delay.
 pub record IsExponentialRetry (es : Entries) (count delay : ℕ) (jitter : Bool)
     (max_delay : Option ℕ) : Type 0 where
-  pub says_backoff : IsRequired (Spells backoff_at) (get (key_text backoff_key) es) backoffs.Exponential
+  pub says_backoff :
+      IsRequired (Spells backoff_at) (get (key_text backoff_key) es) backoffs.Exponential
   pub says_count : IsRequired (Spells count_at) (get (key_text count_key) es) count
   pub says_delay : IsRequired (Spells duration_at) (get (key_text Delay) es) delay
   pub says_jitter : IsDefaulted false (Spells bool_at) (get (key_text Jitter) es) jitter
@@ -129,7 +134,8 @@ retry_table es = option_and_then (λ backoff. option_map (λ count. record {
   delay = leaf_at duration_at (get (key_text Delay) es);
   jitter = leaf_at bool_at (get (key_text Jitter) es);
   max_delay = leaf_at duration_at (get (key_text MaxDelay) es);
-}) (leaf_at count_at (get (key_text count_key) es))) (leaf_at backoff_at (get (key_text backoff_key) es))
+}) (leaf_at count_at (get (key_text count_key) es)))
+    (leaf_at backoff_at (get (key_text backoff_key) es))
 
 -- the policy, unless delays grow and the delay is not there or `max-delay` is below it
 abbrev pub policy_of : RetryTable → Option RetryPolicy

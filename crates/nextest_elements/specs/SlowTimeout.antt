@@ -29,6 +29,7 @@ slow_result_expected = codes "`fail`, `pass`"
 abbrev pub slow_result_at : Node → Result SlowTimeoutResult FaultCause
 slow_result_at = name_at slow_result_names slow_result_expected
 
+-- a name of a result
 unfoldable pub a_slow_result : Schema
 a_slow_result = value slow_result_at
 
@@ -64,7 +65,12 @@ slow_timeout = fields noted a_duration slow_fields (λ es. None)
 
 -- a test that takes longer than this is slow, and is never ended
 abbrev pub slow_of : ℕ → SlowTimeout
-slow_of period = record { period = period; terminate_after = None; grace_period = usual_grace_period; on_timeout = usual_slow_result }
+slow_of period = record {
+  period = period;
+  terminate_after = None;
+  grace_period = usual_grace_period;
+  on_timeout = usual_slow_result;
+}
 
 -- a table means what its fields say, and a duration is the period
 abbrev pub IsSlowTimeout : Node → SlowTimeout → Type 0

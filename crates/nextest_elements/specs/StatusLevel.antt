@@ -22,7 +22,9 @@ status_level_text levels.All = codes "all"
 
 -- its names
 unfoldable pub status_level_names : List (List ℕ × StatusLevel)
-status_level_names = spellings status_level_text (levels.None ∷ levels.Fail ∷ levels.Retry ∷ levels.Slow ∷ levels.Leak ∷ levels.Pass ∷ levels.Skip ∷ levels.All ∷ [])
+status_level_names = spellings status_level_text
+    (levels.None ∷ levels.Fail ∷ levels.Retry ∷ levels.Slow ∷ levels.Leak ∷ levels.Pass
+    ∷ levels.Skip ∷ levels.All ∷ [])
 
 -- what a refusal says was expected
 unfoldable pub status_level_expected : List ℕ
@@ -32,6 +34,7 @@ status_level_expected = codes "`none`, `fail`, `retry`, `slow`, `leak`, `pass`, 
 abbrev pub status_level_at : Node → Result StatusLevel FaultCause
 status_level_at = name_at status_level_names status_level_expected
 
+-- a name of such a level
 unfoldable pub a_status_level : Schema
 a_status_level = value status_level_at
 
@@ -48,7 +51,10 @@ final_status_level_text final_levels.All = codes "all"
 
 -- its names; retry stands for flaky too
 unfoldable pub final_status_level_names : List (List ℕ × FinalStatusLevel)
-final_status_level_names = spellings final_status_level_text (final_levels.None ∷ final_levels.Fail ∷ final_levels.Flaky ∷ final_levels.Slow ∷ final_levels.Skip ∷ final_levels.Leak ∷ final_levels.Pass ∷ final_levels.All ∷ []) ++ (codes "retry", final_levels.Flaky) ∷ []
+final_status_level_names = spellings final_status_level_text
+    (final_levels.None ∷ final_levels.Fail ∷ final_levels.Flaky ∷ final_levels.Slow
+    ∷ final_levels.Skip ∷ final_levels.Leak ∷ final_levels.Pass ∷ final_levels.All ∷ [])
+    ++ (codes "retry", final_levels.Flaky) ∷ []
 
 -- what a refusal says was expected
 unfoldable pub final_status_level_expected : List ℕ
@@ -58,5 +64,6 @@ final_status_level_expected = codes "`none`, `fail`, `flaky`, `slow`, `skip`, `l
 abbrev pub final_status_level_at : Node → Result FinalStatusLevel FaultCause
 final_status_level_at = name_at final_status_level_names final_status_level_expected
 
+-- a name of such a level
 unfoldable pub a_final_status_level : Schema
 a_final_status_level = value final_status_level_at

@@ -34,9 +34,13 @@ group_text (groups.Custom group) = custom_group_text group
 
 -- the group of a text: the global one, or the custom one of an identifier
 abbrev pub test_group_at : Node → Result TestGroup FaultCause
-test_group_at (text s) = if bytes_eq s global_text then Ok groups.Global else if is_identifier s then Ok (groups.Custom (record { 0 = s })) else Err (bad_value s identifier_expected)
+test_group_at (text s) =
+    if bytes_eq s global_text then Ok groups.Global
+    else if is_identifier s then Ok (groups.Custom (record { 0 = s }))
+    else Err (bad_value s identifier_expected)
 test_group_at _ = Err wrong_kind
 
+-- a text that is a group's
 unfoldable pub a_test_group : Schema
 a_test_group = value test_group_at
 

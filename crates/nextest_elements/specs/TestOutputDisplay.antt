@@ -16,7 +16,8 @@ test_output_display_text displays.Never = codes "never"
 
 -- its names
 unfoldable pub test_output_display_names : List (List ℕ × TestOutputDisplay)
-test_output_display_names = spellings test_output_display_text (displays.Immediate ∷ displays.ImmediateFinal ∷ displays.Final ∷ displays.Never ∷ [])
+test_output_display_names = spellings test_output_display_text
+    (displays.Immediate ∷ displays.ImmediateFinal ∷ displays.Final ∷ displays.Never ∷ [])
 
 -- what a refusal says was expected
 unfoldable pub test_output_display_expected : List ℕ
@@ -26,5 +27,6 @@ test_output_display_expected = codes "`immediate`, `immediate-final`, `final`, `
 abbrev pub test_output_display_at : Node → Result TestOutputDisplay FaultCause
 test_output_display_at = name_at test_output_display_names test_output_display_expected
 
+-- a name of such a time
 unfoldable pub a_test_output_display : Schema
 a_test_output_display = value test_output_display_at

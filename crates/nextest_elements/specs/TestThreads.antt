@@ -20,10 +20,12 @@ test_threads_at (int (pos zero)) = Err out_of_range
 test_threads_at (int z) = Ok (threads.Count z)
 test_threads_at n = name_at test_threads_names test_threads_expected n
 
+-- a number but zero, or the one name
 unfoldable pub a_test_threads : Schema
 a_test_threads = value test_threads_at
 
--- how many tests run at a time where there are c processors: for -n it is n fewer than c, and at least 1
+-- how many tests run at a time where there are c processors: for -n it is n fewer than c, and at
+-- least 1
 abbrev pub test_thread_count : TestThreads → ℕ → ℕ
 test_thread_count (threads.Count (pos zero)) c = max 1 c
 test_thread_count (threads.Count (pos (suc n))) c = suc n

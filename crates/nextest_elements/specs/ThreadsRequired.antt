@@ -17,7 +17,8 @@ threads_required_text required.NumTestThreads = codes "num-test-threads"
 
 -- its names
 unfoldable pub threads_required_names : List (List ℕ × ThreadsRequired)
-threads_required_names = spellings threads_required_text (required.NumCpus ∷ required.NumTestThreads ∷ [])
+threads_required_names =
+    spellings threads_required_text (required.NumCpus ∷ required.NumTestThreads ∷ [])
 
 -- what a refusal says was expected
 unfoldable pub threads_required_expected : List ℕ
@@ -33,6 +34,7 @@ abbrev pub threads_required_at : Node → Result ThreadsRequired FaultCause
 threads_required_at (int z) = counted (positive_at (int z))
 threads_required_at n = name_at threads_required_names threads_required_expected n
 
+-- a positive number, or one of the names
 unfoldable pub a_threads_required : Schema
 a_threads_required = value threads_required_at
 

@@ -1,6 +1,7 @@
 //! The elements of a nextest configuration: the readers of all small values.
 //!
-//! Trees and the form of a reader come from `nextest_tree`, identifiers and durations from `nextest_texts`, and are given on.
+//! Trees and the form of a reader come from `nextest_tree`, identifiers and durations from
+//! `nextest_texts`, and are given on.
 #![tactic(auto)]
 
 mod bench;
@@ -38,7 +39,7 @@ pub use nextest_tree::{
 pub use positive::Positive;
 pub use retry_policy::RetryPolicy;
 pub use run_mode::NextestRunMode;
-pub use slow_timeout::{SlowTimeout, SlowTimeoutResult};
+pub use slow_timeout::{SlowTimeout, SlowTimeoutResult, USUAL_GRACE_PERIOD};
 pub use status_level::{FinalStatusLevel, StatusLevel};
 pub use test_group::{CustomTestGroup, TestGroup, TestGroupConfig};
 pub use test_output_display::TestOutputDisplay;

@@ -208,8 +208,10 @@ fn retry_of(
     members: &BTreeMap<String, Tree>,
     walk: &mut Walk,
 ) -> Result<RetryPolicy, ElementFault>
-    ensures value { IfOk result (λ policy. IsRetry (Node.table (entries_view members.now.entries)) policy) }
-    ensures reads { Gives result walk.new (reading retry (Node.table (entries_view members.now.entries)) (walk_view walk.old)) }
+    ensures value { IfOk result
+        (λ policy. IsRetry (Node.table (entries_view members.now.entries)) policy) }
+    ensures reads { Gives result walk.new
+        (reading retry (Node.table (entries_view members.now.entries)) (walk_view walk.old)) }
 {
     let table = read_record(alloc, members, walk)?;
     match policy(table) {

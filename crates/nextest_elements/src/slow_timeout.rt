@@ -14,7 +14,7 @@ use std::collections::BTreeMap;
 use std::fmt;
 
 /// The nanoseconds of the grace period where none is given.
-const USUAL_GRACE_PERIOD: u128 = 10_000_000_000;
+pub const USUAL_GRACE_PERIOD: u128 = 10_000_000_000;
 
 /// What comes of a test that is ended for its slowness.
 #[derive(Clone, Copy, Debug, PartialEq, Eq)]

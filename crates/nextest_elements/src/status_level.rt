@@ -72,7 +72,8 @@ impl fmt::Display for StatusLevel {
     }
 }
 
-/// Which tests are told of at the end of a run. Each level tells of what those before it tell of too.
+/// Which tests are told of at the end of a run. Each level tells of what those before it tell of
+/// too.
 #[derive(Clone, Copy, Debug, PartialEq, Eq, PartialOrd, Ord)]
 pub enum FinalStatusLevel {
     /// No test.

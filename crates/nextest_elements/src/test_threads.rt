@@ -9,7 +9,8 @@ use std::alloc::Global;
 /// How many tests run at a time.
 #[derive(Clone, Copy, Debug, PartialEq, Eq)]
 pub enum TestThreads {
-    /// This many, or for a negative number so many fewer than there are processors. Zero is never read.
+    /// This many, or for a negative number so many fewer than there are processors. Zero is never
+    /// read.
     Count(i64),
     /// As many as there are processors.
     NumCpus,

@@ -1,8 +1,7 @@
 -- What engines make of texts: all that a statement about a configuration knows of them.
-use Rattle.std.specs.Prelude.{◌≡◌, ℕ, List, [], Bool, true, Option, Result, Ok, IsSome}
+use Rattle.std.specs.Prelude.{ℕ, List, Bool, Option, Result}
 use Rattle.nextest_engines.specs.Engines.{Test, Binary}
 use Rattle.nextest_engines.specs.declared.queries.FiltersetKind.{FiltersetKind}
-use Rattle.nextest_engines.specs.declared.queries.FiltersetKind.TheVariants.{DefaultFilter}
 
 -- a text, as its bytes
 abbrev pub Text : Type 0
@@ -25,15 +24,6 @@ pub record Readings (M K P : Type 0) : Type 0 where
   pub leaves : M → List Text
   -- whether a platform meets a spec, or none where that is unknown
   pub meets : K → P → Option Bool
-
--- The laws of engines: what matches everything matches each test, and a default filter without
--- parts that only a test can answer has an answer for each binary.
-pub record AreLawful {M K P : Type 0} (engines : Readings M K P) : Type 0 where
-  pub everything : (test : Test) (default : M)
-      → engines.matches_test engines.match_all test default ≡ true
-  pub binaries : (t : Text) (m : M) → engines.read_filter DefaultFilter t ≡ Ok m
-      → engines.leaves m ≡ []
-      → (binary : Binary) (default : M) → IsSome (engines.matches_binary m binary default)
 
 -- the readings of two engines, of which contracts know these members
 abbrev pub readings_view : {M K P : Type 0} → (FiltersetKind → Text → Result M Text)

@@ -1,6 +1,7 @@
 //! The language of filters.
 //!
-//! The library never looks into an expression. It speaks of what the text of a rule means to the engine that reads it.
+//! The library never looks into an expression. It speaks of what the text of a rule means to the
+//! engine that reads it.
 ghost use Rattle.std.specs.Prelude.{◌≡◌, ◌++◌, ◌∷◌, [], List, ℕ, Bool, true, Option, Some, Result, Ok, Err, IfOk, IfErr, IsSome, map, string_bytes};
 ghost use Rattle.nextest_engines.specs.Engines.{Test, Binary, test_view, binary_view, IfFilterRefused};
 ghost use Rattle.nextest_engines.specs.declared.queries.FiltersetKind.{FiltersetKind};
@@ -23,8 +24,9 @@ pub enum FilterFault {
 
 /// The rules that an engine has evaluated, by number and in order.
 ///
-/// It has no functions, so a library that is generic in its engine can neither make, copy nor change a tally: only an
-/// evaluation adds to it. An engine keeps the numbers in a [`history::RuleHistory`], in a type of its own.
+/// It has no functions, so a library that is generic in its engine can neither make, copy nor
+/// change a tally: only an evaluation adds to it. An engine keeps the numbers in a
+/// [`history::RuleHistory`], in a type of its own.
 pub trait Tally {
     /// The numbers of the evaluated rules, the latest last.
     ghost numbers: { Self → List ℕ };
@@ -86,8 +88,8 @@ pub trait Filters {
             (meaning cx.now.default_filter.now) }
         ensures tally { Self.Tally.numbers tally.new ≡ Self.Tally.numbers tally.old ++ rule ∷ [] };
 
-    /// Whether a filter matches a binary, or `None` where that depends on the test. The rule of that number goes into
-    /// the tally.
+    /// Whether a filter matches a binary, or `None` where that depends on the test. The rule of
+    /// that number goes into the tally.
     fn matches_binary(
         expr: &Self::Expr,
         rule: usize,
@@ -104,10 +106,12 @@ pub trait Filters {
         ensures { IfOk result (λ found. map string_bytes found.items ≡ leaves (meaning expr.now)) };
 
     /// What matches everything matches each test.
-    ghost match_all_matches: { (test : Test) (default : Meaning) → holds match_all test default ≡ true };
+    ghost match_all_matches: { (test : Test) (default : Meaning)
+        → holds match_all test default ≡ true };
 
     /// What matches everything matches each binary.
-    ghost match_all_matches_binaries: { (binary : Binary) (default : Meaning) → holds_binary match_all binary default ≡ Some true };
+    ghost match_all_matches_binaries: { (binary : Binary) (default : Meaning)
+        → holds_binary match_all binary default ≡ Some true };
 
     /// A default filter with no part that only a test can answer has an answer for each binary.
     ghost default_filters_answer: { (self : Self) (text : List ℕ) (m : Meaning)

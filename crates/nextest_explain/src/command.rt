@@ -1,5 +1,6 @@
 //! The words of the command line.
-use nextest_elements::{InvalidIdentifier, NextestRunMode, ToolName};
+use crate::options::{OptionName, Options};
+use nextest_config::{InvalidIdentifier, NextestRunMode};
 use std::alloc::{AllocError, Global};
 
 /// How the program is called.
@@ -17,22 +18,6 @@ pub struct Command<'a> {
     pub binary: &'a str,
     pub test: &'a str,
     pub options: Options<'a>,
-}
-
-/// The options among the words.
-#[derive(Debug, Drop)]
-pub struct Options<'a> {
-    /// The path of the file that is read in place of the repository's own.
-    pub config_file: Option<&'a str>,
-    /// The files of tools, in the order of the words.
-    pub tool_files: Vec<ToolFile<'a>>,
-}
-
-/// A file that a tool provides.
-#[derive(Debug, Drop)]
-pub struct ToolFile<'a> {
-    pub tool: ToolName,
-    pub path: &'a str,
 }
 
 /// Why words are no command.
@@ -83,67 +68,21 @@ impl<'a> Command<'a> {
     }
 }
 
-/// An option that is read. Its value is the next word.
-#[derive(Clone, Copy)]
-enum OptionName {
-    ConfigFile,
-    ToolConfigFile,
-}
-
-impl OptionName {
-    /// The option that a word spells.
-    fn of(word: &str) -> Option<OptionName> {
-        match word {
-            "--config-file" => Some(OptionName::ConfigFile),
-            "--tool-config-file" => Some(OptionName::ToolConfigFile),
-            _ => None,
-        }
-    }
-}
-
-impl<'a> Options<'a> {
-    /// Sets an option to a value.
-    fn set(&mut self, alloc: Global, name: OptionName, value: &'a str) -> Result<(), CommandError> {
-        match name {
-            OptionName::ConfigFile => self.set_config_file(value),
-            OptionName::ToolConfigFile => self.add_tool_file(alloc, value),
-        }
-    }
-
-    fn set_config_file(&mut self, path: &'a str) -> Result<(), CommandError> {
-        match self.config_file.replace(path) {
-            Some(_) => Err(CommandError::Usage),
-            None => Ok(()),
-        }
-    }
-
-    fn add_tool_file(&mut self, alloc: Global, value: &'a str) -> Result<(), CommandError> {
-        let Some((tool, path)) = value.split_once(':') else {
-            return Err(CommandError::Usage);
-        };
-        let tool = ToolName::new(alloc, tool)?;
-        self.tool_files
-            .push(ToolFile { tool, path })
-            .map_err(AllocError::from)?;
-        Ok(())
-    }
-}
-
-/// The arguments and the options of some words. The word after an option is its value, whatever it is.
+/// The arguments and the options of some words. The word after an option that takes a value is this
+/// value, whatever it is.
 fn split<'a>(
     alloc: Global,
     words: &'a [String],
 ) -> Result<(Vec<&'a str>, Options<'a>), CommandError> {
     let mut arguments = Vec::new(alloc);
-    let mut options = Options {
-        config_file: None,
-        tool_files: Vec::new(alloc),
-    };
+    let mut options = Options::new(alloc);
     let mut waiting: Option<OptionName> = None;
     for word in words {
         let word = word.as_str();
         if let Some(name) = waiting.take() {
             options.set(alloc, name, word)?;
+        } else if word == "--host-binary" {
+            options.set_host_binary()?;
         } else if word.starts_with("--") {
             waiting = Some(OptionName::of(word).ok_or(CommandError::Usage)?);
         } else {

@@ -2,11 +2,13 @@
 #![tactic(auto)]
 
 mod command;
+mod failure;
 mod files;
-mod lines;
-mod load;
+mod one_line;
+mod options;
 mod program;
-mod settings_lines;
+mod row_lines;
+mod sources;
 
 pub use files::FileReader;
 pub use program::{explain, refuse_for_memory};

@@ -1,143 +1,177 @@
 //! What the program does, over readers of files and writers of its own choosing.
-use crate::command::{Command, CommandError, USAGE};
+ghost use Rattle.std.specs.Prelude.{◌≡◌, ◌⊎◌, IsOk};
+ghost use Rattle.std.specs.Io.KnownBytes.{Appends};
+ghost use Rattle.nextest_explain.specs.Statuses.{IsRefusal, IsStatus};
+
+use crate::command::Command;
+use crate::failure::{Failure, OUT_OF_MEMORY};
 use crate::files::FileReader;
-use crate::lines::refusal_text;
-use crate::load::load;
-use crate::settings_lines::settings_text;
-use nextest_config::{
-    ConfigParseError, ConfigParseErrorKind, EvaluatableProfile, ProfileError, ProfileNotFound,
-};
-use nextest_engines::{BinaryQuery, BuildPlatform, BuildPlatforms, TestQuery};
+use crate::row_lines::RowLines;
+use crate::sources::Sources;
+use nextest_config::run::{ResolveFault, TestRow, resolve};
+use nextest_config::{BinaryQuery, BuildPlatforms, DefaultConfigWarnings, ParseContext, TestQuery};
 use std::alloc::{AllocError, Global};
 use std::io::{self, Write};
 use toy_engines::filters::{ToyFilters, ToyTally};
 use toy_engines::platforms::ToySpecs;
 
-/// Why the program ends without the lines of a test.
-#[derive(Drop)]
-enum Failure {
-    /// The words are no command.
-    Usage,
-    /// The configuration is refused.
-    Refused(ConfigParseError),
-    /// The configuration has no such profile.
-    NoProfile(ProfileNotFound),
-    /// Want of memory.
-    Memory,
-}
-
-impl From<AllocError> for Failure {
-    fn from(_error: AllocError) -> Failure {
-        Failure::Memory
-    }
-}
-
-impl From<CommandError> for Failure {
-    fn from(error: CommandError) -> Failure {
-        match error {
-            CommandError::Usage => Failure::Usage,
-            CommandError::Memory => Failure::Memory,
-        }
-    }
-}
-
-impl From<ConfigParseError> for Failure {
-    fn from(error: ConfigParseError) -> Failure {
-        Failure::Refused(error)
-    }
-}
-
 /// The triple of the host where none is named.
 const HOST: &str = "x86_64-unknown-linux-gnu";
 
 /// Explains what a configuration gives a test, and answers the exit status: 0, or 2 for a usage fault, 3 for a refused
-/// configuration, 4 where there is no such profile, 5 for want of memory, 6 where a write fails. After a write that
-/// failed nothing more is written.
+/// configuration, 4 where there is no such profile, 5 for want of memory, 6 where a write fails. Warnings come first,
+/// also before a refusal. After a write that failed nothing more is written.
 pub fn explain<R: FileReader, O: Write, E: Write>(
     alloc: Global,
     words: &[String],
     files: &R,
     out: &mut O,
     err: &mut E,
-) -> u8 {
-    match lines(alloc, words, files) {
+) -> u8
+    ensures status { IsStatus result }
+    ensures quiet { (result ≡ 0) ⊎ (result ≡ 6) ⊎ (O.contents out.new ≡ O.contents out.old) }
+{
+    let mut warnings = DefaultConfigWarnings::new(alloc);
+    let lines = lines(alloc, words, files, &mut warnings);
+    let Ok(warned) = warning_text(alloc, &warnings) else {
+        return refuse_for_memory(err);
+    };
+    if err.write_all(warned.as_bytes()).is_err() {
+        return 6;
+    }
+    match lines {
         Ok(lines) => ended(out.write_all(lines.as_bytes()), 0),
-        Err(failure) => {
-            let (text, status) = told(alloc, &failure);
-            match text {
-                Ok(text) => ended(err.write_all(text.as_bytes()), status),
-                Err(_) => refuse_for_memory(err),
-            }
-        }
+        Err(failure) => refuse(alloc, &failure, err),
     }
 }
 
 /// Tells of want of memory, without any, and answers the exit status as `explain` does.
-pub fn refuse_for_memory<E: Write>(err: &mut E) -> u8 {
-    ended(err.write_all(b"error: out of memory\n"), 5)
+pub fn refuse_for_memory<E: Write>(err: &mut E) -> u8
+    ensures status { (result ≡ 5) ⊎ (result ≡ 6) }
+    ensures told { (result ≡ 6)
+        ⊎ Appends (E.contents err.old) (E.contents err.new) OUT_OF_MEMORY.now }
+{
+    ended(err.write_all(OUT_OF_MEMORY.as_bytes()), 5)
+}
+
+/// Tells of a failure, and answers the exit status.
+fn refuse<E: Write>(alloc: Global, failure: &Failure, err: &mut E) -> u8
+    ensures { IsRefusal result ⊎ (result ≡ 6) }
+{
+    match failure.text(alloc) {
+        Ok(text) => ended(err.write_all(text.as_bytes()), failure.status()),
+        Err(_) => refuse_for_memory(err),
+    }
 }
 
 /// The status, unless the last write failed.
-fn ended(written: io::Result<()>, status: u8) -> u8 {
+fn ended(written: io::Result<()>, status: u8) -> u8
+    ensures status { (result ≡ status) ⊎ (result ≡ 6) }
+    ensures failed { (result ≡ 6) ⊎ IsOk written }
+{
     match written {
         Ok(()) => status,
         Err(_) => 6,
     }
 }
 
-/// What standard error is told of a failure, and the status.
-fn told(alloc: Global, failure: &Failure) -> (Result<String, AllocError>, u8) {
-    match failure {
-        Failure::Usage => (format!(in alloc; "{USAGE}\n"), 2),
-        Failure::Refused(error) => match error.kind() {
-            ConfigParseErrorKind::Memory => (out_of_memory(alloc), 5),
-            _ => (refusal_text(alloc, error), 3),
-        },
-        Failure::NoProfile(error) => (format!(in alloc; "error: {error}\n"), 4),
-        Failure::Memory => (out_of_memory(alloc), 5),
+/// The lines of warnings.
+fn warning_text(alloc: Global, warnings: &DefaultConfigWarnings) -> Result<String, AllocError> {
+    let lines = warnings.lines(alloc)?;
+    let mut text = String::new(alloc);
+    for line in &lines {
+        text.push_str(line.as_str())?;
+        text.push_str("\n")?;
     }
+    Ok(text)
 }
 
-fn out_of_memory(alloc: Global) -> Result<String, AllocError> {
-    String::from_str(alloc, "error: out of memory\n")
-}
-
-/// The lines of a test.
-fn lines<R: FileReader>(alloc: Global, words: &[String], files: &R) -> Result<String, Failure> {
-    let command = Command::parse(alloc, words)?;
-    let config = load(alloc, command.root, &command.options, files)?;
-    let profile = match config.profile(alloc, command.profile) {
-        Ok(profile) => profile,
-        Err(ProfileError::NotFound(error)) => return Err(Failure::NoProfile(error)),
-        Err(ProfileError::Memory) => return Err(Failure::Memory),
-    };
-    let platforms = BuildPlatforms {
-        host: String::from_str(alloc, HOST)?,
-        target: None,
-    };
-    match profile.apply_build_platforms(alloc, &platforms) {
-        Ok(profile) => Ok(lines_of(alloc, &profile, &command)?),
-        Err(_) => Err(Failure::Memory),
-    }
-}
-
-/// The lines of the settings that a profile gives the command's test.
-fn lines_of(
+/// The lines of the test that words ask about.
+fn lines<R: FileReader>(
     alloc: Global,
-    profile: &EvaluatableProfile<'_, ToyFilters, ToySpecs>,
+    words: &[String],
+    files: &R,
+    warnings: &mut DefaultConfigWarnings,
+) -> Result<String, Failure> {
+    let command = Command::parse(alloc, words)?;
+    lines_of(alloc, &command, files, warnings)
+}
+
+/// The lines of the test that a command asks about.
+fn lines_of<R: FileReader>(
+    alloc: Global,
     command: &Command<'_>,
-) -> Result<String, AllocError> {
-    let query = TestQuery {
+    files: &R,
+    warnings: &mut DefaultConfigWarnings,
+) -> Result<String, Failure> {
+    let sources = Sources::read(alloc, command, files)?;
+    let rows = rows(alloc, command, &sources, warnings)?;
+    Ok(text_of(alloc, &rows)?)
+}
+
+/// The lines of rows.
+fn text_of(alloc: Global, rows: &[TestRow]) -> Result<String, AllocError> {
+    let mut text = String::new(alloc);
+    for row in rows {
+        let lines = RowLines(row).to_string(alloc)?;
+        text.push_str(lines.as_str())?;
+    }
+    Ok(text)
+}
+
+/// The one row of the test that a command asks about.
+fn rows(
+    alloc: Global,
+    command: &Command<'_>,
+    sources: &Sources,
+    warnings: &mut DefaultConfigWarnings,
+) -> Result<Vec<TestRow>, ResolveFault> {
+    let Ok(platforms) = platforms_of(alloc, command) else {
+        return Err(ResolveFault::Memory);
+    };
+    let pcx = ParseContext {
+        filters: &ToyFilters,
+        specs: &ToySpecs,
+    };
+    resolve(
+        alloc,
+        &sources.inputs(&command.options),
+        &pcx,
+        command.profile,
+        &platforms,
+        command.mode,
+        &[test_of(command)],
+        warnings,
+        &mut ToyTally::new(),
+    )
+}
+
+/// The platforms of the build.
+fn platforms_of(
+    alloc: Global,
+    command: &Command<'_>,
+) -> Result<BuildPlatforms<String>, AllocError> {
+    let host = command.options.host.unwrap_or(HOST);
+    let target = match command.options.target {
+        Some(target) => Some(String::from_str(alloc, target)?),
+        None => None,
+    };
+    Ok(BuildPlatforms {
+        host: String::from_str(alloc, host)?,
+        target,
+    })
+}
+
+/// The test that a command asks about.
+fn test_of<'a>(command: &Command<'a>) -> TestQuery<'a> {
+    TestQuery {
         binary_query: BinaryQuery {
             package_id: "",
             binary_id: command.binary,
             kind: "",
             binary_name: "",
-            platform: BuildPlatform::Target,
+            platform: command.options.platform,
         },
         test_name: command.test,
-    };
-    let mut tally = ToyTally::new();
-    let settings = profile.settings_with_source_for(command.mode, &query, &mut tally);
-    settings_text(alloc, &settings)
+    }
 }

@@ -17,5 +17,5 @@ pub use chain::chain_of;
 pub use error::InheritsError;
 pub use inherits::Inherits;
 pub use laws::{law_each_has_one_chain, law_faults, law_one_chain_at_most};
-pub use names::is_reserved;
+pub use names::{DEFAULT_PROFILE, is_reserved};
 pub use parents::inheritance_errors;

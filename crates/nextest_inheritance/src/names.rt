@@ -3,7 +3,7 @@ ghost use Rattle.std.specs.Prelude.{◌≡◌};
 ghost use Rattle.nextest_inheritance.specs.Names as names;
 
 /// The name of the profile that every configuration has.
-pub(crate) const DEFAULT_PROFILE: &str = "default";
+pub const DEFAULT_PROFILE: &str = "default";
 
 /// How the names of profiles begin that nextest itself defines.
 const DEFAULT_PREFIX: &str = "default-";

@@ -87,7 +87,8 @@ fn parent_errors<P: Inherits>(
 ) -> Result<Vec<InheritsError>, AllocError>
     ensures faults { let written = parents_view P.parent profiles.now.entries in
         let known = faults.is_known (contains_text lower.now) written in
-        IfOk result (λ errors. map inherits_error_view errors.items ≡ faults.parent_faults known written) }
+        IfOk result (λ errors.
+        map inherits_error_view errors.items ≡ faults.parent_faults known written) }
     ensures ordered { let written = parents_view P.parent profiles.now.entries in
         IfOk result (λ _. IsStrictlySortedBy (slice_cmp nat_cmp) (keys_of written)) }
 {
@@ -145,11 +146,13 @@ pub fn inheritance_errors<P: Inherits>(
 
     // They name exactly the cycles.
     ensures cycles { let written = parents_view P.parent profiles.now.entries in
-        IfOk result (λ errors. NameCycles (parents_in written) (map inherits_error_view errors.items)) }
+        IfOk result (λ errors.
+        NameCycles (parents_in written) (map inherits_error_view errors.items)) }
 
     // They tell which names have no chain.
     ensures stranded { let written = parents_view P.parent profiles.now.entries in
-        IfOk result (λ errors. TellStranded (parents_in written) (map inherits_error_view errors.items)) }
+        IfOk result (λ errors.
+        TellStranded (parents_in written) (map inherits_error_view errors.items)) }
 {
     all_errors(alloc, profiles, lower)
 }

@@ -1,256 +1,125 @@
--- The merged tree defines the groups of all files.
-use Rattle.std.proofs.Common.{◌≡◌, ⊎_elim, ℕ, List, [], ◌∷◌, ◌++◌, map, Bool, true, false, ◌||◌, if◌then◌else◌, Option, Some, None, option_map, option_and_then, unwrap_or, Ordering, Less, Equal, Greater, nat_cmp, refl, sym, ap, subst, ◌∙◌}
-use Rattle.std.specs.Cmp.Lexicographic.{slice_cmp}
-use Rattle.std.specs.List.{flat_map}
-use Rattle.std.specs.Ordering.{match_ordering}
+-- Ids that stand in tables, one table behind another, stand in the order of their definitions.
+use Rattle.std.proofs.Common.{◌≡◌, inl, inr, ℕ, List, [], ◌∷◌, ◌++◌, ◌||◌, Bool, true, false, refl, sym, ap, subst, ◌∙◌, append_assoc}
+use Rattle.std.specs.List.{AllByRecursion}
 use Rattle.std.specs.Str.{bytes_eq}
-use Rattle.std.proofs.lemmas.List.Folds.{list_any-append}
+use Rattle.std.proofs.lemmas.Bool.{cases_Bool, or_cases, not-true, and_parts, true≢false}
 use Rattle.std.proofs.lemmas.List.{map-append}
-use Rattle.std.proofs.lemmas.Map.Lookups.{exact_bytes}
 use Rattle.std.proofs.lemmas.Slice.Eq.{bytes_eq-Decides}
-use Rattle.nextest_tree.specs.declared.key.Key.TheVariants as keys
-use Rattle.nextest_tree.specs.Key.{key_text}
-use Rattle.nextest_tree.specs.Node.{Node, table, array, text, int, bool, opaque, Entries, no_entries, entry, get, put, as_table}
-use Rattle.nextest_tree.specs.Schema.{FaultCause, Schema, Fields, no_more, field, map_of, faults, fields_faults, field_faults, below, is_one_of}
-use Rattle.nextest_tree.specs.declared.key.Key.{Key}
-use Rattle.nextest_texts.specs.IdentifierReader.{identifier_cause}
-use Rattle.nextest_elements.specs.TestGroup.{group_config}
-use Rattle.nextest_tables.specs.Tables.{root, root_fields}
-use Rattle.nextest_tables.specs.Defaults.{defaults}
-use Rattle.nextest_tables.specs.Texts.{group_in, each_in, root_in}
+use Rattle.nextest_documents.specs.Shown.{Path}
+use Rattle.nextest_script_order.specs.Order.{AllBefore, IsBefore, IsOrder}
+use Rattle.nextest_script_order.specs.Standing.{is_among, stands_in}
+use Rattle.nextest_tree.specs.Schema.{is_one_of}
+use Rattle.nextest_sources.specs.Inputs.{SourceText}
 use Rattle.nextest_tables.specs.Written.{Name}
-use Rattle.nextest_load.specs.Accepted.{Each}
-use Rattle.nextest_load.specs.Groups.{defined_by, defined_in}
-use Rattle.nextest_documents.specs.Merge.{over, entries_over, merged}
-use Rattle.nextest_load.specs.Texts.{SourceText, tree_in, own_tree, merged_tree}
-use Rattle.nextest_documents.proofs.Laying.{laid_over, get-entries_over}
-use Rattle.nextest_documents.proofs.Texts.{entries_in, text_table}
-use Rattle.nextest_load.proofs.Ordering.{both_empty}
-use Rattle.nextest_load.proofs.Least.{head_in, tail_in, either_text}
+use Rattle.nextest_load.specs.ScriptNames.{AreIdsOf, comes_first, AllComeFirst}
+use Rattle.nextest_load.specs.Scripts.{Section, sections_at, IsDefinedBefore, AllDefinedBefore}
+use Rattle.nextest_load.proofs.NamesInOrder.{all_map, first_in_front, first_in_either, first_is_there}
 
--- the key of a file's groups
-abbrev pub group_key : List ℕ
-group_key = key_text keys.TestGroups
+same_tests : (a b : Bool) → (a ≡ true → b ≡ true) → (b ≡ true → a ≡ true) → a ≡ b
+same_tests true b f g = sym (f refl)
+same_tests false true f g = g refl
+same_tests false false f g = refl
 
--- a table, or nothing
-abbrev pub IsTableIfThere : Option Node → Type 0
-IsTableIfThere None = Unit {0}
-IsTableIfThere (Some (table es)) = Unit {0}
-IsTableIfThere (Some (array ns)) = ⊥
-IsTableIfThere (Some (text t)) = ⊥
-IsTableIfThere (Some (int z)) = ⊥
-IsTableIfThere (Some (bool b)) = ⊥
-IsTableIfThere (Some opaque) = ⊥
+pub turned : (a b : Name) → bytes_eq a b ≡ bytes_eq b a
+turned a b =
+    same_tests (bytes_eq a b) (bytes_eq b a) (λ h. (bytes_eq-Decides b a).1 (sym ((bytes_eq-Decides a b).0 h)))
+    (λ h. (bytes_eq-Decides a b).1 (sym ((bytes_eq-Decides b a).0 h)))
 
--- the names of groups
-abbrev pub names_in : Entries → List Name
-names_in es = map (λ e. e.0) (each_in group_in es)
+-- two ways to say that an id is among others
+pub among_is : (ids : List Name) (id : Name) → is_among ids id ≡ is_one_of ids id
+among_is [] id = refl
+among_is (x ∷ ids) id = λ i. turned id x i || among_is ids id i
 
-abbrev pub names_at : Option Node → List Name
-names_at o = names_in (unwrap_or (option_and_then as_table o) no_entries)
+-- an id of an order stands in its table, and no other
+pub stands_is : (path : Path) (text : List ℕ) (ids : List Name) → IsOrder path text ids → (id : Name) → is_one_of ids id ≡ stands_in path text id
+stands_is path text ids order id = sym (among_is ids id) ∙ order.exact id
 
-abbrev pub names_of : Node → List Name
-names_of n = map (λ e. e.0) (root_in n).test_groups
+one_before : (path : Path) (text : List ℕ) (a : Name) (ids : List Name) (b : Name) → AllByRecursion (IsBefore path text a) ids → is_one_of ids b ≡ true → IsBefore path text a b
+one_before path text a [] b h k = absurd (true≢false (sym k))
+one_before path text a (x ∷ ids) b h k =
+    elim (or_cases (bytes_eq x b) (is_one_of ids b) k) [
+      | inl here ↦ subst (IsBefore path text a) ((bytes_eq-Decides x b).0 here) h.0
+      | inr after ↦ one_before path text a ids b h.1 after
+    ]
 
-keeps_at : (o : Ordering) (k l : List ℕ) (n m : Node) (es : Entries) (q : Name) → slice_cmp nat_cmp k l ≡ o → is_one_of (l ∷ names_in es) q ≡ true → (is_one_of (names_in es) q ≡ true → is_one_of (names_in (put k n es)) q ≡ true)
-    → is_one_of (names_in (match_ordering o (entry k n (entry l m es)) (entry l n es) (entry l m (put k n es)))) q ≡ true
-keeps_at Less k l n m es q is h next = tail_in k q (l ∷ names_in es) h
-keeps_at Equal k l n m es q is h next = h
-keeps_at Greater k l n m es q is h next = ⊎_elim (λ same. head_in l q (names_in (put k n es)) same) (λ among. tail_in l q (names_in (put k n es)) (next among)) (either_text l q (names_in es) (bytes_eq l q) refl h)
+-- of two ids of an order, the first is before the other
+before_in_order : (path : Path) (text : List ℕ) (ids : List Name) (a b : Name) → AllBefore path text ids → comes_first ids a b ≡ true → is_one_of ids b ≡ true → IsBefore path text a b
+before_in_order path text [] a b h first k = absurd (true≢false (sym k))
+before_in_order path text (x ∷ ids) a b h first k =
+    let parts = and_parts _ (bytes_eq x a || comes_first ids a b) first in
+    let after : is_one_of ids b ≡ true = elim (or_cases (bytes_eq x b) (is_one_of ids b) k) [
+      | inl here ↦ absurd (true≢false (sym here ∙ not-true (bytes_eq x b) parts.0))
+      | inr more ↦ more
+    ]
+    in
+    elim (or_cases (bytes_eq x a) (comes_first ids a b) parts.1) [
+      | inl here ↦
+          let is : x ≡ a = (bytes_eq-Decides x a).0 here in
+          one_before path text a ids b (subst (λ (c : Name). AllByRecursion (IsBefore path text c) ids) is h.0) after
+      | inr more ↦ before_in_order path text ids a b h.1 more after
+    ]
 
-put_keeps : (k : List ℕ) (n : Node) (es : Entries) (q : Name) → is_one_of (names_in es) q ≡ true → is_one_of (names_in (put k n es)) q ≡ true
-put_keeps k n no_entries q h = cc
-put_keeps k n (entry l m es) q h = keeps_at (slice_cmp nat_cmp k l) k l n m es q refl h (put_keeps k n es q)
+-- the first of two names of tables is defined before the other
+defined_before : (sections : List Section) (names : List Name) (a b : Name) → AreIdsOf sections names → comes_first names a b ≡ true → IsDefinedBefore sections a b
+defined_before [] names a b none first = absurd (true≢false (sym first ∙ ap (λ ns. comes_first ns a b) none))
+defined_before (s ∷ sections) names a b (own, more, is, order, rest) h =
+    let first : comes_first (own ++ more) a b ≡ true = ap (λ ns. comes_first ns a b) (sym is) ∙ h in
+    let stands = stands_is s.path s.text own order in
+    elim (cases_Bool (is_one_of own b)) [
+      | inl there ↦
+          let in_own = first_in_front own more a b first there in
+          record {
+            earlier = [];
+            section = s;
+            later = sections;
+            splits = refl;
+            there = sym (stands a) ∙ first_is_there own a b in_own;
+            nowhere_earlier = tt;
+            behind = inr (before_in_order s.path s.text own a b order.ordered in_own there);
+          }
+      | inr elsewhere ↦ elim (first_in_either own more a b first) [
+        | inl there ↦ record {
+          earlier = [];
+          section = s;
+          later = sections;
+          splits = refl;
+          there = sym (stands a) ∙ there;
+          nowhere_earlier = tt;
+          behind = inl (sym (stands b) ∙ elsewhere);
+        }
+        | inr after ↦
+            let found = defined_before sections more a b rest after in
+            record {
+              earlier = s ∷ found.earlier;
+              section = found.section;
+              later = found.later;
+              splits = ap (λ ss. s ∷ ss) found.splits;
+              there = found.there;
+              nowhere_earlier = (sym (stands b) ∙ elsewhere, found.nowhere_earlier);
+              behind = found.behind;
+            }
+      ]
+    ]
 
-adds_at : (o : Ordering) (k l : List ℕ) (n m : Node) (es : Entries) → slice_cmp nat_cmp k l ≡ o → is_one_of (names_in (put k n es)) k ≡ true
-    → is_one_of (names_in (match_ordering o (entry k n (entry l m es)) (entry l n es) (entry l m (put k n es)))) k ≡ true
-adds_at Less k l n m es is next = head_in k k (l ∷ names_in es) refl
-adds_at Equal k l n m es is next = head_in l k (names_in es) (sym (exact_bytes k l is))
-adds_at Greater k l n m es is next = tail_in l k (names_in (put k n es)) next
+-- so it is for all ids that stand in the order of names
+pub all_defined_before : (sections : List Section) (names ids : List Name) → AreIdsOf sections names → AllComeFirst names ids → AllDefinedBefore sections ids
+all_defined_before sections names [] are h = h
+all_defined_before sections names (id ∷ ids) are h =
+    (all_map (λ other first. defined_before sections names id other are first) ids h.0, all_defined_before sections names ids are h.1)
 
-put_adds : (k : List ℕ) (n : Node) (es : Entries) → is_one_of (names_in (put k n es)) k ≡ true
-put_adds k n no_entries = head_in k k [] refl
-put_adds k n (entry l m es) = adds_at (slice_cmp nat_cmp k l) k l n m es refl (put_adds k n es)
+-- the ids of some tables, and then of others
+pub ids_of_both : (some others : List Section) (names more : List Name) → AreIdsOf some names → AreIdsOf others more → AreIdsOf (some ++ others) (names ++ more)
+ids_of_both [] others names more none are = subst (AreIdsOf others) (ap (λ ns. ns ++ more) (sym none)) are
+ids_of_both (s ∷ some) others names more (own, rest, is, order, after) are =
+    (own, rest ++ more, ap (λ ns. ns ++ more) is ∙ append_assoc own rest more, order, ids_of_both some others rest more after are)
 
--- what is laid over keeps the lower names, and adds the higher ones
-over_keeps : (a b : Entries) (q : Name) → is_one_of (names_in b) q ≡ true → is_one_of (names_in (entries_over a b)) q ≡ true
-over_keeps no_entries b q h = h
-over_keeps (entry k n a) b q h = put_keeps k _ (entries_over a b) q (over_keeps a b q h)
-
-over_adds : (a b : Entries) (q : Name) → is_one_of (names_in a) q ≡ true → is_one_of (names_in (entries_over a b)) q ≡ true
-over_adds no_entries b q h = cc
-over_adds (entry k n a) b q h =
-    ⊎_elim (λ same. subst (λ q. is_one_of (names_in (entries_over (entry k n a) b)) q ≡ true) same (put_adds k _ (entries_over a b)))
-    (λ among. put_keeps k _ (entries_over a b) q (over_adds a b q among)) (either_text k q (names_in a) (bytes_eq k q) refl h)
-
-laid_table : (x y : Option Node) → IsTableIfThere x → IsTableIfThere y → IsTableIfThere (laid_over x y)
-laid_table None y tx ty = ty
-laid_table (Some (table a)) None tx ty = tt
-laid_table (Some (table a)) (Some (table b)) tx ty = tt
-laid_table (Some (table a)) (Some (array ns)) tx ty = absurd ty
-laid_table (Some (table a)) (Some (text t)) tx ty = absurd ty
-laid_table (Some (table a)) (Some (int z)) tx ty = absurd ty
-laid_table (Some (table a)) (Some (bool b)) tx ty = absurd ty
-laid_table (Some (table a)) (Some opaque) tx ty = absurd ty
-laid_table (Some (array ns)) y tx ty = absurd tx
-laid_table (Some (text t)) y tx ty = absurd tx
-laid_table (Some (int z)) y tx ty = absurd tx
-laid_table (Some (bool b)) y tx ty = absurd tx
-laid_table (Some opaque) y tx ty = absurd tx
-
-laid_keeps : (x y : Option Node) → IsTableIfThere x → (q : Name) → is_one_of (names_at y) q ≡ true → is_one_of (names_at (laid_over x y)) q ≡ true
-laid_keeps None y tx q h = h
-laid_keeps (Some (table a)) None tx q h = cc
-laid_keeps (Some (table a)) (Some (table b)) tx q h = over_keeps a b q h
-laid_keeps (Some (table a)) (Some (array ns)) tx q h = cc
-laid_keeps (Some (table a)) (Some (text t)) tx q h = cc
-laid_keeps (Some (table a)) (Some (int z)) tx q h = cc
-laid_keeps (Some (table a)) (Some (bool b)) tx q h = cc
-laid_keeps (Some (table a)) (Some opaque) tx q h = cc
-laid_keeps (Some (array ns)) y tx q h = absurd tx
-laid_keeps (Some (text t)) y tx q h = absurd tx
-laid_keeps (Some (int z)) y tx q h = absurd tx
-laid_keeps (Some (bool b)) y tx q h = absurd tx
-laid_keeps (Some opaque) y tx q h = absurd tx
-
-laid_adds : (x y : Option Node) → IsTableIfThere x → IsTableIfThere y → (q : Name) → is_one_of (names_at x) q ≡ true → is_one_of (names_at (laid_over x y)) q ≡ true
-laid_adds None y tx ty q h = cc
-laid_adds (Some (table a)) None tx ty q h = h
-laid_adds (Some (table a)) (Some (table b)) tx ty q h = over_adds a b q h
-laid_adds (Some (table a)) (Some (array ns)) tx ty q h = absurd ty
-laid_adds (Some (table a)) (Some (text t)) tx ty q h = absurd ty
-laid_adds (Some (table a)) (Some (int z)) tx ty q h = absurd ty
-laid_adds (Some (table a)) (Some (bool b)) tx ty q h = absurd ty
-laid_adds (Some (table a)) (Some opaque) tx ty q h = absurd ty
-laid_adds (Some (array ns)) y tx ty q h = absurd tx
-laid_adds (Some (text t)) y tx ty q h = absurd tx
-laid_adds (Some (int z)) y tx ty q h = absurd tx
-laid_adds (Some (bool b)) y tx ty q h = absurd tx
-laid_adds (Some opaque) y tx ty q h = absurd tx
-
--- where files have tables of groups if any, merging keeps the groups below
-grows : (b : Entries) (layers : List Entries) → IsTableIfThere (get group_key b) → Each (λ a. IsTableIfThere (get group_key a)) layers → (q : Name) → is_one_of (names_at (get group_key b)) q ≡ true → is_one_of (names_of (merged (table b) (map table layers))) q ≡ true
-grows b [] tb ts q h = h
-grows b (a ∷ layers) tb ts q h =
-    let at = get-entries_over group_key a b in
-    grows (entries_over a b) layers (subst IsTableIfThere (sym at) (laid_table (get group_key a) (get group_key b) ts.0 tb)) ts.1 q
-    (subst (λ o. is_one_of (names_at o) q ≡ true) (sym at) (laid_keeps (get group_key a) (get group_key b) ts.0 q h))
-
--- and has the groups of each of them
-has_all : (b : Entries) (layers rest : List Entries) → IsTableIfThere (get group_key b) → Each (λ a. IsTableIfThere (get group_key a)) (layers ++ rest) → (q : Name) → is_one_of (flat_map (λ a. names_at (get group_key a)) layers) q ≡ true → is_one_of (names_of (merged (table b) (map table (layers ++ rest)))) q ≡ true
-has_all b [] rest tb ts q h = cc
-has_all b (a ∷ layers) rest tb ts q h =
-    let at = get-entries_over group_key a b in
-    let both = list_any-append (λ name. bytes_eq name q) (names_at (get group_key a)) (flat_map (λ a. names_at (get group_key a)) layers) in
-    let next = subst IsTableIfThere (sym at) (laid_table (get group_key a) (get group_key b) ts.0 tb) in
-    either (is_one_of (names_at (get group_key a)) q) (is_one_of (flat_map (λ a. names_at (get group_key a)) layers) q) (sym both ∙ h)
-    (λ own. grows (entries_over a b) (layers ++ rest) next ts.1 q (subst (λ o. is_one_of (names_at o) q ≡ true) (sym at) (laid_adds (get group_key a) (get group_key b) ts.0 tb q own)))
-    (λ later. has_all (entries_over a b) layers rest next ts.1 q later)
+-- the ids of one table more
+pub ids_with_last : (path : Path) (ss : List SourceText) (s : SourceText) (names own : List Name) → AreIdsOf (sections_at path ss) names → IsOrder path s.text own → AreIdsOf (sections_at path (ss ++ s ∷ [])) (names ++ own)
+ids_with_last path ss s names own are order =
+    let one = λ (t : SourceText). let section : Section = record { path = path; text = t.text } in section in
+    let last : AreIdsOf (sections_at path (s ∷ [])) own = (own, [], sym (nil_last own), order, refl) in
+    subst (λ (sections : List Section). AreIdsOf sections (names ++ own)) (sym (map-append one ss (s ∷ []))) (ids_of_both (sections_at path ss) (sections_at path (s ∷ [])) names own are last)
   where
-    either : {Z : Type 0} (x y : Bool) → (x || y) ≡ true → (x ≡ true → Z) → (y ≡ true → Z) → Z
-    either true y h f g = f refl
-    either false y h f g = g h
-
--- the members of a source's document
-abbrev pub members_in : SourceText → Entries
-members_in s = entries_in s.text
-
-pub tree_is : (s : SourceText) → tree_in s ≡ table (members_in s)
-tree_is s = text_table s.text
-
-trees_are : (ss : List SourceText) → map tree_in ss ≡ map table (map members_in ss)
-trees_are [] = refl
-trees_are (s ∷ ss) = λ i. tree_is s i ∷ trees_are ss i
-
--- the members of the defaults, among which are no groups
-pub default_members : Entries
-default_members = unwrap_or (as_table defaults) no_entries
-
-pub defaults_are : defaults ≡ table default_members
-unfolding defaults default_members key_text
-defaults_are = refl
-
-pub no_groups : get group_key default_members ≡ None
-unfolding defaults default_members key_text
-no_groups = refl
-
-over_nothing : (o : Option Node) → laid_over o None ≡ o
-over_nothing None = refl
-over_nothing (Some n) = refl
-
--- what stands at the groups of a file over the defaults stands there in the file
-pub own_groups : (s : SourceText) → get group_key (entries_over (members_in s) default_members) ≡ get group_key (members_in s)
-own_groups s = get-entries_over group_key (members_in s) default_members ∙ rw no_groups (over_nothing (get group_key (members_in s)))
-
-own_is : (s : SourceText) → own_tree s ≡ table (entries_over (members_in s) default_members)
-own_is s = λ i. over (tree_is s i) (defaults_are i)
-
-defined_are : (s : SourceText) → defined_by s ≡ names_at (get group_key (members_in s))
-defined_are s = ap names_of (own_is s) ∙ ap names_at (own_groups s)
-
-pub all_defined : (ss : List SourceText) → defined_in ss ≡ flat_map (λ a. names_at (get group_key a)) (map members_in ss)
-all_defined [] = refl
-all_defined (s ∷ ss) = λ i. defined_are s i ++ all_defined ss i
-
--- what the fields of a table say of a key
-schema_of : List ℕ → Fields → Option Schema
-schema_of name no_more = None
-schema_of name (field k must s fs) = if bytes_eq (key_text k) name then Some s else schema_of name fs
-
-groups_schema : schema_of group_key root_fields ≡ Some (map_of identifier_cause group_config)
-unfolding schema_of key_text
-groups_schema = refl
-
-Fine : Schema → List ℕ → Entries → Type 0
-Fine s name es = (n : Node) → get name es ≡ Some n → (p : List ℕ) × (faults s p n ≡ [])
-
-field_at : (b : Bool) (name : List ℕ) (k : Key) (must : Entries → Bool) (s t : Schema) (fs : Fields) (es : Entries) → bytes_eq (key_text k) name ≡ b → (if b then Some s else schema_of name fs) ≡ Some t
-    → field_faults k (must es) (faults s) [] (get (key_text k) es) ++ fields_faults fs [] es ≡ [] → (schema_of name fs ≡ Some t → fields_faults fs [] es ≡ [] → Fine t name es) → Fine t name es
-unfolding Fine field_faults
-field_at true name k must s t fs es is found h next n there =
-    let same : key_text k ≡ name = (bytes_eq-Decides (key_text k) name).0 is in
-    let schema : s ≡ t = cc in
-    let at : get (key_text k) es ≡ Some n = rw same there in
-    let none = (both_empty (field_faults k (must es) (faults s) [] (get (key_text k) es)) (fields_faults fs [] es) h).0 in
-    let here = subst (λ o. field_faults k (must es) (faults s) [] o ≡ []) at none in
-    (below [] (key_text k), rw (← schema) here)
-field_at false name k must s t fs es is found h next n there =
-    next found (both_empty (field_faults k (must es) (faults s) [] (get (key_text k) es)) (fields_faults fs [] es) h).1 n there
-
-field_fine : (name : List ℕ) (t : Schema) (fs : Fields) (es : Entries) → schema_of name fs ≡ Some t → fields_faults fs [] es ≡ [] → Fine t name es
-unfolding schema_of
-field_fine name t no_more es found h = cc
-field_fine name t (field k must s fs) es found h = field_at (bytes_eq (key_text k) name) name k must s t fs es refl found h (field_fine name t fs es)
-
-map_table : (test : List ℕ → Option FaultCause) (s : Schema) (p : List ℕ) (n : Node) → faults (map_of test s) p n ≡ [] → IsTableIfThere (Some n)
-map_table test s p (table es) h = tt
-map_table test s p (array ns) h = cc
-map_table test s p (text t) h = cc
-map_table test s p (int z) h = cc
-map_table test s p (bool b) h = cc
-map_table test s p opaque h = cc
-
-table_if : (es : Entries) (o : Option Node) → get group_key es ≡ o → Fine (map_of identifier_cause group_config) group_key es → IsTableIfThere o
-unfolding Fine
-table_if es None is fine = tt
-table_if es (Some n) is fine = let found = fine n is in map_table identifier_cause group_config found.0 n found.1
-
--- a file without a fault of an element has a table of groups, or none
-readable_groups : (es : Entries) → faults root [] (table es) ≡ [] → IsTableIfThere (get group_key es)
-unfolding root
-readable_groups es h = table_if es (get group_key es) refl (field_fine group_key (map_of identifier_cause group_config) root_fields es groups_schema (both_empty (fields_faults root_fields [] es) [] h).0)
-
-pub file_groups : (s : SourceText) → faults root [] (own_tree s) ≡ [] → IsTableIfThere (get group_key (members_in s))
-file_groups s h = subst IsTableIfThere (own_groups s) (readable_groups (entries_over (members_in s) default_members) (subst (λ n. faults root [] n ≡ []) (own_is s) h))
-
-each_table : (ss : List SourceText) → Each (λ s. faults root [] (own_tree s) ≡ []) ss → Each (λ a. IsTableIfThere (get group_key a)) (map members_in ss)
-each_table [] h = tt
-each_table (s ∷ ss) h = (file_groups s h.0, each_table ss h.1)
-
--- the merged tree defines each group that some files, the lowest, define
-pub merged_defines : (ss rest : List SourceText) → Each (λ s. faults root [] (own_tree s) ≡ []) (ss ++ rest) → (q : Name) → is_one_of (defined_in ss) q ≡ true → is_one_of (names_of (merged_tree (ss ++ rest))) q ≡ true
-merged_defines ss rest fine q h =
-    let layers : map tree_in (ss ++ rest) ≡ map table (map members_in ss ++ map members_in rest) = trees_are (ss ++ rest) ∙ ap (map table) (map-append members_in ss rest) in
-    let tables = subst (λ ms. Each (λ a. IsTableIfThere (get group_key a)) ms) (map-append members_in ss rest) (each_table (ss ++ rest) fine) in
-    let all = has_all default_members (map members_in ss) (map members_in rest) (subst IsTableIfThere (sym no_groups) tt) tables q (rw (← all_defined ss) h) in
-    subst (λ n. is_one_of (names_of n) q ≡ true) (λ i. merged (sym defaults_are i) (sym layers i)) all
+    nil_last : (xs : List Name) → xs ++ [] ≡ xs
+    nil_last [] = refl
+    nil_last (x ∷ xs) = ap (λ ys. x ∷ ys) (nil_last xs)

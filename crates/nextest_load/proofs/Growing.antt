@@ -8,7 +8,7 @@ use Rattle.std.specs.Map.{keys_of}
 use Rattle.std.specs.Ordering.{ordering_reverse}
 use Rattle.std.specs.BTreeMap.{insert_entry}
 use Rattle.std.specs.String.{string_cmp}
-use Rattle.nextest_tables.specs.Seen.{named}
+use Rattle.nextest_tables.specs.View.{by_name}
 use Rattle.nextest_tables.specs.Written.{Name}
 
 below_middle : {X : Type 0} (first : String Global) (es : List (String Global × X)) (e : String Global × X) (more : List (String Global × X)) → AllByRecursion (λ y. string_cmp first y ≡ Less) (keys_of (es ++ e ∷ more)) → string_cmp first e.0 ≡ Less
@@ -37,6 +37,6 @@ pub names_more : {X Y : Type 0} (xs : List (String Global × X)) (ys : List (Str
 names_more xs ys k x y same = last_name xs k x ∙ ap (λ names. names ++ string_bytes k ∷ []) same ∙ sym (last_name ys k y)
 
 -- the values that are seen, with one more
-pub seen_more : {X Y : Type 0} (f : X → Y) (xs : List (String Global × X)) (k : String Global) (x : X) (y : Y) (rest : List (Name × Y)) → f x ≡ y → named f (xs ++ (k, x) ∷ []) ++ rest ≡ named f xs ++ (string_bytes k, y) ∷ rest
+pub seen_more : {X Y : Type 0} (f : X → Y) (xs : List (String Global × X)) (k : String Global) (x : X) (y : Y) (rest : List (Name × Y)) → f x ≡ y → by_name f (xs ++ (k, x) ∷ []) ++ rest ≡ by_name f xs ++ (string_bytes k, y) ∷ rest
 seen_more f [] k x y rest h = ap (λ v. (string_bytes k, v) ∷ rest) h
 seen_more f (e ∷ xs) k x y rest h = ap (λ es. (string_bytes e.0, f e.1) ∷ es) (seen_more f xs k x y rest h)

@@ -1,12 +1,22 @@
-pub mod Duplicates
-pub mod FirstPaths
-pub mod Accepting
-pub mod Least
-pub mod Told
-pub mod Naming
-pub mod Known
-pub mod Ordering
-pub mod Compiling
-pub mod Growing
-pub mod Closing
-pub mod Defining
+mod ByteOrder
+mod Documents
+mod Elements
+mod Files
+mod Laying
+mod Inputs
+mod Growing
+mod Parents
+mod NamesInOrder
+mod Placing
+mod Defining
+mod MergedScripts
+mod Merging
+mod Wholes
+mod Tools
+mod Accepting
+mod SortedTrees
+mod Keeping
+mod Leading
+mod Closing
+mod Loads
+mod LeastFaults

@@ -1,21 +1,35 @@
 -- What a load promises.
-use Rattle.std.specs.Prelude.{◌≡◌, ◌⊎◌, ℕ, List, Result, MatchResult, IfOk}
+use Rattle.std.specs.Prelude.{◌≡◌, ◌⊎◌, List, Result, MatchResult, IfOk}
+use Rattle.nextest_engines.specs.Readings.{Readings}
+use Rattle.nextest_rules.specs.Definitions.{Features}
+use Rattle.nextest_sources.specs.Endings.{Ran, ending, IsMemory}
+use Rattle.nextest_sources.specs.Inputs.{LoadInputs, sources_in}
+use Rattle.nextest_sources.specs.Warnings.{Warning}
+use Rattle.nextest_sources.specs.declared.error.ConfigParseError.{ConfigParseError}
 use Rattle.nextest_load.specs.Accepted.{IsAccepted}
 use Rattle.nextest_load.specs.Closed.{IsClosed}
-use Rattle.nextest_load.specs.Errors.{Found, ended, IsMemory}
-use Rattle.nextest_load.specs.Faults.{load_fault}
-use Rattle.nextest_load.specs.Inputs.{Given, sources_in}
-use Rattle.nextest_load.specs.Texts.{config_of}
-use Rattle.nextest_load.specs.Whole.{Whole, meant_whole}
-use Rattle.nextest_load.specs.declared.error.ConfigParseError.{ConfigParseError}
+use Rattle.nextest_load.specs.Config.{ConfigModel, ScriptTables, config_of}
+use Rattle.nextest_load.specs.Scripts.{AreScriptsOf}
+use Rattle.nextest_load.specs.Steps.{load_steps}
 
--- what a load of files answers: `whole` is the configuration in what it answers, and the rest is what the engines mean
-pub record IsLoad {T E N M K : Type 0} (whole : T → Whole E N) (meaning : E → M) (spec_meaning : N → K) (match_all : M) (read : List ℕ → Result M (List ℕ)) (g : Given) (r : Result T ConfigParseError) : Type 0 where
+-- what was loaded: a configuration, and its scripts
+pub record Loaded (M K : Type 0) : Type 0 where
+  pub config : ConfigModel M K
+  pub scripts : ScriptTables
+
+-- What a load of files answers, where `loaded` is what was loaded in what it answers, by what the
+-- engines mean, and the warnings before and after it.
+pub record IsLoad {T M K P : Type 0} (loaded : T → Loaded M K) (engines : Readings M K P)
+    (features : Features) (files : LoadInputs) (old new : List Warning)
+    (r : Result T ConfigParseError) : Type 0 where
   -- a configuration exactly where every rule holds, want of memory aside
-  pub verdict : MatchResult r (λ _. IsAccepted read g) (λ e. IsMemory e ⊎ (¬ IsAccepted read g))
-  -- else the first fault, with its source and all it carries
-  pub found : Found (load_fault read g) (ended r)
+  pub verdict : MatchResult r (λ _. IsAccepted engines features files)
+      (λ e. IsMemory e ⊎ (¬ IsAccepted engines features files))
+  -- else the first fault, with its source and all it carries; and the warnings before it are told
+  pub ran : Ran (load_steps engines features files) old new (ending r)
   -- the configuration is what the texts mean
-  pub means : IfOk r (λ c. meant_whole meaning spec_meaning (whole c) ≡ config_of match_all read (sources_in g))
+  pub means : IfOk r (λ c. (loaded c).config ≡ config_of engines (sources_in files))
+  -- its scripts are those of the merged tree, in the order in which the files define them
+  pub scripts : IfOk r (λ c. AreScriptsOf (sources_in files) (loaded c).scripts)
   -- and it is closed
-  pub closed : IfOk r (λ c. IsClosed (whole c))
+  pub closed : IfOk r (λ c. IsClosed engines.matches_binary (loaded c).config (loaded c).scripts)

@@ -1,85 +1,158 @@
 //! A loaded configuration.
-use crate::overrides::CompiledOverride;
-use crate::sources::ConfigSource;
+use crate::merged::MergedTables;
+use indexmap::IndexMap;
 use nextest_elements::{CustomTestGroup, TestGroupConfig};
 use nextest_engines::{Filters, Specs};
+use nextest_rules::LayerRules;
+use nextest_scripts::{ScriptId, SetupScriptConfig, WrapperScriptConfig};
 use nextest_tables::ProfileFields;
 use std::collections::BTreeMap;
 use std::marker::Model;
 
-/// The rules of one source, by profile and in the order of the file.
+/// A profile of the merged tree: the profile that it inherits from, and what it writes.
 #[derive(Drop)]
-pub struct LayerRules<F: Filters, S: Specs> {
-    pub source: ConfigSource,
-    pub rules: BTreeMap<String, Vec<CompiledOverride<F, S>>>,
+pub struct MergedProfile {
+    pub inherits: Option<String>,
+    pub fields: ProfileFields,
 }
 
-/// What load makes of its sources: the profiles and the groups of the merged tree, and the rules of every source.
+/// The scripts of a configuration, by id and in the order in which its files define them: those of
+/// the lowest file first, and in a file as they stand there. Setup scripts under the old key
+/// `script` stand behind all others.
+#[derive(Drop)]
+pub struct ScriptConfig {
+    pub setup: IndexMap<ScriptId, SetupScriptConfig>,
+    pub wrapper: IndexMap<ScriptId, WrapperScriptConfig>,
+}
+
+/// What load makes of its sources: the profiles, the groups and the scripts of the merged tree, and
+/// the rules of every source.
 #[derive(Drop)]
 pub struct LoadedConfig<F: Filters, S: Specs> {
-    profiles: BTreeMap<String, ProfileFields>,
+    store_dir: String,
+    profiles: BTreeMap<String, MergedProfile>,
     test_groups: BTreeMap<CustomTestGroup, TestGroupConfig>,
+    scripts: ScriptConfig,
     layers: Vec<LayerRules<F, S>>,
     match_all: F::Expr,
 }
 
 impl<F: Filters, S: Specs> Model for LoadedConfig<F, S> {
-    ghost use Rattle.std.specs.Prelude.{map};
-    ghost use Rattle.nextest_load.specs.Whole.{Whole};
+    ghost use Rattle.std.specs.Prelude.{map, Some, string_bytes};
+    ghost use Rattle.nextest_load.specs.Load.{Loaded};
 
-    ghost Value = { Whole F.Expr S.Spec };
+    ghost Value = { Loaded F.Expr S.Spec };
 
-    ghost use Rattle.nextest_tables.specs.Seen.{named, fields_held};
-    ghost use Rattle.nextest_load.specs.Held.{groups_held, layer_held};
+    ghost use Rattle.nextest_tables.specs.View.{by_name};
+    ghost use Rattle.nextest_rules.specs.View.{layer_view};
+    ghost use Rattle.nextest_load.specs.ConfigView.{groups_view, merged_profile_view, scripts_view};
 
-    ghost view = { λ c. record { profiles = named fields_held c.profiles.entries; test_groups = groups_held c.test_groups.entries; layers = map layer_held c.layers.items; match_all = c.match_all } };
+    ghost view = { λ c. record {
+      config = record {
+        store_dir = Some (string_bytes c.store_dir);
+        profiles = by_name merged_profile_view c.profiles.entries;
+        groups = groups_view c.test_groups.entries;
+        layers = map layer_view c.layers.items;
+        match_all = c.match_all;
+      };
+      scripts = scripts_view c.scripts;
+    } };
+
+    ghost use Rattle.nextest_load.specs.Closed.{IsClosed};
+    ghost use Rattle.nextest_load.specs.Meaning.{config_meaning};
+
+    /// Nothing undefined is named.
+    ghost invariant = { λ c. IsClosed F.holds_binary
+        (config_meaning F.meaning S.spec_meaning (record {
+          store_dir = Some (string_bytes c.store_dir);
+          profiles = by_name merged_profile_view c.profiles.entries;
+          groups = groups_view c.test_groups.entries;
+          layers = map layer_view c.layers.items;
+          match_all = c.match_all;
+        }))
+        (scripts_view c.scripts) };
 }
 
 impl<F: Filters, S: Specs> LoadedConfig<F, S> {
-    ghost use Rattle.std.specs.Prelude.{◌≡◌, map};
-    ghost use Rattle.nextest_tables.specs.Seen.{named, fields_held};
-    ghost use Rattle.nextest_load.specs.Held.{groups_held, layer_held};
+    ghost use Rattle.std.specs.Prelude.{◌≡◌, map, Some, string_bytes};
+    ghost use Rattle.nextest_tables.specs.View.{by_name};
+    ghost use Rattle.nextest_rules.specs.View.{layer_view};
+    ghost use Rattle.nextest_load.specs.Closed.{IsClosed};
+    ghost use Rattle.nextest_load.specs.ConfigView.{groups_view, merged_profile_view, scripts_view};
+    ghost use Rattle.nextest_load.specs.Meaning.{config_meaning};
+    ghost use Rattle.nextest_load.specs.Parts.{config_parts};
 
+    /// The configuration of parts in which nothing undefined is named.
     pub(crate) fn new(
-        profiles: BTreeMap<String, ProfileFields>,
-        test_groups: BTreeMap<CustomTestGroup, TestGroupConfig>,
+        tables: MergedTables,
         layers: Vec<LayerRules<F, S>>,
         match_all: F::Expr,
     ) -> Self
-        ensures { result ≡ record { profiles = named fields_held profiles.entries; test_groups = groups_held test_groups.entries; layers = map layer_held layers.items; match_all = match_all } }
+        requires { IsClosed F.holds_binary
+            (config_meaning F.meaning S.spec_meaning (config_parts tables layers.items match_all))
+            (scripts_view tables.scripts) }
+        ensures { result ≡ record {
+          config = config_parts tables layers.items match_all;
+          scripts = scripts_view tables.scripts;
+        } }
     {
-        LoadedConfig {
+        let MergedTables {
+            store_dir,
             profiles,
             test_groups,
+            scripts,
+        } = tables;
+        LoadedConfig {
+            store_dir,
+            profiles,
+            test_groups,
+            scripts,
             layers,
             match_all,
         }
     }
 
-    /// What each profile of the merged tree writes, by name.
-    pub fn profiles(&self) -> &BTreeMap<String, ProfileFields>
-        ensures { named fields_held result.now.entries ≡ self.now.profiles }
+    /// The directory of the store, as the files write it.
+    pub fn store_dir(&self) -> &str
+        ensures { Some result.now ≡ self.now.config.store_dir }
+    {
+        self.store_dir.as_str()
+    }
+
+    /// The profiles of the merged tree, by name.
+    pub fn profiles(&self) -> &BTreeMap<String, MergedProfile>
+        ensures profiles { by_name merged_profile_view result.now.entries
+            ≡ self.now.config.profiles }
+        ensures closed { let meaning = config_meaning F.meaning S.spec_meaning self.now.config in
+            IsClosed F.holds_binary meaning self.now.scripts }
     {
         &self.profiles
     }
 
     /// The groups that the merged tree defines.
     pub fn test_groups(&self) -> &BTreeMap<CustomTestGroup, TestGroupConfig>
-        ensures { groups_held result.now.entries ≡ self.now.test_groups }
+        ensures { groups_view result.now.entries ≡ self.now.config.groups }
     {
         &self.test_groups
     }
 
+    /// The scripts, in their order.
+    pub fn scripts(&self) -> &ScriptConfig
+        ensures { scripts_view result.now ≡ self.now.scripts }
+    {
+        &self.scripts
+    }
+
     /// The rules of every source, the highest first.
     pub fn layers(&self) -> &[LayerRules<F, S>]
-        ensures { map layer_held result.now ≡ self.now.layers }
+        ensures { map layer_view result.now ≡ self.now.config.layers }
     {
         &self.layers
     }
 
     /// The filter that matches everything, as the engine made it.
     pub fn match_all(&self) -> &F::Expr
-        ensures { result.now ≡ self.now.match_all }
+        ensures { result.now ≡ self.now.config.match_all }
     {
         &self.match_all
     }

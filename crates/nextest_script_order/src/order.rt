@@ -74,7 +74,8 @@ fn place_between(
 }
 
 /// A number of lines between two that is a document, with a document that tells which ids are there
-/// by then.
+/// by then. Lines from a header on are read alone, so that few lines are read often; where that does
+/// not serve, the lines are read from the first one on.
 fn document_between(
     alloc: Global,
     lines: &Lines,

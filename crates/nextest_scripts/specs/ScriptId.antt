@@ -14,6 +14,8 @@ abbrev pub stress_text : Option ℕ → List ℕ
 stress_text None = codes ""
 stress_text (Some index) = codes "@stress-" ++ decimal index
 
--- The id of a script within a run: the run's uuid, hyphenated and in lower case, a colon, the script's id, and the stress index.
+-- The id of a script within a run: the run's uuid, hyphenated and in lower case, a colon, the
+-- script's id, and the stress index.
 abbrev pub unique_text : List ℕ → List ℕ → Option ℕ → List ℕ
-unique_text run script stress = ((hyphenated_text lower run ++ codes ":") ++ script) ++ stress_text stress
+unique_text run script stress =
+    ((hyphenated_text lower run ++ codes ":") ++ script) ++ stress_text stress

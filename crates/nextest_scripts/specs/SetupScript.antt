@@ -1,5 +1,5 @@
 -- Setup scripts: their commands, timeouts and outputs.
-use Rattle.std.specs.Prelude.{◌≡◌, ℕ, List, [], ◌∷◌, true, false, Option, Some, None, Result, codes}
+use Rattle.std.specs.Prelude.{◌≡◌, ℕ, List, [], ◌∷◌, true, false, Option, Some, None, option_map, Result, codes}
 use Rattle.nextest_tree.specs.declared.key.Key.TheVariants as keys
 use Rattle.nextest_tree.specs.Key.{key_text}
 use Rattle.nextest_tree.specs.Leaf.{value, Spells, name_at, bool_at, a_bool, leaf_at, leaf_or}
@@ -42,13 +42,13 @@ setup_timeout_fields =
     (may keys.OnTimeout a_setup_result
     no_more)))
 
--- What the fields of a table say.
-abbrev pub setup_timeout_table : Entries → SetupScriptSlowTimeout
-setup_timeout_table es = record {
-  period = leaf_or 0 duration_at (get (key_text keys.Period) es);
+-- What the fields of a table say, where its period is there.
+abbrev pub setup_timeout_table : Entries → Option SetupScriptSlowTimeout
+setup_timeout_table es = option_map (λ period. record {
+  period = period;
   terminate_after = leaf_at positive_at (get (key_text keys.TerminateAfter) es);
   grace_period = leaf_or usual_grace_period duration_at (get (key_text keys.GracePeriod) es);
-}
+}) (leaf_at duration_at (get (key_text keys.Period) es))
 
 -- A duration, or a table.
 abbrev pub a_setup_timeout : Schema
@@ -64,7 +64,7 @@ setup_timeout_of period = record {
 
 -- A table means what its fields say, and a duration is the period.
 abbrev pub IsSetupTimeout : Node → SetupScriptSlowTimeout → Type 0
-IsSetupTimeout (table es) slow = slow ≡ setup_timeout_table es
+IsSetupTimeout (table es) slow = setup_timeout_table es ≡ Some slow
 IsSetupTimeout n slow =
     (period : ℕ) × Spells duration_at n period × (slow ≡ setup_timeout_of period)
 

@@ -24,7 +24,9 @@ pub struct InvalidConfigScriptName(pub InvalidIdentifier);
 /// A script by its id and its kind.
 #[derive(Debug, Drop, PartialEq, Eq)]
 pub struct ScriptInfo {
+    /// The script's id.
     pub id: ScriptId,
+    /// Its kind.
     pub script_type: ScriptType,
 }
 
@@ -33,7 +35,8 @@ impl ScriptId {
     pub fn new(alloc: Global, id: &str) -> Result<ScriptId, InvalidConfigScriptName>
         ensures text { IfOk result (λ script. script_text script ≡ id.now) }
         ensures ok { OnOk result (IsIdentifier id.now) }
-        ensures refused { IfErr result (λ e. e.0 ≢ InvalidIdentifier.Memory → ¬ IsIdentifier id.now) }
+        ensures refused { IfErr result
+            (λ e. e.0 ≢ InvalidIdentifier.Memory → ¬ IsIdentifier id.now) }
         ensures memory { IfErr result (λ e. e.0 ≡ InvalidIdentifier.Memory → IsIdentifier id.now) }
         ensures flaw { IfErr result (λ e. e.0 ≢ InvalidIdentifier.Memory → HasFlaw id.now e.0) }
     {
@@ -50,14 +53,16 @@ impl ScriptId {
         &self.0
     }
 
-    /// The id of the script within a run, as `6f30..:db@stress-3`: the stress index stands where one is given.
+    /// The id of the script within a run, as `6f30..:db@stress-3`: the stress index stands where one
+    /// is given.
     pub fn unique_id(
         &self,
         alloc: Global,
         run_id: Uuid,
         stress_index: Option<u32>,
     ) -> Result<String, AllocError>
-        ensures { IfOk result (λ id. string_bytes id ≡ unique_text run_id (script_text self.now) stress_index) }
+        ensures { IfOk result (λ id. string_bytes id
+            ≡ unique_text run_id (script_text self.now) stress_index) }
     {
         let id = format!(in alloc; "{run_id}:{self}")?;
         match stress_index {

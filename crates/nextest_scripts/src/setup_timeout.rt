@@ -1,9 +1,9 @@
 //! When a setup script counts as slow, and when it is ended.
-ghost use Rattle.std.specs.Prelude.{◌≡◌};
+ghost use Rattle.std.specs.Prelude.{◌≡◌, Some};
 ghost use Rattle.nextest_tree.specs.Leaf.{Spells};
 ghost use Rattle.nextest_scripts.specs.SetupScript.{IsSetupTimeout, a_setup_result, a_setup_timeout, setup_result_at, setup_timeout_fields, setup_timeout_of, setup_timeout_table};
 
-use nextest_elements::Positive;
+use nextest_elements::{Positive, USUAL_GRACE_PERIOD};
 use nextest_texts::Nanoseconds;
 use nextest_tree::{
     Element, ElementCause, ElementFault, Key, Record, Tree, Walk, optional, read_one_of,
@@ -11,9 +11,6 @@ use nextest_tree::{
 };
 use std::alloc::Global;
 use std::collections::BTreeMap;
-
-/// The nanoseconds of the grace period where none is given: those of a test.
-const USUAL_GRACE_PERIOD: u128 = 10_000_000_000;
 
 /// When a setup script counts as slow, and when it is ended. One that is ended fails.
 #[derive(Clone, Copy, Debug, PartialEq, Eq)]
@@ -64,7 +61,7 @@ impl Element for SetupTimeoutResult {
 impl Record for SetupScriptSlowTimeout {
     ghost fields = { setup_timeout_fields };
 
-    ghost is_record = { λ es slow. slow ≡ setup_timeout_table es };
+    ghost is_record = { λ es slow. setup_timeout_table es ≡ Some slow };
 
     fn keys() -> &'static [Key] {
         &[

@@ -1,4 +1,13 @@
-pub mod Values
-pub mod Seeing
 pub mod Rows
 pub mod Defaulting
+pub mod FieldValues
+pub mod Ids
+pub mod Platforms
+pub mod Groups
+pub mod Values
+pub mod FileViews
+pub mod ScriptViews
+pub mod Kept
+pub mod Free
+pub mod Form
+pub mod Completing

@@ -28,9 +28,9 @@ use Rattle.nextest_elements.specs.RetryPolicy.{count_at, IsRetry}
 use Rattle.nextest_elements.specs.SlowTimeout.{slow_of, IsSlowTimeout}
 use Rattle.nextest_elements.specs.TestPriority.{priority_at}
 use Rattle.nextest_elements.proofs.Retries.{retry_by_fields}
-use Rattle.nextest_tables.specs.Seen.{report_of}
-use Rattle.nextest_tables.specs.Tables.{AreTexts}
+use Rattle.nextest_tables.specs.Values.{AreTexts}
 use Rattle.nextest_tables.specs.Texts.{texts_in, arguments_in, policy_in, priority_in, slow_in, leak_in, global_in, max_fail_in, report_in, report_table, report_override_in, report_override_table, bench_in, bench_table, bench_override_in, bench_override_table}
+use Rattle.nextest_tables.specs.View.{report_view}
 
 -- what each value shows, a value that may be absent shows
 pub seen_at : {X Y : Type 0} (P : Node → X → Type 0) (show : X → Y) (f : Node → Option Y) → ((n : Node) (x : X) → P n x → Some (show x) ≡ f n)
@@ -153,7 +153,7 @@ one_max_fail opaque x h = absurd h
 pub max_fail_seen : (o : Option Node) (x : Option MaxFail) → IsOptional IsMaxFail o x → x ≡ option_and_then max_fail_in o
 max_fail_seen o x h = same_at IsMaxFail max_fail_in one_max_fail o x h
 
-report_is : (es : Entries) (x : JunitImpl) → IsJunit es x → Some (report_of x) ≡ Some (report_table es)
+report_is : (es : Entries) (x : JunitImpl) → IsJunit es x → Some (report_view x) ≡ Some (report_table es)
 report_is es x h =
     let a = text_seen (get (key_text keys.Path) es) x.path h.path in
     let b = text_seen (get (key_text keys.ReportName) es) x.report_name h.report_name in
@@ -163,8 +163,8 @@ report_is es x h =
     let f = leaf_seen _ (get (key_text keys.FlakyFailStatus) es) x.flaky_fail_status h.flaky_fail_status in
     rw (a, b, c, d, e, f) refl
 
-pub report_seen : (o : Option Node) (x : Option JunitImpl) → IsOptional (InTable IsJunit) o x → option_map report_of x ≡ option_and_then report_in o
-report_seen o x h = seen_at (InTable IsJunit) report_of report_in (in_table IsJunit (λ x. Some (report_of x)) report_in report_is) o x h
+pub report_seen : (o : Option Node) (x : Option JunitImpl) → IsOptional (InTable IsJunit) o x → option_map report_view x ≡ option_and_then report_in o
+report_seen o x h = seen_at (InTable IsJunit) report_view report_in (in_table IsJunit (λ x. Some (report_view x)) report_in report_is) o x h
 
 report_override_is : (es : Entries) (x : JunitOverride) → IsJunitOverride es x → Some x ≡ Some (report_override_table es)
 report_override_is es x h =

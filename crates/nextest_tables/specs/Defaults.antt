@@ -69,22 +69,9 @@ with_ends_default es =
 -- the profile that every configuration has, by default
 unfoldable pub profile_default : Node
 profile_default =
-    table (row keys.Bench bench_default
-    (row keys.FailFast (bool true)
-    (row keys.FailureOutput (text (codes "immediate"))
-    (row keys.FinalStatusLevel (text (codes "flaky"))
-    (row keys.FlakyResult (text (codes "pass"))
-    (row keys.GlobalTimeout (text (codes "30y"))
-    (row keys.Junit junit_default
-    (row keys.LeakTimeout (text (codes "200ms"))
-    (row keys.Retries (int (pos 0))
-    (row keys.RunExtraArgs (array no_nodes)
-    (row keys.SlowTimeout slow_default
-    (row keys.StatusLevel (text (codes "pass"))
-    (row keys.SuccessOutput (text (codes "never"))
-    (row keys.TestThreads (text (codes "num-cpus"))
-    (row keys.ThreadsRequired (int (pos 1))
-    no_entries)))))))))))))))
+    table (put (key_text keys.Bench) bench_default
+    (put (key_text keys.Junit) junit_default
+    (with_ends_default (with_outputs_default (with_runs_default no_entries)))))
 
 -- the name of the other profile that is there by default
 abbrev pub miri_name : List ℕ
@@ -92,7 +79,10 @@ miri_name = codes "default-miri"
 
 -- the profiles that are there by default, of which the second writes nothing
 unfoldable pub profiles_default : Node
-profiles_default = table (entry default_name profile_default (entry miri_name (table no_entries) no_entries))
+profiles_default =
+    table (entry default_name profile_default
+    (entry miri_name (table no_entries)
+    no_entries))
 
 -- the table of defaults
 unfoldable pub defaults : Node

@@ -1,6 +1,9 @@
 pub mod Written
 pub mod Tables
 pub mod Texts
-pub mod Seen
+pub mod FileTexts
+pub mod View
+pub mod Scripts
 pub mod Defaults
-pub mod DefaultValues
+pub mod Complete
+pub mod Values

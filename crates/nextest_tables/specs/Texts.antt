@@ -1,5 +1,5 @@
 -- What the tables of a file say.
-use Rattle.std.specs.Prelude.{ℕ, List, [], ◌∷◌, Option, Some, None, option_map, option_and_then, unwrap_or, false, if◌then◌else◌}
+use Rattle.std.specs.Prelude.{List, [], ◌∷◌, Option, Some, None, option_map, option_and_then, unwrap_or, false, if◌then◌else◌}
 use Rattle.std.specs.Result.{result_ok}
 use Rattle.nextest_tree.specs.declared.key.Key.{Key}
 use Rattle.nextest_tree.specs.declared.key.Key.TheVariants as keys
@@ -18,7 +18,6 @@ use Rattle.nextest_elements.specs.declared.retry_policy.RetryPolicy.{RetryPolicy
 use Rattle.nextest_elements.specs.declared.retry_policy.RetryPolicy.TheVariants as policies
 use Rattle.nextest_elements.specs.declared.slow_timeout.SlowTimeout.{SlowTimeout}
 use Rattle.nextest_elements.specs.declared.test_group.TestGroupConfig.{TestGroupConfig}
-use Rattle.nextest_elements.specs.declared.test_threads.TestThreads.TheVariants.{NumCpus}
 use Rattle.nextest_elements.specs.declared.test_priority.TestPriority.{TestPriority}
 use Rattle.nextest_elements.specs.FlakyResult.{flaky_result_at}
 use Rattle.nextest_elements.specs.Junit.{report_skip_policy_at, junit_flaky_fail_status_at}
@@ -32,7 +31,7 @@ use Rattle.nextest_elements.specs.TestOutputDisplay.{test_output_display_at}
 use Rattle.nextest_elements.specs.TestPriority.{priority_at}
 use Rattle.nextest_elements.specs.TestThreads.{test_threads_at}
 use Rattle.nextest_elements.specs.ThreadsRequired.{threads_required_at}
-use Rattle.nextest_tables.specs.Written.{Name, Arguments, Written, Report, Fields}
+use Rattle.nextest_tables.specs.Written.{Name, Arguments, WrittenSettings, WrittenReport, WrittenFields}
 
 -- what stands at a key of a table
 abbrev pub at_key : Key → Node → Option Node
@@ -77,7 +76,7 @@ max_fail_in (table es) = leaf_at limit_at (get (key_text keys.MaxFail) es)
 max_fail_in _ = None
 
 -- what the table of a profile's report says
-abbrev pub report_table : Entries → Report
+abbrev pub report_table : Entries → WrittenReport
 report_table es = record {
   path = option_and_then as_text (get (key_text keys.Path) es);
   report_name = option_and_then as_text (get (key_text keys.ReportName) es);
@@ -88,7 +87,7 @@ report_table es = record {
 }
 
 -- the report of a profile that a node spells
-abbrev pub report_in : Node → Option Report
+abbrev pub report_in : Node → Option WrittenReport
 report_in n = option_map report_table (as_table n)
 
 -- what the table of an override's report says
@@ -117,74 +116,53 @@ bench_in n = option_map bench_table (as_table n)
 
 -- what the table of an override's benchmarks says
 abbrev pub bench_override_table : Entries → BenchOverride
-bench_override_table es = record { slow_timeout = option_and_then slow_in (get (key_text keys.SlowTimeout) es) }
+bench_override_table es =
+    record { slow_timeout = option_and_then slow_in (get (key_text keys.SlowTimeout) es) }
 
 -- the timeout of an override's benchmarks that a node spells
 abbrev pub bench_override_in : Node → Option BenchOverride
 bench_override_in n = option_map bench_override_table (as_table n)
 
--- an override as its file writes it
-pub record OverrideText : Type 0 where
-  pub filter : Option (List ℕ)
-  pub written : Written
-
--- what an override says; what is no table says what an empty one would
-abbrev pub override_in : Node → OverrideText
-override_in n = record {
-  filter = option_and_then as_text (at_key keys.Filter n);
-  written = record {
-    priority = option_and_then priority_in (at_key keys.Priority n);
-    threads_required = leaf_at threads_required_at (at_key keys.ThreadsRequired n);
-    run_extra_args = option_and_then arguments_in (at_key keys.RunExtraArgs n);
-    retries = option_and_then policy_in (at_key keys.Retries n);
-    flaky_result = leaf_at flaky_result_at (at_key keys.FlakyResult n);
-    slow_timeout = option_and_then slow_in (at_key keys.SlowTimeout n);
-    leak_timeout = option_and_then leak_in (at_key keys.LeakTimeout n);
-    test_group = leaf_at test_group_at (at_key keys.TestGroup n);
-    success_output = leaf_at test_output_display_at (at_key keys.SuccessOutput n);
-    failure_output = leaf_at test_output_display_at (at_key keys.FailureOutput n);
-    junit = option_and_then report_override_in (at_key keys.Junit n);
-    bench = option_and_then bench_override_in (at_key keys.Bench n);
-  };
+-- what the fields of an override write; what is no table writes what an empty one would
+abbrev pub settings_in : Node → WrittenSettings
+settings_in n = record {
+  priority = option_and_then priority_in (at_key keys.Priority n);
+  threads_required = leaf_at threads_required_at (at_key keys.ThreadsRequired n);
+  run_extra_args = option_and_then arguments_in (at_key keys.RunExtraArgs n);
+  retries = option_and_then policy_in (at_key keys.Retries n);
+  flaky_result = leaf_at flaky_result_at (at_key keys.FlakyResult n);
+  slow_timeout = option_and_then slow_in (at_key keys.SlowTimeout n);
+  leak_timeout = option_and_then leak_in (at_key keys.LeakTimeout n);
+  test_group = leaf_at test_group_at (at_key keys.TestGroup n);
+  success_output = leaf_at test_output_display_at (at_key keys.SuccessOutput n);
+  failure_output = leaf_at test_output_display_at (at_key keys.FailureOutput n);
+  junit = option_and_then report_override_in (at_key keys.Junit n);
+  bench = option_and_then bench_override_in (at_key keys.Bench n);
 }
 
--- what each item says as an override
-abbrev pub overrides_in : Nodes → List OverrideText
-overrides_in no_nodes = []
-overrides_in (node n ns) = override_in n ∷ overrides_in ns
-
--- a profile as its file writes it
-pub record ProfileText : Type 0 where
-  pub fields : Fields
-  pub overrides : List OverrideText
-
--- what a profile says; what is no table says what an empty one would
-abbrev pub profile_in : Node → ProfileText
-profile_in n = record {
-  fields = record {
-    retries = option_and_then policy_in (at_key keys.Retries n);
-    flaky_result = leaf_at flaky_result_at (at_key keys.FlakyResult n);
-    test_threads = leaf_at test_threads_at (at_key keys.TestThreads n);
-    threads_required = leaf_at threads_required_at (at_key keys.ThreadsRequired n);
-    run_extra_args = option_and_then arguments_in (at_key keys.RunExtraArgs n);
-    status_level = leaf_at status_level_at (at_key keys.StatusLevel n);
-    final_status_level = leaf_at final_status_level_at (at_key keys.FinalStatusLevel n);
-    failure_output = leaf_at test_output_display_at (at_key keys.FailureOutput n);
-    success_output = leaf_at test_output_display_at (at_key keys.SuccessOutput n);
-    max_fail = option_and_then max_fail_in (at_key keys.FailFast n);
-    slow_timeout = option_and_then slow_in (at_key keys.SlowTimeout n);
-    global_timeout = option_and_then global_in (at_key keys.GlobalTimeout n);
-    leak_timeout = option_and_then leak_in (at_key keys.LeakTimeout n);
-    junit = option_and_then report_in (at_key keys.Junit n);
-    bench = option_and_then bench_in (at_key keys.Bench n);
-  };
-  overrides = overrides_in (unwrap_or (option_and_then as_array (at_key keys.Overrides n)) no_nodes);
+-- what the fields of a profile write; what is no table writes what an empty one would
+abbrev pub fields_in : Node → WrittenFields
+fields_in n = record {
+  retries = option_and_then policy_in (at_key keys.Retries n);
+  flaky_result = leaf_at flaky_result_at (at_key keys.FlakyResult n);
+  test_threads = leaf_at test_threads_at (at_key keys.TestThreads n);
+  threads_required = leaf_at threads_required_at (at_key keys.ThreadsRequired n);
+  run_extra_args = option_and_then arguments_in (at_key keys.RunExtraArgs n);
+  status_level = leaf_at status_level_at (at_key keys.StatusLevel n);
+  final_status_level = leaf_at final_status_level_at (at_key keys.FinalStatusLevel n);
+  failure_output = leaf_at test_output_display_at (at_key keys.FailureOutput n);
+  success_output = leaf_at test_output_display_at (at_key keys.SuccessOutput n);
+  max_fail = option_and_then max_fail_in (at_key keys.FailFast n);
+  slow_timeout = option_and_then slow_in (at_key keys.SlowTimeout n);
+  global_timeout = option_and_then global_in (at_key keys.GlobalTimeout n);
+  leak_timeout = option_and_then leak_in (at_key keys.LeakTimeout n);
+  junit = option_and_then report_in (at_key keys.Junit n);
+  bench = option_and_then bench_in (at_key keys.Bench n);
 }
 
--- what the table of a group says; what is no table says what an empty one would
-abbrev pub group_in : Node → TestGroupConfig
-group_in n =
-    unwrap_or (option_and_then group_table (as_table n)) (record { max_threads = NumCpus })
+-- what the table of a group says, where its `max-threads` is there
+abbrev pub group_in : Node → Option TestGroupConfig
+group_in n = option_and_then group_table (as_table n)
 
 -- what f reads in each entry of a table, under its key
 abbrev pub each_in : {X : Type 0} → (Node → X) → Entries → List (Name × X)
@@ -194,17 +172,3 @@ each_in f (entry k n es) = (k, f n) ∷ each_in f es
 -- the entries of the table at a key, none where there is no table
 abbrev pub entries_at : Key → Node → Entries
 entries_at k n = unwrap_or (option_and_then as_table (at_key k n)) no_entries
-
--- a whole file: the directory of its store, the groups that it defines, and its profiles
-pub record RootText : Type 0 where
-  pub store_dir : Option (List ℕ)
-  pub test_groups : List (Name × TestGroupConfig)
-  pub profiles : List (Name × ProfileText)
-
--- what a whole file says
-abbrev pub root_in : Node → RootText
-root_in n = record {
-  store_dir = option_and_then as_text (option_and_then (at_key keys.Dir) (at_key keys.Store n));
-  test_groups = each_in group_in (entries_at keys.TestGroups n);
-  profiles = each_in profile_in (entries_at keys.Profile n);
-}

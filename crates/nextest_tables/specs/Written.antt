@@ -32,7 +32,7 @@ abbrev pub Arguments : Type 0
 Arguments = List (List ℕ)
 
 -- what an override writes for each setting
-pub record Written : Type 0 where
+pub record WrittenSettings : Type 0 where
   pub priority : Option TestPriority
   pub threads_required : Option ThreadsRequired
   pub run_extra_args : Option Arguments
@@ -47,7 +47,7 @@ pub record Written : Type 0 where
   pub bench : Option BenchOverride
 
 -- what a profile writes of its report
-pub record Report : Type 0 where
+pub record WrittenReport : Type 0 where
   pub path : Option (List ℕ)
   pub report_name : Option (List ℕ)
   pub store_success_output : Option Bool
@@ -56,7 +56,7 @@ pub record Report : Type 0 where
   pub flaky_fail_status : Option JunitFlakyFailStatus
 
 -- what a profile writes for each of its fields
-pub record Fields : Type 0 where
+pub record WrittenFields : Type 0 where
   pub retries : Option RetryPolicy
   pub flaky_result : Option FlakyResult
   pub test_threads : Option TestThreads
@@ -70,5 +70,5 @@ pub record Fields : Type 0 where
   pub slow_timeout : Option SlowTimeout
   pub global_timeout : Option GlobalTimeout
   pub leak_timeout : Option LeakTimeout
-  pub junit : Option Report
+  pub junit : Option WrittenReport
   pub bench : Option BenchConfig

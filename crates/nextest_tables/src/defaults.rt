@@ -6,9 +6,7 @@ ghost use Rattle.nextest_tree.specs.View.{tree_view, entries_view};
 ghost use Rattle.nextest_tree.specs.Node as Node;
 ghost use Rattle.nextest_tree.specs.Node.{IsSorted, put};
 ghost use Rattle.nextest_tables.specs.Defaults.{store_default, bench_default, junit_default, slow_default, with_runs_default, with_outputs_default, with_ends_default, profile_default, profiles_default, defaults};
-ghost use Rattle.nextest_tables.specs.DefaultValues.{root_default};
-ghost use Rattle.nextest_tables.specs.Tables.{root};
-ghost use Rattle.nextest_tables.specs.Texts.{root_in};
+ghost use Rattle.nextest_tables.specs.Tables.{a_file};
 
 use nextest_tree::{Key, Tree};
 use std::alloc::{AllocError, Global};
@@ -55,7 +53,8 @@ fn with_entry(
     name: &str,
     value: Tree,
 ) -> Result<BTreeMap<String, Tree>, AllocError>
-    ensures { IfOk result (λ new. entries_view new.entries ≡ put name.now (tree_view value) (entries_view rows.entries)) }
+    ensures { IfOk result (λ new. entries_view new.entries
+        ≡ put name.now (tree_view value) (entries_view rows.entries)) }
 {
     drop(rows.insert(String::from_str(alloc, name)?, value)?);
     Ok(rows)
@@ -68,7 +67,8 @@ fn with_row(
     key: Key,
     value: Tree,
 ) -> Result<BTreeMap<String, Tree>, AllocError>
-    ensures { IfOk result (λ new. entries_view new.entries ≡ put (key_text key) (tree_view value) (entries_view rows.entries)) }
+    ensures { IfOk result (λ new. entries_view new.entries
+        ≡ put (key_text key) (tree_view value) (entries_view rows.entries)) }
 {
     with_entry(alloc, rows, key.text(), value)
 }
@@ -80,7 +80,8 @@ fn with_text(
     key: Key,
     value: &str,
 ) -> Result<BTreeMap<String, Tree>, AllocError>
-    ensures { IfOk result (λ new. entries_view new.entries ≡ put (key_text key) (Node.text value.now) (entries_view rows.entries)) }
+    ensures { IfOk result (λ new. entries_view new.entries
+        ≡ put (key_text key) (Node.text value.now) (entries_view rows.entries)) }
 {
     let text = String::from_str(alloc, value)?;
     with_row(alloc, rows, key, Tree::Text(text))
@@ -88,7 +89,8 @@ fn with_text(
 
 /// A table of one row, of a text.
 fn table_of_text(alloc: Global, key: Key, value: &str) -> Result<Tree, AllocError>
-    ensures { IfOk result (λ tree. tree_view tree ≡ Node.table (Node.entry (key_text key) (Node.text value.now) Node.no_entries)) }
+    ensures { IfOk result (λ tree. tree_view tree
+        ≡ Node.table (Node.entry (key_text key) (Node.text value.now) Node.no_entries)) }
 {
     let rows = with_text(alloc, BTreeMap::new(alloc), key, value)?;
     Ok(Tree::Table(rows))
@@ -139,7 +141,8 @@ fn with_runs(
     alloc: Global,
     rows: BTreeMap<String, Tree>,
 ) -> Result<BTreeMap<String, Tree>, AllocError>
-    ensures { IfOk result (λ new. entries_view new.entries ≡ with_runs_default (entries_view rows.entries)) }
+    ensures { IfOk result (λ new. entries_view new.entries
+        ≡ with_runs_default (entries_view rows.entries)) }
 {
     let rows = with_row(alloc, rows, Key::Retries, Tree::Int(0))?;
     let rows = with_text(alloc, rows, Key::FlakyResult, "pass")?;
@@ -153,7 +156,8 @@ fn with_outputs(
     alloc: Global,
     rows: BTreeMap<String, Tree>,
 ) -> Result<BTreeMap<String, Tree>, AllocError>
-    ensures { IfOk result (λ new. entries_view new.entries ≡ with_outputs_default (entries_view rows.entries)) }
+    ensures { IfOk result (λ new. entries_view new.entries
+        ≡ with_outputs_default (entries_view rows.entries)) }
 {
     let rows = with_text(alloc, rows, Key::StatusLevel, "pass")?;
     let rows = with_text(alloc, rows, Key::FinalStatusLevel, "flaky")?;
@@ -166,7 +170,8 @@ fn with_ends(
     alloc: Global,
     rows: BTreeMap<String, Tree>,
 ) -> Result<BTreeMap<String, Tree>, AllocError>
-    ensures { IfOk result (λ new. entries_view new.entries ≡ with_ends_default (entries_view rows.entries)) }
+    ensures { IfOk result (λ new. entries_view new.entries
+        ≡ with_ends_default (entries_view rows.entries)) }
 {
     let rows = with_row(alloc, rows, Key::FailFast, Tree::Bool(true))?;
     let rows = with_row(alloc, rows, Key::SlowTimeout, slow_tree(alloc)?)?;
@@ -210,12 +215,10 @@ pub fn default_tree(alloc: Global) -> Result<Tree, AllocError>
     Ok(Tree::Table(rows))
 }
 
-/// What the default table says. It has no fault and no unknown key; its profile `default` writes every field but the
-/// report's path, and its profile `default-miri` none.
-#[tactic(auto, using(crate::proofs::Defaulting::no_faults, crate::proofs::Defaulting::nothing_unknown, crate::proofs::Defaulting::says, crate::proofs::Defaulting::sorted))]
+/// What the default table is: its keys ascend, and it has no fault and no unknown key.
+#[tactic(auto, using(crate::proofs::Defaulting::no_faults, crate::proofs::Defaulting::nothing_unknown, crate::proofs::Defaulting::sorted))]
 pub fn law_defaults()
     ensures sorted { IsSorted defaults }
-    ensures no_fault { faults root [] defaults ≡ [] }
-    ensures no_unknown { unknown root [] defaults ≡ [] }
-    ensures says { root_in defaults ≡ root_default }
+    ensures no_fault { faults a_file [] defaults ≡ [] }
+    ensures no_unknown { unknown a_file [] defaults ≡ [] }
 {}

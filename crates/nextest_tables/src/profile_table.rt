@@ -1,8 +1,11 @@
 //! The table of a profile.
 ghost use Rattle.nextest_tree.specs.Reads.{InTable};
-ghost use Rattle.nextest_tables.specs.Tables.{a_profile, profile_fields, IsProfile, profile_run_fields, AreProfileRuns, profile_output_fields, AreProfileOutputs, profile_end_fields, AreProfileEnds, profile_table_fields, AreProfileTables};
+ghost use Rattle.nextest_tables.specs.Values.{AreProfileEnds, AreProfileOutputs, AreProfileRuns, IsProfile, IsProfileRest};
+ghost use Rattle.nextest_tables.specs.Tables.{a_profile, profile_end_fields, profile_fields, profile_output_fields, profile_rest_fields, profile_run_fields};
 
+use crate::fields::list_at;
 use crate::override_table::OverrideTable;
+use crate::script_rule_table::ScriptRuleTable;
 use nextest_elements::{
     BenchConfig, FinalStatusLevel, FlakyResult, GlobalTimeout, JunitImpl, LeakTimeout, MaxFail,
     RetryPolicy, SlowTimeout, StatusLevel, TestOutputDisplay, TestThreads, ThreadsRequired,
@@ -11,54 +14,85 @@ use nextest_tree::{Element, ElementFault, Ignored, Key, Record, Tree, Walk, opti
 use std::alloc::Global;
 use std::collections::BTreeMap;
 
-/// What a profile writes for each of its fields.
-#[derive(Debug, Drop)]
-pub struct ProfileFields {
+/// How a profile has tests run.
+#[derive(Drop)]
+pub struct ProfileRuns {
+    /// How often a test is tried again.
     pub retries: Option<RetryPolicy>,
+    /// What comes of a test that passes at a later try.
     pub flaky_result: Option<FlakyResult>,
+    /// How many tests run at once.
     pub test_threads: Option<TestThreads>,
+    /// How many threads a test takes.
     pub threads_required: Option<ThreadsRequired>,
+    /// The arguments that a test is given.
     pub run_extra_args: Option<Vec<String>>,
+}
+
+/// What a profile has shown.
+#[derive(Drop)]
+pub struct ProfileOutputs {
+    /// Which results are shown during the run.
     pub status_level: Option<StatusLevel>,
+    /// Which results are shown at the end.
     pub final_status_level: Option<FinalStatusLevel>,
+    /// When the output of a test is shown where it fails.
     pub failure_output: Option<TestOutputDisplay>,
+    /// When the output of a test is shown where it passes.
     pub success_output: Option<TestOutputDisplay>,
+}
+
+/// When a profile has a run or a test ended.
+#[derive(Drop)]
+pub struct ProfileEnds {
+    /// After how many failures the run ends.
     pub max_fail: Option<MaxFail>,
+    /// When a test counts as slow, and when it is ended.
     pub slow_timeout: Option<SlowTimeout>,
+    /// How long the whole run may take.
     pub global_timeout: Option<GlobalTimeout>,
+    /// How long what a test started may outlive it.
     pub leak_timeout: Option<LeakTimeout>,
+}
+
+/// What a profile writes for each of its fields.
+#[derive(Drop)]
+pub struct ProfileFields {
+    /// How it has tests run.
+    pub runs: ProfileRuns,
+    /// What it has shown.
+    pub outputs: ProfileOutputs,
+    /// When it has a run or a test ended.
+    pub ends: ProfileEnds,
+    /// What it says of its report.
     pub junit: Option<JunitImpl>,
+    /// What it says of benchmarks.
     pub bench: Option<BenchConfig>,
 }
 
 /// A profile as a file writes it.
-#[derive(Debug, Drop)]
+#[derive(Drop)]
 pub struct ProfileTable {
+    /// The text of its default filter.
+    pub default_filter: Option<String>,
     /// What it writes for each field.
     pub fields: ProfileFields,
     /// Its overrides, in the order of the file.
-    pub overrides: Option<Vec<OverrideTable>>,
+    pub overrides: Vec<OverrideTable>,
+    /// Its script rules, in the order of the file.
+    pub scripts: Vec<ScriptRuleTable>,
+    /// The profile that it inherits from.
+    pub inherits: Option<String>,
 }
 
-#[tactic(auto, unfolding(crate::specs::Tables::a_profile))]
-impl Element for ProfileTable {
-    ghost schema = { a_profile };
-
-    ghost is_value = { InTable IsProfile };
-
-    fn read(alloc: Global, tree: &Tree, walk: &mut Walk) -> Result<Self, ElementFault> {
-        read_table(alloc, tree, walk)
-    }
-}
-
-/// How a profile has tests run.
+/// The lists and tables of a profile, and the profile that it inherits from.
 #[derive(Drop)]
-struct ProfileRuns {
-    retries: Option<RetryPolicy>,
-    flaky_result: Option<FlakyResult>,
-    test_threads: Option<TestThreads>,
-    threads_required: Option<ThreadsRequired>,
-    run_extra_args: Option<Vec<String>>,
+struct ProfileRest {
+    overrides: Vec<OverrideTable>,
+    scripts: Vec<ScriptRuleTable>,
+    junit: Option<JunitImpl>,
+    bench: Option<BenchConfig>,
+    inherits: Option<String>,
 }
 
 impl Record for ProfileRuns {
@@ -96,15 +130,6 @@ impl Record for ProfileRuns {
     }
 }
 
-/// What a profile has shown.
-#[derive(Drop)]
-struct ProfileOutputs {
-    status_level: Option<StatusLevel>,
-    final_status_level: Option<FinalStatusLevel>,
-    failure_output: Option<TestOutputDisplay>,
-    success_output: Option<TestOutputDisplay>,
-}
-
 impl Record for ProfileOutputs {
     ghost fields = { profile_output_fields };
 
@@ -135,15 +160,6 @@ impl Record for ProfileOutputs {
             success_output,
         })
     }
-}
-
-/// When a profile has a run or a test ended.
-#[derive(Drop)]
-struct ProfileEnds {
-    max_fail: Option<MaxFail>,
-    slow_timeout: Option<SlowTimeout>,
-    global_timeout: Option<GlobalTimeout>,
-    leak_timeout: Option<LeakTimeout>,
 }
 
 impl Record for ProfileEnds {
@@ -178,21 +194,20 @@ impl Record for ProfileEnds {
     }
 }
 
-/// The lists and tables of a profile.
-#[derive(Drop)]
-struct ProfileTables {
-    overrides: Option<Vec<OverrideTable>>,
-    junit: Option<JunitImpl>,
-    bench: Option<BenchConfig>,
-}
+impl Record for ProfileRest {
+    ghost fields = { profile_rest_fields };
 
-impl Record for ProfileTables {
-    ghost fields = { profile_table_fields };
-
-    ghost is_record = { AreProfileTables };
+    ghost is_record = { IsProfileRest };
 
     fn keys() -> &'static [Key] {
-        &[Key::Overrides, Key::Junit, Key::Archive, Key::Bench]
+        &[
+            Key::Overrides,
+            Key::Scripts,
+            Key::Junit,
+            Key::Archive,
+            Key::Bench,
+            Key::Inherits,
+        ]
     }
 
     fn read_fields(
@@ -200,14 +215,18 @@ impl Record for ProfileTables {
         members: &BTreeMap<String, Tree>,
         walk: &mut Walk,
     ) -> Result<Self, ElementFault> {
-        let overrides = optional(alloc, members, Key::Overrides, walk)?;
+        let overrides = list_at(alloc, members, Key::Overrides, walk)?;
+        let scripts = list_at(alloc, members, Key::Scripts, walk)?;
         let junit = optional(alloc, members, Key::Junit, walk)?;
         let _archive: Option<Ignored> = optional(alloc, members, Key::Archive, walk)?;
         let bench = optional(alloc, members, Key::Bench, walk)?;
-        Ok(ProfileTables {
+        let inherits = optional(alloc, members, Key::Inherits, walk)?;
+        Ok(ProfileRest {
             overrides,
+            scripts,
             junit,
             bench,
+            inherits,
         })
     }
 }
@@ -220,6 +239,7 @@ impl Record for ProfileTable {
 
     fn keys() -> &'static [Key] {
         &[
+            Key::DefaultFilter,
             Key::Retries,
             Key::FlakyResult,
             Key::TestThreads,
@@ -234,9 +254,11 @@ impl Record for ProfileTable {
             Key::GlobalTimeout,
             Key::LeakTimeout,
             Key::Overrides,
+            Key::Scripts,
             Key::Junit,
             Key::Archive,
             Key::Bench,
+            Key::Inherits,
         ]
     }
 
@@ -245,29 +267,34 @@ impl Record for ProfileTable {
         members: &BTreeMap<String, Tree>,
         walk: &mut Walk,
     ) -> Result<Self, ElementFault> {
+        let default_filter = optional(alloc, members, Key::DefaultFilter, walk)?;
         let runs = ProfileRuns::read_fields(alloc, members, walk)?;
         let outputs = ProfileOutputs::read_fields(alloc, members, walk)?;
         let ends = ProfileEnds::read_fields(alloc, members, walk)?;
-        let tables = ProfileTables::read_fields(alloc, members, walk)?;
+        let rest = ProfileRest::read_fields(alloc, members, walk)?;
         Ok(ProfileTable {
+            default_filter,
             fields: ProfileFields {
-                retries: runs.retries,
-                flaky_result: runs.flaky_result,
-                test_threads: runs.test_threads,
-                threads_required: runs.threads_required,
-                run_extra_args: runs.run_extra_args,
-                status_level: outputs.status_level,
-                final_status_level: outputs.final_status_level,
-                failure_output: outputs.failure_output,
-                success_output: outputs.success_output,
-                max_fail: ends.max_fail,
-                slow_timeout: ends.slow_timeout,
-                global_timeout: ends.global_timeout,
-                leak_timeout: ends.leak_timeout,
-                junit: tables.junit,
-                bench: tables.bench,
+                runs,
+                outputs,
+                ends,
+                junit: rest.junit,
+                bench: rest.bench,
             },
-            overrides: tables.overrides,
+            overrides: rest.overrides,
+            scripts: rest.scripts,
+            inherits: rest.inherits,
         })
+    }
+}
+
+#[tactic(auto, unfolding(crate::specs::Tables::a_profile))]
+impl Element for ProfileTable {
+    ghost schema = { a_profile };
+
+    ghost is_value = { InTable IsProfile };
+
+    fn read(alloc: Global, tree: &Tree, walk: &mut Walk) -> Result<Self, ElementFault> {
+        read_table(alloc, tree, walk)
     }
 }

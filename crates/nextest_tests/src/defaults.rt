@@ -1,7 +1,6 @@
 //! The text of the default table, and the table that is built.
-use nextest_config::DEFAULT_CONFIG;
 use nextest_documents::tree_from_text;
-use nextest_tables::default_tree;
+use nextest_tables::{DEFAULT_CONFIG, default_tree};
 use std::alloc::Global;
 use std::test::Fail;
 

@@ -1,25 +1,28 @@
-//! An engine whose tally counts, asked through its bound, and by a configuration of ten overrides.
+//! An engine whose tally counts, asked through its bound, and by a configuration of twenty overrides
+//! and five script rules.
 ghost use Rattle.std.specs.Prelude.{◌≡◌, ◌==◌, ◌++◌, ◌∷◌, [], List, ℕ, Bool, true, Option, None, Some, Result, Ok, Err, option_map, string_bytes, length, refl, if◌then◌else◌};
 ghost use Rattle.std.proofs.Common.{rules};
 ghost use Rattle.std.specs.Option.{option_map_or};
 ghost use Rattle.std.specs.Str.{bytes_eq};
 
 use crate::files::workspace_paths;
+use crate::toys::{all_features, binary_of, test_of};
 use nextest_config::{
-    ConfigFileSelection, DefaultConfigWarnings, EvaluatableProfile, NextestConfig,
+    ConfigFileSelection, DefaultConfigWarnings, EvaluatableProfile, NextestConfig, Setting,
+    SettingSource, WrapperScriptConfig,
 };
 use nextest_elements::NextestRunMode;
 use nextest_engines::history::RuleHistory;
 use nextest_engines::{
-    BinaryQuery, BuildPlatform, BuildPlatforms, EvalContext, FilterFault, Filters, FiltersetKind,
-    ParseContext, SpecFault, Specs, Tally, TestQuery,
+    BinaryQuery, BuildPlatforms, EvalContext, FilterFault, Filters, FiltersetKind, ParseContext,
+    SpecFault, Specs, Tally, TestQuery,
 };
 use std::alloc::{AllocError, Global};
-use std::collections::BTreeSet;
 use std::process::Abort;
 use std::test::Fail;
 
-/// Filters by name: a text matches the tests of that name, and the empty text all.
+/// Filters by name: a text matches the tests of that name and the binaries of that id, and the empty
+/// text all.
 struct Names;
 
 /// A name, or none where all match.
@@ -27,7 +30,7 @@ struct Names;
 struct Name(Option<String>);
 
 /// How many rules are counted one by one.
-const RULES: usize = 10;
+const RULES: usize = 25;
 
 /// How often each rule was evaluated, and whether each evaluation was of the text that spells its rule's number.
 #[derive(Clone, Copy)]
@@ -76,7 +79,10 @@ impl Counted {
 }
 
 /// The texts that spell the rules' numbers.
-static NUMBERS: [&str; RULES] = ["0", "1", "2", "3", "4", "5", "6", "7", "8", "9"];
+static NUMBERS: [&str; RULES] = [
+    "0", "1", "2", "3", "4", "5", "6", "7", "8", "9", "10", "11", "12", "13", "14", "15", "16",
+    "17", "18", "19", "20", "21", "22", "23", "24",
+];
 
 /// Whether the text of a filter spells this rule's number.
 fn is_number(expr: &Name, rule: usize) -> bool {
@@ -101,9 +107,10 @@ impl Filters for Names {
 
     ghost holds = { λ filter test _. option_map_or (λ name. bytes_eq name test.name) filter true };
 
-    ghost holds_binary = { λ filter _ _. option_map_or (λ _. None) filter (Some true) };
+    ghost holds_binary = { λ filter binary _.
+        Some (option_map_or (λ name. bytes_eq name binary.binary_id) filter true) };
 
-    ghost leaves = { λ filter. option_map_or (λ name. name ∷ []) filter [] };
+    ghost leaves = { λ _. [] };
 
     fn parse(&self, alloc: Global, text: &str, kind: FiltersetKind) -> Result<Name, FilterFault> {
         let _kind = kind;
@@ -143,20 +150,16 @@ impl Filters for Names {
         tally: &mut Counted,
     ) -> Option<bool> {
         let _cx = cx;
-        let _query = query;
         tally.record(rule, expr);
         match &expr.0 {
             None => Some(true),
-            Some(_) => None,
+            Some(name) => Some(name.as_str() == query.binary_id),
         }
     }
 
     fn runtime_only_leaves(alloc: Global, expr: &Name) -> Result<Vec<String>, AllocError> {
-        let mut found = Vec::new(alloc);
-        if let Some(name) = &expr.0 {
-            found.push(name.clone()?)?;
-        }
-        Ok(found)
+        let _expr = expr;
+        Ok(Vec::new(alloc))
     }
 
     ghost match_all_matches = { λ _ _. refl };
@@ -214,69 +217,41 @@ fn ask_both<F: Filters>(
     Ok((first, second))
 }
 
-/// The query for a test of this name.
-fn test_of(name: &str) -> TestQuery<'_> {
-    TestQuery {
-        binary_query: BinaryQuery {
-            package_id: "",
-            binary_id: "b",
-            kind: "",
-            binary_name: "",
-            platform: BuildPlatform::Target,
-        },
-        test_name: name,
-    }
-}
-
 #[test]
 fn a_tally_can_count(rt: HostRuntime) -> Result<(), Fail> {
     let mut tally = Counted::new();
     let answers = ask_both(rt.alloc(), &Names, ["3", "4"], &test_of("3"), &mut tally)?;
     assert!(rt; answers == (true, false));
-    assert!(rt; tally.counts.times == [0, 0, 0, 1, 0, 1, 0, 0, 0, 0]);
+    assert!(rt; tally.counts.times[3] == 1 && tally.counts.times[5] == 1);
+    assert!(rt; tally.counts.times.iter().sum::<usize>() == 2);
     assert!(rt; !tally.counts.is_numbered);
     Ok(())
 }
 
-/// Ten overrides, each with its own number as its filter. The last but one sets only what the one before sets too.
-const TEN: &str = r#"
-[[profile.default.overrides]]
-filter = "0"
-retries = 1
-[[profile.default.overrides]]
-filter = "1"
-priority = 1
-[[profile.default.overrides]]
-filter = "2"
-retries = 1
-priority = 1
-[[profile.default.overrides]]
-filter = "3"
-retries = 1
-[[profile.default.overrides]]
-filter = "4"
-retries = 1
-[[profile.default.overrides]]
-filter = "5"
-priority = 1
-[[profile.default.overrides]]
-filter = "6"
-retries = 1
-[[profile.default.overrides]]
-filter = "7"
-retries = 7
-[[profile.default.overrides]]
-filter = "8"
-retries = 8
-[[profile.default.overrides]]
-filter = "9"
-retries = 9
-priority = 9
-"#;
+/// How many of the rules are overrides.
+const OVERRIDES: usize = 20;
 
-/// Loads the ten overrides.
-fn load_ten(alloc: Global) -> Result<NextestConfig<Names, Anywhere>, Fail> {
-    let paths = workspace_paths(alloc, TEN)?;
+/// Twenty overrides and five script rules, each with its own number as its filter.
+fn text_of_rules(alloc: Global) -> Result<String, AllocError> {
+    let mut text = String::from_str(alloc, "[scripts.wrapper.w]\ncommand = 'x'\n")?;
+    for number in 0..OVERRIDES {
+        let values = format!(in alloc; "filter = '{number}'\nretries = {number}\n")?;
+        text.push_str("[[profile.default.overrides]]\n")?;
+        text.push_str(values.as_str())?;
+    }
+    for number in OVERRIDES..RULES {
+        let values = format!(in alloc; "filter = '{number}'\nrun-wrapper = 'w'\n")?;
+        text.push_str("[[profile.default.scripts]]\nlist-wrapper = 'w'\n")?;
+        text.push_str(values.as_str())?;
+    }
+    Ok(text)
+}
+
+/// Loads the rules.
+fn load_rules(alloc: Global) -> Result<NextestConfig<Names, Anywhere>, Fail> {
+    let text = text_of_rules(alloc)?;
+    let paths = workspace_paths(alloc, text.as_str())?;
+    let features = all_features(alloc)?;
     let pcx = ParseContext {
         filters: &Names,
         specs: &Anywhere,
@@ -288,13 +263,13 @@ fn load_ten(alloc: Global) -> Result<NextestConfig<Names, Anywhere>, Fail> {
         &pcx,
         ConfigFileSelection::new(None),
         &[],
-        &BTreeSet::new(alloc),
+        &features,
         &mut warnings,
     )?)
 }
 
-/// The profile of the ten overrides, on any platform.
-fn profile_of_ten(
+/// The profile of the rules, on any platform.
+fn profile_of_rules(
     alloc: Global,
     config: &NextestConfig<Names, Anywhere>,
 ) -> Result<EvaluatableProfile<'_, Names, Anywhere>, Fail> {
@@ -309,57 +284,83 @@ fn profile_of_ten(
     }
 }
 
-/// What a test gets of ten overrides, and how often each was evaluated for that.
-struct Asked {
-    test: &'static str,
-    retries: u32,
-    times: [usize; RULES],
+/// Whether no rule was evaluated twice, each by its own number, and all were where no rule holds.
+fn is_counted(counts: &Counts, first: usize, is_matched: bool) -> bool {
+    counts.is_numbered
+        && counts.times.iter().all(|times| *times <= 1)
+        && (is_matched || counts.times.iter().skip(first).all(|times| *times == 1))
 }
 
-static ASKED: [Asked; 3] = [
-    Asked {
-        test: "none",
-        retries: 0,
-        times: [1, 1, 1, 1, 1, 1, 1, 1, 1, 1],
-    },
-    Asked {
-        test: "7",
-        retries: 7,
-        times: [1, 1, 1, 1, 1, 1, 1, 1, 0, 1],
-    },
-    Asked {
-        test: "2",
-        retries: 1,
-        times: [1, 1, 1, 0, 0, 0, 0, 0, 0, 0],
-    },
+/// The name of a test or of a binary, how often the test is tried again, and whether a wrapper wraps it.
+static ASKED: [(&str, u32, bool); 4] = [
+    ("none", 0, false),
+    ("7", 7, false),
+    ("19", 19, false),
+    ("22", 0, true),
 ];
 
-fn check_asked(rt: &impl Abort, profile: &EvaluatableProfile<'_, Names, Anywhere>, asked: &Asked) {
-    let mut tally = Counted::new();
-    let query = test_of(asked.test);
-    let settings = profile.settings_for(NextestRunMode::Test, &query, &mut tally);
-    assert!(rt;
-        settings.retries().count() == asked.retries,
-        "{}",
-        asked.test
-    );
-    assert!(rt; tally.counts.times == asked.times, "{}", asked.test);
-    assert!(rt; tally.counts.is_numbered);
+/// The program of a wrapper.
+fn program_of(wrapper: Option<&WrapperScriptConfig>) -> Option<&str> {
+    let wrapper = wrapper?;
+    Some(wrapper.command.program.as_str())
 }
 
-/// Asks for each of the tests, one after the other.
-fn check_all(
-    rt: &(impl AllocGlobal + Abort),
-    config: &NextestConfig<Names, Anywhere>,
-) -> Result<(), Fail> {
-    let profile = profile_of_ten(rt.alloc(), config)?;
-    for asked in &ASKED {
-        check_asked(rt, &profile, asked);
-    }
-    Ok(())
+fn check_test(
+    rt: &impl Abort,
+    profile: &EvaluatableProfile<'_, Names, Anywhere>,
+    asked: &(&str, u32, bool),
+) {
+    let (name, retries, is_wrapped) = *asked;
+    let wrapper = is_wrapped.then_some("x");
+    let query = test_of(name);
+    let mut tally = Counted::new();
+    let settings = profile.settings_for(NextestRunMode::Test, &query, &mut tally);
+    assert!(rt; settings.retries().count() == retries, "of {name}");
+    assert!(rt; program_of(settings.run_wrapper()) == wrapper, "of {name}");
+    assert!(rt; is_counted(&tally.counts, 0, name != "none"), "of {name}");
+    let mut tally = Counted::new();
+    let settings = profile.settings_with_source_for(NextestRunMode::Benchmark, &query, &mut tally);
+    let source = settings.source_of(Setting::RunWrapper);
+    assert!(rt; settings.retries().count() == retries, "of {name}");
+    assert!(rt;
+        matches!(source, Some(SettingSource::Script(_))) == is_wrapped,
+        "of {name}"
+    );
+    assert!(rt; is_counted(&tally.counts, 0, name != "none"), "of {name}");
+}
+
+fn check_binary(
+    rt: &impl Abort,
+    profile: &EvaluatableProfile<'_, Names, Anywhere>,
+    asked: &(&str, u32, bool),
+) {
+    let (name, _, is_wrapped) = *asked;
+    let wrapper = is_wrapped.then_some("x");
+    let mut tally = Counted::new();
+    let settings = profile.list_settings_for(&binary_of(name), &mut tally);
+    assert!(rt; program_of(settings.list_wrapper()) == wrapper, "of {name}");
+    assert!(rt;
+        is_counted(&tally.counts, OVERRIDES, is_wrapped),
+        "of {name}"
+    );
+    assert!(rt;
+        tally
+            .counts
+            .times
+            .iter()
+            .take(OVERRIDES)
+            .all(|times| *times == 0),
+        "of {name}"
+    );
 }
 
 #[test]
 fn each_filter_is_evaluated_at_most_once(rt: HostRuntime) -> Result<(), Fail> {
-    check_all(&rt, &load_ten(rt.alloc())?)
+    let config = load_rules(rt.alloc())?;
+    let profile = profile_of_rules(rt.alloc(), &config)?;
+    for asked in &ASKED {
+        check_test(&rt, &profile, asked);
+        check_binary(&rt, &profile, asked);
+    }
+    Ok(())
 }

@@ -10,6 +10,14 @@ pub fn file(alloc: Global, path: &str, text: &str) -> Result<FileInput, AllocErr
     })
 }
 
+/// A file that is not there.
+pub fn missing_file(alloc: Global, path: &str) -> Result<FileInput, AllocError> {
+    Ok(FileInput {
+        path: ConfigPath::new(alloc, path)?,
+        outcome: ReadOutcome::NotFound,
+    })
+}
+
 /// The paths of a workspace whose own file has this text.
 pub fn workspace_paths(alloc: Global, shared: &str) -> Result<ConfigPaths, AllocError> {
     let shared = file(alloc, "/w/.config/nextest.toml", shared)?;

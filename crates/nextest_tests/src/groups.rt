@@ -1,17 +1,10 @@
 //! Groups of tests: copied, and as members of a set.
-use nextest_documents::tree_from_text;
-use nextest_elements::{ConfigIdentifier, CustomTestGroup, Element, TestGroup, Walk};
+use crate::reading::read;
+use nextest_elements::{ConfigIdentifier, CustomTestGroup, TestGroup};
 use std::alloc::Global;
 use std::collections::HashSet;
 use std::process::Abort;
 use std::test::Fail;
-
-/// Reads what stands at the key `x` of a document.
-fn read<T: Element>(alloc: Global, text: &str) -> Result<T, Fail> {
-    let document = tree_from_text(alloc, text)?;
-    let tree = document.get("x").ok_or("no x")?;
-    Ok(T::read(alloc, tree, &mut Walk::new(alloc))?)
-}
 
 fn check_copy(rt: &(impl Abort + AllocGlobal), text: &str) -> Result<(), Fail> {
     let group: TestGroup = read(rt.alloc(), text)?;

@@ -5,6 +5,8 @@
 #![tactic(auto)]
 
 #[cfg(test)]
+mod commands;
+#[cfg(test)]
 mod defaults;
 #[cfg(test)]
 mod engines;
@@ -15,17 +17,37 @@ mod groups;
 #[cfg(test)]
 mod identifiers;
 #[cfg(test)]
+mod loaded;
+#[cfg(test)]
 mod loading;
+#[cfg(test)]
+mod many_profiles;
+#[cfg(test)]
+mod memberships;
+#[cfg(test)]
+mod profile_values;
 #[cfg(test)]
 mod profiles;
 #[cfg(test)]
+mod reading;
+#[cfg(test)]
+mod runs;
+#[cfg(test)]
 mod script_ids;
+#[cfg(test)]
+mod script_orders;
+#[cfg(test)]
+mod scripts;
 #[cfg(test)]
 mod shell_words;
 #[cfg(test)]
 mod showing;
 #[cfg(test)]
+mod sinks;
+#[cfg(test)]
 mod toy_languages;
+#[cfg(test)]
+mod toys;
 #[cfg(test)]
 mod trees;
 #[cfg(test)]

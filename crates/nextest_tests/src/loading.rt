@@ -1,24 +1,14 @@
 //! The four calls that load a configuration.
-use crate::files::{file, workspace_paths};
+use crate::files::{file, missing_file, workspace_paths};
+use crate::toys::{Config, ENGINES, LINUX, host_build};
 use nextest_config::{
-    ConfigFileSelection, ConfigParseError, ConfigPath, ConfigPaths, DefaultConfigWarnings,
-    FileInput, NextestConfig, ReadOutcome, ToolConfigFile, ToolName,
+    ConfigFileSelection, ConfigParseError, ConfigPaths, DefaultConfigWarnings, FileInput,
+    NextestConfig, ToolConfigFile, ToolName,
 };
-use nextest_engines::{BuildPlatforms, ParseContext};
 use std::alloc::{AllocError, Global};
 use std::collections::BTreeSet;
 use std::process::Abort;
 use std::test::Fail;
-use toy_engines::filters::ToyFilters;
-use toy_engines::platforms::ToySpecs;
-
-type Config = NextestConfig<ToyFilters, ToySpecs>;
-
-/// The engines that a load asks.
-const ENGINES: ParseContext<'static, ToyFilters, ToySpecs> = ParseContext {
-    filters: &ToyFilters,
-    specs: &ToySpecs,
-};
 
 /// The files of a load.
 #[derive(Drop)]
@@ -106,10 +96,7 @@ fn by_paths(alloc: Global, inputs: &Inputs) -> Result<Config, ConfigParseError> 
 
 /// How often a configuration tries tests again.
 fn retries_of(alloc: Global, config: &Config) -> Result<u32, Fail> {
-    let platforms = BuildPlatforms {
-        host: String::from_str(alloc, "x86_64-unknown-linux-gnu")?,
-        target: None,
-    };
+    let platforms = host_build(alloc, LINUX)?;
     let profile = config.profile(alloc, "default")?;
     match profile.apply_build_platforms(alloc, &platforms) {
         Ok(profile) => Ok(profile.retries().count()),
@@ -246,13 +233,6 @@ fn a_second_file_of_a_tool_is_refused(rt: HostRuntime) -> Result<(), Fail> {
     add_tool(rt.alloc(), &mut inputs, "a.toml", "")?;
     add_tool(rt.alloc(), &mut inputs, "b.toml", "")?;
     assert_refuses(&rt, &inputs, 1, "b.toml", Some("my-tool"))
-}
-
-fn missing_file(alloc: Global, path: &str) -> Result<FileInput, AllocError> {
-    Ok(FileInput {
-        path: ConfigPath::new(alloc, path)?,
-        outcome: ReadOutcome::NotFound,
-    })
 }
 
 #[test]

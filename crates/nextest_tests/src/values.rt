@@ -5,7 +5,9 @@ use nextest_elements::{
     ReportSkipPolicy, RetryPolicy, SlowTimeoutResult, StatusLevel, TestPriority, TestThreads,
     ThreadsRequired,
 };
-use nextest_scripts::{ProfileScriptType, ScriptType};
+use nextest_scripts::{
+    ProfileScriptType, ScriptType, SetupScriptJunitConfig, WrapperScriptTargetRunner,
+};
 use std::test::Fail;
 
 /// Numbers of threads, and how many they are on so many processors.
@@ -51,6 +53,9 @@ fn values_by_default(rt: HostRuntime) {
     assert!(rt; TestPriority::default() == TestPriority(0));
     assert!(rt; LeakTimeoutResult::default() == LeakTimeoutResult::Pass);
     assert!(rt; SlowTimeoutResult::default() == SlowTimeoutResult::Fail);
+    assert!(rt; WrapperScriptTargetRunner::default() == WrapperScriptTargetRunner::Ignore);
+    let kept = SetupScriptJunitConfig::default();
+    assert!(rt; kept.store_success_output && kept.store_failure_output);
 }
 
 #[test]

@@ -6,12 +6,16 @@ use std::io::{self, ErrorKind, Write};
 use std::process::Abort;
 use std::test::Fail;
 
-/// A disk without files.
-struct NoFiles;
+/// A disk with one file, which has a key that is not known.
+struct OneFile;
 
-impl FileReader for NoFiles {
-    fn read(&self, _alloc: Global, _path: &str) -> Result<ReadOutcome, AllocError> {
-        Ok(ReadOutcome::NotFound)
+impl FileReader for OneFile {
+    fn read(&self, alloc: Global, path: &str) -> Result<ReadOutcome, AllocError> {
+        match path {
+            "z" => Ok(ReadOutcome::Text(String::from_str(alloc, "zz = 1")?)),
+            "full" => Err(AllocError),
+            _ => Ok(ReadOutcome::NotFound),
+        }
     }
 }
 
@@ -68,7 +72,7 @@ fn status_of(
     err: &mut Failing,
 ) -> Result<u8, AllocError> {
     let words = words_of(alloc, line)?;
-    Ok(explain(alloc, &words, &NoFiles, out, err))
+    Ok(explain(alloc, &words, &OneFile, out, err))
 }
 
 /// Runs the program where both writers fail after so many bytes, and asks how many bytes each took.
@@ -88,11 +92,16 @@ fn check_failing(
 }
 
 /// The bytes that fit, the words, and the bytes that each of the two writers takes.
-static ROWS: [(usize, &str, (usize, usize)); 4] = [
+static ROWS: [(usize, &str, (usize, usize)); 9] = [
     (0, "/w default test b t", (0, 0)),
     (0, "/w x test b t", (0, 0)),
+    (0, "/w default test b", (0, 0)),
     (3, "/w default test b t", (3, 0)),
     (3, "/w x test b t", (0, 3)),
+    (3, "/w default test b t --config-file full", (0, 3)),
+    (3, "/w default test b t --config-file z", (0, 3)),
+    (59, "/w x test b t --config-file z", (0, 59)),
+    (70, "/w default test b t --config-file z", (70, 57)),
 ];
 
 #[test]

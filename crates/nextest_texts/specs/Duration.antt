@@ -19,12 +19,16 @@ duration_units =
     ++ sized (10 ^ 3) (codes "us" ∷ codes "usec" ∷ (194 ∷ 181 ∷ 115 ∷ []) ∷ [])
     ++ sized (10 ^ 6) (codes "ms" ∷ codes "msec" ∷ codes "millis" ∷ [])
     ++ sized second (codes "s" ∷ codes "sec" ∷ codes "secs" ∷ codes "second" ∷ codes "seconds" ∷ [])
-    ++ sized (60 * second) (codes "m" ∷ codes "min" ∷ codes "mins" ∷ codes "minute" ∷ codes "minutes" ∷ [])
-    ++ sized (3600 * second) (codes "h" ∷ codes "hr" ∷ codes "hrs" ∷ codes "hour" ∷ codes "hours" ∷ [])
+    ++ sized (60 * second)
+    (codes "m" ∷ codes "min" ∷ codes "mins" ∷ codes "minute" ∷ codes "minutes" ∷ [])
+    ++ sized (3600 * second)
+    (codes "h" ∷ codes "hr" ∷ codes "hrs" ∷ codes "hour" ∷ codes "hours" ∷ [])
     ++ sized (86400 * second) (codes "d" ∷ codes "day" ∷ codes "days" ∷ [])
-    ++ sized (604800 * second) (codes "w" ∷ codes "wk" ∷ codes "wks" ∷ codes "week" ∷ codes "weeks" ∷ [])
+    ++ sized (604800 * second)
+    (codes "w" ∷ codes "wk" ∷ codes "wks" ∷ codes "week" ∷ codes "weeks" ∷ [])
     ++ sized (2630016 * second) (codes "M" ∷ codes "month" ∷ codes "months" ∷ [])
-    ++ sized (31557600 * second) (codes "y" ∷ codes "yr" ∷ codes "yrs" ∷ codes "year" ∷ codes "years" ∷ [])
+    ++ sized (31557600 * second)
+    (codes "y" ∷ codes "yr" ∷ codes "yrs" ∷ codes "year" ∷ codes "years" ∷ [])
 
 -- The unit of this name has this size.
 abbrev pub IsUnit : List ℕ → ℕ → Type 0
@@ -32,7 +36,8 @@ IsUnit name size = Contains duration_units (name, size)
 
 -- ---- the grammar
 
--- One item of a duration: so many spaces, digits, so many spaces, and the name of a unit of this size.
+-- One item of a duration: so many spaces, digits, so many spaces, and the name of a unit of this
+-- size.
 pub record Item : Type 0 where
   pub before : ℕ
   pub digits : List ℕ
@@ -63,7 +68,8 @@ pub record IsRow (items : List Item) (after : ℕ) (text : List ℕ) (n : ℕ) :
   pub spelled : text ≡ flat_map spelling items ++ spaces after
   pub total : n ≡ sum_by nanoseconds items
 
--- The text means n nanoseconds: it is `0` and n is 0, or it is a row of one item or more whose sum is n.
+-- The text means n nanoseconds: it is `0` and n is 0, or it is a row of one item or more whose sum
+-- is n.
 abbrev pub IsDuration : List ℕ → ℕ → Type 0
 IsDuration text n =
     ((text ≡ codes "0") × (n ≡ 0))

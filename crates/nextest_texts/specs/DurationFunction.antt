@@ -57,7 +57,9 @@ words_of text = without_spaces (runs text)
 unfoldable pub sum_of : List Run → Option ℕ
 sum_of [] = Some 0
 sum_of (run Digit digits ∷ run Other name ∷ rest) =
-    option_and_then (λ size. option_map (λ n. digits_value 10 digits * size + n) (sum_of rest)) (unit_size name)
+    option_and_then
+    (λ size. option_map (λ n. digits_value 10 digits * size + n) (sum_of rest))
+    (unit_size name)
 sum_of other = None
 
 -- the same, where there is a number and a unit

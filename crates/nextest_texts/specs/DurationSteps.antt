@@ -36,5 +36,6 @@ ReadsItem text (Err e) = (e ≡ Malformed) × (some_sum_of (words_of text) ≡ N
 
 -- The items of a text are read where they are one or more, and else the text is no duration.
 abbrev pub ReadsItems : List ℕ → Result (Option ℕ) DurationError → Type 0
-ReadsItems text (Ok total) = (n : ℕ) × (total ≡ within_limit n) × (some_sum_of (words_of text) ≡ Some n)
+ReadsItems text (Ok total) =
+    (n : ℕ) × (total ≡ within_limit n) × (some_sum_of (words_of text) ≡ Some n)
 ReadsItems text (Err e) = (e ≡ Malformed) × (some_sum_of (words_of text) ≡ None)

@@ -36,16 +36,18 @@ IsIdentifier text = IsPart text ⊎ IsToolIdentifier text
 -- The characters begin with an XID_Start character, and the others continue a part.
 abbrev pub are_part_characters : List ℕ → Bool
 are_part_characters [] = false
-are_part_characters (first ∷ others) = is_xid_start first && list_all (λ character. is_xid_continue character || character == 45) others
+are_part_characters (first ∷ others) = is_xid_start first
+    && list_all (λ character. is_xid_continue character || character == 45) others
 
 -- Whether a text is a part.
 unfoldable pub is_part : List ℕ → Bool
 is_part text = is_utf8 text && are_part_characters (chars text)
 
--- What stands before and after the first colon that follows the six bytes of `@tool:`.
+-- What stands between the six bytes of `@tool:` and the first colon that follows them.
 abbrev pub tool_of : List ℕ → List ℕ
 tool_of text = before_first (λ byte. byte == 58) (drop 6 text)
 
+-- What stands after the first colon that follows the six bytes of `@tool:`.
 abbrev pub name_of : List ℕ → List ℕ
 name_of text = after_first (λ byte. byte == 58) (drop 6 text)
 

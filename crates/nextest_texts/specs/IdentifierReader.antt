@@ -20,6 +20,7 @@ abbrev pub identifier_at : Node → Result (List ℕ) FaultCause
 identifier_at (text s) = if is_identifier s then Ok s else Err (bad_value s identifier_expected)
 identifier_at _ = Err wrong_kind
 
+-- a text that is an identifier
 unfoldable pub an_identifier : Schema
 an_identifier = value identifier_at
 

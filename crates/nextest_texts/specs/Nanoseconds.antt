@@ -22,5 +22,6 @@ abbrev pub duration_at : Node → Result ℕ FaultCause
 duration_at (text s) = duration_value s (duration_result (duration_of s))
 duration_at _ = Err wrong_kind
 
+-- a text that is a duration
 unfoldable pub a_duration : Schema
 a_duration = value duration_at

@@ -67,8 +67,10 @@ impl ConfigIdentifier {
     pub fn new(alloc: Global, text: &str) -> Result<Self, InvalidIdentifier>
         ensures text { IfOk result (λ identifier. identifier_text identifier ≡ text.now) }
         ensures ok { OnOk result (IsIdentifier text.now) }
-        ensures refused { IfErr result (λ e. e ≢ InvalidIdentifier.Memory → ¬ IsIdentifier text.now) }
-        ensures refused_by_test { IfErr result (λ e. e ≢ InvalidIdentifier.Memory → IsFalse (is_identifier text.now)) }
+        ensures refused { IfErr result
+            (λ e. e ≢ InvalidIdentifier.Memory → ¬ IsIdentifier text.now) }
+        ensures refused_by_test { IfErr result
+            (λ e. e ≢ InvalidIdentifier.Memory → IsFalse (is_identifier text.now)) }
         ensures memory { result ≡ Err InvalidIdentifier.Memory → IsIdentifier text.now }
         ensures flaw { IfErr result (λ e. e ≢ InvalidIdentifier.Memory → HasFlaw text.now e) }
         ensures test { IsTrue (is_identifier text.now) ↔ IsIdentifier text.now }
@@ -96,7 +98,8 @@ impl ConfigIdentifier {
     /// The tool's name and the name that follows it, where the identifier is one of a tool.
     pub fn tool_components(&self) -> Option<(&str, &str)>
         ensures none { IfNone result (¬ IsToolIdentifier (identifier_text self.now)) }
-        ensures parts { IfSome result (λ parts. HasToolParts (identifier_text self.now) parts.0.now parts.1.now) }
+        ensures parts { IfSome result
+            (λ parts. HasToolParts (identifier_text self.now) parts.0.now parts.1.now) }
     {
         split_tool(self.as_str())
     }

@@ -14,7 +14,8 @@ use std::alloc::Global;
 fn identifier_of(alloc: Global, text: &str, walk: &Walk) -> Result<ConfigIdentifier, ElementFault>
     ensures value { IfOk result (λ identifier. identifier_text identifier ≡ text.now) }
     ensures passed { OnOk result (identifier_cause text.now ≡ None) }
-    ensures fault { IfErr result (λ e. Fails e (test_outcome (identifier_cause text.now) (walk_view walk.now))) }
+    ensures fault { IfErr result
+        (λ e. Fails e (test_outcome (identifier_cause text.now) (walk_view walk.now))) }
 {
     match ConfigIdentifier::new(alloc, text) {
         Ok(identifier) => Ok(identifier),

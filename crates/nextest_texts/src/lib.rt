@@ -1,4 +1,5 @@
-//! The texts of a configuration that have a grammar of their own: identifiers, names of tools, durations.
+//! The texts of a configuration that have a grammar of their own: identifiers, names of tools,
+//! durations.
 //!
 //! Each is read from a text alone, and from a tree by the reader of its kind.
 #![tactic(auto)]

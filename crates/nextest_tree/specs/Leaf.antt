@@ -21,30 +21,34 @@ value read = leaf (λ n. cause_of (read n))
 abbrev pub Spells : {X : Type 0} → (Node → Result X FaultCause) → Node → X → Type 0
 Spells read n x = read n ≡ Ok x
 
--- the value of a field that may be absent, and of one with a default
+-- the value of a field that may be absent
 abbrev pub leaf_at : {X : Type 0} → (Node → Result X FaultCause) → Option Node → Option X
 leaf_at read None = None
 leaf_at read (Some n) = result_ok (read n)
 
+-- the value of a field, and the given one where the field is absent
 abbrev pub leaf_or : {X : Type 0} → X → (Node → Result X FaultCause) → Option Node → X
 leaf_or d read o = unwrap_or (leaf_at read o) d
 
--- a text
+-- the text that a node is
 abbrev pub text_at : Node → Result (List ℕ) FaultCause
 text_at (text s) = Ok s
 text_at _ = Err wrong_kind
 
+-- a text
 unfoldable pub a_text : Schema
 a_text = value text_at
 
+-- the node is this text
 abbrev pub IsText : Node → String Global → Type 0
 IsText n s = text_at n ≡ Ok (string_bytes s)
 
--- a truth value
+-- the truth value that a node is
 abbrev pub bool_at : Node → Result Bool FaultCause
 bool_at (bool b) = Ok b
 bool_at _ = Err wrong_kind
 
+-- a truth value
 unfoldable pub a_bool : Schema
 a_bool = value bool_at
 
@@ -52,7 +56,7 @@ a_bool = value bool_at
 abbrev pub names_in : {X : Type 0} → List (Bor (List ℕ) × X) → List (List ℕ × X)
 names_in names = map (λ p. (p.0.now, p.1)) names
 
--- one of these names, of which the refusal says what was expected
+-- what one of these names stands for; a refusal says what was expected
 abbrev pub name_at : {X : Type 0} → List (List ℕ × X) → List ℕ → Node → Result X FaultCause
 name_at names expected (text s) = ok_or (lookup (bytes_eq s) names) (bad_value s expected)
 name_at names expected _ = Err wrong_kind

@@ -5,7 +5,8 @@ use Rattle.std.specs.declared.cmp.Ordering.TheVariants.{Less}
 use Rattle.std.specs.Cmp.Lexicographic.{slice_cmp}
 
 mutual
-  -- a node is a table, or a leaf with its value: an array is one leaf, into which a reader looks by positions
+  -- a node is a table, or a leaf with its value: an array is one leaf, into which a reader looks by
+  -- positions
   pub data Node : Type 0 where
     table : Entries → Node
     array : Nodes → Node
@@ -32,30 +33,35 @@ get k (entry l n es) = match_ordering (slice_cmp nat_cmp k l) (get k es) (Some n
 -- the entries with a node at a key: in place of what stood there, or before the first greater key
 abbrev pub put : List ℕ → Node → Entries → Entries
 put k n no_entries = entry k n no_entries
-put k n (entry l m es) = match_ordering (slice_cmp nat_cmp k l) (entry k n (entry l m es)) (entry l n es) (entry l m (put k n es))
+put k n (entry l m es) = match_ordering (slice_cmp nat_cmp k l)
+    (entry k n (entry l m es)) (entry l n es) (entry l m (put k n es))
 
 -- the keys, in the order of the entries
 abbrev pub keys : Entries → List (List ℕ)
 keys no_entries = []
 keys (entry k n es) = k ∷ keys es
 
--- what the accessors of these names give
+-- the entries of a node that is a table
 abbrev pub as_table : Node → Option Entries
 as_table (table es) = Some es
 as_table _ = None
 
+-- the items of a node that is an array
 abbrev pub as_array : Node → Option Nodes
 as_array (array ns) = Some ns
 as_array _ = None
 
+-- the text of a node that is one
 abbrev pub as_text : Node → Option (List ℕ)
 as_text (text s) = Some s
 as_text _ = None
 
+-- the number of a node that is one
 abbrev pub as_int : Node → Option ℤ
 as_int (int z) = Some z
 as_int _ = None
 
+-- the truth value of a node that is one
 abbrev pub as_bool : Node → Option Bool
 as_bool (bool b) = Some b
 as_bool _ = None
@@ -77,10 +83,12 @@ abbrev mutual
   IsSorted (array ns) = NodesAreSorted ns
   IsSorted _ = Unit {0}
 
+  -- so it is in each item
   pub NodesAreSorted : Nodes → Type 0
   NodesAreSorted no_nodes = Unit {0}
   NodesAreSorted (node n ns) = IsSorted n × NodesAreSorted ns
 
+  -- the keys of these entries ascend, and so it is in the node at each key
   pub EntriesAreSorted : Entries → Type 0
   EntriesAreSorted no_entries = Unit {0}
   EntriesAreSorted (entry k n es) = IsBefore k es × IsSorted n × EntriesAreSorted es

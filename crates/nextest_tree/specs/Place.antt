@@ -33,7 +33,8 @@ Place = List Step
 
 -- which of two steps that start at one node comes first
 pub data IsFirstStep : Step → Step → Type 0 where
-  refused_by_bytes : {k l : List ℕ} → slice_cmp nat_cmp k l ≡ Less → IsFirstStep (other_key k) (other_key l)
+  refused_by_bytes : {k l : List ℕ} → slice_cmp nat_cmp k l ≡ Less
+      → IsFirstStep (other_key k) (other_key l)
   refused_before_field : {k : List ℕ} {i : ℕ} → IsFirstStep (other_key k) (in_field i)
   refused_before_all : {k : List ℕ} → IsFirstStep (other_key k) all_fields
   by_field_order : {i j : ℕ} → i < j → IsFirstStep (in_field i) (in_field j)
@@ -102,29 +103,41 @@ abbrev pub other_causes : Others → List (List ℕ) → List SitedCause
 other_causes noted ks = []
 other_causes refused ks = map (λ k. record { place = other_key k ∷ []; cause = unknown_field }) ks
 
+-- the causes in the items of an array, each at its position from i on
 abbrev pub item_causes : (Node → List SitedCause) → ℕ → Nodes → List SitedCause
 item_causes f i no_nodes = []
 item_causes f i (node n ns) = below_step (at_position i) (f n) ++ item_causes f (i + 1) ns
 
-abbrev pub entry_causes : (List ℕ → Option FaultCause) → (Node → List SitedCause) → Entries → List SitedCause
+-- the causes in the entries of a map, each at its key: those of the key, then those of the value
+abbrev pub entry_causes :
+    (List ℕ → Option FaultCause) → (Node → List SitedCause) → Entries → List SitedCause
 entry_causes test f no_entries = []
-entry_causes test f (entry k n es) = below_step (at_key k) (below_step the_key (cause_here (test k)) ++ below_step the_value (f n)) ++ entry_causes test f es
+entry_causes test f (entry k n es) =
+    below_step (at_key k)
+    (below_step the_key (cause_here (test k)) ++ below_step the_value (f n))
+    ++ entry_causes test f es
 
--- all causes of a node, each at its place
 abbrev mutual
+  -- all causes of a node, each at its place
   pub sited_causes : Schema → Node → List SitedCause
   sited_causes any n = []
   sited_causes (leaf test) n = cause_here (test n)
-  sited_causes (fields how other fs across) (table es) = other_causes how (others (names_of fs) es) ++ (fields_causes 0 fs es ++ below_step all_fields (cause_here (across es)))
+  sited_causes (fields how other fs across) (table es) =
+      other_causes how (others (names_of fs) es)
+      ++ (fields_causes 0 fs es ++ below_step all_fields (cause_here (across es)))
   sited_causes (fields how other fs across) n = sited_causes other n
   sited_causes (map_of test s) (table es) = entry_causes test (sited_causes s) es
   sited_causes (map_of test s) n = cause_here (Some wrong_kind)
-  sited_causes (items_of other s across) (array ns) = item_causes (sited_causes s) 0 ns ++ below_step all_items (cause_here (across ns))
+  sited_causes (items_of other s across) (array ns) =
+      item_causes (sited_causes s) 0 ns ++ below_step all_items (cause_here (across ns))
   sited_causes (items_of other s across) n = sited_causes other n
 
+  -- the causes at the fields, each at its position from i on
   pub fields_causes : ℕ → Fields → Entries → List SitedCause
   fields_causes i no_more es = []
-  fields_causes i (field k must s fs) es = below_step (in_field i) (field_causes k (must es) (sited_causes s) (get (key_text k) es)) ++ fields_causes (i + 1) fs es
+  fields_causes i (field k must s fs) es =
+      below_step (in_field i) (field_causes k (must es) (sited_causes s) (get (key_text k) es))
+      ++ fields_causes (i + 1) fs es
 
 -- the faults of a node are its causes at their places, in the order of places
 pub record AreInOrder (s : Schema) (p : List ℕ) (n : Node) : Type 0 where

@@ -19,7 +19,7 @@ pub record ReadState : Type 0 where
 unfoldable pub start : ReadState
 start = record { path = []; is_noted = λ q. false }
 
--- the spot of a reader's walk
+-- what contracts see of a reader's walk
 unfoldable pub walk_view : Walk → ReadState
 walk_view w = record { path = string_bytes w.path; is_noted = contains_text w.unknown }
 
@@ -27,19 +27,21 @@ walk_view w = record { path = string_bytes w.path; is_noted = contains_text w.un
 abbrev pub noting : List (List ℕ) → ReadState → ReadState
 noting paths at = record { path = at.path; is_noted = λ q. at.is_noted q || is_one_of paths q }
 
--- at what stands at a key, and back at a path
+-- the walk one step on, at what stands at a key
 abbrev pub inside : List ℕ → ReadState → ReadState
 inside k at = record { path = below at.path k; is_noted = at.is_noted }
 
+-- the walk back at a path
 abbrev pub back_at : List ℕ → ReadState → ReadState
 back_at p at = record { path = p; is_noted = at.is_noted }
 
--- With no fault, the unknown paths are noted and the walk stands where it stood; else the first fault is told.
+-- With no fault, the unknown paths are noted and the walk stands where it stood; else the first
+-- fault is told.
 abbrev pub outcome : List Fault → List (List ℕ) → ReadState → Result ReadState Fault
 outcome [] paths at = Ok (noting paths at)
 outcome (f ∷ fs) paths at = Err f
 
--- what reading a node by a schema gives at a spot: this is the contract of every reader
+-- what reading a node by a schema gives where a walk stands: this is the contract of every reader
 unfoldable pub reading : Schema → Node → ReadState → Result ReadState Fault
 reading s n at = outcome (faults s at.path n) (unknown s at.path n) at
 
@@ -49,24 +51,32 @@ abbrev pub ◌>>=◌ : {A B : Type 0} → Result A Fault → (A → Result B Fau
 (Ok x) >>= f = f x
 (Err e) >>= f = Err e
 
--- reading one field of a table, and some fields in order
+-- reading one field of a table
 unfoldable pub reading_field : Key → Bool → Schema → Entries → ReadState → Result ReadState Fault
-reading_field k must s es at = outcome (field_faults k must (faults s) at.path (get (key_text k) es)) (field_unknown k (unknown s) at.path (get (key_text k) es)) at
+reading_field k must s es at = outcome
+    (field_faults k must (faults s) at.path (get (key_text k) es))
+    (field_unknown k (unknown s) at.path (get (key_text k) es)) at
 
+-- reading the fields of a table, each in turn
 abbrev pub reading_fields : Fields → Entries → ReadState → Result ReadState Fault
 reading_fields no_more es at = Ok at
-reading_fields (field k must s fs) es at = reading_field k (must es) s es at >>= reading_fields fs es
+reading_fields (field k must s fs) es at =
+    reading_field k (must es) s es at >>= reading_fields fs es
 
--- a test of what stands at the spot
+-- what a test gives where the walk stands
 abbrev pub test_outcome : Option FaultCause → ReadState → Result ReadState Fault
 test_outcome None at = Ok at
 test_outcome (Some c) at = Err (record { path = at.path; cause = c })
 
--- reading the entries of a map in order: each key, and then its value
-unfoldable pub reading_entry : (List ℕ → Option FaultCause) → Schema → List ℕ → Node → ReadState → Result ReadState Fault
-reading_entry test s k n at = (test_outcome (test k) (inside k at) >>= reading s n) >>= λ mid. Ok (back_at at.path mid)
+-- reading one entry of a map: its key, and then its value
+unfoldable pub reading_entry : (List ℕ → Option FaultCause)
+    → Schema → List ℕ → Node → ReadState → Result ReadState Fault
+reading_entry test s k n at =
+    (test_outcome (test k) (inside k at) >>= reading s n) >>= λ mid. Ok (back_at at.path mid)
 
-abbrev pub reading_entries : (List ℕ → Option FaultCause) → Schema → Entries → ReadState → Result ReadState Fault
+-- reading the entries of a map, each in turn
+abbrev pub reading_entries :
+    (List ℕ → Option FaultCause) → Schema → Entries → ReadState → Result ReadState Fault
 reading_entries test s no_entries at = Ok at
 reading_entries test s (entry k n es) at = reading_entry test s k n at >>= reading_entries test s es
 
@@ -74,7 +84,8 @@ reading_entries test s (entry k n es) at = reading_entry test s k n at >>= readi
 abbrev pub fault_at : List ℕ → ElementCause → Option Fault
 fault_at p causes.WrongKind = Some (record { path = p; cause = wrong_kind })
 fault_at p (causes.Missing k) = Some (record { path = p; cause = missing (string_bytes k) })
-fault_at p (causes.BadValue given expected) = Some (record { path = p; cause = bad_value (string_bytes given) expected.now })
+fault_at p (causes.BadValue given expected) =
+    Some (record { path = p; cause = bad_value (string_bytes given) expected.now })
 fault_at p causes.OutOfRange = Some (record { path = p; cause = out_of_range })
 fault_at p causes.UnknownField = Some (record { path = p; cause = unknown_field })
 fault_at p causes.Memory = None
@@ -83,7 +94,7 @@ fault_at p causes.Memory = None
 unfoldable pub fault_view : ElementFault → Option Fault
 fault_view e = fault_at (string_bytes e.path) e.cause
 
--- the fault that is fault_view, if one is, is the one that reading meets
+-- a refusal tells a fault only if reading meets that fault
 abbrev pub Fails : ElementFault → Result ReadState Fault → Type 0
 Fails e read = (f : Fault) → fault_view e ≡ Some f → read ≡ Err f
 
@@ -115,17 +126,20 @@ IsList P (node n ns) (x ∷ xs) = P n x × IsList P ns xs
 IsList P no_nodes (x ∷ xs) = ⊥
 IsList P (node n ns) [] = ⊥
 
+-- the values are those of the items of an array
 abbrev pub InArray : {X : Type 0} → (Nodes → X → Type 0) → Node → X → Type 0
 InArray P (array ns) x = P ns x
 InArray P _ x = ⊥
 
 -- the values of the entries, one for each, under the same keys
-abbrev pub IsMap : {K X : Type 0} → (K → List ℕ) → (Node → X → Type 0) → Entries → List (K × X) → Type 0
+abbrev pub IsMap : {K X : Type 0}
+    → (K → List ℕ) → (Node → X → Type 0) → Entries → List (K × X) → Type 0
 IsMap text P no_entries [] = Unit {0}
 IsMap text P (entry k n es) (x ∷ xs) = (text x.0 ≡ k) × P n x.1 × IsMap text P es xs
 IsMap text P no_entries (x ∷ xs) = ⊥
 IsMap text P (entry k n es) [] = ⊥
 
+-- the values are those of the entries of a table
 abbrev pub InTable : {X : Type 0} → (Entries → X → Type 0) → Node → X → Type 0
 InTable P (table es) x = P es x
 InTable P _ x = ⊥

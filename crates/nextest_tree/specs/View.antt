@@ -5,10 +5,12 @@ use Rattle.nextest_tree.specs.Node.{Node, table, array, text, int, bool, opaque,
 use Rattle.nextest_tree.specs.declared.tree.Tree.{Tree, fold-Tree}
 use Rattle.nextest_tree.specs.declared.tree.Tree.TheOpen.{Tree-F}
 
+-- some nodes as the items of an array
 abbrev pub nodes_of : List Node → Nodes
 nodes_of [] = no_nodes
 nodes_of (n ∷ ns) = node n (nodes_of ns)
 
+-- some keys with their nodes as the entries of a table
 abbrev pub entries_of : List (String Global × Node) → Entries
 entries_of [] = no_entries
 entries_of (e ∷ es) = entry (string_bytes e.0) e.1 (entries_of es)
@@ -22,11 +24,14 @@ node_step (Tree-F.Int z) = int z
 node_step (Tree-F.Bool b) = bool b
 node_step Tree-F.Opaque = opaque
 
+-- the node that a tree stands for
 abbrev pub tree_view : Tree → Node
 tree_view = fold-Tree Node node_step
 
+-- the items that some trees stand for
 abbrev pub nodes_view : List Tree → Nodes
 nodes_view ts = nodes_of (map tree_view ts)
 
+-- the entries that some keys with their trees stand for
 abbrev pub entries_view : List (String Global × Tree) → Entries
 entries_view es = entries_of (map (λ e. (e.0, tree_view e.1)) es)

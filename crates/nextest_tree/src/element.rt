@@ -1,7 +1,8 @@
 //! What a reader is: of a value, of a table of fields, and of a name that keys a map.
 //!
-//! The contract of every reader is one equation, `Gives result walk.new (reading schema node spot)`. Its answer is Ok exactly
-//! where the tree has no fault (want of memory aside), and then the walk has noted exactly the tree's unknown paths
+//! The contract of every reader is one equation,
+//! `Gives result walk.new (reading schema node walk)`. Its answer is Ok exactly where the tree has
+//! no fault (want of memory aside), and then the walk has noted exactly the tree's unknown paths
 //! and stands where it stood. Any other refusal but want of memory is the tree's first fault.
 ghost use Rattle.std.specs.Prelude.{◌≡◌, IfOk, IfErr, OnOk, List, Option, ℕ, None};
 ghost use Rattle.std.specs.Ordering.{nat_cmp};
@@ -29,7 +30,8 @@ pub trait Element: Sized + Drop {
     /// Reads the value of a tree.
     fn read(alloc: Global, tree: &Tree, walk: &mut Walk) -> Result<Self, ElementFault>
         ensures value { IfOk result (is_value (tree_view tree.now)) }
-        ensures reads { Gives result walk.new (reading schema (tree_view tree.now) (walk_view walk.old)) };
+        ensures reads { Gives result walk.new
+            (reading schema (tree_view tree.now) (walk_view walk.old)) };
 }
 
 /// A value that a table of fields spells.
@@ -51,7 +53,8 @@ pub trait Record: Sized + Drop {
         walk: &mut Walk,
     ) -> Result<Self, ElementFault>
         ensures value { IfOk result (is_record (entries_view members.now.entries)) }
-        ensures reads { Gives result walk.new (reading_fields fields (entries_view members.now.entries) (walk_view walk.old)) };
+        ensures reads { Gives result walk.new
+            (reading_fields fields (entries_view members.now.entries) (walk_view walk.old)) };
 }
 
 /// A name that keys a map.
@@ -66,7 +69,8 @@ pub trait Name: Sized + Drop + Ord {
     fn read_name(alloc: Global, key: &str, walk: &Walk) -> Result<Self, ElementFault>
         ensures value { IfOk result (λ name. text name ≡ key.now) }
         ensures passed { OnOk result (test key.now ≡ None) }
-        ensures fault { IfErr result (λ e. Fails e (test_outcome (test key.now) (walk_view walk.now))) };
+        ensures fault { IfErr result
+            (λ e. Fails e (test_outcome (test key.now) (walk_view walk.now))) };
 
     /// Names are ordered by their texts.
     ghost ordered: { (a b : Self) → Self.cmp a b ≡ slice_cmp nat_cmp (text a) (text b) };

@@ -31,8 +31,8 @@ pub enum ElementCause {
         /// What may stand there.
         expected: &'static str,
     },
-    /// A number outside its range.
-    #[error("a number out of range")]
+    /// A number outside its range, or a list that is empty and must not be.
+    #[error("out of range")]
     OutOfRange,
     /// A key that its table refuses.
     #[error("unknown field")]

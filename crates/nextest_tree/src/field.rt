@@ -16,7 +16,8 @@ use std::collections::BTreeMap;
 
 /// What stands at a key.
 fn member<'a>(members: &'a BTreeMap<String, Tree>, key: &str) -> Option<&'a Tree>
-    ensures { option_map (λ tree. tree_view tree.now) result ≡ get key.now (entries_view members.now.entries) }
+    ensures { option_map (λ tree. tree_view tree.now) result
+        ≡ get key.now (entries_view members.now.entries) }
 {
     members.get(key)
 }
@@ -30,7 +31,8 @@ pub fn read_below<T: Element>(
     walk: &mut Walk,
 ) -> Result<T, ElementFault>
     ensures value { IfOk result (T.is_value (tree_view tree.now)) }
-    ensures reads { Gives result walk.new (reading_below key.now T.schema (tree_view tree.now) (walk_view walk.old)) }
+    ensures reads { Gives result walk.new
+        (reading_below key.now T.schema (tree_view tree.now) (walk_view walk.old)) }
 {
     let outer = walk.enter(alloc, key)?;
     let value = T::read(alloc, tree, walk)?;
@@ -46,8 +48,11 @@ pub fn optional<T: Element>(
     key: Key,
     walk: &mut Walk,
 ) -> Result<Option<T>, ElementFault>
-    ensures value { IfOk result (IsOptional T.is_value (get (key_text key) (entries_view members.now.entries))) }
-    ensures reads { Gives result walk.new (reading_field key false T.schema (entries_view members.now.entries) (walk_view walk.old)) }
+    ensures value { IfOk result
+        (IsOptional T.is_value (get (key_text key) (entries_view members.now.entries))) }
+    ensures reads { Gives result walk.new
+        (reading_field key false T.schema (entries_view members.now.entries)
+        (walk_view walk.old)) }
 {
     match member(members, key.text()) {
         None => Ok(None),
@@ -66,8 +71,11 @@ pub fn required<T: Element>(
     key: Key,
     walk: &mut Walk,
 ) -> Result<T, ElementFault>
-    ensures value { IfOk result (λ x. IsOptional T.is_value (get (key_text key) (entries_view members.now.entries)) (Some x)) }
-    ensures reads { Gives result walk.new (reading_field key true T.schema (entries_view members.now.entries) (walk_view walk.old)) }
+    ensures value { IfOk result (λ x. IsOptional T.is_value
+        (get (key_text key) (entries_view members.now.entries)) (Some x)) }
+    ensures reads { Gives result walk.new
+        (reading_field key true T.schema (entries_view members.now.entries)
+        (walk_view walk.old)) }
 {
     match member(members, key.text()) {
         None => Err(walk.missing(alloc, key.text())),
@@ -87,9 +95,12 @@ pub fn required_if<T: Element>(
     must: bool,
     walk: &mut Walk,
 ) -> Result<Option<T>, ElementFault>
-    ensures value { IfOk result (IsOptional T.is_value (get (key_text key) (entries_view members.now.entries))) }
+    ensures value { IfOk result
+        (IsOptional T.is_value (get (key_text key) (entries_view members.now.entries))) }
     ensures there { IfOk result (λ value. must ≡ true → IsSome value) }
-    ensures reads { Gives result walk.new (reading_field key must T.schema (entries_view members.now.entries) (walk_view walk.old)) }
+    ensures reads { Gives result walk.new
+        (reading_field key must T.schema (entries_view members.now.entries)
+        (walk_view walk.old)) }
 {
     match member(members, key.text()) {
         None => {

@@ -1,6 +1,7 @@
 //! Trees of documents, and the form of every reader of a tree.
 //!
-//! A reader answers the value that a tree spells, or the tree's first fault, and notes the keys that no schema knows.
+//! A reader answers the value that a tree spells, or the tree's first fault, and notes the keys
+//! that no schema knows.
 #![tactic(auto)]
 
 mod element;

@@ -11,6 +11,7 @@ use crate::fault::{ElementCause, ElementFault};
 use crate::field::read_below;
 use crate::tree::Tree;
 use crate::walk::Walk;
+use itoa::Buffer;
 use std::alloc::Global;
 
 /// Reads each item of an array.
@@ -20,14 +21,13 @@ fn read_items<T: Element>(
     walk: &mut Walk,
 ) -> Result<Vec<T>, ElementFault>
     ensures value { IfOk result (λ values. IsList T.is_value (nodes_view items.now) values.items) }
-    ensures reads { Gives result walk.new (reading_items T.schema 0 (nodes_view items.now) (walk_view walk.old)) }
+    ensures reads { Gives result walk.new
+        (reading_items T.schema 0 (nodes_view items.now) (walk_view walk.old)) }
 {
     let mut values = Vec::new(alloc);
     for (position, item) in items.iter().enumerate() {
-        let Ok(step) = position.to_string(alloc) else {
-            return Err(ElementFault::memory(alloc));
-        };
-        let value = read_below(alloc, item, step.as_str(), walk)?;
+        let mut digits = Buffer::new();
+        let value = read_below(alloc, item, digits.format(position), walk)?;
         let Ok(()) = values.push(value) else {
             return Err(ElementFault::memory(alloc));
         };
@@ -42,7 +42,9 @@ fn read_list<T: Element>(
     walk: &mut Walk,
 ) -> Result<Vec<T>, ElementFault>
     ensures value { IfOk result (λ values. IsList T.is_value (nodes_view items.now) values.items) }
-    ensures reads { Gives result walk.new (reading (list_of T.schema) (Node.array (nodes_view items.now)) (walk_view walk.old)) }
+    ensures reads { Gives result walk.new
+        (reading (list_of T.schema) (Node.array (nodes_view items.now))
+        (walk_view walk.old)) }
 {
     let values = read_items(alloc, items, walk)?;
     Ok(values)

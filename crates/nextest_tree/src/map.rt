@@ -21,7 +21,8 @@ fn read_entry<K: Name, T: Element>(
 ) -> Result<(K, T), ElementFault>
     ensures name { IfOk result (λ e. K.text e.0 ≡ key.now) }
     ensures value { IfOk result (λ e. T.is_value (tree_view tree.now) e.1) }
-    ensures reads { Gives result walk.new (reading_entry K.test T.schema key.now (tree_view tree.now) (walk_view walk.old)) }
+    ensures reads { Gives result walk.new
+        (reading_entry K.test T.schema key.now (tree_view tree.now) (walk_view walk.old)) }
 {
     let outer = walk.enter(alloc, key)?;
     let name = K::read_name(alloc, key, walk)?;
@@ -36,8 +37,11 @@ fn read_entries<K: Name, T: Element>(
     members: &BTreeMap<String, Tree>,
     walk: &mut Walk,
 ) -> Result<BTreeMap<K, T>, ElementFault>
-    ensures value { IfOk result (λ values. IsMap K.text T.is_value (entries_view members.now.entries) values.entries) }
-    ensures reads { Gives result walk.new (reading_entries K.test T.schema (entries_view members.now.entries) (walk_view walk.old)) }
+    ensures value { IfOk result
+        (λ values. IsMap K.text T.is_value (entries_view members.now.entries) values.entries) }
+    ensures reads { Gives result walk.new
+        (reading_entries K.test T.schema (entries_view members.now.entries)
+        (walk_view walk.old)) }
 {
     let mut values = BTreeMap::new(alloc);
     for (key, tree) in members.iter() {
@@ -55,8 +59,11 @@ fn read_map<K: Name, T: Element>(
     members: &BTreeMap<String, Tree>,
     walk: &mut Walk,
 ) -> Result<BTreeMap<K, T>, ElementFault>
-    ensures value { IfOk result (λ values. IsMap K.text T.is_value (entries_view members.now.entries) values.entries) }
-    ensures reads { Gives result walk.new (reading (map_of K.test T.schema) (Node.table (entries_view members.now.entries)) (walk_view walk.old)) }
+    ensures value { IfOk result
+        (λ values. IsMap K.text T.is_value (entries_view members.now.entries) values.entries) }
+    ensures reads { Gives result walk.new
+        (reading (map_of K.test T.schema) (Node.table (entries_view members.now.entries))
+        (walk_view walk.old)) }
 {
     let values = read_entries(alloc, members, walk)?;
     Ok(values)
@@ -66,7 +73,8 @@ fn read_map<K: Name, T: Element>(
 impl<K: Name, T: Element> Element for BTreeMap<K, T> {
     ghost schema = { map_of K.test T.schema };
 
-    ghost is_value = { λ n values. InTable (λ es xs. IsMap K.text T.is_value es xs) n values.entries };
+    ghost is_value = { λ n values.
+        InTable (λ es xs. IsMap K.text T.is_value es xs) n values.entries };
 
     fn read(alloc: Global, tree: &Tree, walk: &mut Walk) -> Result<Self, ElementFault> {
         match tree {

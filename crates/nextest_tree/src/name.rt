@@ -18,8 +18,11 @@ pub fn read_one_of<T: Copy>(
     names: &[(&str, T)],
     expected: &'static str,
 ) -> Result<T, ElementFault>
-    ensures value { IfOk result (λ x. name_at (names_in names.now) expected.now (tree_view tree.now) ≡ Ok x) }
-    ensures fault { IfErr result (λ e. Fails e (reading (value (name_at (names_in names.now) expected.now)) (tree_view tree.now) (walk_view walk.now))) }
+    ensures value { IfOk result
+        (λ x. name_at (names_in names.now) expected.now (tree_view tree.now) ≡ Ok x) }
+    ensures fault { IfErr result (λ e. Fails e
+        (reading (value (name_at (names_in names.now) expected.now))
+        (tree_view tree.now) (walk_view walk.now))) }
 {
     let Tree::Text(text) = tree else {
         return Err(walk.fault(alloc, ElementCause::WrongKind));

@@ -16,7 +16,8 @@ use crate::walk::Walk;
 use std::alloc::Global;
 use std::collections::BTreeMap;
 
-/// Reads a table of fields that refuses its other keys: the first of them is refused before any field is looked at.
+/// Reads a table of fields that refuses its other keys: the first of them is refused before any
+/// field is looked at.
 ///
 /// What stands for a value that is no table says the other schema, and is not read here.
 #[tactic(auto, using(crate::proofs::Reading::closed_table), unfolding(crate::specs::ReadSteps::reading_closed))]
@@ -27,7 +28,8 @@ pub fn read_closed_record<T: Record>(
 ) -> Result<T, ElementFault>
     ensures value { IfOk result (T.is_record (entries_view members.now.entries)) }
     ensures reads { let es = entries_view members.now.entries in (other : Schema)
-        → Gives result walk.new (reading (closed other T.fields) (Node.table es) (walk_view walk.old)) }
+        → Gives result walk.new
+        (reading (closed other T.fields) (Node.table es) (walk_view walk.old)) }
 {
     refuse_others(alloc, members, T::keys(), walk)?;
     let value = T::read_fields(alloc, members, walk)?;
@@ -42,7 +44,9 @@ pub fn read_record<T: Record>(
     walk: &mut Walk,
 ) -> Result<T, ElementFault>
     ensures value { IfOk result (T.is_record (entries_view members.now.entries)) }
-    ensures reads { Gives result walk.new (reading (struct T.fields) (Node.table (entries_view members.now.entries)) (walk_view walk.old)) }
+    ensures reads { Gives result walk.new
+        (reading (struct T.fields) (Node.table (entries_view members.now.entries))
+        (walk_view walk.old)) }
 {
     let value = T::read_fields(alloc, members, walk)?;
     note_others(alloc, members, T::keys(), walk)?;
@@ -53,7 +57,8 @@ pub fn read_record<T: Record>(
 #[tactic(auto, unfolding(crate::specs::Reads::reading, crate::specs::Reads::walk_view))]
 pub fn read_table<T: Record>(alloc: Global, tree: &Tree, walk: &mut Walk) -> Result<T, ElementFault>
     ensures value { IfOk result (InTable T.is_record (tree_view tree.now)) }
-    ensures reads { Gives result walk.new (reading (struct T.fields) (tree_view tree.now) (walk_view walk.old)) }
+    ensures reads { Gives result walk.new
+        (reading (struct T.fields) (tree_view tree.now) (walk_view walk.old)) }
 {
     match tree {
         Tree::Table(members) => read_record(alloc, members, walk),
@@ -81,7 +86,9 @@ fn refuse_others(
     names: &[Key],
     walk: &mut Walk,
 ) -> Result<(), ElementFault>
-    ensures { Gives result walk.new (refusing_others refused names.now (entries_view members.now.entries) (walk_view walk.old)) }
+    ensures { Gives result walk.new
+        (refusing_others refused names.now (entries_view members.now.entries)
+        (walk_view walk.old)) }
 {
     match first_other(members, names) {
         None => Ok(()),
@@ -99,7 +106,9 @@ fn note_others(
     names: &[Key],
     walk: &mut Walk,
 ) -> Result<(), ElementFault>
-    ensures ok { OnOk result (walk_view walk.new ≡ noting_others noted names.now (entries_view members.now.entries) (walk_view walk.old)) }
+    ensures ok { OnOk result (walk_view walk.new
+        ≡ noting_others noted names.now (entries_view members.now.entries)
+        (walk_view walk.old)) }
     ensures err { IfErr result (λ e. fault_view e ≡ None) }
 {
     for key in members.keys() {

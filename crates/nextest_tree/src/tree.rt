@@ -28,7 +28,8 @@ pub enum Tree {
 impl Tree {
     /// The entries of a table.
     pub fn as_table(&self) -> Option<&BTreeMap<String, Tree>>
-        ensures { option_map (λ members. entries_view members.now.entries) result ≡ as_table (tree_view self.now) }
+        ensures { option_map (λ members. entries_view members.now.entries) result
+            ≡ as_table (tree_view self.now) }
     {
         match self {
             Tree::Table(members) => Some(members),
@@ -38,7 +39,8 @@ impl Tree {
 
     /// The items of an array.
     pub fn as_array(&self) -> Option<&[Tree]>
-        ensures { option_map (λ items. nodes_view items.now) result ≡ as_array (tree_view self.now) }
+        ensures { option_map (λ items. nodes_view items.now) result
+            ≡ as_array (tree_view self.now) }
     {
         match self {
             Tree::Array(items) => Some(items),
@@ -78,7 +80,8 @@ impl Tree {
 
     /// What a table has at a key. Nothing but a table has anything there.
     pub fn get(&self, key: &str) -> Option<&Tree>
-        ensures { option_map (λ tree. tree_view tree.now) result ≡ member_of key.now (tree_view self.now) }
+        ensures { option_map (λ tree. tree_view tree.now) result
+            ≡ member_of key.now (tree_view self.now) }
     {
         match self {
             Tree::Table(members) => members.get(key),

@@ -49,7 +49,8 @@ fn trees_of(alloc: Global, items: &toml::value::Array) -> Result<Vec<Tree>, Allo
 
 #[cycle(tree_from_value)]
 fn table_of(alloc: Global, members: &toml::Table) -> Result<BTreeMap<String, Tree>, AllocError>
-    ensures is { IfOk result (λ trees. entries_view trees.entries ≡ from_members (table_view members.now)) }
+    ensures is { IfOk result
+        (λ trees. entries_view trees.entries ≡ from_members (table_view members.now)) }
     ensures sorted { IfOk result (λ trees. EntriesAreSorted (entries_view trees.entries)) }
 {
     let mut trees = BTreeMap::new(alloc);

@@ -9,7 +9,8 @@ use std::collections::BTreeSet;
 
 /// The walk of a reader over a tree: the path that it is at, and the unknown paths that it met.
 ///
-/// Where a reader answers a value, `path` is as it was. After a refusal nothing is promised of a walk.
+/// Where a reader answers a value, `path` is as it was. After a refusal nothing is promised of a
+/// walk.
 #[derive(Debug, Drop)]
 pub struct Walk {
     /// Keys and positions from the root on, joined by dots.
@@ -53,7 +54,8 @@ impl Walk {
 
     /// The fault of this cause at the path, or want of memory.
     pub fn fault(&self, alloc: Global, cause: ElementCause) -> ElementFault
-        ensures { (f : Fault) → fault_view result ≡ Some f → fault_at (walk_view self.now).path cause ≡ Some f }
+        ensures { (f : Fault) → fault_view result ≡ Some f
+            → fault_at (walk_view self.now).path cause ≡ Some f }
     {
         match String::from_str(alloc, self.path.as_str()) {
             Ok(path) => ElementFault { path, cause },
@@ -63,7 +65,10 @@ impl Walk {
 
     /// That the text or key at the path is refused, or want of memory.
     pub fn bad_value(&self, alloc: Global, given: &str, expected: &'static str) -> ElementFault
-        ensures { Fails result (Err (record { path = (walk_view self.now).path; cause = bad_value given.now expected.now })) }
+        ensures { Fails result (Err (record {
+          path = (walk_view self.now).path;
+          cause = bad_value given.now expected.now;
+        })) }
     {
         match String::from_str(alloc, given) {
             Ok(given) => self.fault(alloc, ElementCause::BadValue { given, expected }),
@@ -73,7 +78,8 @@ impl Walk {
 
     /// That the table at the path lacks a key, or want of memory.
     pub fn missing(&self, alloc: Global, key: &str) -> ElementFault
-        ensures { Fails result (Err (record { path = (walk_view self.now).path; cause = missing key.now })) }
+        ensures { Fails result
+            (Err (record { path = (walk_view self.now).path; cause = missing key.now })) }
     {
         match String::from_str(alloc, key) {
             Ok(key) => self.fault(alloc, ElementCause::Missing(key)),
@@ -83,7 +89,8 @@ impl Walk {
 
     /// Notes that no schema knows what stands at a key.
     pub fn note(&mut self, alloc: Global, key: &str) -> Result<(), ElementFault>
-        ensures ok { OnOk result (walk_view self.new ≡ noting (below (walk_view self.old).path key.now ∷ []) (walk_view self.old)) }
+        ensures ok { OnOk result (walk_view self.new
+            ≡ noting (below (walk_view self.old).path key.now ∷ []) (walk_view self.old)) }
         ensures err { IfErr result (λ e. fault_view e ≡ None) }
     {
         let Ok(path) = joined(alloc, self.path.as_str(), key) else {

@@ -32,7 +32,7 @@ pub fn element_answer(
         "junit" => read::<JunitImpl>(alloc, reader, tree),
         "override-junit" => read::<JunitOverride>(alloc, reader, tree),
         "test-threads" => read::<TestThreads>(alloc, reader, tree),
-        "test-groups" => read::<BTreeMap<CustomTestGroup, TestGroupConfig>>(alloc, reader, tree),
+        "test-groups" => read_groups(alloc, reader, tree),
         _ => return None,
     })
 }
@@ -61,7 +61,7 @@ fn walk_at(alloc: Global, reader: &str) -> Result<Walk, AllocError> {
 }
 
 /// The value, and the paths that no schema knows, or the fault.
-fn read<T: Element + Debug>(
+pub fn read<T: Element + Debug>(
     alloc: Global,
     reader: &str,
     tree: &Tree,
@@ -97,6 +97,27 @@ fn read_name<T: Element + Debug + Display>(
         Ok(value) => format!(in alloc; "{value:?}, written {value}"),
         Err(fault) => format!(in alloc; "refused: {fault}"),
     }
+}
+
+/// How each group is written, with its number of threads, or the fault.
+fn read_groups(alloc: Global, reader: &str, tree: &Tree) -> Result<String, AllocError> {
+    let mut walk = walk_at(alloc, reader)?;
+    match BTreeMap::<CustomTestGroup, TestGroupConfig>::read(alloc, tree, &mut walk) {
+        Ok(groups) => text_of_groups(alloc, &groups),
+        Err(fault) => format!(in alloc; "refused: {fault}"),
+    }
+}
+
+fn text_of_groups(
+    alloc: Global,
+    groups: &BTreeMap<CustomTestGroup, TestGroupConfig>,
+) -> Result<String, AllocError> {
+    let mut text = String::new(alloc);
+    for (group, config) in groups.iter() {
+        let line = format!(in alloc; "[{group}: {:?}]", config.max_threads)?;
+        text.push_str(line.as_str())?;
+    }
+    Ok(text)
 }
 
 /// How the group is written, or the fault.

@@ -2,8 +2,8 @@
 //!
 //! A line of standard input is the name of a reader, a space and a TOML value, as `duration "1h 30m"`. Empty lines and lines
 //! that begin with `#` say nothing. The readers are `duration`, `identifier`, `tool-name`, `script-id`, `shell-words`,
-//! `env-key`, `document` and `merged`, which read texts, and the readers of settings, as `slow-timeout`, whose names stand in
-//! `elements.rt`.
+//! `env-key`, `document` and `merged`, which read texts, and the readers of settings and scripts, as `slow-timeout`, whose
+//! names stand in `elements.rt` and `scripts.rt`.
 //!
 //! Each line is printed with ` => ` behind it and then the value, or `refused: ` and the cause. A line of another form is
 //! told on standard error, and the status is 2.
@@ -11,6 +11,7 @@
 
 mod elements;
 mod row;
+mod scripts;
 mod texts;
 
 use row::{RowError, answer_to};

@@ -1,5 +1,6 @@
 //! A line: the name of a reader, and a value.
 use crate::elements::{element_answer, name_answer};
+use crate::scripts::script_answer;
 use crate::texts::{merged_answer, text_answer};
 use nextest_documents::{TextFault, tree_from_text};
 use nextest_elements::Tree;
@@ -47,6 +48,9 @@ fn answer_of(alloc: Global, reader: &str, tree: &Tree) -> Result<Option<String>,
         return answer.map(Some);
     }
     if let Some(answer) = name_answer(alloc, reader, tree) {
+        return answer.map(Some);
+    }
+    if let Some(answer) = script_answer(alloc, reader, tree) {
         return answer.map(Some);
     }
     match tree {

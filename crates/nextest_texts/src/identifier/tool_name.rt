@@ -39,7 +39,8 @@ impl ToolName {
         ensures text { IfOk result (λ name. tool_name_text name ≡ text.now) }
         ensures ok { OnOk result (IsPart text.now) }
         ensures refused { IfErr result (λ e. e ≢ InvalidIdentifier.Memory → ¬ IsPart text.now) }
-        ensures refused_by_test { IfErr result (λ e. e ≢ InvalidIdentifier.Memory → IsFalse (is_part text.now)) }
+        ensures refused_by_test { IfErr result
+            (λ e. e ≢ InvalidIdentifier.Memory → IsFalse (is_part text.now)) }
         ensures memory { result ≡ Err InvalidIdentifier.Memory → IsPart text.now }
         ensures flaw { IfErr result (λ e. e ≢ InvalidIdentifier.Memory → HasPartFlaw text.now e) }
         ensures test { IsTrue (is_part text.now) ↔ IsPart text.now }

@@ -1,20 +1,45 @@
-use Rattle.std.proofs.Common.{refl}
-use Rattle.nextest_engines.specs.declared.queries.FiltersetKind.TheVariants.{OverrideFilter}
-use Rattle.nextest_load.specs.Inputs.{given}
-use Rattle.nextest_load.proofs.Accepting.{verdict}
-use Rattle.nextest_load.proofs.Closing.{closed}
+use Rattle.std.proofs.lemmas.Result.{err_from_is_err_and}
+use Rattle.nextest_engines.specs.Readings.{readings_view}
+use Rattle.nextest_rules.specs.KnownView.{features_view}
+use Rattle.nextest_rules.proofs.AcceptedDefinitions.{accepted_definitions}
+use Rattle.nextest_rules.proofs.AcceptedRules.{accepted_rules}
+use Rattle.nextest_sources.specs.Inputs.{load_inputs_view}
+use Rattle.nextest_sources.proofs.Runs.{ran_exit}
+use Rattle.nextest_load.specs.Meaning.{loaded_meaning}
+use Rattle.nextest_load.proofs.Accepting.{DefinitionsLaw, RulesLaw}
+use Rattle.nextest_load.proofs.Loads.{parts_closed, refused_is, loaded_is}
 use Rattle.nextest_load.proofs.config.LoadedConfig.load.Goals as goal
 
-pub returns-clause-loads : goal.returns-clause-loads
-returns-clause-loads g c =
-    let read = g.F.Filters.read c.args.pcx.now.filters.now OverrideFilter in
-    let all = given c.args.shared.now c.args.selection.config_file c.args.tools.now in
-    record {
-      verdict = verdict read all c.load_given.result c.load_given.ensures.found;
-      found = c.load_given.ensures.found;
-      means = c.load_given.ensures.means;
-      closed = closed read g.F.Filters.meaning g.S.Specs.spec_meaning g.F.Filters.match_all all c.load_given.result c.load_given.ensures.found c.load_given.ensures.means;
+pub returns-in_err-parts : goal.returns-in_err-parts
+returns-in_err-parts g c =
+    let engines = readings_view (g.F.Filters.read c.args.pcx.now.filters.now) (g.S.Specs.read_spec c.args.pcx.now.specs.now) g.F.Filters.match_all g.F.Filters.holds g.F.Filters.holds_binary g.F.Filters.leaves g.S.Specs.holds_on in
+    let files = load_inputs_view c.args.shared.now c.args.selection.config_file c.args.tools.now in
+    let features = features_view c.args.experimental.now in
+    let definitions : DefinitionsLaw features = λ source file. accepted_definitions features source file in
+    let rules : RulesLaw engines = λ lower known source file sorted. accepted_rules engines lower known source file sorted in
+    let e = c.in_err-parts.field-0.0 in
+    let p = err_from_is_err_and c.from_residual.result c.from_residual.ensures.1 in record {
+      loads = refused_is engines features files definitions rules c.law_first_duplicate.ensures.none (loaded_meaning g.F.Filters.meaning g.S.Specs.spec_meaning) c.from_residual.result p.0 p.1
+          (ran_exit _ _ _ _ e c.from_residual.ensures.1 c.in_err-parts.ensures.ran);
     }
 
-pub returns-clause-told : goal.returns-clause-told
-returns-clause-told g c = refl
+pub new-requires : goal.new-requires
+new-requires g c =
+    let engines = readings_view (g.F.Filters.read c.args.pcx.now.filters.now) (g.S.Specs.read_spec c.args.pcx.now.specs.now) g.F.Filters.match_all g.F.Filters.holds g.F.Filters.holds_binary g.F.Filters.leaves g.S.Specs.holds_on in
+    let files = load_inputs_view c.args.shared.now c.args.selection.config_file c.args.tools.now in
+    let features = features_view c.args.experimental.now in
+    let definitions : DefinitionsLaw features = λ source file. accepted_definitions features source file in
+    let rules : RulesLaw engines = λ lower known source file sorted. accepted_rules engines lower known source file sorted in
+    parts_closed g.F.Filters.meaning g.S.Specs.spec_meaning engines features files definitions rules c.law_first_duplicate.ensures.none c.in_ok-parts.parts c.all.result c.all.ensures
+    (g.met.F.Filters.default_filters_answer c.args.pcx.now.filters.now) c.in_ok-parts.ensures.ran c.in_ok-parts.ensures.parts
+
+pub returns : goal.returns
+returns g c =
+    let engines = readings_view (g.F.Filters.read c.args.pcx.now.filters.now) (g.S.Specs.read_spec c.args.pcx.now.specs.now) g.F.Filters.match_all g.F.Filters.holds g.F.Filters.holds_binary g.F.Filters.leaves g.S.Specs.holds_on in
+    let files = load_inputs_view c.args.shared.now c.args.selection.config_file c.args.tools.now in
+    let features = features_view c.args.experimental.now in
+    let definitions : DefinitionsLaw features = λ source file. accepted_definitions features source file in
+    let rules : RulesLaw engines = λ lower known source file sorted. accepted_rules engines lower known source file sorted in record {
+      loads = loaded_is g.F.Filters.meaning g.S.Specs.spec_meaning engines features files definitions rules c.law_first_duplicate.ensures.none c.in_ok-parts.parts c.all.result c.new.result c.all.ensures
+          (g.met.F.Filters.default_filters_answer c.args.pcx.now.filters.now) c.in_ok-parts.ensures.ran c.in_ok-parts.ensures.parts c.new.ensures;
+    }

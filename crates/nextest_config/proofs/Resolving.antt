@@ -1,0 +1,114 @@
+-- From what a load and a profile answer to what resolving promises.
+use Rattle.std.proofs.Common.{map, is_some, ◌≡◌, ◌++◌, ◌∙◌, ◌⊎◌, inl, inr, ℕ, List, [], ◌∷◌, Option, None, Some, Result, Ok, Err, refl, sym, ap, subst, append-nil}
+use Rattle.nextest_engines.specs.Readings.{Readings}
+use Rattle.nextest_inheritance.specs.Parents.{parents_in, IsChain}
+use Rattle.nextest_load.specs.Closed.{IsClosed}
+use Rattle.nextest_load.specs.Config.{config_of, config_parents}
+use Rattle.nextest_load.specs.Scripts.{AreScriptsOf}
+use Rattle.nextest_settings.specs.Profile.{Configured, profile_of, profile_on}
+use Rattle.nextest_settings.specs.Settings.{settings, is_set}
+use Rattle.nextest_tables.specs.FileTexts.{ScriptUse}
+use Rattle.nextest_settings.proofs.Few.{all_rise}
+use Rattle.nextest_sources.specs.Causes.{LoadFault}
+use Rattle.nextest_sources.specs.Endings.{Ending, passed, refused, no_memory as out_of_memory, malformed, WentThrough, Ran}
+use Rattle.nextest_sources.specs.Inputs.{sources_in}
+use Rattle.nextest_sources.specs.Steps.{warnings_before}
+use Rattle.nextest_sources.specs.Warnings.{Warning}
+use Rattle.nextest_tables.specs.FileTexts.{names_in, IsIn}
+use Rattle.nextest_config.specs.Answers.{Question, AreAskedRows, Answers}
+use Rattle.nextest_config.specs.Headline.{Request, Row, Refusal, bad_config, no_profile, no_memory, RulesHold, steps_for, configured_for, AreRows, query_in, Resolves}
+use Rattle.nextest_config.specs.RunView.{TellsEnding, run_view}
+
+module _ {M K P : Type 0} (engines : Readings M K P) (request : Request P) (wold wnew : List Warning) where
+  -- a load that is refused
+  pub load_refused : (numbers : List ℕ) (refusal : Refusal) (o : Ending) → WentThrough (steps_for engines request) wold wnew o
+      → (o ≡ out_of_memory) ⊎ (¬ RulesHold engines request) → (o ≡ passed → ⊥) → TellsEnding o refusal
+      → Resolves engines request (run_view (Err refusal) wold wnew numbers numbers)
+  load_refused numbers refusal passed went verdict unpassed tells = absurd (unpassed refl)
+  load_refused numbers refusal (refused fault) went verdict unpassed tells =
+      let P : Refusal → Type 0 = λ r. Resolves engines request (run_view (Err r) wold wnew numbers numbers) in
+      let broken : ¬ RulesHold engines request = elim verdict [ inl memory ↦ absurd (other memory) | inr fails ↦ fails ] in
+      subst P (sym tells) (record {
+        acceptance = tt;
+        refusal = record { broken = broken; first = went.0; told = refl };
+        absence = tt;
+        unasked = refl;
+        warnings = went.1;
+        rows = ([], sym (append-nil numbers), tt);
+      })
+    where
+      other : refused fault ≡ out_of_memory → ⊥
+      other same = cc
+  load_refused numbers refusal out_of_memory went verdict unpassed tells =
+      let P : Refusal → Type 0 = λ r. Resolves engines request (run_view (Err r) wold wnew numbers numbers) in
+      subst P (sym tells) (record {
+        acceptance = tt;
+        refusal = tt;
+        absence = tt;
+        unasked = tt;
+        warnings = went;
+        rows = ([], sym (append-nil numbers), tt);
+      })
+  load_refused numbers refusal malformed went verdict unpassed tells = absurd went
+
+  -- the question that a request puts to its configuration
+  abbrev pub question_of : Question P
+  question_of = record { profile = request.profile; platforms = request.platforms; mode = request.mode; tests = request.tests }
+
+  module _ (holds : RulesHold engines request) (went : WentThrough (steps_for engines request) wold wnew passed) (configured : Configured M K)
+      (root : configured.root ≡ request.root) (means : configured.config ≡ config_of engines (sources_in request.files))
+      (are_scripts : AreScriptsOf (sources_in request.files) configured.scripts) (closed : IsClosed engines.matches_binary configured.config configured.scripts) where
+    are_rows : (rows : List Row) (numbers : List ℕ) → AreAskedRows engines.meets engines.matches_test configured question_of rows numbers → AreRows engines request rows numbers
+    are_rows rows numbers asked = record {
+      known = subst (λ c. IsIn (names_in c.profiles) request.profile) means asked.known;
+      scripts = configured.scripts;
+      are_scripts = are_scripts;
+      profile = asked.profile;
+      is_profile = record {
+        chain = asked.is_profile.chain;
+        is_chain = subst (λ c. IsChain (parents_in (config_parents c)) request.profile asked.is_profile.chain) means asked.is_profile.is_chain;
+        is_profile = asked.is_profile.is_profile
+            ∙ (λ i. profile_on engines.meets request.platforms (profile_of (record { root = root i; config = means i; scripts = configured.scripts; warnings = [] }) request.profile asked.is_profile.chain));
+      };
+      closure = subst (λ c. IsClosed engines.matches_binary c configured.scripts) means closed;
+      each = asked.are_rows.each;
+      evaluated = asked.are_rows.evaluated;
+      rising = λ test. all_rise asked.profile.overrides asked.profile.script_rules (map (λ s w. is_set w.settings request.mode s) settings) ((λ (w : ScriptUse). is_some w.run_wrapper) ∷ []) (query_in engines.matches_test asked.profile test);
+    }
+
+    -- a load that is accepted
+    pub load_accepted : (nold nnew : List ℕ) (answer : Result (List Row) Refusal) → Answers engines.meets engines.matches_test configured question_of answer nold nnew
+        → Resolves engines request (run_view answer wold wnew nold nnew)
+    load_accepted nold nnew (Ok rows) answers = record {
+      acceptance = holds;
+      refusal = tt;
+      absence = tt;
+      unasked = tt;
+      warnings = went.1;
+      rows = (answers.rows.0, answers.rows.1, are_rows rows answers.rows.0 answers.rows.2);
+    }
+    load_accepted nold nnew (Err (bad_config fault)) answers = absurd answers.accepted
+    load_accepted nold nnew (Err (no_profile name profiles)) answers = record {
+      acceptance = tt;
+      refusal = tt;
+      absence = (
+        holds,
+        record {
+          same = answers.absence.same;
+          all = answers.absence.all ∙ ap (λ c. names_in c.profiles) means;
+          ascending = answers.absence.ascending;
+          absent = answers.absence.absent;
+        },
+      );
+      unasked = answers.unasked;
+      warnings = went.1;
+      rows = (answers.rows.0, answers.rows.1, tt);
+    }
+    load_accepted nold nnew (Err no_memory) answers = record {
+      acceptance = tt;
+      refusal = tt;
+      absence = tt;
+      unasked = tt;
+      warnings = (warnings_before (steps_for engines request), ([], sym (append-nil (warnings_before (steps_for engines request)))), went.1);
+      rows = (answers.rows.0, answers.rows.1, tt);
+    }

@@ -1,0 +1,14 @@
+use Rattle.std.proofs.Common.{subst}
+use Rattle.nextest_engines.specs.Readings.{readings_view}
+use Rattle.nextest_load.specs.Load.{IsLoad}
+use Rattle.nextest_rules.specs.KnownView.{features_view}
+use Rattle.nextest_sources.specs.Inputs.{load_inputs_view}
+use Rattle.nextest_config.specs.ConfigView.{loaded_by}
+use Rattle.nextest_config.proofs.config.NextestConfig.from_sources_with_warnings.Goals as goal
+
+pub returns-clause-loads : goal.returns-clause-loads
+returns-clause-loads g c =
+    let engines = readings_view (g.F.Filters.read c.args.pcx.now.filters.now) (g.S.Specs.read_spec c.args.pcx.now.specs.now) g.F.Filters.match_all g.F.Filters.holds g.F.Filters.holds_binary g.F.Filters.leaves g.S.Specs.holds_on in
+    subst (λ file. IsLoad (loaded_by g.F.Filters.meaning g.S.Specs.spec_meaning) engines (features_view c.args.experimental.now) (load_inputs_view c.args.shared.now file c.args.tools.now)
+    (g.W.ConfigWarnings.warnings c.args.warnings.now) (g.W.ConfigWarnings.warnings c.from_sources_with_selection.new.warnings) c.from_sources_with_selection.result)
+    c.new.ensures c.from_sources_with_selection.ensures.loads

@@ -1,0 +1,197 @@
+-- WHAT RESOLVING PROMISES: from the texts of files to the settings of tests.
+use Rattle.std.specs.Prelude.{◌≡◌, ◌++◌, ℕ, Bool, List, [], map, Option, IsSome, Result, Ok, Err, IfOk}
+use Rattle.std.specs.Cmp.Lexicographic.{slice_cmp}
+use Rattle.std.specs.List.{AllZip, flat_map}
+use Rattle.std.specs.List.Sorted.{IsStrictlySortedBy}
+use Rattle.std.specs.Ordering.{nat_cmp}
+use Rattle.nextest_elements.specs.declared.run_mode.NextestRunMode.{NextestRunMode}
+use Rattle.nextest_engines.specs.Engines.{Test}
+use Rattle.nextest_engines.specs.Readings.{Readings}
+use Rattle.nextest_engines.specs.declared.queries.BuildPlatforms.{BuildPlatforms}
+use Rattle.nextest_inheritance.specs.Parents.{parents_in, IsChain}
+use Rattle.nextest_load.specs.Accepted.{IsAccepted}
+use Rattle.nextest_load.specs.Closed.{IsClosed}
+use Rattle.nextest_load.specs.Config.{ScriptTables, config_of, config_parents}
+use Rattle.nextest_load.specs.Scripts.{AreScriptsOf}
+use Rattle.nextest_load.specs.Steps.{load_steps}
+use Rattle.nextest_rules.specs.Definitions.{Features}
+use Rattle.nextest_sources.specs.Causes.{LoadFault}
+use Rattle.nextest_sources.specs.Endings.{IsFollowedInPart}
+use Rattle.nextest_sources.specs.Inputs.{LoadInputs, sources_in}
+use Rattle.nextest_sources.specs.Steps.{Step, first_fault, warnings_before}
+use Rattle.nextest_sources.specs.Warnings.{Warning}
+use Rattle.nextest_tables.specs.FileTexts.{names_in, IsIn}
+use Rattle.nextest_tables.specs.Written.{Name}
+use Rattle.nextest_settings.specs.declared.setting.Setting.{Setting}
+use Rattle.nextest_settings.specs.Deciding.{QueryContext, Rising, HasFilterAt}
+use Rattle.nextest_settings.specs.Profile.{Configured, EvaluatableModel, profile_of, profile_on}
+use Rattle.nextest_settings.specs.Queries.{test_query, filters_of, setting_value, Origin, setting_origin, evaluated_for_test}
+use Rattle.nextest_settings.specs.Settings.{ValueOf}
+
+-- What is asked: files, features, a profile, the platforms of a build, a mode and tests.
+pub record Request (P : Type 0) : Type 0 where
+  pub root : List ℕ
+  pub files : LoadInputs
+  pub features : Features
+  pub profile : Name
+  pub platforms : BuildPlatforms P
+  pub mode : NextestRunMode
+  pub tests : List Test
+
+-- A row: the value of each setting, and its source, if it has one.
+pub record Row : Type 0 where
+  pub value : (s : Setting) → Option (ValueOf s)
+  pub source : Setting → Option Origin
+
+-- Why no rows are answered: the configuration is refused, it has no profile of the name, or memory
+-- ran out.
+pub data Refusal : Type 0 where
+  bad_config : Option LoadFault → Refusal
+  no_profile : (name : Name) → (profiles : List Name) → Refusal
+  no_memory : Refusal
+
+-- What a run did: its answer, and the warnings and the evaluations before and after it.
+pub record Run : Type 0 where
+  pub answer : Result (List Row) Refusal
+  pub warnings_old : List Warning
+  pub warnings_new : List Warning
+  pub numbers_old : List ℕ
+  pub numbers_new : List ℕ
+
+-- a fact of the fault that is told, where the configuration is refused
+abbrev pub IfBadConfig : Result (List Row) Refusal → (Option LoadFault → Type 0) → Type 0
+IfBadConfig (Err (bad_config fault)) P = P fault
+IfBadConfig (Err (no_profile name profiles)) P = Unit {0}
+IfBadConfig (Err no_memory) P = Unit {0}
+IfBadConfig (Ok rows) P = Unit {0}
+
+-- a fact of the name and of all names of profiles, where there is no profile of the name
+abbrev pub IfNoProfile : Result (List Row) Refusal → (Name → List Name → Type 0) → Type 0
+IfNoProfile (Err (no_profile name profiles)) P = P name profiles
+IfNoProfile (Err (bad_config fault)) P = Unit {0}
+IfNoProfile (Err no_memory) P = Unit {0}
+IfNoProfile (Ok rows) P = Unit {0}
+
+-- a fact of a refusal for another cause than want of memory
+abbrev pub IfRefused : Result (List Row) Refusal → Type 0 → Type 0
+IfRefused (Err (bad_config fault)) P = P
+IfRefused (Err (no_profile name profiles)) P = P
+IfRefused (Err no_memory) P = Unit {0}
+IfRefused (Ok rows) P = Unit {0}
+
+-- a list was followed by another one, or, where memory ran out, by a beginning of it
+abbrev pub IsFollowed : {X : Type 0} → Result (List Row) Refusal → List X → List X → List X → Type 0
+IsFollowed (Err no_memory) old new more = IsFollowedInPart old new more
+IsFollowed _ old new more = new ≡ old ++ more
+
+-- every written rule holds of the files that are asked about
+abbrev pub RulesHold : {M K P : Type 0} → Readings M K P → Request P → Type 0
+RulesHold engines request = IsAccepted engines request.features request.files
+
+-- the steps of the load that is asked for
+abbrev pub steps_for : {M K P : Type 0} → Readings M K P → Request P → List Step
+steps_for engines request = load_steps engines request.features request.files
+
+-- the names of the profiles of the merged tree
+abbrev pub profile_names : {M K P : Type 0} → Readings M K P → Request P → List Name
+profile_names engines request = names_in (config_of engines (sources_in request.files)).profiles
+
+-- A configuration is refused: some written rule does not hold, and this is the first fault of the
+-- load.
+pub record IsRefused {M K P : Type 0} (engines : Readings M K P) (request : Request P)
+    (fault : Option LoadFault) : Type 0 where
+  pub broken : ¬ RulesHold engines request
+  pub first : first_fault (steps_for engines request) ≡ fault
+  pub told : IsSome fault
+
+-- A profile is missing: its name is the one that was asked for, it is none of these names, and they
+-- are all told, in the order of their bytes.
+pub record IsMissing (names : List Name) (asked : Name) (name : Name) (profiles : List Name)
+    : Type 0 where
+  pub same : name ≡ asked
+  pub all : profiles ≡ names
+  pub ascending : IsStrictlySortedBy (slice_cmp nat_cmp) profiles
+  pub absent : ¬ IsIn profiles name
+
+-- what is asked for, as a configuration with these scripts
+abbrev pub configured_for : {M K P : Type 0} → Readings M K P → Request P → ScriptTables
+    → Configured M K
+configured_for engines request scripts = record {
+  root = request.root;
+  config = config_of engines (sources_in request.files);
+  scripts = scripts;
+  warnings = [];
+}
+
+-- A profile on the platforms that are asked for: it is the one of the name that was asked for, by
+-- its chain.
+pub record IsProfileFor {M K P : Type 0} (engines : Readings M K P) (request : Request P)
+    (scripts : ScriptTables) (profile : EvaluatableModel M) : Type 0 where
+  pub chain : List Name
+  pub is_chain : IsChain
+      (parents_in (config_parents (config_of engines (sources_in request.files))))
+      request.profile chain
+  pub is_profile : profile ≡ profile_on engines.meets request.platforms
+      (profile_of (configured_for engines request scripts) request.profile chain)
+
+-- a test in a profile, judged by what filters match
+abbrev pub query_in : {M : Type 0} → (M → Test → M → Bool) → EvaluatableModel M → Test
+    → QueryContext M
+query_in matches profile test = test_query matches profile.default_filter.filter test
+
+-- A row is that of a test: each value by itself is what the first rule writes that holds and sets
+-- it, else the fallback, with its source.
+pub record IsRow {M : Type 0} (matches : M → Test → M → Bool) (profile : EvaluatableModel M)
+    (mode : NextestRunMode) (test : Test) (row : Row) : Type 0 where
+  pub values : (s : Setting)
+      → row.value s ≡ setting_value (query_in matches profile test) mode profile s
+  pub sources : (s : Setting)
+      → row.source s ≡ setting_origin (query_in matches profile test) mode profile s
+
+-- the rules whose filters are evaluated for a test, by number
+abbrev pub numbers_for : {M : Type 0} → (M → Test → M → Bool) → EvaluatableModel M
+    → NextestRunMode → Test → List ℕ
+numbers_for matches profile mode test =
+    evaluated_for_test (query_in matches profile test) mode profile
+
+-- Rows are those of tests: the profile is one of the configuration, whose scripts are those that
+-- the files define, there is one row for each test, in order, and for each test a strictly rising
+-- list of numbers of rules with a filter is evaluated.
+pub record AreRows {M K P : Type 0} (engines : Readings M K P) (request : Request P)
+    (rows : List Row) (numbers : List ℕ) : Type 0 where
+  pub known : IsIn (profile_names engines request) request.profile
+  pub scripts : ScriptTables
+  pub are_scripts : AreScriptsOf (sources_in request.files) scripts
+  pub profile : EvaluatableModel M
+  pub is_profile : IsProfileFor engines request scripts profile
+  pub closure : IsClosed engines.matches_binary (config_of engines (sources_in request.files))
+      scripts
+  pub each : AllZip (IsRow engines.matches_test profile request.mode) request.tests rows
+  pub evaluated :
+      numbers ≡ flat_map (numbers_for engines.matches_test profile request.mode) request.tests
+  pub rising : (test : Test) → Rising (HasFilterAt (filters_of profile)) 0
+      (numbers_for engines.matches_test profile request.mode test)
+
+-- For every list of sources, a configuration is answered exactly where every written rule holds;
+-- then no query of any profile, platforms, mode and test meets an undefined script, group, parent
+-- or a cycle, and each setting is the value at the first rule, in order of chain, file and index,
+-- whose platforms and filter hold and which sets it, else the nearest profile's value or the stated
+-- fallback.
+pub record Resolves {M K P : Type 0} (engines : Readings M K P) (request : Request P) (run : Run)
+    : Type 0 where
+  -- Rows are answered only where every written rule holds of the files.
+  pub acceptance : IfOk run.answer (λ _. RulesHold engines request)
+  -- A configuration is refused only where some rule does not hold, and for the first fault of the
+  -- load.
+  pub refusal : IfBadConfig run.answer (IsRefused engines request)
+  -- A profile is missing only where every rule holds and the configuration has none of that name.
+  pub absence : IfNoProfile run.answer (λ name profiles. RulesHold engines request
+      × IsMissing (profile_names engines request) request.profile name profiles)
+  -- The warnings are those of the load before its first fault.
+  pub warnings : IsFollowed run.answer run.warnings_old run.warnings_new
+      (warnings_before (steps_for engines request))
+  -- Where the configuration is refused or the profile is missing, no rule was evaluated.
+  pub unasked : IfRefused run.answer (run.numbers_new ≡ run.numbers_old)
+  -- There is a row for each test, and numbers of evaluated rules go to the tally.
+  pub rows : (numbers : List ℕ) × (run.numbers_new ≡ run.numbers_old ++ numbers)
+      × IfOk run.answer (λ rows. AreRows engines request rows numbers)

@@ -1,0 +1,128 @@
+//! The options among the words of the command line.
+use crate::command::CommandError;
+use nextest_config::{BuildPlatform, ConfigExperimental, ToolName};
+use std::alloc::{AllocError, Global};
+use std::collections::BTreeSet;
+
+/// The options among the words.
+#[derive(Debug, Drop)]
+pub struct Options<'a> {
+    /// The path of the file that is read in place of the repository's own.
+    pub config_file: Option<&'a str>,
+    /// The files of tools, in the order of the words.
+    pub tool_files: Vec<ToolFile<'a>>,
+    /// The experimental features that are switched on.
+    pub features: BTreeSet<ConfigExperimental>,
+    /// The triple of the host, where it is named.
+    pub host: Option<&'a str>,
+    /// The triple of the target, where there is one.
+    pub target: Option<&'a str>,
+    /// What the test's binary is built for.
+    pub platform: BuildPlatform,
+}
+
+/// A file that a tool provides.
+#[derive(Debug, Drop)]
+pub struct ToolFile<'a> {
+    pub tool: ToolName,
+    pub path: &'a str,
+}
+
+/// An option whose value is the next word.
+#[derive(Clone, Copy)]
+pub enum OptionName {
+    ConfigFile,
+    ToolConfigFile,
+    Experimental,
+    Host,
+    Target,
+}
+
+impl OptionName {
+    /// The option that a word spells.
+    pub fn of(word: &str) -> Option<OptionName> {
+        match word {
+            "--config-file" => Some(OptionName::ConfigFile),
+            "--tool-config-file" => Some(OptionName::ToolConfigFile),
+            "--experimental" => Some(OptionName::Experimental),
+            "--host" => Some(OptionName::Host),
+            "--target" => Some(OptionName::Target),
+            _ => None,
+        }
+    }
+}
+
+impl<'a> Options<'a> {
+    /// No option yet.
+    pub fn new(alloc: Global) -> Options<'a> {
+        Options {
+            config_file: None,
+            tool_files: Vec::new(alloc),
+            features: BTreeSet::new(alloc),
+            host: None,
+            target: None,
+            platform: BuildPlatform::Target,
+        }
+    }
+
+    /// Sets an option to a value.
+    pub fn set(
+        &mut self,
+        alloc: Global,
+        name: OptionName,
+        value: &'a str,
+    ) -> Result<(), CommandError> {
+        match name {
+            OptionName::ConfigFile => set_once(&mut self.config_file, value),
+            OptionName::ToolConfigFile => self.add_tool_file(alloc, value),
+            OptionName::Experimental => self.add_feature(value),
+            OptionName::Host => set_once(&mut self.host, value),
+            OptionName::Target => set_once(&mut self.target, value),
+        }
+    }
+
+    /// Says that the test's binary is built for the host.
+    pub fn set_host_binary(&mut self) -> Result<(), CommandError> {
+        match self.platform {
+            BuildPlatform::Host => Err(CommandError::Usage),
+            BuildPlatform::Target => {
+                self.platform = BuildPlatform::Host;
+                Ok(())
+            }
+        }
+    }
+
+    fn add_tool_file(&mut self, alloc: Global, value: &'a str) -> Result<(), CommandError> {
+        let Some((tool, path)) = value.split_once(':') else {
+            return Err(CommandError::Usage);
+        };
+        let tool = ToolName::new(alloc, tool)?;
+        self.tool_files
+            .push(ToolFile { tool, path })
+            .map_err(AllocError::from)?;
+        Ok(())
+    }
+
+    fn add_feature(&mut self, value: &str) -> Result<(), CommandError> {
+        let feature = feature_of(value).ok_or(CommandError::Usage)?;
+        self.features.insert(feature).map_err(AllocError::from)?;
+        Ok(())
+    }
+}
+
+/// Sets an option that may be given once.
+fn set_once<'a>(option: &mut Option<&'a str>, value: &'a str) -> Result<(), CommandError> {
+    match option.replace(value) {
+        Some(_) => Err(CommandError::Usage),
+        None => Ok(()),
+    }
+}
+
+/// The feature of a name.
+fn feature_of(name: &str) -> Option<ConfigExperimental> {
+    match name {
+        "setup-scripts" => Some(ConfigExperimental::SetupScripts),
+        "wrapper-scripts" => Some(ConfigExperimental::WrapperScripts),
+        _ => None,
+    }
+}

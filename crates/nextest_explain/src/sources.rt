@@ -1,0 +1,100 @@
+//! Reads the files that a command names.
+use crate::command::Command;
+use crate::files::FileReader;
+use crate::options::{Options, ToolFile};
+use nextest_config::run::Inputs;
+use nextest_config::{
+    CONFIG_PATH, ConfigFileSelection, ConfigPath, ConfigPaths, FileInput, ReadOutcome,
+    ToolConfigFile, join_paths,
+};
+use std::alloc::{AllocError, Global};
+
+/// The files that a command names, as they were read.
+#[derive(Drop)]
+pub struct Sources {
+    paths: ConfigPaths,
+    config_file: Option<FileInput>,
+    tools: Vec<ToolConfigFile>,
+}
+
+impl Sources {
+    /// Reads the files that a command names.
+    pub fn read<R: FileReader>(
+        alloc: Global,
+        command: &Command<'_>,
+        files: &R,
+    ) -> Result<Sources, AllocError> {
+        let options = &command.options;
+        Ok(Sources {
+            paths: ConfigPaths {
+                workspace_root: String::from_str(alloc, command.root)?,
+                shared: shared_file(alloc, command.root, options, files)?,
+            },
+            config_file: named_file(alloc, options, files)?,
+            tools: tool_files(alloc, options, files)?,
+        })
+    }
+
+    /// What a run takes of them, beside the features that a command switches on.
+    pub fn inputs<'a>(&'a self, options: &'a Options<'_>) -> Inputs<'a> {
+        Inputs {
+            paths: &self.paths,
+            selection: ConfigFileSelection::new(self.config_file.as_ref()),
+            tools: &self.tools,
+            features: &options.features,
+        }
+    }
+}
+
+/// The file at a path.
+fn read_at<R: FileReader>(alloc: Global, path: &str, files: &R) -> Result<FileInput, AllocError> {
+    Ok(FileInput {
+        path: ConfigPath::new(alloc, path)?,
+        outcome: files.read(alloc, path)?,
+    })
+}
+
+/// The workspace's own file. It is not looked for where a user names another.
+fn shared_file<R: FileReader>(
+    alloc: Global,
+    root: &str,
+    options: &Options<'_>,
+    files: &R,
+) -> Result<FileInput, AllocError> {
+    let path = join_paths(alloc, root, CONFIG_PATH)?;
+    if options.config_file.is_some() {
+        return Ok(FileInput {
+            path: ConfigPath::new(alloc, path.as_str())?,
+            outcome: ReadOutcome::NotFound,
+        });
+    }
+    read_at(alloc, path.as_str(), files)
+}
+
+/// The file that a user names, if there is one.
+fn named_file<R: FileReader>(
+    alloc: Global,
+    options: &Options<'_>,
+    files: &R,
+) -> Result<Option<FileInput>, AllocError> {
+    match options.config_file {
+        Some(path) => Ok(Some(read_at(alloc, path, files)?)),
+        None => Ok(None),
+    }
+}
+
+/// The files of tools, in the order of their options.
+fn tool_files<R: FileReader>(
+    alloc: Global,
+    options: &Options<'_>,
+    files: &R,
+) -> Result<Vec<ToolConfigFile>, AllocError> {
+    let mut read = Vec::new(alloc);
+    for ToolFile { tool, path } in &options.tool_files {
+        read.push(ToolConfigFile {
+            tool: tool.clone()?,
+            config_file: read_at(alloc, path, files)?,
+        })?;
+    }
+    Ok(read)
+}

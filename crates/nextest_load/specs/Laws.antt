@@ -1,0 +1,35 @@
+-- Laws of the trees of a load.
+use Rattle.std.specs.Prelude.{◌≡◌, List, [], ◌∷◌, ◌++◌, Some}
+use Rattle.nextest_inheritance.specs.Faults.{NameCycles, TellStranded, inheritance_faults}
+use Rattle.nextest_inheritance.specs.Parents.{parents_in}
+use Rattle.nextest_rules.specs.Steps.{written_parents}
+use Rattle.nextest_sources.specs.Causes.{NameSet, bad_element}
+use Rattle.nextest_tables.specs.FileTexts.{FileText}
+use Rattle.nextest_tables.specs.Tables.{a_file}
+use Rattle.nextest_tree.specs.Node.{Node}
+use Rattle.nextest_tree.specs.Place.{SitedCause, StandsBeforeAll, fault_at_place, sited_causes}
+use Rattle.nextest_tree.specs.Schema.{Fault}
+use Rattle.nextest_load.specs.Steps.{element_cause}
+
+-- A fault is the least of a file's tree: it is one of its faults, and its place stands before the
+-- places of all others.
+pub record IsLeastFault (n : Node) (fault : Fault) : Type 0 where
+  pub before : List SitedCause
+  pub least : SitedCause
+  pub after : List SitedCause
+  pub splits : sited_causes a_file n ≡ before ++ least ∷ after
+  pub is : fault ≡ fault_at_place [] least
+  pub first_of_before : StandsBeforeAll least.place before
+  pub first_of_after : StandsBeforeAll least.place after
+
+-- an element that a tree is refused for is its least fault
+abbrev pub RefusesLeast : Node → Type 0
+RefusesLeast n = (fault : Fault) → element_cause n ≡ Some (bad_element fault) → IsLeastFault n fault
+
+-- What the parents in a file are refused for names exactly its cycles, and so tells which of its
+-- profiles have no chain.
+pub record RefusesCycles (lower : NameSet) (file : FileText) : Type 0 where
+  pub cycles : let written = written_parents file.profiles in
+      NameCycles (parents_in written) (inheritance_faults lower written)
+  pub stranded : let written = written_parents file.profiles in
+      TellStranded (parents_in written) (inheritance_faults lower written)

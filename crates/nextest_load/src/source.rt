@@ -1,0 +1,244 @@
+//! One source: its text over the defaults, what it defines, and its rules.
+ghost use Rattle.std.specs.Prelude.{◌≡◌, ℕ, List, [], IfOk, OnOk, Some, map};
+ghost use Rattle.std.specs.BTreeSet.{contains_text};
+ghost use Rattle.nextest_engines.specs.Readings.{readings_view};
+ghost use Rattle.nextest_documents.specs.Text.{tree_of};
+ghost use Rattle.nextest_load.specs.Loading.{source_text_view, source_layer};
+ghost use Rattle.nextest_load.specs.Scripts.{setup_path, old_setup_path, wrapper_path};
+ghost use Rattle.nextest_load.specs.Steps.{document_cause, element_cause, in_byte_order, own_steps, file_steps, source_steps};
+ghost use Rattle.nextest_load.specs.Trees.{tree_in, own_tree, own_file};
+ghost use Rattle.nextest_rules.specs.Known.{known_names, known_to, sets_of};
+ghost use Rattle.nextest_rules.specs.KnownView.{known_view, features_view};
+ghost use Rattle.nextest_rules.specs.Meaning.{layer_meaning};
+ghost use Rattle.nextest_rules.specs.Rules.{layer_of};
+ghost use Rattle.nextest_rules.specs.Steps.{warn_if_some};
+ghost use Rattle.nextest_rules.specs.View.{layer_view};
+ghost use Rattle.nextest_script_order.specs.Order.{IsOrder};
+ghost use Rattle.nextest_script_order.specs.Standing.{ids_view};
+ghost use Rattle.nextest_sources.specs.Endings.{Found, Ran, ending};
+ghost use Rattle.nextest_sources.specs.InputFaults.{fault_at_source};
+ghost use Rattle.nextest_sources.specs.Inputs.{SourceText};
+ghost use Rattle.nextest_sources.specs.Sources.{source_view};
+ghost use Rattle.nextest_sources.specs.Warnings.{unknown_keys};
+ghost use Rattle.nextest_tables.specs.Complete.{HasCompleteDefault, IsMergedTree};
+ghost use Rattle.nextest_tables.specs.FileTexts.{FileText, file_text};
+ghost use Rattle.nextest_tables.specs.Scripts.{AreFileScripts, file_scripts_view};
+ghost use Rattle.nextest_tables.specs.Tables.{a_file};
+ghost use Rattle.nextest_tables.specs.View.{file_view};
+ghost use Rattle.nextest_tree.specs.Node.{Node};
+ghost use Rattle.nextest_tree.specs.Schema.{is_one_of, unknown};
+ghost use Rattle.nextest_tree.specs.View.{tree_view};
+
+use crate::scripts::ScriptNames;
+use nextest_documents::{TextFault, lay_over, tree_from_text};
+use nextest_elements::ConfigExperimental;
+use nextest_engines::{Filters, ParseContext, Specs};
+use nextest_rules::{KnownNames, LayerRules, check_definitions, check_rules};
+use nextest_sources::{ConfigParseError, ConfigParseErrorKind, ConfigSource, ConfigWarnings};
+use nextest_tables::{FileTable, default_tree, read_file};
+use nextest_tree::{Tree, Walk};
+use std::alloc::Global;
+use std::collections::BTreeSet;
+
+/// A source with the text of its file.
+#[derive(Clone, Copy)]
+pub(crate) struct SourceFile<'a> {
+    pub(crate) source: &'a ConfigSource,
+    pub(crate) text: &'a str,
+}
+
+/// The tree of a source, alone and over the defaults.
+#[derive(Drop)]
+pub(crate) struct SourceTrees {
+    pub(crate) tree: Tree,
+    pub(crate) own: Tree,
+}
+
+/// The tree of a source's text.
+fn read_text(alloc: Global, file: &SourceFile<'_>) -> Result<Tree, ConfigParseError>
+    ensures found { let s = source_text_view file.now in
+        Found (fault_at_source s.source (document_cause (tree_of s.text))) (ending result) }
+    ensures document { IfOk result (λ tree. tree_of file.now.text.now ≡ Some (tree_view tree)) }
+    ensures tree { IfOk result (λ tree. tree_view tree ≡ tree_in (source_text_view file.now)) }
+{
+    match tree_from_text(alloc, file.text) {
+        Ok(tree) => Ok(tree),
+        Err(TextFault::NotDocument(message)) => Err(ConfigParseError::at(
+            file.source,
+            ConfigParseErrorKind::BuildError(message),
+        )),
+        Err(TextFault::Memory) => Err(ConfigParseError::memory()),
+    }
+}
+
+/// The trees of a source.
+fn read_trees(alloc: Global, file: &SourceFile<'_>) -> Result<SourceTrees, ConfigParseError>
+    ensures found { let s = source_text_view file.now in
+        Found (fault_at_source s.source (document_cause (tree_of s.text))) (ending result) }
+    ensures document { IfOk result
+        (λ trees. tree_of file.now.text.now ≡ Some (tree_view trees.tree)) }
+    ensures tree { IfOk result
+        (λ trees. tree_view trees.tree ≡ tree_in (source_text_view file.now)) }
+    ensures own { IfOk result
+        (λ trees. tree_view trees.own ≡ own_tree (source_text_view file.now)) }
+{
+    let tree = read_text(alloc, file)?;
+    let own = lay_over(alloc, &tree, default_tree(alloc)?)?;
+    Ok(SourceTrees { tree, own })
+}
+
+/// What a tree says, and its unknown paths; its first fault is told at the source.
+pub(crate) fn read_elements(
+    alloc: Global,
+    source: &ConfigSource,
+    tree: &Tree,
+) -> Result<(FileTable, BTreeSet<String>), ConfigParseError>
+    ensures found { let cause = element_cause (tree_view tree.now) in
+        Found (fault_at_source (source_view source.now) cause) (ending result) }
+    ensures value { IfOk result (λ read. file_view read.0 ≡ file_text (tree_view tree.now)) }
+    ensures scripts { IfOk result
+        (λ read. AreFileScripts (tree_view tree.now) (file_scripts_view read.0)) }
+    ensures unknown { IfOk result
+        (λ read. (q : List ℕ)
+        → contains_text read.1 q ≡ is_one_of (unknown a_file [] (tree_view tree.now)) q) }
+    ensures complete { (files : List Node) → IsMergedTree files (tree_view tree.now)
+        → IfOk result (λ read. HasCompleteDefault (file_view read.0)) }
+{
+    let mut walk = Walk::new(alloc);
+    match read_file(alloc, tree, &mut walk) {
+        Ok(table) => {
+            let Walk { unknown, .. } = walk;
+            Ok((table, unknown))
+        }
+        Err(fault) => Err(ConfigParseError::element(source, fault)),
+    }
+}
+
+/// Tells of unknown keys, if there are any.
+fn warn_of_unknown<W: ConfigWarnings>(
+    alloc: Global,
+    source: &ConfigSource,
+    paths: &BTreeSet<String>,
+    warnings: &mut W,
+) -> Result<(), ConfigParseError>
+    ensures { (all : List (List ℕ))
+        → ((q : List ℕ) → contains_text paths.now q ≡ is_one_of all q)
+        → Ran (warn_if_some (unknown_keys (source_view source.now)) (in_byte_order all))
+        (W.warnings warnings.old) (W.warnings warnings.new) (ending result) }
+{
+    if paths.len() == 0 {
+        return Ok(());
+    }
+    warnings.unknown_config_keys(alloc, source, paths)?;
+    Ok(())
+}
+
+/// What a source says over the defaults, and the warning of its unknown keys.
+fn read_own<W: ConfigWarnings>(
+    alloc: Global,
+    source: &ConfigSource,
+    own: &Tree,
+    warnings: &mut W,
+) -> Result<FileTable, ConfigParseError>
+    ensures ran { Ran (own_steps (source_view source.now) (tree_view own.now))
+        (W.warnings warnings.old) (W.warnings warnings.new) (ending result) }
+    ensures value { IfOk result (λ table. file_view table ≡ file_text (tree_view own.now)) }
+{
+    let (table, unknown) = read_elements(alloc, source, own)?;
+    warn_of_unknown(alloc, source, &unknown, warnings)?;
+    Ok(table)
+}
+
+/// The rules of a file over those below it, or its first fault. Its names go to those that are
+/// known.
+fn load_file<F: Filters, S: Specs, W: ConfigWarnings>(
+    alloc: Global,
+    pcx: &ParseContext<'_, F, S>,
+    features: &BTreeSet<ConfigExperimental>,
+    known: &mut KnownNames,
+    source: &ConfigSource,
+    own: &Tree,
+    warnings: &mut W,
+) -> Result<LayerRules<F, S>, ConfigParseError>
+    ensures ran { let engines = readings_view (F.read pcx.now.filters.now)
+        (S.read_spec pcx.now.specs.now) F.match_all F.holds F.holds_binary F.leaves
+        S.holds_on in
+        (below : List FileText) → known_view known.old ≡ sets_of (known_names below)
+        → Ran (file_steps engines (features_view features.now) below (source_view source.now)
+        (tree_view own.now))
+        (W.warnings warnings.old) (W.warnings warnings.new) (ending result) }
+    ensures rules { let engines = readings_view (F.read pcx.now.filters.now)
+        (S.read_spec pcx.now.specs.now) F.match_all F.holds F.holds_binary F.leaves
+        S.holds_on in
+        IfOk result
+        (λ rules. layer_meaning F.meaning S.spec_meaning (layer_view rules)
+        ≡ layer_of engines (source_view source.now) (file_text (tree_view own.now)).profiles) }
+    ensures known { (below : List FileText) → known_view known.old ≡ sets_of (known_names below)
+        → OnOk result
+        (known_view known.new ≡ sets_of (known_to below (file_text (tree_view own.now)))) }
+{
+    let table = read_own(alloc, source, own, warnings)?;
+    check_definitions(alloc, features, source, &table, warnings)?;
+    check_rules(alloc, pcx, source, known, table, warnings)
+}
+
+/// A source that was loaded: its trees, the ids of its scripts, and its rules.
+#[derive(Drop)]
+pub(crate) struct LoadedSource<F: Filters, S: Specs> {
+    pub(crate) trees: SourceTrees,
+    pub(crate) names: ScriptNames,
+    pub(crate) rules: LayerRules<F, S>,
+}
+
+/// Loads a source over those below it. Its names go to those that are known.
+pub(crate) fn load_source<F: Filters, S: Specs, W: ConfigWarnings>(
+    alloc: Global,
+    pcx: &ParseContext<'_, F, S>,
+    features: &BTreeSet<ConfigExperimental>,
+    known: &mut KnownNames,
+    file: &SourceFile<'_>,
+    warnings: &mut W,
+) -> Result<LoadedSource<F, S>, ConfigParseError>
+    ensures ran { let engines = readings_view (F.read pcx.now.filters.now)
+        (S.read_spec pcx.now.specs.now) F.match_all F.holds F.holds_binary F.leaves
+        S.holds_on in
+        (below : List SourceText)
+        → known_view known.old ≡ sets_of (known_names (map own_file below))
+        → Ran (source_steps engines (features_view features.now) below (source_text_view file.now))
+        (W.warnings warnings.old) (W.warnings warnings.new) (ending result) }
+    ensures tree { IfOk result (λ l. tree_view l.trees.tree ≡ tree_in (source_text_view file.now)) }
+    ensures own { IfOk result (λ l. tree_view l.trees.own ≡ own_tree (source_text_view file.now)) }
+    ensures rules { let engines = readings_view (F.read pcx.now.filters.now)
+        (S.read_spec pcx.now.specs.now) F.match_all F.holds F.holds_binary F.leaves
+        S.holds_on in
+        IfOk result
+        (λ l. layer_meaning F.meaning S.spec_meaning (layer_view l.rules)
+        ≡ source_layer engines (source_text_view file.now)) }
+    ensures setup { IfOk result
+        (λ l. IsOrder setup_path file.now.text.now (ids_view l.names.setup)) }
+    ensures old_setup { IfOk result
+        (λ l. IsOrder old_setup_path file.now.text.now (ids_view l.names.old_setup)) }
+    ensures wrapper { IfOk result
+        (λ l. IsOrder wrapper_path file.now.text.now (ids_view l.names.wrapper)) }
+    ensures known { (below : List SourceText)
+        → known_view known.old ≡ sets_of (known_names (map own_file below))
+        → OnOk result (known_view known.new
+        ≡ sets_of (known_to (map own_file below) (own_file (source_text_view file.now)))) }
+{
+    let trees = read_trees(alloc, file)?;
+    let rules = load_file(
+        alloc,
+        pcx,
+        features,
+        known,
+        file.source,
+        &trees.own,
+        warnings,
+    )?;
+    let names = ScriptNames::of_text(alloc, file.text, &trees.tree)?;
+    Ok(LoadedSource {
+        trees,
+        names,
+        rules,
+    })
+}

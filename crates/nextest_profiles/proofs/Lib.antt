@@ -1,0 +1,10 @@
+pub mod Parents
+pub mod Ends
+pub mod Gathered
+pub mod Natural
+pub mod Closing
+pub mod Held
+pub mod Sets
+pub mod Last
+pub mod Groups
+pub mod Answering

@@ -1,0 +1,31 @@
+use Rattle.std.proofs.Common.{◌≡◌, refl, sym, ap, ◌∙◌, map, subst}
+use Rattle.nextest_rules.specs.Rules.{Compiled}
+use Rattle.nextest_settings.specs.Chains.{filter_of_nothing}
+use Rattle.nextest_settings.specs.FilterView.{filter_view}
+use Rattle.nextest_settings.specs.Platforms.{rule_on, default_filter_of}
+use Rattle.nextest_settings.specs.View.{script_rule_ref_view, evaluated_script_rule_view}
+use Rattle.nextest_profiles.specs.Known.{KnowsScripts, named_use, evaluated_use}
+use Rattle.nextest_profiles.proofs.Closing.{fused}
+use Rattle.nextest_profiles.proofs.Answering.{answers_kept}
+use Rattle.nextest_profiles.proofs.early.EarlyProfile.apply_build_platforms.Goals as goal
+
+pub new-requires-clause-known : goal.new-requires-clause-known
+new-requires-clause-known g c =
+    let before = c.self.inside.rules.script_rules.items in
+    let after = c.in-Ok.rules.script_rules.items in
+    let same : map evaluated_use after ≡ map named_use before =
+    sym (fused (λ r. r.writes) evaluated_script_rule_view after)
+    ∙ ap (map (λ r. r.writes)) c.in-Ok.ensures.script_rules
+    ∙ fused (λ r. r.writes) (rule_on (λ spec platform. g.S.Specs.holds_on (g.S.Specs.spec_meaning spec) platform) c.args.platforms.now) (map script_rule_ref_view before)
+    ∙ fused (λ r. r.writes) script_rule_ref_view before in
+    rw same c.self.invariant.0
+
+pub new-requires-clause-answers : goal.new-requires-clause-answers
+new-requires-clause-answers g c =
+    let before = c.self.inside.rules.script_rules.items in
+    let after = c.in-Ok.rules.script_rules.items in
+    answers_kept g.F.Filters.holds_binary g.F.Filters.meaning g.S.Specs.spec_meaning (λ spec platform. g.S.Specs.holds_on (g.S.Specs.spec_meaning spec) platform) c.args.platforms.now before after c.in-Ok.ensures.script_rules c.self.invariant.1
+
+pub returns-in-Ok-clause-ok : goal.returns-in-Ok-clause-ok
+returns-in-Ok-clause-ok g c =
+    rw (← c.self.view_is, c.new.ensures, c.in-Ok.ensures.default_filter, c.in-Ok.ensures.overrides, c.in-Ok.ensures.script_rules) refl

@@ -1,0 +1,6 @@
+pub mod Profiles
+pub mod Junit
+pub mod KnownGroups
+pub mod Known
+pub mod Meaning
+pub mod Memberships

@@ -1,0 +1,365 @@
+//! Profiles on the platforms of a build.
+ghost use Rattle.std.specs.Prelude.{◌≡◌, ◌++◌, ℕ, List, Some, IfOk, map, option_map, string_bytes};
+ghost use Rattle.nextest_engines.specs.Engines.{test_view, binary_view};
+ghost use Rattle.nextest_load.specs.ConfigView.{groups_view, scripts_view};
+ghost use Rattle.nextest_rules.specs.Rules.{at_name};
+ghost use Rattle.nextest_settings.specs.FilterView.{filter_view};
+ghost use Rattle.nextest_settings.specs.GroupView.{group_in};
+ghost use Rattle.nextest_settings.specs.Queries.{test_query, binary_query, setting_value, setting_origin, wrapping_rule, evaluated_for_test, list_wrapper_of, evaluated_for_list, enabled_scripts, group_of, AnswerForBinaries};
+ghost use Rattle.nextest_settings.specs.ListView.{list_wrapper_at};
+ghost use Rattle.nextest_settings.specs.SettingsView.{value_at, origin_at, wrapper_at, wrapping_use_at};
+ghost use Rattle.nextest_settings.specs.SetupView.{scripts_in, rules_in};
+ghost use Rattle.nextest_settings.specs.declared.setting.Setting.{Setting};
+ghost use Rattle.nextest_settings.specs.Settings.{slow_timeout_in, global_timeout_in};
+ghost use Rattle.nextest_settings.specs.Values.{nearest};
+ghost use Rattle.nextest_settings.specs.View.{evaluated_override_view, evaluated_script_rule_view, script_rule_of};
+ghost use Rattle.nextest_profiles.specs.Junit.{IsJunit};
+ghost use Rattle.nextest_profiles.specs.Known.{KnowsScripts, evaluated_use};
+ghost use Rattle.nextest_profiles.specs.Meaning.{profile_meaning};
+
+use crate::grounds::Grounds;
+use nextest_elements::{
+    CustomTestGroup, FinalStatusLevel, FlakyResult, GlobalTimeout, JunitConfig, LeakTimeout,
+    MaxFail, NextestRunMode, RetryPolicy, SlowTimeout, StatusLevel, TestGroupConfig,
+    TestOutputDisplay, TestThreads, ThreadsRequired,
+};
+use nextest_engines::{BinaryQuery, EvalContext, Filters, Specs, Tally, TestQuery};
+use nextest_load::ScriptConfig;
+use nextest_settings::{
+    CompiledDefaultFilter, EvaluatedRules, ListSettings, PrecomputedGroupMembership, SettingSource,
+    SetupScripts, TestSettings,
+};
+use std::alloc::{AllocError, Global};
+use std::collections::BTreeMap;
+use std::marker::Model;
+
+/// A profile on the platforms of a build, with the default filter that counts there.
+#[derive(Drop)]
+pub struct EvaluatableProfile<'cfg, F: Filters, S: Specs> {
+    grounds: Grounds<'cfg>,
+    rules: EvaluatedRules<'cfg, F, S>,
+}
+
+impl<'cfg, F: Filters, S: Specs> Model for EvaluatableProfile<'cfg, F, S> {
+    ghost use Rattle.std.specs.Prelude.{map};
+    ghost use Rattle.nextest_settings.specs.Profile.{EvaluatableModel};
+
+    ghost Value = { EvaluatableModel F.Expr };
+
+    ghost use Rattle.nextest_settings.specs.FilterView.{filter_view};
+    ghost use Rattle.nextest_settings.specs.View.{evaluated_override_view, evaluated_script_rule_view};
+
+    ghost view = { λ p. record {
+      grounds = p.grounds;
+      overrides = map evaluated_override_view p.rules.overrides.items;
+      script_rules = map evaluated_script_rule_view p.rules.script_rules.items;
+      default_filter = filter_view p.rules.default_filter;
+    } };
+
+    ghost use Rattle.nextest_settings.specs.Queries.{AnswerForBinaries};
+    ghost use Rattle.nextest_settings.specs.View.{script_rule_of};
+    ghost use Rattle.nextest_profiles.specs.Known.{KnowsScripts, evaluated_use};
+
+    /// The scripts that rules name are there, and each filter beside a list wrapper answers for each
+    /// binary.
+    ghost invariant = { λ p. KnowsScripts p.grounds.scripts
+        (map evaluated_use p.rules.script_rules.items)
+        × AnswerForBinaries F.holds_binary
+        (map (script_rule_of F.meaning) p.rules.script_rules.items) };
+}
+
+impl<'cfg, F: Filters, S: Specs> EvaluatableProfile<'cfg, F, S> {
+    /// The profile that says this and has these rules.
+    pub(crate) fn new(
+        grounds: Grounds<'cfg>,
+        rules: EvaluatedRules<'cfg, F, S>,
+    ) -> EvaluatableProfile<'cfg, F, S>
+        requires known { KnowsScripts grounds.scripts
+            (map evaluated_use rules.script_rules.items) }
+        requires answers { AnswerForBinaries F.holds_binary
+            (map (script_rule_of F.meaning) rules.script_rules.items) }
+        ensures { result ≡ record {
+          grounds = grounds.entry;
+          overrides = map evaluated_override_view rules.entry.overrides.items;
+          script_rules = map evaluated_script_rule_view rules.entry.script_rules.items;
+          default_filter = filter_view rules.entry.default_filter;
+        } }
+    {
+        EvaluatableProfile { grounds, rules }
+    }
+
+    /// The profile's name.
+    pub fn name(&self) -> &'cfg str
+        ensures { result.now ≡ self.now.grounds.name }
+    {
+        self.grounds.name()
+    }
+
+    /// The profile that it inherits from, as it writes it.
+    pub fn inherits(&self) -> Option<&'cfg str>
+        ensures { option_map (λ parent. parent.now) result ≡ self.now.grounds.parent }
+    {
+        self.grounds.inherits()
+    }
+
+    /// The directory in which the profile stores what it writes.
+    pub fn store_dir(&self) -> &str
+        ensures { Some result.now ≡ self.now.grounds.store_dir }
+    {
+        self.grounds.store_dir()
+    }
+
+    /// The groups that the configuration defines, by name.
+    pub fn test_group_config(&self) -> &'cfg BTreeMap<CustomTestGroup, TestGroupConfig>
+        ensures { groups_view result.now.entries ≡ self.now.grounds.groups }
+    {
+        self.grounds.test_groups()
+    }
+
+    /// The scripts that the configuration defines, in their order.
+    pub fn script_config(&self) -> &'cfg ScriptConfig
+        ensures { scripts_view result.now ≡ self.now.grounds.scripts }
+    {
+        self.grounds.scripts()
+    }
+
+    /// The default filter that counts, and where it stands.
+    pub fn default_filter(&self) -> &CompiledDefaultFilter<'cfg, F>
+        ensures { filter_view result.now ≡ self.now.default_filter }
+    {
+        &self.rules.default_filter
+    }
+
+    /// What filters are evaluated with: the default filter that counts.
+    pub fn filterset_ecx(&self) -> EvalContext<'cfg, F::Expr>
+        ensures { result.default_filter.now ≡ self.now.default_filter.filter }
+    {
+        EvalContext {
+            default_filter: self.rules.default_filter.expr,
+        }
+    }
+
+    /// How often a test is tried again where no rule says so.
+    pub fn retries(&self) -> RetryPolicy
+        ensures { nearest (λ f. f.retries) self.now.grounds.fields ≡ Some result }
+    {
+        self.grounds.values().tests.retries
+    }
+
+    /// What comes of a flaky test where no rule says so.
+    pub fn flaky_result(&self) -> FlakyResult
+        ensures { nearest (λ f. f.flaky_result) self.now.grounds.fields ≡ Some result }
+    {
+        self.grounds.values().tests.flaky_result
+    }
+
+    /// How many tests run at a time.
+    pub fn test_threads(&self) -> TestThreads
+        ensures { nearest (λ f. f.test_threads) self.now.grounds.fields ≡ Some result }
+    {
+        self.grounds.values().run.test_threads
+    }
+
+    /// How many threads a test takes where no rule says so.
+    pub fn threads_required(&self) -> ThreadsRequired
+        ensures { nearest (λ f. f.threads_required) self.now.grounds.fields ≡ Some result }
+    {
+        self.grounds.values().tests.threads_required
+    }
+
+    /// The arguments that a test is given where no rule says so.
+    pub fn run_extra_args(&self) -> &'cfg [String]
+        ensures { nearest (λ f. f.run_extra_args) self.now.grounds.fields
+            ≡ Some (map string_bytes result.now) }
+    {
+        self.grounds.values().tests.run_extra_args
+    }
+
+    /// When a test counts as slow where no rule says so.
+    pub fn slow_timeout(&self, mode: NextestRunMode) -> SlowTimeout
+        ensures { slow_timeout_in self.now.grounds.fields mode ≡ Some result }
+    {
+        self.grounds.values().slow_timeout(mode)
+    }
+
+    /// How long a whole run may take.
+    pub fn global_timeout(&self, mode: NextestRunMode) -> GlobalTimeout
+        ensures { global_timeout_in self.now.grounds.fields mode ≡ Some result }
+    {
+        self.grounds.values().global_timeout(mode)
+    }
+
+    /// How long what a test started may outlive it where no rule says so.
+    pub fn leak_timeout(&self) -> LeakTimeout
+        ensures { nearest (λ f. f.leak_timeout) self.now.grounds.fields ≡ Some result }
+    {
+        self.grounds.values().tests.leak_timeout
+    }
+
+    /// Which tests are shown as they end.
+    pub fn status_level(&self) -> StatusLevel
+        ensures { nearest (λ f. f.status_level) self.now.grounds.fields ≡ Some result }
+    {
+        self.grounds.values().run.status_level
+    }
+
+    /// Which tests are shown at the end of the run.
+    pub fn final_status_level(&self) -> FinalStatusLevel
+        ensures { nearest (λ f. f.final_status_level) self.now.grounds.fields ≡ Some result }
+    {
+        self.grounds.values().run.final_status_level
+    }
+
+    /// When the output of a test that fails is shown where no rule says so.
+    pub fn failure_output(&self) -> TestOutputDisplay
+        ensures { nearest (λ f. f.failure_output) self.now.grounds.fields ≡ Some result }
+    {
+        self.grounds.values().tests.failure_output
+    }
+
+    /// When the output of a test that passes is shown where no rule says so.
+    pub fn success_output(&self) -> TestOutputDisplay
+        ensures { nearest (λ f. f.success_output) self.now.grounds.fields ≡ Some result }
+    {
+        self.grounds.values().tests.success_output
+    }
+
+    /// After how many failures the run ends.
+    pub fn max_fail(&self) -> MaxFail
+        ensures { nearest (λ f. f.max_fail) self.now.grounds.fields ≡ Some result }
+    {
+        self.grounds.values().run.max_fail
+    }
+
+    /// The report of the run, if one is written.
+    pub fn junit(&self, alloc: Global) -> Result<Option<JunitConfig>, AllocError>
+        ensures { IfOk result (IsJunit self.now.grounds) }
+    {
+        self.grounds.junit(alloc)
+    }
+
+    /// The settings of a test. Rules whose filters are evaluated go into the tally, in order.
+    pub fn settings_for(
+        &self,
+        mode: NextestRunMode,
+        query: &TestQuery<'_>,
+        tally: &mut F::Tally,
+    ) -> TestSettings<'cfg, F, S>
+        ensures values { let profile = profile_meaning F.meaning self.now in
+            let test = test_query F.holds profile.default_filter.filter (test_view query.now) in
+            (s : Setting) → value_at result s ≡ setting_value test mode profile s }
+        ensures origins { let profile = profile_meaning F.meaning self.now in
+            let test = test_query F.holds profile.default_filter.filter (test_view query.now) in
+            (s : Setting) → origin_at result s ≡ setting_origin test mode profile s }
+        ensures rule { let profile = profile_meaning F.meaning self.now in
+            let test = test_query F.holds profile.default_filter.filter (test_view query.now) in
+            wrapping_use_at result
+            ≡ option_map (λ r. r.writes) (wrapping_rule test profile.script_rules) }
+        ensures wrapper { let profile = profile_meaning F.meaning self.now in
+            let test = test_query F.holds profile.default_filter.filter (test_view query.now) in
+            option_map Some (wrapper_at result)
+            ≡ option_map (λ id. at_name id profile.grounds.scripts.wrapper)
+            (setting_value test mode profile Setting.RunWrapper) }
+        ensures tally { let profile = profile_meaning F.meaning self.now in
+            let test = test_query F.holds profile.default_filter.filter (test_view query.now) in
+            F.Tally.numbers tally.new ≡ F.Tally.numbers tally.old
+            ++ evaluated_for_test test mode profile }
+    {
+        let values = *self.grounds.values();
+        self.rules
+            .settings_for(values, self.grounds.scripts(), mode, query, tally)
+    }
+
+    /// The settings of a test, each with what decides it. Rules whose filters are evaluated go into
+    /// the tally, in order.
+    pub fn settings_with_source_for(
+        &self,
+        mode: NextestRunMode,
+        query: &TestQuery<'_>,
+        tally: &mut F::Tally,
+    ) -> TestSettings<'cfg, F, S, SettingSource<'cfg, F, S>>
+        ensures values { let profile = profile_meaning F.meaning self.now in
+            let test = test_query F.holds profile.default_filter.filter (test_view query.now) in
+            (s : Setting) → value_at result s ≡ setting_value test mode profile s }
+        ensures origins { let profile = profile_meaning F.meaning self.now in
+            let test = test_query F.holds profile.default_filter.filter (test_view query.now) in
+            (s : Setting) → origin_at result s ≡ setting_origin test mode profile s }
+        ensures rule { let profile = profile_meaning F.meaning self.now in
+            let test = test_query F.holds profile.default_filter.filter (test_view query.now) in
+            wrapping_use_at result
+            ≡ option_map (λ r. r.writes) (wrapping_rule test profile.script_rules) }
+        ensures wrapper { let profile = profile_meaning F.meaning self.now in
+            let test = test_query F.holds profile.default_filter.filter (test_view query.now) in
+            option_map Some (wrapper_at result)
+            ≡ option_map (λ id. at_name id profile.grounds.scripts.wrapper)
+            (setting_value test mode profile Setting.RunWrapper) }
+        ensures tally { let profile = profile_meaning F.meaning self.now in
+            let test = test_query F.holds profile.default_filter.filter (test_view query.now) in
+            F.Tally.numbers tally.new ≡ F.Tally.numbers tally.old
+            ++ evaluated_for_test test mode profile }
+    {
+        let values = *self.grounds.values();
+        self.rules
+            .settings_for(values, self.grounds.scripts(), mode, query, tally)
+    }
+
+    /// The settings of a binary that lists its tests. Script rules whose filters are evaluated go
+    /// into the tally, numbered on from the overrides.
+    pub fn list_settings_for(
+        &self,
+        query: &BinaryQuery<'_>,
+        tally: &mut F::Tally,
+    ) -> ListSettings<'cfg>
+        ensures wrapper { let profile = profile_meaning F.meaning self.now in
+            let binary = binary_query F.holds_binary profile.default_filter.filter
+            (binary_view query.now) in
+            option_map Some (list_wrapper_at result)
+            ≡ option_map (λ id. at_name id profile.grounds.scripts.wrapper)
+            (list_wrapper_of binary profile) }
+        ensures tally { let profile = profile_meaning F.meaning self.now in
+            let binary = binary_query F.holds_binary profile.default_filter.filter
+            (binary_view query.now) in
+            F.Tally.numbers tally.new ≡ F.Tally.numbers tally.old
+            ++ evaluated_for_list binary profile }
+    {
+        self.rules
+            .list_settings_for(self.grounds.scripts(), query, tally)
+    }
+
+    /// The setup scripts that tests enable, in the order in which they run.
+    pub fn setup_scripts(
+        &self,
+        alloc: Global,
+        queries: &[TestQuery<'_>],
+        tally: &mut F::Tally,
+    ) -> Result<SetupScripts<'cfg, F, S>, AllocError>
+        ensures scripts { let profile = profile_meaning F.meaning self.now in
+            let tests = map (λ query. test_query F.holds profile.default_filter.filter
+            (test_view query)) queries.now in
+            IfOk result (λ found. scripts_in found ≡ enabled_scripts tests profile) }
+        ensures rules { let profile = profile_meaning F.meaning self.now in
+            IfOk result (λ found. rules_in F.meaning found ≡ profile.script_rules) }
+        ensures tally { (added : List ℕ)
+            × (F.Tally.numbers tally.new ≡ F.Tally.numbers tally.old ++ added) }
+    {
+        self.rules
+            .setup_scripts(alloc, self.grounds.scripts(), queries, tally)
+    }
+    /// The groups of tests by name, for filters that ask for the group of a test. Of tests of one
+    /// name the last that gets a custom group counts; where it is asked for a name that is not among
+    /// them, the global group answers.
+    pub fn precompute_group_memberships(
+        &self,
+        alloc: Global,
+        tests: &[TestQuery<'_>],
+        tally: &mut F::Tally,
+    ) -> Result<PrecomputedGroupMembership, AllocError>
+        ensures groups { let profile = profile_meaning F.meaning self.now in
+            IfOk result (λ found. (binary_id name : List ℕ) → group_in found binary_id name
+            ≡ group_of F.holds profile (map test_view tests.now) binary_id name) }
+        ensures tally { (added : List ℕ)
+            × (F.Tally.numbers tally.new ≡ F.Tally.numbers tally.old ++ added) }
+    {
+        self.rules.precompute_group_memberships(alloc, tests, tally)
+    }
+}

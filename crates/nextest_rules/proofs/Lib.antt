@@ -1,0 +1,17 @@
+pub mod AcceptedDefinitions
+pub mod AcceptedRules
+pub mod Compiling
+pub mod Composing
+pub mod Emptying
+pub mod Gathering
+pub mod Grouping
+pub mod Growing
+pub mod Joining
+pub mod Knowing
+pub mod Layering
+pub mod Listing
+pub mod Naming
+pub mod Ordering
+pub mod Owning
+pub mod Passing
+pub mod Telling

@@ -1,0 +1,11 @@
+pub mod Known
+pub mod Definitions
+pub mod Rules
+pub mod Meaning
+pub mod CompileFaults
+pub mod RuleFaults
+pub mod Steps
+pub mod Accepted
+pub mod View
+pub mod KnownView
+pub mod Refusals

@@ -1,0 +1,109 @@
+-- The rules of a source, by what the engines make of their texts.
+use Rattle.std.specs.Prelude.{ℕ, List, map, Option, option_and_then, Result}
+use Rattle.std.specs.List.{enumerate_from}
+use Rattle.std.specs.Result.{result_ok}
+use Rattle.std.specs.Map.{lookup}
+use Rattle.std.specs.BTreeMap.{is_at}
+use Rattle.std.specs.Ordering.{nat_cmp}
+use Rattle.std.specs.Cmp.Lexicographic.{slice_cmp}
+use Rattle.nextest_engines.specs.Readings.{Readings}
+use Rattle.nextest_engines.specs.declared.queries.FiltersetKind.{FiltersetKind}
+use Rattle.nextest_engines.specs.declared.queries.FiltersetKind.TheVariants.{OverrideFilter, DefaultFilter}
+use Rattle.nextest_tables.specs.FileTexts.{OverrideText, ScriptUse, ScriptRuleText, ProfileText}
+use Rattle.nextest_tables.specs.Written.{Name, WrittenSettings}
+use Rattle.nextest_sources.specs.Sources.{Source}
+
+-- where an override stands: its source, its profile, and its position there
+pub record RuleId : Type 0 where
+  pub source : Source
+  pub profile : Name
+  pub index : ℕ
+
+-- A rule: what its platform specs and its filter mean, and what it writes, which is a W.
+pub record Compiled (M K W : Type 0) : Type 0 where
+  pub host : Option K
+  pub target : Option K
+  pub filter : Option M
+  pub writes : W
+
+-- what an override writes: where it stands, values of settings, what its default filter means
+pub record OverrideUse (M : Type 0) : Type 0 where
+  pub id : RuleId
+  pub settings : WrittenSettings
+  pub default_filter : Option M
+
+-- a profile of a source: what its default filter means, its overrides and its script rules
+pub record LayerProfile (M K : Type 0) : Type 0 where
+  pub default_filter : Option M
+  pub overrides : List (Compiled M K (OverrideUse M))
+  pub script_rules : List (Compiled M K ScriptUse)
+
+-- a layer: a source that gave text, and its profiles by name
+pub record Layer (M K : Type 0) : Type 0 where
+  pub source : Source
+  pub profiles : List (Name × LayerProfile M K)
+
+-- what stands at a name
+abbrev pub at_name : {X : Type 0} → Name → List (Name × X) → Option X
+at_name name es = lookup (is_at (slice_cmp nat_cmp name)) es
+
+-- what a text means, if there is a text and it is read
+abbrev pub meaning_of : {M : Type 0} → (List ℕ → Result M (List ℕ)) → Option (List ℕ) → Option M
+meaning_of read o = option_and_then (λ t. result_ok (read t)) o
+
+-- what the text of a filter means that is written for something
+abbrev pub filter_meaning : {M K P : Type 0} → Readings M K P → FiltersetKind → Option (List ℕ)
+    → Option M
+filter_meaning engines kind = meaning_of (engines.read_filter kind)
+
+-- what the text of a platform spec means
+abbrev pub spec_meaning : {M K P : Type 0} → Readings M K P → Option (List ℕ) → Option K
+spec_meaning engines = meaning_of engines.read_spec
+
+-- the rule of an override
+abbrev pub override_rule : {M K P : Type 0} → Readings M K P → RuleId → OverrideText
+    → Compiled M K (OverrideUse M)
+override_rule engines id o = record {
+  host = spec_meaning engines o.platform.host;
+  target = spec_meaning engines o.platform.target;
+  filter = filter_meaning engines OverrideFilter o.filter;
+  writes = record {
+    id = id;
+    settings = o.settings;
+    default_filter = filter_meaning engines DefaultFilter o.default_filter;
+  };
+}
+
+-- the rule of a script rule
+abbrev pub script_rule : {M K P : Type 0} → Readings M K P → ScriptRuleText
+    → Compiled M K ScriptUse
+script_rule engines r = record {
+  host = spec_meaning engines r.platform.host;
+  target = spec_meaning engines r.platform.target;
+  filter = filter_meaning engines DefaultFilter r.filter;
+  writes = r.scripts;
+}
+
+-- the overrides of a profile: each gives one rule, at its position
+abbrev pub override_rules : {M K P : Type 0} → Readings M K P → Source → Name
+    → List OverrideText → List (Compiled M K (OverrideUse M))
+override_rules engines source name texts = map
+    (λ e. override_rule engines (record { source = source; profile = name; index = e.0 }) e.1)
+    (enumerate_from 0 texts)
+
+-- a profile of a source, by what its texts mean
+abbrev pub layer_profile : {M K P : Type 0} → Readings M K P → Source → Name → ProfileText
+    → LayerProfile M K
+layer_profile engines source name p = record {
+  default_filter = filter_meaning engines DefaultFilter p.default_filter;
+  overrides = override_rules engines source name p.overrides;
+  script_rules = map (script_rule engines) p.script_rules;
+}
+
+-- the layer of a source with these profiles
+abbrev pub layer_of : {M K P : Type 0} → Readings M K P → Source → List (Name × ProfileText)
+    → Layer M K
+layer_of engines source profiles = record {
+  source = source;
+  profiles = map (λ p. (p.0, layer_profile engines source p.0 p.1)) profiles;
+}

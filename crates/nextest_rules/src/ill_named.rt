@@ -1,0 +1,149 @@
+//! Names that a source may not define.
+ghost use Rattle.std.specs.Prelude.{◌≡◌, ◌||◌, map, ℕ, List, Some, IfOk, OnOk};
+ghost use Rattle.nextest_sources.specs.Causes.{ill_named_groups, ill_named_scripts};
+ghost use Rattle.nextest_sources.specs.Endings.{ending, Found};
+ghost use Rattle.nextest_sources.specs.Errors.{cause_view, groups_view, scripts_view};
+ghost use Rattle.nextest_sources.specs.InputFaults.{fault_at_source};
+ghost use Rattle.nextest_sources.specs.Sources.{source_view, source_kind_view};
+ghost use Rattle.nextest_tables.specs.FileTexts.{names_in, script_ids_of};
+ghost use Rattle.nextest_tables.specs.View.{file_view};
+ghost use Rattle.nextest_texts.specs.IdentifierText.{identifier_text};
+ghost use Rattle.nextest_tree.specs.Schema.{is_one_of};
+ghost use Rattle.nextest_rules.specs.Definitions as defs;
+ghost use Rattle.nextest_rules.specs.Definitions.{forbidden_names};
+ghost use Rattle.nextest_rules.specs.Steps.{group_name_cause, script_name_cause};
+
+use crate::names::IdentifierKey;
+use nextest_elements::CustomTestGroup;
+use nextest_scripts::ScriptId;
+use nextest_sources::{ConfigParseError, ConfigParseErrorKind, ConfigSource, ConfigSourceKind};
+use nextest_tables::FileTable;
+use nextest_texts::ConfigIdentifier;
+use std::alloc::{AllocError, Global};
+use std::collections::{BTreeMap, BTreeSet};
+
+/// Whether a source may define a name: a tool's file its own names, the repository's file names of
+/// no tool.
+fn may_define(kind: &ConfigSourceKind, name: &ConfigIdentifier) -> bool
+    ensures { result ≡ defs.may_define (source_kind_view kind.now) (identifier_text name.now) }
+{
+    match kind {
+        ConfigSourceKind::Tool(tool) => match name.tool_components() {
+            Some((owner, _)) => owner == tool.as_str(),
+            None => false,
+        },
+        ConfigSourceKind::ExplicitRepository | ConfigSourceKind::DiscoveredRepository => {
+            !name.is_tool_identifier()
+        }
+    }
+}
+
+/// Adds the names of a table that a source may not define.
+fn add_forbidden<K: IdentifierKey, V>(
+    found: &mut BTreeSet<K>,
+    source: &ConfigSource,
+    table: &BTreeMap<K, V>,
+) -> Result<(), AllocError>
+    ensures { OnOk result ((q : List ℕ) → is_one_of (map K.text found.new.keys) q
+        ≡ (is_one_of (map K.text found.old.keys) q
+        || is_one_of (forbidden_names (source_view source.now).kind
+        (map (λ e. K.text e.0) table.now.entries)) q)) }
+{
+    for (key, _) in table.iter() {
+        if may_define(source.kind(), key.identifier()) {
+            continue;
+        }
+        found.insert(key.clone()?)?;
+    }
+    Ok(())
+}
+
+/// The groups that a source may not define.
+fn forbidden_groups(
+    alloc: Global,
+    source: &ConfigSource,
+    file: &FileTable,
+) -> Result<BTreeSet<CustomTestGroup>, AllocError>
+    ensures { IfOk result (λ groups. (q : List ℕ) → groups_view groups q
+        ≡ is_one_of (forbidden_names (source_view source.now).kind
+        (names_in (file_view file.now).groups)) q) }
+{
+    let mut groups = BTreeSet::new(alloc);
+    add_forbidden(&mut groups, source, &file.test_groups)?;
+    Ok(groups)
+}
+
+/// The scripts that a source may not define.
+fn forbidden_scripts(
+    alloc: Global,
+    source: &ConfigSource,
+    file: &FileTable,
+) -> Result<BTreeSet<ScriptId>, AllocError>
+    ensures { IfOk result (λ ids. (q : List ℕ) → scripts_view ids q
+        ≡ is_one_of (forbidden_names (source_view source.now).kind
+        (script_ids_of (file_view file.now))) q) }
+{
+    let mut ids = BTreeSet::new(alloc);
+    add_forbidden(&mut ids, source, &file.scripts.setup)?;
+    add_forbidden(&mut ids, source, &file.script)?;
+    add_forbidden(&mut ids, source, &file.scripts.wrapper)?;
+    Ok(ids)
+}
+
+/// The refusal of groups that a source may not define.
+fn groups_kind(source: &ConfigSource, groups: BTreeSet<CustomTestGroup>) -> ConfigParseErrorKind
+    ensures { cause_view result ≡ Some (ill_named_groups
+        (defs.is_of_tool (source_view source.now).kind) (groups_view groups)) }
+{
+    match source.kind() {
+        ConfigSourceKind::Tool(_) => ConfigParseErrorKind::InvalidTestGroupsDefinedByTool(groups),
+        ConfigSourceKind::ExplicitRepository | ConfigSourceKind::DiscoveredRepository => {
+            ConfigParseErrorKind::InvalidTestGroupsDefined(groups)
+        }
+    }
+}
+
+/// The refusal of scripts that a source may not define.
+fn scripts_kind(source: &ConfigSource, ids: BTreeSet<ScriptId>) -> ConfigParseErrorKind
+    ensures { cause_view result ≡ Some (ill_named_scripts
+        (defs.is_of_tool (source_view source.now).kind) (scripts_view ids)) }
+{
+    match source.kind() {
+        ConfigSourceKind::Tool(_) => ConfigParseErrorKind::InvalidConfigScriptsDefinedByTool(ids),
+        ConfigSourceKind::ExplicitRepository | ConfigSourceKind::DiscoveredRepository => {
+            ConfigParseErrorKind::InvalidConfigScriptsDefined(ids)
+        }
+    }
+}
+
+/// Refuses groups that a source may not define, with all of them.
+pub(crate) fn check_group_names(
+    alloc: Global,
+    source: &ConfigSource,
+    file: &FileTable,
+) -> Result<(), ConfigParseError>
+    ensures { Found (fault_at_source (source_view source.now)
+        (group_name_cause (source_view source.now) (file_view file.now))) (ending result) }
+{
+    let groups = forbidden_groups(alloc, source, file)?;
+    if groups.is_empty() {
+        return Ok(());
+    }
+    Err(ConfigParseError::at(source, groups_kind(source, groups)))
+}
+
+/// Refuses scripts that a source may not define, with all of them.
+pub(crate) fn check_script_names(
+    alloc: Global,
+    source: &ConfigSource,
+    file: &FileTable,
+) -> Result<(), ConfigParseError>
+    ensures { Found (fault_at_source (source_view source.now)
+        (script_name_cause (source_view source.now) (file_view file.now))) (ending result) }
+{
+    let ids = forbidden_scripts(alloc, source, file)?;
+    if ids.is_empty() {
+        return Ok(());
+    }
+    Err(ConfigParseError::at(source, scripts_kind(source, ids)))
+}

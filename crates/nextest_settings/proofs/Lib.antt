@@ -1,0 +1,17 @@
+pub mod Named
+pub mod Gathering
+pub mod Nearer
+pub mod Slots
+pub mod Considered
+pub mod Turns
+pub mod Closed
+pub mod Alone
+pub mod Scripts
+pub mod Fallback
+pub mod Shown
+pub mod Places
+pub mod Few
+pub mod Least
+pub mod Memberships
+pub mod Fifteen
+pub mod Answering

@@ -1,0 +1,15 @@
+-- What contracts see of a default filter.
+use Rattle.nextest_settings.specs.Chains.{FilterSection, at_profile, at_override, FilterChoice}
+use Rattle.nextest_settings.specs.declared.default_filter.CompiledDefaultFilter.{CompiledDefaultFilter}
+use Rattle.nextest_settings.specs.declared.default_filter.CompiledDefaultFilterSection.{CompiledDefaultFilterSection}
+use Rattle.nextest_settings.specs.declared.default_filter.CompiledDefaultFilterSection.TheVariants.{Profile, Override}
+
+-- where a default filter stands
+abbrev pub section_view : CompiledDefaultFilterSection → FilterSection
+section_view Profile = at_profile
+section_view (Override index) = at_override index
+
+-- a default filter
+abbrev pub filter_view : {F E T : Type 0} → CompiledDefaultFilter F E T → FilterChoice E
+filter_view f =
+    record { filter = f.expr.now; profile = f.profile.now; section = section_view f.section }

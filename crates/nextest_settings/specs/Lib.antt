@@ -1,0 +1,17 @@
+pub mod Chains
+pub mod Platforms
+pub mod Profile
+pub mod Values
+pub mod Settings
+pub mod Deciding
+pub mod Queries
+pub mod View
+pub mod FilterView
+pub mod ChainValues
+pub mod Pass
+pub mod SourceView
+pub mod SettingsView
+pub mod ListView
+pub mod SetupView
+pub mod Order
+pub mod GroupView

@@ -1,0 +1,37 @@
+-- What contracts see of the source of a setting.
+use Rattle.std.specs.Prelude.{Option, None, Some}
+use Rattle.nextest_rules.specs.View.{override_rule_view, script_rule_view}
+use Rattle.nextest_tables.specs.FileTexts.{ScriptUse}
+use Rattle.nextest_settings.specs.Queries.{Origin, by_default, by_profile, by_override, by_script}
+use Rattle.nextest_settings.specs.declared.source.SettingSource.{SettingSource}
+use Rattle.nextest_settings.specs.declared.source.SettingSource.TheVariants.{Default, Profile, Override, Script}
+
+-- the origin that a source tells
+abbrev pub source_view : {F S E T N P : Type 0} → SettingSource F S E T N P → Origin
+source_view Default = by_default
+source_view Profile = by_profile
+source_view (Override rule) = by_override (override_rule_view rule.now).writes.id
+source_view (Script rule) = by_script
+
+-- what the script rule writes that a source tells, if it tells one
+abbrev pub source_use : {F S E T N P : Type 0} → SettingSource F S E T N P → Option ScriptUse
+source_use (Script rule) = Some (script_rule_view rule.now).writes
+source_use Default = None
+source_use Profile = None
+source_use (Override rule) = None
+
+-- a mark is there exactly where an origin is, and is right for it
+abbrev pub MarksOrigin : {Source : Type 0} → (Source → Origin → Type 0) → Option Source
+    → Option Origin → Type 0
+MarksOrigin shows None None = Unit {0}
+MarksOrigin shows (Some source) (Some origin) = shows source origin
+MarksOrigin shows None (Some origin) = ⊥
+MarksOrigin shows (Some source) None = ⊥
+
+-- a mark is there exactly where a script rule is, and is right for what the rule writes
+abbrev pub MarksScriptRule : {Source : Type 0} → (Source → ScriptUse → Type 0) → Option Source
+    → Option ScriptUse → Type 0
+MarksScriptRule shows None None = Unit {0}
+MarksScriptRule shows (Some source) (Some uses) = shows source uses
+MarksScriptRule shows None (Some uses) = ⊥
+MarksScriptRule shows (Some source) None = ⊥

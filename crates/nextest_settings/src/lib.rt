@@ -1,0 +1,41 @@
+//! The settings that rules give to tests, each at the first rule that holds and sets it.
+#![tactic(auto)]
+
+mod default_filter;
+mod evaluated;
+mod gather;
+mod groups;
+mod laws;
+mod list_settings;
+mod pass;
+mod platforms;
+mod setting;
+mod setup_scripts;
+mod source;
+mod test_settings;
+mod values;
+mod wrappers;
+mod written;
+
+pub use default_filter::{
+    CompiledDefaultFilter, CompiledDefaultFilterSection, default_filter_of, nearest_filter,
+};
+pub use evaluated::EvaluatedRules;
+pub use gather::{ChainRules, fields_of, rules_of};
+pub use groups::{GroupLookup, PrecomputedGroupMembership};
+pub use laws::{
+    law_all_settings, law_few_evaluations, law_first_override, law_first_script_rule,
+    law_rule_order,
+};
+pub use list_settings::ListSettings;
+pub use platforms::{
+    EvaluatedOverride, EvaluatedRule, EvaluatedScriptRule, evaluate_overrides,
+    evaluate_script_rules,
+};
+pub use setting::Setting;
+pub use setup_scripts::{SetupScript, SetupScriptIter, SetupScripts};
+pub use source::{SettingSource, TrackSource};
+pub use test_settings::TestSettings;
+pub use values::{
+    BenchValues, ProfileValues, ReportValues, RunValues, StoredValues, TestValues, values_of,
+};

@@ -1,0 +1,93 @@
+//! The settings that a profile gives to a binary which lists its tests.
+ghost use Rattle.std.specs.Prelude.{◌≡◌, ◌++◌, map, length, option_map, Some, None};
+ghost use Rattle.nextest_engines.specs.Engines.{binary_view};
+ghost use Rattle.nextest_load.specs.ConfigView.{scripts_view};
+ghost use Rattle.nextest_rules.specs.Rules.{at_name};
+ghost use Rattle.nextest_scripts.specs.ScriptTexts.{wrapper_script_view};
+ghost use Rattle.nextest_settings.specs.ListView.{list_wrapper_at};
+ghost use Rattle.nextest_settings.specs.Queries.{binary_query, AnswerForBinaries, list_wrapper_by, listed_by};
+ghost use Rattle.nextest_settings.specs.View.{script_rule_of, KnowsListWrappers};
+
+use crate::evaluated::EvaluatedRules;
+use crate::wrappers::list_wrapper;
+use nextest_engines::{BinaryQuery, EvalContext, Filters, Specs, Tally};
+use nextest_load::ScriptConfig;
+use nextest_scripts::WrapperScriptConfig;
+
+/// The settings of a binary that lists its tests.
+#[derive(Drop)]
+pub struct ListSettings<'p, Source = ()> {
+    list_wrapper: Option<&'p WrapperScriptConfig>,
+    /// Always absent: it only names the type.
+    mark: Option<Source>,
+}
+
+impl<'p> ListSettings<'p> {
+    /// Settings without a wrapper, for tests.
+    pub fn debug_empty() -> Self
+        ensures { list_wrapper_at result ≡ None }
+    {
+        ListSettings {
+            list_wrapper: None,
+            mark: None,
+        }
+    }
+
+    /// Sets the wrapper, for tests.
+    pub fn debug_set_list_wrapper(&mut self, wrapper: &'p WrapperScriptConfig)
+        ensures { list_wrapper_at self.new ≡ Some (wrapper_script_view wrapper.now) }
+    {
+        self.list_wrapper = Some(wrapper);
+    }
+}
+
+impl<'p, Source> ListSettings<'p, Source> {
+    /// The script that wraps the binary.
+    pub fn list_wrapper(&self) -> Option<&'p WrapperScriptConfig>
+        ensures { option_map (λ script. wrapper_script_view script.now) result
+            ≡ list_wrapper_at self.now }
+    {
+        self.list_wrapper
+    }
+}
+
+impl<'cfg, F: Filters, S: Specs> EvaluatedRules<'cfg, F, S> {
+    /// The settings that these rules give a binary. Script rules whose filters are evaluated go
+    /// into the tally, numbered on from the overrides.
+    pub fn list_settings_for<Source>(
+        &self,
+        scripts: &'cfg ScriptConfig,
+        query: &BinaryQuery<'_>,
+        tally: &mut F::Tally,
+    ) -> ListSettings<'cfg, Source>
+        requires known { KnowsListWrappers (scripts_view scripts.now)
+            self.now.script_rules.items }
+        requires answers { AnswerForBinaries F.holds_binary
+            (map (script_rule_of F.meaning) self.now.script_rules.items) }
+        ensures wrapper { let query = binary_query F.holds_binary
+            (F.meaning self.now.default_filter.expr.now) (binary_view query.now) in
+            option_map Some (list_wrapper_at result)
+            ≡ option_map (λ id. at_name id (scripts_view scripts.now).wrapper)
+            (list_wrapper_by query (map (script_rule_of F.meaning) self.now.script_rules.items)) }
+        ensures tally { let query = binary_query F.holds_binary
+            (F.meaning self.now.default_filter.expr.now) (binary_view query.now) in
+            F.Tally.numbers tally.new ≡ F.Tally.numbers tally.old
+            ++ listed_by query (length self.now.overrides.items)
+            (map (script_rule_of F.meaning) self.now.script_rules.items) }
+    {
+        let cx = EvalContext {
+            default_filter: self.default_filter.expr,
+        };
+        ListSettings {
+            list_wrapper: list_wrapper(
+                &self.script_rules,
+                scripts,
+                self.overrides.len(),
+                query,
+                &cx,
+                tally,
+            ),
+            mark: None,
+        }
+    }
+}

@@ -1,0 +1,243 @@
+//! Wrapper scripts: the first script rule that holds and names one.
+ghost use Rattle.std.specs.Prelude.{◌≡◌, ℕ, IfSome, IsSome, IsTrue, slice_get, ◌++◌, ◌∷◌, ◌<◌, ◌+◌, ◌^◌, ◌&&◌, [], length, map, option_map, option_and_then, is_some, if◌then◌else◌, Some};
+ghost use Rattle.nextest_engines.specs.Engines.{test_view, binary_view};
+ghost use Rattle.nextest_load.specs.ConfigView.{scripts_view};
+ghost use Rattle.nextest_rules.specs.Rules.{at_name};
+ghost use Rattle.nextest_scripts.specs.ScriptId.{script_text};
+ghost use Rattle.nextest_scripts.specs.ScriptTexts.{wrapper_script_view};
+ghost use Rattle.nextest_settings.specs.Deciding.{asked_from, filter_holds, rule_holds, winner};
+ghost use Rattle.nextest_settings.specs.Pass.{asked_alone};
+ghost use Rattle.nextest_settings.specs.Queries.{test_query, binary_query, HasBinaryAnswers, AnswerForBinaries, wrapping_rule, list_wrapper_by, listed_by};
+ghost use Rattle.nextest_settings.specs.View.{script_rule_of, script_rule_ref_view, KnowsRunWrappers, KnowsListWrappers};
+ghost use Rattle.nextest_tables.specs.FileTexts.{names_in, IsIn};
+
+use crate::pass::matches_test;
+use crate::platforms::EvaluatedScriptRule;
+use nextest_engines::{BinaryQuery, EvalContext, Filters, Specs, Tally, TestQuery};
+use nextest_load::ScriptConfig;
+use nextest_rules::CompiledProfileScripts;
+use nextest_scripts::{ScriptId, WrapperScriptConfig};
+
+/// Whether a filter matches a binary, if there is one.
+fn matches_binary<F: Filters>(
+    filter: Option<&F::Expr>,
+    number: usize,
+    query: &BinaryQuery<'_>,
+    cx: &EvalContext<'_, F::Expr>,
+    tally: &mut F::Tally,
+) -> bool
+    requires { HasBinaryAnswers F.holds_binary
+        (option_map (λ expr. F.meaning expr.now) filter) }
+    ensures answer { let query = binary_query F.holds_binary (F.meaning cx.now.default_filter.now)
+        (binary_view query.now) in
+        result ≡ filter_holds query.matches (option_map (λ expr. F.meaning expr.now) filter.entry) }
+    ensures tally { F.Tally.numbers tally.new
+        ≡ F.Tally.numbers tally.old ++ (if is_some filter.entry then number ∷ [] else []) }
+{
+    match filter {
+        None => true,
+        Some(expr) => match F::matches_binary(expr, number, query, cx, tally) {
+            Some(answer) => answer,
+            None => unreachable!(),
+        },
+    }
+}
+
+/// Whether a script rule holds for a test and is wanted. Its filter is evaluated where its
+/// platforms hold and it is wanted.
+pub(crate) fn holds_for_test<F: Filters, S: Specs>(
+    rule: &EvaluatedScriptRule<'_, F, S>,
+    is_wanted: bool,
+    number: usize,
+    query: &TestQuery<'_>,
+    cx: &EvalContext<'_, F::Expr>,
+    tally: &mut F::Tally,
+) -> bool
+    ensures answer { let query = test_query F.holds (F.meaning cx.now.default_filter.now)
+        (test_view query.now) in
+        result ≡ (rule_holds query (script_rule_of F.meaning rule.now) && is_wanted) }
+    ensures tally { let query = test_query F.holds (F.meaning cx.now.default_filter.now)
+        (test_view query.now) in
+        F.Tally.numbers tally.new ≡ F.Tally.numbers tally.old
+        ++ asked_alone query is_wanted (script_rule_of F.meaning rule.now) number }
+{
+    rule.is_on(query.binary_query.platform)
+        && is_wanted
+        && matches_test::<F>(rule.rule.filter(), number, query, cx, tally)
+}
+
+/// Whether a script rule holds for a binary and is wanted. Its filter is evaluated where its
+/// platforms hold and it is wanted.
+fn holds_for_binary<F: Filters, S: Specs>(
+    rule: &EvaluatedScriptRule<'_, F, S>,
+    is_wanted: bool,
+    number: usize,
+    query: &BinaryQuery<'_>,
+    cx: &EvalContext<'_, F::Expr>,
+    tally: &mut F::Tally,
+) -> bool
+    requires { IsTrue is_wanted
+        → HasBinaryAnswers F.holds_binary (script_rule_of F.meaning rule.now).filter }
+    ensures answer { let query = binary_query F.holds_binary (F.meaning cx.now.default_filter.now)
+        (binary_view query.now) in
+        result ≡ (rule_holds query (script_rule_of F.meaning rule.now) && is_wanted) }
+    ensures tally { let query = binary_query F.holds_binary (F.meaning cx.now.default_filter.now)
+        (binary_view query.now) in
+        F.Tally.numbers tally.new ≡ F.Tally.numbers tally.old
+        ++ asked_alone query is_wanted (script_rule_of F.meaning rule.now) number }
+{
+    rule.is_on(query.platform)
+        && is_wanted
+        && matches_binary::<F>(rule.rule.filter(), number, query, cx, tally)
+}
+
+/// The first script rule that holds for a test and names a run wrapper. Rules are numbered on from
+/// the first number.
+pub(crate) fn run_wrapper_rule<'cfg, F: Filters, S: Specs>(
+    rules: &[EvaluatedScriptRule<'cfg, F, S>],
+    first: usize,
+    query: &TestQuery<'_>,
+    cx: &EvalContext<'_, F::Expr>,
+    tally: &mut F::Tally,
+) -> Option<EvaluatedScriptRule<'cfg, F, S>>
+    requires { first + length rules.now < 2 ^ 64 }
+    ensures rule { let query = test_query F.holds (F.meaning cx.now.default_filter.now)
+        (test_view query.now) in
+        option_map (script_rule_of F.meaning) result
+        ≡ winner query (λ w. is_some w.run_wrapper) (map (script_rule_of F.meaning) rules.now) }
+    ensures tally { let query = test_query F.holds (F.meaning cx.now.default_filter.now)
+        (test_view query.now) in
+        F.Tally.numbers tally.new ≡ F.Tally.numbers tally.old
+        ++ asked_from ((λ w. is_some w.run_wrapper) ∷ []) first query []
+        (map (script_rule_of F.meaning) rules.now) }
+    ensures member { IfSome result (λ r. (n : ℕ) × (slice_get rules.now n ≡ Some r)) }
+    ensures named { IfSome result (λ r. IsSome (script_rule_ref_view r.rule).writes.run_wrapper) }
+{
+    for (index, rule) in rules.iter().enumerate() {
+        let is_wanted = rule.rule.run_wrapper().is_some();
+        if holds_for_test(rule, is_wanted, first + index, query, cx, tally) {
+            return Some(*rule);
+        }
+    }
+    None
+}
+
+/// The first script rule that holds for a binary and names a list wrapper. Rules are numbered on
+/// from the first number.
+pub(crate) fn list_wrapper_rule<'cfg, F: Filters, S: Specs>(
+    rules: &[EvaluatedScriptRule<'cfg, F, S>],
+    first: usize,
+    query: &BinaryQuery<'_>,
+    cx: &EvalContext<'_, F::Expr>,
+    tally: &mut F::Tally,
+) -> Option<EvaluatedScriptRule<'cfg, F, S>>
+    requires room { first + length rules.now < 2 ^ 64 }
+    requires answers { AnswerForBinaries F.holds_binary
+        (map (script_rule_of F.meaning) rules.now) }
+    ensures rule { let query = binary_query F.holds_binary (F.meaning cx.now.default_filter.now)
+        (binary_view query.now) in
+        option_map (script_rule_of F.meaning) result
+        ≡ winner query (λ w. is_some w.list_wrapper) (map (script_rule_of F.meaning) rules.now) }
+    ensures tally { let query = binary_query F.holds_binary (F.meaning cx.now.default_filter.now)
+        (binary_view query.now) in
+        F.Tally.numbers tally.new ≡ F.Tally.numbers tally.old
+        ++ asked_from ((λ w. is_some w.list_wrapper) ∷ []) first query []
+        (map (script_rule_of F.meaning) rules.now) }
+    ensures member { IfSome result (λ r. (n : ℕ) × (slice_get rules.now n ≡ Some r)) }
+    ensures named { IfSome result (λ r. IsSome (script_rule_ref_view r.rule).writes.list_wrapper) }
+{
+    for (index, rule) in rules.iter().enumerate() {
+        let is_wanted = rule.rule.list_wrapper().is_some();
+        if holds_for_binary(rule, is_wanted, first + index, query, cx, tally) {
+            return Some(*rule);
+        }
+    }
+    None
+}
+
+/// The wrapper script of an id that a configuration defines.
+pub(crate) fn wrapper_at<'cfg>(
+    scripts: &'cfg ScriptConfig,
+    id: &ScriptId,
+) -> &'cfg WrapperScriptConfig
+    requires { IsIn (names_in (scripts_view scripts.now).wrapper) (script_text id.now) }
+    ensures { at_name (script_text id.now) (scripts_view scripts.now).wrapper
+        ≡ Some (wrapper_script_view result.now) }
+{
+    match scripts.wrapper.get(id) {
+        Some(wrapper) => wrapper,
+        None => unreachable!(),
+    }
+}
+
+/// The script that wraps the run of a test, and the rule that names it.
+#[derive_where(Clone, Copy)]
+pub(crate) struct RunWrapper<'cfg, F: Filters, S: Specs> {
+    pub(crate) rule: &'cfg CompiledProfileScripts<F, S>,
+    pub(crate) script: &'cfg WrapperScriptConfig,
+}
+
+/// The script that wraps the run of a test: that of the first script rule that holds for it and
+/// names one. Rules are numbered on from the first number.
+pub(crate) fn run_wrapper<'cfg, F: Filters, S: Specs>(
+    rules: &[EvaluatedScriptRule<'cfg, F, S>],
+    scripts: &'cfg ScriptConfig,
+    first: usize,
+    query: &TestQuery<'_>,
+    cx: &EvalContext<'_, F::Expr>,
+    tally: &mut F::Tally,
+) -> Option<RunWrapper<'cfg, F, S>>
+    requires room { first + length rules.now < 2 ^ 64 }
+    requires known { KnowsRunWrappers (scripts_view scripts.now) rules.now }
+    ensures id { let query = test_query F.holds (F.meaning cx.now.default_filter.now)
+        (test_view query.now) in
+        option_map (λ w. (script_rule_ref_view w.rule).writes) result
+        ≡ option_map (λ r. r.writes)
+        (wrapping_rule query (map (script_rule_of F.meaning) rules.now)) }
+    ensures script { option_map (λ w. Some (wrapper_script_view w.script.now)) result
+        ≡ option_map (λ id. at_name id (scripts_view scripts.now).wrapper)
+        (option_and_then (λ w. (script_rule_ref_view w.rule).writes.run_wrapper) result) }
+    ensures tally { let query = test_query F.holds (F.meaning cx.now.default_filter.now)
+        (test_view query.now) in
+        F.Tally.numbers tally.new ≡ F.Tally.numbers tally.old
+        ++ asked_from ((λ w. is_some w.run_wrapper) ∷ []) first query []
+        (map (script_rule_of F.meaning) rules.now) }
+{
+    match run_wrapper_rule(rules, first, query, cx, tally) {
+        Some(found) => Some(RunWrapper {
+            rule: found.rule,
+            script: wrapper_at(scripts, found.rule.run_wrapper().unwrap()),
+        }),
+        None => None,
+    }
+}
+
+/// The script that wraps a binary which lists its tests: that of the first script rule that holds
+/// for it and names one. Rules are numbered on from the first number.
+pub(crate) fn list_wrapper<'cfg, F: Filters, S: Specs>(
+    rules: &[EvaluatedScriptRule<'cfg, F, S>],
+    scripts: &'cfg ScriptConfig,
+    first: usize,
+    query: &BinaryQuery<'_>,
+    cx: &EvalContext<'_, F::Expr>,
+    tally: &mut F::Tally,
+) -> Option<&'cfg WrapperScriptConfig>
+    requires room { first + length rules.now < 2 ^ 64 }
+    requires known { KnowsListWrappers (scripts_view scripts.now) rules.now }
+    requires answers { AnswerForBinaries F.holds_binary
+        (map (script_rule_of F.meaning) rules.now) }
+    ensures script { let query = binary_query F.holds_binary (F.meaning cx.now.default_filter.now)
+        (binary_view query.now) in
+        option_map (λ script. Some (wrapper_script_view script.now)) result
+        ≡ option_map (λ id. at_name id (scripts_view scripts.now).wrapper)
+        (list_wrapper_by query (map (script_rule_of F.meaning) rules.now)) }
+    ensures tally { let query = binary_query F.holds_binary (F.meaning cx.now.default_filter.now)
+        (binary_view query.now) in
+        F.Tally.numbers tally.new ≡ F.Tally.numbers tally.old
+        ++ listed_by query first (map (script_rule_of F.meaning) rules.now) }
+{
+    match list_wrapper_rule(rules, first, query, cx, tally) {
+        Some(found) => Some(wrapper_at(scripts, found.rule.list_wrapper().unwrap())),
+        None => None,
+    }
+}

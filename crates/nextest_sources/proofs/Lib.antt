@@ -1,0 +1,5 @@
+mod Duplicates
+pub mod Ends
+mod FirstPaths
+pub mod Lists
+pub mod Runs

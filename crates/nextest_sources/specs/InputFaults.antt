@@ -1,0 +1,74 @@
+-- What is asked of the files that a load is given, before their texts: one file a tool, and which
+-- files may be missing.
+use Rattle.std.specs.Prelude.{◌≡◌, ℕ, List, [], ◌∷◌, ◌++◌, Option, None, Some, option_map, find}
+use Rattle.std.specs.Option.{option_or}
+use Rattle.std.specs.Str.{bytes_eq}
+use Rattle.nextest_sources.specs.Causes.{LoadCause, duplicate_tool, no_text, LoadFault, at_source}
+use Rattle.nextest_sources.specs.Inputs.{tool_source}
+use Rattle.nextest_sources.specs.Sources.{Source, SourceKind, tool_file, explicit_file, discovered_file, Outcome, text, not_found, not_a_directory, failed, ToolFile}
+
+-- a fact of each element of a list
+abbrev pub Each : {X : Type 0} → (X → Type 0) → List X → Type 0
+Each P [] = Unit {0}
+Each P (x ∷ xs) = P x × Each P xs
+
+-- a file is read; or it is missing, and it was only looked for
+abbrev pub IsReadOrMissing : SourceKind → Outcome → Type 0
+IsReadOrMissing kind (text t) = Unit {0}
+IsReadOrMissing kind not_found = kind ≡ discovered_file
+IsReadOrMissing kind not_a_directory = kind ≡ discovered_file
+IsReadOrMissing kind (failed message) = ⊥
+
+-- no tool has two files
+abbrev pub HaveOneFileEach : List ToolFile → Type 0
+HaveOneFileEach files = (before between after : List ToolFile) (t u : ToolFile)
+    → files ≡ before ++ t ∷ between ++ u ∷ after → t.tool ≡ u.tool → ⊥
+
+-- The fault is that of a tool's second file, by the first argument that has an earlier one of its
+-- tool, and it names the first file of that tool.
+pub record IsFirstDuplicate (files : List ToolFile) (fault : LoadFault) : Type 0 where
+  pub before : List ToolFile
+  pub first : ToolFile
+  pub between : List ToolFile
+  pub second : ToolFile
+  pub after : List ToolFile
+  pub splits : files ≡ before ++ first ∷ between ++ second ∷ after
+  pub same : first.tool ≡ second.tool
+  -- there is no earlier file of the tool
+  pub earliest : Each (λ t. t.tool ≡ second.tool → ⊥) before
+  -- and no earlier argument has an earlier one of its tool
+  pub least : HaveOneFileEach (before ++ first ∷ between)
+  pub tells : fault ≡ at_source (tool_source second) (duplicate_tool second.tool first.file.path)
+
+-- a file that is missing is refused, unless it is only looked for
+abbrev pub missing_cause : SourceKind → Outcome → Option LoadCause
+missing_cause discovered_file o = None
+missing_cause explicit_file o = Some (no_text o)
+missing_cause (tool_file tool) o = Some (no_text o)
+
+-- why the outcome of a file is refused
+abbrev pub outcome_cause : SourceKind → Outcome → Option LoadCause
+outcome_cause kind (text t) = None
+outcome_cause kind not_found = missing_cause kind not_found
+outcome_cause kind not_a_directory = missing_cause kind not_a_directory
+outcome_cause kind (failed message) = Some (no_text (failed message))
+
+-- a fault of a source, if there is a cause
+abbrev pub fault_at_source : Source → Option LoadCause → Option LoadFault
+fault_at_source source cause = option_map (at_source source) cause
+
+-- the path of the first file of a tool among some
+abbrev pub first_path : List ℕ → List ToolFile → Option (List ℕ)
+first_path tool files = option_map (λ t. t.file.path) (find (λ t. bytes_eq t.tool tool) files)
+
+-- a tool's file is refused where one of the files before it is of the same tool
+abbrev pub second_file : (before : List ToolFile) → ToolFile → Option LoadFault
+second_file before t =
+    option_map (λ path. at_source (tool_source t) (duplicate_tool t.tool path))
+    (first_path t.tool before)
+
+-- the first file of some that has an earlier one of its tool is refused
+abbrev pub duplicate_fault : (before : List ToolFile) → List ToolFile → Option LoadFault
+duplicate_fault before [] = None
+duplicate_fault before (t ∷ files) =
+    option_or (second_file before t) (duplicate_fault (before ++ t ∷ []) files)

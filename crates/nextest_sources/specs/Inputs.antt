@@ -1,0 +1,74 @@
+-- The files that a load is given, and the sources that it makes of them.
+use Rattle.std.specs.Prelude.{ℕ, List, [], ◌∷◌, ◌++◌, Option, Some, None, map, reverse, option_map}
+use Rattle.std.specs.Borrow.{Bor}
+use Rattle.std.specs.List.{flat_map}
+use Rattle.nextest_sources.specs.declared.sources.FileInput.{FileInput}
+use Rattle.nextest_sources.specs.declared.sources.ToolConfigFile.{ToolConfigFile}
+use Rattle.nextest_sources.specs.Sources.{Source, tool_file, explicit_file, discovered_file, Outcome, text, not_found, not_a_directory, failed, InputFile, file_view, ToolFile, tool_file_view}
+
+-- All files that a load is given: the repository's where it is looked for, the one that a user
+-- names instead, if any, and those of tools, in the order of the arguments.
+pub record LoadInputs : Type 0 where
+  pub shared : InputFile
+  pub explicit : Option InputFile
+  pub tools : List ToolFile
+
+-- what contracts see of the files that a load is given
+abbrev pub load_inputs_view : FileInput → Option (Bor FileInput) → List ToolConfigFile → LoadInputs
+load_inputs_view shared config_file tools = record {
+  shared = file_view shared;
+  explicit = option_map (λ f. file_view f.now) config_file;
+  tools = map tool_file_view tools;
+}
+
+-- a source, and what came of reading its file
+pub record Input : Type 0 where
+  pub source : Source
+  pub outcome : Outcome
+
+-- the source of a tool's file
+abbrev pub tool_source : ToolFile → Source
+tool_source t = record { path = t.file.path; kind = tool_file t.tool }
+
+-- a tool's file as an input
+abbrev pub tool_input : ToolFile → Input
+tool_input t = record { source = tool_source t; outcome = t.file.outcome }
+
+-- the repository's file: the one that a user names, and else the one that is looked for
+abbrev pub repository_input : InputFile → Option InputFile → Input
+repository_input shared (Some file) =
+    record { source = record { path = file.path; kind = explicit_file }; outcome = file.outcome }
+repository_input shared None = record {
+  source = record { path = shared.path; kind = discovered_file };
+  outcome = shared.outcome;
+}
+
+-- the repository's source
+abbrev pub repository_of : LoadInputs → Source
+repository_of files = (repository_input files.shared files.explicit).source
+
+-- What a load reads, the lowest first: the files of tools from the last argument to the first, and
+-- then the repository's.
+abbrev pub inputs_of : LoadInputs → List Input
+inputs_of files =
+    reverse (map tool_input files.tools) ++ repository_input files.shared files.explicit ∷ []
+
+-- a source with the text of its file
+pub record SourceText : Type 0 where
+  pub source : Source
+  pub text : List ℕ
+
+-- a source with its text, if it gave one
+abbrev pub texts_at : Source → Outcome → List SourceText
+texts_at source (text t) = record { source = source; text = t } ∷ []
+texts_at source not_found = []
+texts_at source not_a_directory = []
+texts_at source (failed message) = []
+
+-- an input with its text, if it gave one
+abbrev pub texts_of : Input → List SourceText
+texts_of i = texts_at i.source i.outcome
+
+-- the sources that gave text, the lowest first
+abbrev pub sources_in : LoadInputs → List SourceText
+sources_in files = flat_map texts_of (inputs_of files)

@@ -1,0 +1,12 @@
+pub mod Sources
+pub mod Inputs
+pub mod InputsView
+pub mod Causes
+pub mod InputFaults
+pub mod Warnings
+pub mod WarningsView
+pub mod Steps
+pub mod ErrorKinds
+pub mod KindNames
+pub mod Errors
+pub mod Endings

@@ -1,0 +1,74 @@
+-- What contracts see of files, outcomes and sources.
+use Rattle.std.specs.Prelude.{ℕ, List, Option, Some, None, string_bytes}
+use Rattle.nextest_texts.specs.IdentifierText.{tool_name_text}
+use Rattle.nextest_sources.specs.declared.sources.ConfigPath.{ConfigPath}
+use Rattle.nextest_sources.specs.declared.sources.ReadOutcome.{ReadOutcome}
+use Rattle.nextest_sources.specs.declared.sources.ReadOutcome.TheVariants as outcomes
+use Rattle.nextest_sources.specs.declared.sources.FileInput.{FileInput}
+use Rattle.nextest_sources.specs.declared.sources.ToolConfigFile.{ToolConfigFile}
+use Rattle.nextest_sources.specs.declared.sources.ConfigSource.{ConfigSource}
+use Rattle.nextest_sources.specs.declared.sources.ConfigSourceKind.{ConfigSourceKind}
+use Rattle.nextest_sources.specs.declared.sources.ConfigSourceKind.TheVariants as kinds
+
+-- the text of a path
+abbrev pub path_view : ConfigPath → List ℕ
+path_view p = string_bytes p.path
+
+-- what kind of source a file is: one of a tool, or the repository's, named by a user or looked for
+pub data SourceKind : Type 0 where
+  tool_file : (tool : List ℕ) → SourceKind
+  explicit_file : SourceKind
+  discovered_file : SourceKind
+
+-- what contracts see of a kind of source
+abbrev pub source_kind_view : ConfigSourceKind → SourceKind
+source_kind_view (kinds.Tool tool) = tool_file (tool_name_text tool)
+source_kind_view kinds.ExplicitRepository = explicit_file
+source_kind_view kinds.DiscoveredRepository = discovered_file
+
+-- the tool of a source, where it is one of a tool
+abbrev pub tool_of : SourceKind → Option (List ℕ)
+tool_of (tool_file tool) = Some tool
+tool_of explicit_file = None
+tool_of discovered_file = None
+
+-- a source: the path of a file, and what kind of source it is
+pub record Source : Type 0 where
+  pub path : List ℕ
+  pub kind : SourceKind
+
+-- what contracts see of a source
+abbrev pub source_view : ConfigSource → Source
+source_view s = record { path = path_view s.path; kind = source_kind_view s.kind }
+
+-- what came of reading a file
+pub data Outcome : Type 0 where
+  text : List ℕ → Outcome
+  not_found : Outcome
+  not_a_directory : Outcome
+  failed : (message : List ℕ) → Outcome
+
+-- what contracts see of an outcome
+abbrev pub outcome_view : ReadOutcome → Outcome
+outcome_view (outcomes.Text t) = text (string_bytes t)
+outcome_view outcomes.NotFound = not_found
+outcome_view outcomes.NotADirectory = not_a_directory
+outcome_view (outcomes.Failed message) = failed (string_bytes message)
+
+-- a file: its path, and what came of reading it
+pub record InputFile : Type 0 where
+  pub path : List ℕ
+  pub outcome : Outcome
+
+-- what contracts see of a file
+abbrev pub file_view : FileInput → InputFile
+file_view f = record { path = path_view f.path; outcome = outcome_view f.outcome }
+
+-- a file that a tool provides
+pub record ToolFile : Type 0 where
+  pub tool : List ℕ
+  pub file : InputFile
+
+-- what contracts see of a tool's file
+abbrev pub tool_file_view : ToolConfigFile → ToolFile
+tool_file_view t = record { tool = tool_name_text t.tool; file = file_view t.config_file }

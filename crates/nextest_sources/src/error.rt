@@ -1,0 +1,339 @@
+//! Why a configuration is refused: the source, and what is wrong with it.
+ghost use Rattle.std.specs.Prelude.{◌≡◌, not, is_some};
+ghost use Rattle.nextest_sources.specs.ErrorKinds.{is_memory};
+
+mod compile;
+mod groups;
+mod message;
+mod scripts;
+
+use crate::error::message::{begin_detail, separate, write_detail, write_each, write_names};
+use crate::sources::{ConfigPath, ConfigSource, ReadOutcome};
+pub use compile::{ConfigCompileError, ConfigCompileErrorKind, ConfigCompileSection};
+pub use groups::UnknownTestGroupError;
+use nextest_elements::{ConfigExperimental, CustomTestGroup};
+use nextest_inheritance::InheritsError;
+use nextest_scripts::ScriptId;
+use nextest_texts::ToolName;
+use nextest_tree::{ElementCause, ElementFault};
+pub use scripts::{
+    ProfileListScriptUsesRunFiltersError, ProfileScriptErrors, ProfileUnknownScriptError,
+    ProfileWrongConfigScriptTypeError,
+};
+use std::alloc::AllocError;
+use std::collections::BTreeSet;
+use std::fmt;
+
+/// What is wrong with a source.
+#[derive(Debug, Drop)]
+pub enum ConfigParseErrorKind {
+    /// A tool provides a second file. The fault stands at the second.
+    DuplicateToolConfigFile {
+        /// The tool.
+        tool: ToolName,
+        /// The path of its first file, in the order of the arguments.
+        first: ConfigPath,
+    },
+    /// The file could not be read.
+    ReadError(ReadOutcome),
+    /// The text is no TOML document. The message is for people.
+    BuildError(String),
+    /// A value is not what may stand there.
+    DeserializeError(ElementFault),
+    /// The repository's file defines groups that are a tool's.
+    InvalidTestGroupsDefined(BTreeSet<CustomTestGroup>),
+    /// A tool's file defines groups that are not its own.
+    InvalidTestGroupsDefinedByTool(BTreeSet<CustomTestGroup>),
+    /// There are scripts under the old key `script` and under `scripts`.
+    BothScriptAndScriptsDefined,
+    /// The file needs experimental features that are not switched on.
+    ExperimentalFeaturesNotEnabled {
+        /// Those features, in their order.
+        missing_features: Vec<ConfigExperimental>,
+    },
+    /// Ids are defined both as setup scripts and as wrapper scripts.
+    DuplicateConfigScriptNames(BTreeSet<ScriptId>),
+    /// The repository's file defines scripts that are a tool's.
+    InvalidConfigScriptsDefined(BTreeSet<ScriptId>),
+    /// A tool's file defines scripts that are not its own.
+    InvalidConfigScriptsDefinedByTool(BTreeSet<ScriptId>),
+    /// Profiles inherit what they may not: one for each profile, `default` first and the others by
+    /// name, and then one for all cycles.
+    InheritanceErrors(Vec<InheritsError>),
+    /// What does not compile: all of it, that of `default` first, the others by profile; in each
+    /// the default filter, the overrides and the script rules in the order of the file.
+    CompileErrors(Vec<ConfigCompileError>),
+    /// Rules write groups that are not known.
+    UnknownTestGroups {
+        /// One for each such rule, in the order of `CompileErrors`.
+        errors: Vec<UnknownTestGroupError>,
+        /// The groups that the file and those below it define, and the global one.
+        known_groups: BTreeSet<String>,
+    },
+    /// Rules name scripts that they may not.
+    ProfileScriptErrors {
+        /// What is wrong with the scripts.
+        errors: ProfileScriptErrors,
+        /// The scripts that the file and those below it define.
+        known_scripts: BTreeSet<String>,
+    },
+    /// Want of memory. It says nothing of any source.
+    Memory,
+}
+
+impl ConfigParseErrorKind {
+    ghost use Rattle.nextest_sources.specs.KindNames.{kind_number, kind_name};
+
+    /// The kind's number, as the program prints it.
+    pub fn number(&self) -> u8
+        ensures { result ≡ kind_number self.now }
+    {
+        match self {
+            ConfigParseErrorKind::DuplicateToolConfigFile { .. } => 1,
+            ConfigParseErrorKind::ReadError(_) => 2,
+            ConfigParseErrorKind::BuildError(_) => 3,
+            ConfigParseErrorKind::DeserializeError(_) => 4,
+            ConfigParseErrorKind::InvalidTestGroupsDefined(_) => 5,
+            ConfigParseErrorKind::InvalidTestGroupsDefinedByTool(_) => 6,
+            ConfigParseErrorKind::BothScriptAndScriptsDefined => 7,
+            ConfigParseErrorKind::ExperimentalFeaturesNotEnabled { .. } => 8,
+            ConfigParseErrorKind::DuplicateConfigScriptNames(_) => 9,
+            ConfigParseErrorKind::InvalidConfigScriptsDefined(_) => 10,
+            ConfigParseErrorKind::InvalidConfigScriptsDefinedByTool(_) => 11,
+            ConfigParseErrorKind::InheritanceErrors(_) => 12,
+            ConfigParseErrorKind::CompileErrors(_) => 13,
+            ConfigParseErrorKind::UnknownTestGroups { .. } => 14,
+            ConfigParseErrorKind::ProfileScriptErrors { .. } => 15,
+            ConfigParseErrorKind::Memory => 16,
+        }
+    }
+
+    /// The kind's name, as the program prints it.
+    pub fn name(&self) -> &'static str
+        ensures { result.now ≡ kind_name self.now }
+    {
+        match self {
+            ConfigParseErrorKind::DuplicateToolConfigFile { .. } => "DuplicateToolConfigFile",
+            ConfigParseErrorKind::ReadError(_) => "ReadError",
+            ConfigParseErrorKind::BuildError(_) => "BuildError",
+            ConfigParseErrorKind::DeserializeError(_) => "DeserializeError",
+            ConfigParseErrorKind::InvalidTestGroupsDefined(_) => "InvalidTestGroupsDefined",
+            ConfigParseErrorKind::InvalidTestGroupsDefinedByTool(_) => {
+                "InvalidTestGroupsDefinedByTool"
+            }
+            ConfigParseErrorKind::BothScriptAndScriptsDefined => "BothScriptAndScriptsDefined",
+            ConfigParseErrorKind::ExperimentalFeaturesNotEnabled { .. } => {
+                "ExperimentalFeaturesNotEnabled"
+            }
+            ConfigParseErrorKind::DuplicateConfigScriptNames(_) => "DuplicateConfigScriptNames",
+            ConfigParseErrorKind::InvalidConfigScriptsDefined(_) => "InvalidConfigScriptsDefined",
+            ConfigParseErrorKind::InvalidConfigScriptsDefinedByTool(_) => {
+                "InvalidConfigScriptsDefinedByTool"
+            }
+            ConfigParseErrorKind::InheritanceErrors(_) => "InheritanceErrors",
+            ConfigParseErrorKind::CompileErrors(_) => "CompileErrors",
+            ConfigParseErrorKind::UnknownTestGroups { .. } => "UnknownTestGroups",
+            ConfigParseErrorKind::ProfileScriptErrors { .. } => "ProfileScriptErrors",
+            ConfigParseErrorKind::Memory => "Memory",
+        }
+    }
+}
+
+/// Writes a message as details: each of its lines behind two spaces.
+fn write_details<W: fmt::Write>(f: &mut fmt::Formatter<W>, message: &str) -> fmt::Result {
+    for line in message.lines() {
+        begin_detail(f)?;
+        f.write_str(line)?;
+    }
+    Ok(())
+}
+
+/// Writes what came of reading a file, where it says more than the kind's name.
+fn write_outcome<W: fmt::Write>(f: &mut fmt::Formatter<W>, outcome: &ReadOutcome) -> fmt::Result {
+    match outcome {
+        ReadOutcome::Failed(message) => write_details(f, message.as_str()),
+        ReadOutcome::NotFound => write_details(f, "no such file"),
+        ReadOutcome::NotADirectory => write_details(f, "a part of its path is no directory"),
+        ReadOutcome::Text(_) => Ok(()),
+    }
+}
+
+/// Writes features as a detail, with commas between them.
+fn write_features<W: fmt::Write>(
+    f: &mut fmt::Formatter<W>,
+    features: &[ConfigExperimental],
+) -> fmt::Result {
+    begin_detail(f)?;
+    f.write_str("missing features")?;
+    for (index, feature) in features.iter().enumerate() {
+        separate(f, index)?;
+        write!(f, "{feature}")?;
+    }
+    Ok(())
+}
+
+/// Writes all that is wrong with the scripts that rules name.
+fn write_scripts<W: fmt::Write>(
+    f: &mut fmt::Formatter<W>,
+    errors: &ProfileScriptErrors,
+    known_scripts: &BTreeSet<String>,
+) -> fmt::Result {
+    write!(f, "{errors}")?;
+    write_names(f, "known scripts", known_scripts)
+}
+
+/// The kind's number and name, and then details, each on a line behind two spaces.
+impl fmt::Display for ConfigParseErrorKind {
+    fn fmt<W: fmt::Write>(&self, f: &mut fmt::Formatter<W>) -> fmt::Result {
+        write!(f, "{} {}", self.number(), self.name())?;
+        match self {
+            ConfigParseErrorKind::DuplicateToolConfigFile { first, .. } => {
+                write_detail(f, &format_args!("the first file of the tool is {first}"))
+            }
+            ConfigParseErrorKind::ReadError(outcome) => write_outcome(f, outcome),
+            ConfigParseErrorKind::BuildError(message) => write_details(f, message.as_str()),
+            ConfigParseErrorKind::DeserializeError(fault) => write_detail(f, fault),
+            ConfigParseErrorKind::InvalidTestGroupsDefined(groups)
+            | ConfigParseErrorKind::InvalidTestGroupsDefinedByTool(groups) => {
+                write_names(f, "test groups", groups)
+            }
+            ConfigParseErrorKind::ExperimentalFeaturesNotEnabled { missing_features } => {
+                write_features(f, missing_features)
+            }
+            ConfigParseErrorKind::DuplicateConfigScriptNames(ids)
+            | ConfigParseErrorKind::InvalidConfigScriptsDefined(ids)
+            | ConfigParseErrorKind::InvalidConfigScriptsDefinedByTool(ids) => {
+                write_names(f, "scripts", ids)
+            }
+            ConfigParseErrorKind::InheritanceErrors(errors) => write_each(f, errors),
+            ConfigParseErrorKind::CompileErrors(errors) => write_each(f, errors),
+            ConfigParseErrorKind::UnknownTestGroups {
+                errors,
+                known_groups,
+            } => {
+                write_each(f, errors)?;
+                write_names(f, "known groups", known_groups)
+            }
+            ConfigParseErrorKind::ProfileScriptErrors {
+                errors,
+                known_scripts,
+            } => write_scripts(f, errors, known_scripts),
+            ConfigParseErrorKind::BothScriptAndScriptsDefined | ConfigParseErrorKind::Memory => {
+                Ok(())
+            }
+        }
+    }
+}
+
+impl std::error::Error for ConfigParseErrorKind {}
+
+/// Why a configuration is refused.
+#[derive(Debug, Drop)]
+pub struct ConfigParseError {
+    source: Option<ConfigSource>,
+    kind: ConfigParseErrorKind,
+    ghost placed: { is_some source ≡ not (is_memory kind) },
+}
+
+/// The source, the kind's number and name, and then details, each on a line behind two spaces.
+impl fmt::Display for ConfigParseError {
+    fn fmt<W: fmt::Write>(&self, f: &mut fmt::Formatter<W>) -> fmt::Result {
+        match &self.source {
+            Some(source) => write!(f, "{source}: {}", self.kind),
+            None => f.write_str("out of memory"),
+        }
+    }
+}
+
+impl std::error::Error for ConfigParseError {}
+
+#[tactic(auto, unfolding(crate::specs::Endings::error_view, nextest_tree::specs::Reads::fault_view))]
+impl ConfigParseError {
+    ghost use Rattle.std.specs.Prelude.{◌≡◌, option_map, option_and_then, None, not, is_some, IsSome};
+    ghost use Rattle.nextest_texts.specs.IdentifierText.{tool_name_text};
+    ghost use Rattle.nextest_tree.specs.Reads.{fault_view};
+    ghost use Rattle.nextest_sources.specs.Causes.{at_source, bad_element};
+    ghost use Rattle.nextest_sources.specs.Endings.{error_view, no_memory, Refuses};
+    ghost use Rattle.nextest_sources.specs.ErrorKinds.{is_memory};
+    ghost use Rattle.nextest_sources.specs.Errors.{source_of, cause_view};
+    ghost use Rattle.nextest_sources.specs.Sources.{path_view, source_view, tool_of};
+
+    /// The file that is refused: `None` exactly for want of memory.
+    pub fn config_file(&self) -> Option<&ConfigPath>
+        ensures path { option_map (λ path. path_view path.now) result
+            ≡ option_map (λ source. source.path) (source_of self.now) }
+        ensures memory { is_some (source_of self.now) ≡ not (is_memory self.now.kind) }
+    {
+        match &self.source {
+            Some(source) => Some(source.path()),
+            None => None,
+        }
+    }
+
+    /// The tool that provides the file that is refused, where one does.
+    pub fn tool(&self) -> Option<&ToolName>
+        ensures { option_map (λ tool. tool_name_text tool.now) result
+            ≡ option_and_then (λ source. tool_of source.kind) (source_of self.now) }
+    {
+        match &self.source {
+            Some(source) => source.tool(),
+            None => None,
+        }
+    }
+
+    /// What is wrong with the file.
+    pub fn kind(&self) -> &ConfigParseErrorKind
+        ensures { result.now ≡ self.now.kind }
+    {
+        &self.kind
+    }
+
+    /// Want of memory.
+    pub fn memory() -> ConfigParseError
+        ensures { error_view result ≡ no_memory }
+    {
+        ConfigParseError {
+            source: None,
+            kind: ConfigParseErrorKind::Memory,
+        }
+    }
+
+    /// The fault of a source, or want of memory for its copy.
+    pub fn at(source: &ConfigSource, kind: ConfigParseErrorKind) -> ConfigParseError
+        requires { IsSome (cause_view kind) }
+        ensures { Refuses result
+            (option_map (at_source (source_view source.now)) (cause_view kind)) }
+    {
+        match source.clone() {
+            Ok(source) => ConfigParseError {
+                source: Some(source),
+                kind,
+            },
+            Err(_) => ConfigParseError::memory(),
+        }
+    }
+
+    /// The fault of an element of a source, or want of memory.
+    pub fn element(source: &ConfigSource, fault: ElementFault) -> ConfigParseError
+        ensures fault { Refuses result
+            (option_map (λ f. at_source (source_view source.now) (bad_element f))
+            (fault_view fault)) }
+        ensures memory { fault_view fault ≡ None → error_view result ≡ no_memory }
+    {
+        if let ElementCause::Memory = fault.cause {
+            return ConfigParseError::memory();
+        }
+        ConfigParseError::at(source, ConfigParseErrorKind::DeserializeError(fault))
+    }
+}
+
+impl From<AllocError> for ConfigParseError {
+    ghost use Rattle.std.specs.Prelude.{◌≡◌};
+    ghost use Rattle.nextest_sources.specs.Endings.{error_view, no_memory};
+
+    ghost from_gives = { λ _ e. error_view e ≡ no_memory };
+
+    fn from(_error: AllocError) -> ConfigParseError {
+        ConfigParseError::memory()
+    }
+}

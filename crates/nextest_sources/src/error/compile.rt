@@ -1,0 +1,115 @@
+//! What does not compile: default filters, overrides and script rules.
+use crate::error::message::write_message;
+use std::fmt;
+use thiserror::Error;
+
+/// What compilation refuses of a rule or a default filter.
+#[derive(Debug, Drop)]
+pub enum ConfigCompileErrorKind {
+    /// The rule has neither a platform nor a filter.
+    ConstraintsNotSpecified {
+        /// Whether it has a default filter, which is no constraint.
+        default_filter_specified: bool,
+    },
+    /// The override has both a filter and a default filter.
+    FilterAndDefaultFilterSpecified,
+    /// The engines refuse texts of the rule. Each refusal is the engine's message.
+    Parse {
+        /// The refusal of the host's spec.
+        host_parse_error: Option<String>,
+        /// The refusal of the target's spec.
+        target_parse_error: Option<String>,
+        /// The filter's message stands before the default filter's.
+        filter_parse_errors: Vec<String>,
+    },
+}
+
+/// Where in a profile something does not compile.
+#[derive(Clone, Copy, Debug, PartialEq, Eq)]
+pub enum ConfigCompileSection {
+    /// The profile's own default filter.
+    DefaultFilter,
+    /// The override of this position, from 0.
+    Override(usize),
+    /// The script rule of this position, from 0.
+    Script(usize),
+}
+
+/// A rule or a default filter that does not compile.
+#[derive(Debug, Drop, Error)]
+#[error("profile.{profile_name}.{section}: {kind}")]
+pub struct ConfigCompileError {
+    /// The profile.
+    pub profile_name: String,
+    /// Where in the profile it stands.
+    pub section: ConfigCompileSection,
+    /// What is wrong with it.
+    pub kind: ConfigCompileErrorKind,
+}
+
+impl fmt::Display for ConfigCompileSection {
+    fn fmt<W: fmt::Write>(&self, f: &mut fmt::Formatter<W>) -> fmt::Result {
+        match self {
+            ConfigCompileSection::DefaultFilter => f.write_str("default-filter"),
+            ConfigCompileSection::Override(index) => write!(f, "overrides.{index}"),
+            ConfigCompileSection::Script(index) => write!(f, "scripts.{index}"),
+        }
+    }
+}
+
+/// Writes a refusal of an engine behind what it refuses.
+fn write_refusal<W: fmt::Write>(
+    f: &mut fmt::Formatter<W>,
+    what: &str,
+    message: &str,
+) -> fmt::Result {
+    f.write_str("; ")?;
+    f.write_str(what)?;
+    f.write_str(": ")?;
+    write_message(f, message)
+}
+
+/// Writes all refusals of engines, in the order of host, target and filters.
+fn write_refusals<W: fmt::Write>(
+    f: &mut fmt::Formatter<W>,
+    host: &Option<String>,
+    target: &Option<String>,
+    filters: &[String],
+) -> fmt::Result {
+    f.write_str("not understood")?;
+    for message in host.iter() {
+        write_refusal(f, "host", message.as_str())?;
+    }
+    for message in target.iter() {
+        write_refusal(f, "target", message.as_str())?;
+    }
+    for message in filters {
+        write_refusal(f, "filter", message.as_str())?;
+    }
+    Ok(())
+}
+
+impl fmt::Display for ConfigCompileErrorKind {
+    fn fmt<W: fmt::Write>(&self, f: &mut fmt::Formatter<W>) -> fmt::Result {
+        match self {
+            ConfigCompileErrorKind::ConstraintsNotSpecified {
+                default_filter_specified: false,
+            } => f.write_str("at least one of `platform` and `filter` must be specified"),
+            ConfigCompileErrorKind::ConstraintsNotSpecified {
+                default_filter_specified: true,
+            } => f.write_str(
+                "for override with `default-filter`, `platform` must also be specified",
+            ),
+            ConfigCompileErrorKind::FilterAndDefaultFilterSpecified => {
+                f.write_str("at most one of `filter` and `default-filter` must be specified")
+            }
+            ConfigCompileErrorKind::Parse {
+                host_parse_error,
+                target_parse_error,
+                filter_parse_errors,
+            } => write_refusals(f, host_parse_error, target_parse_error, filter_parse_errors),
+        }
+    }
+}
+
+impl std::error::Error for ConfigCompileErrorKind {}

@@ -1,0 +1,23 @@
+//! Where configuration comes from: files with their outcomes, the sources that a load makes of
+//! them, why they are refused and what is warned of.
+//!
+//! Nothing here reads a file: a caller reads them and hands the outcomes in.
+#![tactic(auto)]
+
+mod error;
+mod inputs;
+pub mod laws;
+mod sources;
+mod warnings;
+
+pub use error::{
+    ConfigCompileError, ConfigCompileErrorKind, ConfigCompileSection, ConfigParseError,
+    ConfigParseErrorKind, ProfileListScriptUsesRunFiltersError, ProfileScriptErrors,
+    ProfileUnknownScriptError, ProfileWrongConfigScriptTypeError, UnknownTestGroupError,
+};
+pub use inputs::{SourceInput, gather, refuse_duplicates, repository_file, text_of};
+pub use sources::{
+    ConfigFileSelection, ConfigPath, ConfigPaths, ConfigSource, ConfigSourceKind, FileInput,
+    ReadOutcome, ToolConfigFile,
+};
+pub use warnings::{ConfigWarning, ConfigWarnings, DefaultConfigWarnings};

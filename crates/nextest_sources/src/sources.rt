@@ -1,0 +1,195 @@
+//! Where configuration comes from: files with their outcomes, and the sources that a load makes of
+//! them.
+//!
+//! Nothing here reads a file. A caller reads them and hands the outcomes in.
+ghost use Rattle.std.specs.Prelude.{◌≡◌, IfOk, option_map};
+ghost use Rattle.nextest_sources.specs.Sources.{path_view, outcome_view, source_view, source_kind_view, tool_of};
+ghost use Rattle.nextest_texts.specs.IdentifierText.{tool_name_text};
+
+use nextest_texts::ToolName;
+use std::alloc::{AllocError, Global};
+use std::fmt;
+
+/// The resolved path of a configuration file, as it was handed in.
+#[derive(Clone, Debug, Drop, PartialEq, Eq, Hash)]
+pub struct ConfigPath {
+    path: String,
+}
+
+impl ConfigPath {
+    /// The path that a text spells.
+    pub fn new(alloc: Global, path: &str) -> Result<ConfigPath, AllocError>
+        ensures { IfOk result (λ made. path_view made ≡ path.now) }
+    {
+        Ok(ConfigPath {
+            path: String::from_str(alloc, path)?,
+        })
+    }
+
+    /// The path as it was handed in.
+    pub fn absolute_path(&self) -> &str
+        ensures { result.now ≡ path_view self.now }
+    {
+        self.path.as_str()
+    }
+}
+
+impl fmt::Display for ConfigPath {
+    ghost use Rattle.std.specs.Prelude.{Some};
+
+    ghost output = { λ path. Some (path_view path) };
+
+    fn fmt<W: fmt::Write>(&self, f: &mut fmt::Formatter<W>) -> fmt::Result {
+        f.write_str(self.path.as_str())
+    }
+}
+
+/// What came of reading a file.
+#[derive(Debug, Drop)]
+pub enum ReadOutcome {
+    /// Its text.
+    Text(String),
+    /// There is no such file.
+    NotFound,
+    /// A part of its path that should be a directory is none.
+    NotADirectory,
+    /// Anything else, as a directory in its place or bytes that aren't UTF-8, with a message.
+    Failed(String),
+}
+
+impl Clone for ReadOutcome {
+    ghost is_clone = { λ outcome copy. outcome_view copy ≡ outcome_view outcome };
+
+    fn clone(&self) -> Result<Self, AllocError> {
+        match self {
+            ReadOutcome::Text(text) => Ok(ReadOutcome::Text(text.clone()?)),
+            ReadOutcome::NotFound => Ok(ReadOutcome::NotFound),
+            ReadOutcome::NotADirectory => Ok(ReadOutcome::NotADirectory),
+            ReadOutcome::Failed(message) => Ok(ReadOutcome::Failed(message.clone()?)),
+        }
+    }
+}
+
+/// A file that was read, or not.
+#[derive(Debug, Drop)]
+pub struct FileInput {
+    /// Where it was looked for.
+    pub path: ConfigPath,
+    /// What came of reading it.
+    pub outcome: ReadOutcome,
+}
+
+/// A file that a tool provides. It has to be there.
+#[derive(Debug, Drop)]
+pub struct ToolConfigFile {
+    /// The tool.
+    pub tool: ToolName,
+    /// The file.
+    pub config_file: FileInput,
+}
+
+/// Which file of the repository is read, whatever files tools provide.
+#[derive(Clone, Copy, Debug)]
+pub struct ConfigFileSelection<'a> {
+    /// The file that a user named. It has to be there, and no other is looked for.
+    pub config_file: Option<&'a FileInput>,
+}
+
+impl<'a> ConfigFileSelection<'a> {
+    /// The file that a user named, if there is one, and else the one that is looked for.
+    pub fn new(config_file: Option<&'a FileInput>) -> ConfigFileSelection<'a>
+        ensures { result.config_file ≡ config_file.entry }
+    {
+        ConfigFileSelection { config_file }
+    }
+
+    /// The file that a user named.
+    pub fn explicit_config_file(self) -> Option<&'a FileInput>
+        ensures { result ≡ self.entry.config_file }
+    {
+        self.config_file
+    }
+}
+
+/// Where the configuration of a workspace lies.
+#[derive(Debug, Drop)]
+pub struct ConfigPaths {
+    /// The root of the workspace.
+    pub workspace_root: String,
+    /// The repository's own file, which may be missing.
+    pub shared: FileInput,
+}
+
+/// What kind of source a file is.
+#[derive(Clone, Debug, Drop, PartialEq, Eq, Hash)]
+pub enum ConfigSourceKind {
+    /// A file that this tool provides.
+    Tool(ToolName),
+    /// The repository's file that a user named.
+    ExplicitRepository,
+    /// The repository's file where it is looked for, as nobody named another.
+    DiscoveredRepository,
+}
+
+/// A source: a file, and what kind of source it is.
+#[derive(Debug, Drop, PartialEq, Eq, Hash)]
+pub struct ConfigSource {
+    path: ConfigPath,
+    kind: ConfigSourceKind,
+}
+
+impl Clone for ConfigSource {
+    ghost is_clone = { λ source copy. source_view copy ≡ source_view source };
+
+    fn clone(&self) -> Result<Self, AllocError> {
+        Ok(ConfigSource {
+            path: self.path.clone()?,
+            kind: self.kind.clone()?,
+        })
+    }
+}
+
+impl ConfigSource {
+    /// The source of this path and kind.
+    pub fn new(path: ConfigPath, kind: ConfigSourceKind) -> ConfigSource
+        ensures { source_view result
+            ≡ record { path = path_view path; kind = source_kind_view kind } }
+    {
+        ConfigSource { path, kind }
+    }
+
+    /// The file's path.
+    pub fn path(&self) -> &ConfigPath
+        ensures { path_view result.now ≡ (source_view self.now).path }
+    {
+        &self.path
+    }
+
+    /// The tool that provides the file, where one does.
+    pub fn tool(&self) -> Option<&ToolName>
+        ensures { option_map (λ tool. tool_name_text tool.now) result
+            ≡ tool_of (source_view self.now).kind }
+    {
+        match &self.kind {
+            ConfigSourceKind::Tool(tool) => Some(tool),
+            ConfigSourceKind::ExplicitRepository | ConfigSourceKind::DiscoveredRepository => None,
+        }
+    }
+
+    /// What kind of source it is.
+    pub fn kind(&self) -> &ConfigSourceKind
+        ensures { source_kind_view result.now ≡ (source_view self.now).kind }
+    {
+        &self.kind
+    }
+}
+
+/// The path, and the tool that provided the file, where one did.
+impl fmt::Display for ConfigSource {
+    fn fmt<W: fmt::Write>(&self, f: &mut fmt::Formatter<W>) -> fmt::Result {
+        match self.tool() {
+            Some(tool) => write!(f, "{} provided by tool `{tool}`", self.path),
+            None => write!(f, "{}", self.path),
+        }
+    }
+}
