@@ -52,14 +52,16 @@ fn has_default(terms: &[Term]) -> bool
 }
 
 fn any_has_default(lists: &[Vec<Term>]) -> bool
-    ensures { result ≡ list_any (λ terms. list_any (λ term. asks_for_default (term_of term)) terms.items) lists.now }
+    ensures { result ≡ list_any
+        (λ terms. list_any (λ term. asks_for_default (term_of term)) terms.items) lists.now }
 {
     lists.iter().any(|terms| has_default(terms))
 }
 
 /// Adds the leaves of some terms that only a test can answer.
 fn with_leaves(alloc: Global, found: Vec<String>, terms: &[Term]) -> Result<Vec<String>, AllocError>
-    ensures { IfOk result (λ all. map string_bytes all.items ≡ map string_bytes found.items ++ flat_map term_leaves (map term_of terms.now)) }
+    ensures { IfOk result (λ all. map string_bytes all.items
+        ≡ map string_bytes found.items ++ flat_map term_leaves (map term_of terms.now)) }
 {
     let mut found = found;
     for term in terms {
@@ -86,8 +88,10 @@ fn for_kind(
     kind: FiltersetKind,
     lists: Vec<Vec<Term>>,
 ) -> Result<ToyExpr, FilterFault>
-    ensures ok { IfOk result (λ expr. read_for kind (Some (lists_of lists.items)) ≡ Ok (filter_of expr)) }
-    ensures err { IfErr result (λ fault. IfFilterRefused fault (λ message. read_for kind (Some (lists_of lists.items)) ≡ Err message)) }
+    ensures ok { IfOk result
+        (λ expr. read_for kind (Some (lists_of lists.items)) ≡ Ok (filter_of expr)) }
+    ensures err { IfErr result (λ fault. IfFilterRefused fault
+        (λ message. read_for kind (Some (lists_of lists.items)) ≡ Err message)) }
 {
     match kind {
         FiltersetKind::DefaultFilter => {
@@ -101,7 +105,8 @@ fn for_kind(
 }
 
 fn value_beside(expr: &ToyExpr, subject: Subject<'_>, cx: &EvalContext<'_, ToyExpr>) -> Option<bool>
-    ensures { result ≡ value_beside_default (subject_of subject.entry) (filter_of cx.now.default_filter.now) (filter_of expr.now) }
+    ensures { result ≡ value_beside_default (subject_of subject.entry)
+        (filter_of cx.now.default_filter.now) (filter_of expr.now) }
 {
     let default = cx.default_filter.value(subject, Some(true));
     expr.value(subject, default)

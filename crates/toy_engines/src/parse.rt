@@ -1,4 +1,5 @@
-//! Reads the texts of filters. Each atom ends with the next `)`, so a text is read by the pieces before each.
+//! Reads the texts of filters. Each atom ends with the next `)`, so a text is read by the pieces
+//! before each.
 ghost use Rattle.std.specs.Prelude.{◌≡◌, ◌<◌, ◌∷◌, [], length, None, Some, IfOk, IfSome, MatchOption, map, option_map};
 ghost use Rattle.std.specs.List.{list_all};
 ghost use Rattle.toy_engines.specs.FilterValues.{Filter, atom_of, term_of, lists_of};
@@ -32,7 +33,8 @@ fn is_name(text: &str) -> bool
 
 /// The name that follows a prefix.
 fn name_behind<'a>(prefix: &str, piece: &'a str) -> Option<&'a str>
-    ensures { MatchOption result (name_after prefix.now piece.now ≡ None) (λ name. name_after prefix.now piece.now ≡ Some name.now) }
+    ensures { MatchOption result (name_after prefix.now piece.now ≡ None)
+        (λ name. name_after prefix.now piece.now ≡ Some name.now) }
 {
     let name = after(prefix, piece)?;
     if is_name(name) { Some(name) } else { None }
@@ -108,7 +110,8 @@ fn read_joined(
 
 /// What stands before the first `)` of a text, and behind it.
 fn cut(text: &str) -> Option<(&str, &str)>
-    ensures parts { MatchOption result (pieces text.now ≡ text.now ∷ []) (λ parts. pieces text.now ≡ parts.0.now ∷ pieces parts.1.now) }
+    ensures parts { MatchOption result (pieces text.now ≡ text.now ∷ [])
+        (λ parts. pieces text.now ≡ parts.0.now ∷ pieces parts.1.now) }
     ensures shorter { IfSome result (λ parts. length parts.1.now < length text.now) }
 {
     text.split_once(')')
@@ -116,7 +119,8 @@ fn cut(text: &str) -> Option<(&str, &str)>
 
 /// The lists of terms that a text writes, or `None` where it is no filter.
 pub fn read_filter(alloc: Global, text: &str) -> Result<Option<Vec<Vec<Term>>>, AllocError>
-    ensures { IfOk result (λ read. option_map (λ lists. lists_of lists.items) read ≡ filter_in text.now) }
+    ensures { IfOk result
+        (λ read. option_map (λ lists. lists_of lists.items) read ≡ filter_in text.now) }
 {
     let Some((piece, mut rest)) = cut(text) else {
         return Ok(None);

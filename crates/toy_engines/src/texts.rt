@@ -5,7 +5,8 @@ ghost use Rattle.toy_engines.specs.Texts.{after_prefix, has_part};
 
 /// What follows a prefix of a text, or `None` where the text doesn't begin with it.
 pub fn after<'a>(prefix: &str, text: &'a str) -> Option<&'a str>
-    ensures { MatchOption result (after_prefix prefix.now text.now ≡ None) (λ rest. after_prefix prefix.now text.now ≡ Some rest.now) }
+    ensures { MatchOption result (after_prefix prefix.now text.now ≡ None)
+        (λ rest. after_prefix prefix.now text.now ≡ Some rest.now) }
 {
     text.strip_prefix(prefix)
 }
