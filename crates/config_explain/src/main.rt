@@ -1,4 +1,5 @@
-//! Explains what a nextest configuration gives a test: each setting with its value and where it comes from.
+//! Explains what a nextest configuration gives a test: each setting with its value and where it
+//! comes from.
 #![tactic(auto)]
 
 mod files;

@@ -35,7 +35,8 @@ impl FileReader for StoredFiles<'_> {
 pub struct Case<'a> {
     pub name: &'a str,
     pub files: StoredFiles<'a>,
-    /// The words of which one stands in each line of standard output that is printed. Without them all lines are.
+    /// The words of which one stands in each line of standard output that is printed. Without them
+    /// all lines are.
     pub shown: Option<&'a str>,
     /// Whether no line of standard error is printed that begins with two spaces.
     pub hides_details: bool,

@@ -1,6 +1,7 @@
 //! Runs cases of `explain` over files in memory, and prints what each run ends with.
 //!
-//! The cases come on standard input. Empty lines and lines that begin with `#` say nothing. Each other line is one of these:
+//! The cases come on standard input. Empty lines and lines that begin with `#` say nothing. Each
+//! other line is one of these:
 //!
 //! | Line | What it says |
 //! |---|---|
@@ -14,8 +15,9 @@
 //! | `without-details` | of standard error, lines that begin with two spaces aren't printed |
 //! | `args WORD ..` | the command line of a run over the case's files, its words parted by one space |
 //!
-//! For each run it prints the case's name, the words, the status, and what was written to the two streams. A line that
-//! is none of these, or a case without a run, is told on standard error, and the status is 2.
+//! For each run it prints the case's name, the words, the status, and what was written to the two
+//! streams. A line that is none of these, or a case without a run, is told on standard error, and
+//! the status is 2.
 #![tactic(auto)]
 
 mod case;

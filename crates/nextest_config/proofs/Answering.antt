@@ -11,7 +11,7 @@ use Rattle.nextest_tables.specs.FileTexts.{names_in, IsIn}
 use Rattle.nextest_tables.specs.Written.{Name}
 use Rattle.nextest_tree.specs.Schema.{is_one_of}
 use Rattle.nextest_config.specs.Answers.{Question, IsAskedProfile, AreRowsIn, AreAskedRows, Answers}
-use Rattle.nextest_config.specs.Headline.{Row, no_memory, IsRow, numbers_for}
+use Rattle.nextest_config.specs.Headline.{Row, no_memory, IsTestRow, numbers_for}
 use Rattle.nextest_config.specs.ProfileError.{IsNotFound}
 use Rattle.nextest_config.specs.RunView.{refusal_view, profile_fault, answer_view}
 use Rattle.nextest_config.specs.declared.profile_error.ProfileError.{ProfileError}

@@ -1,10 +1,10 @@
 -- A load that ends for want of memory before it begins.
-use Rattle.std.proofs.Common.{◌≡◌, ◌++◌, List, [], Result, Err, refl, sym, subst, append-nil, inl}
+use Rattle.std.proofs.Common.{◌≡◌, ◌++◌, List, [], Result, Err, refl, sym, subst, append-nil, inl, ◌∙◌}
 use Rattle.nextest_engines.specs.Readings.{Readings}
 use Rattle.nextest_load.specs.Load.{Loaded, IsLoad}
 use Rattle.nextest_load.specs.Steps.{load_steps}
 use Rattle.nextest_rules.specs.Definitions.{Features}
-use Rattle.nextest_sources.specs.Endings.{no_memory, error_view, WentThrough}
+use Rattle.nextest_sources.specs.Endings.{no_memory, refused, error_view, WentThrough}
 use Rattle.nextest_sources.specs.Inputs.{LoadInputs}
 use Rattle.nextest_sources.specs.Steps.{warnings_before}
 use Rattle.nextest_sources.specs.Warnings.{Warning}
@@ -16,6 +16,7 @@ memory_load loaded engines features files old e is =
     record {
       verdict = inl is;
       ran = record { is = subst (WentThrough (load_steps engines features files) old old) (sym is) ([], (warnings_before (load_steps engines features files), refl), sym (append-nil old)) };
+      exact = λ fault told. let other : no_memory ≡ refused fault = sym is ∙ told in cc;
       means = tt;
       scripts = tt;
       closed = tt;

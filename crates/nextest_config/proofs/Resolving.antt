@@ -30,7 +30,7 @@ module _ {M K P : Type 0} (engines : Readings M K P) (request : Request P) (wold
       let broken : ¬ RulesHold engines request = elim verdict [ inl memory ↦ absurd (other memory) | inr fails ↦ fails ] in
       subst P (sym tells) (record {
         acceptance = tt;
-        refusal = record { broken = broken; first = went.0; told = refl };
+        refusal = record { broken = broken; first = went.0; is_fault = refl };
         absence = tt;
         unasked = refl;
         warnings = went.1;
@@ -68,7 +68,7 @@ module _ {M K P : Type 0} (engines : Readings M K P) (request : Request P) (wold
         chain = asked.is_profile.chain;
         is_chain = subst (λ c. IsChain (parents_in (config_parents c)) request.profile asked.is_profile.chain) means asked.is_profile.is_chain;
         is_profile = asked.is_profile.is_profile
-            ∙ (λ i. profile_on engines.meets request.platforms (profile_of (record { root = root i; config = means i; scripts = configured.scripts; warnings = [] }) request.profile asked.is_profile.chain));
+            ∙ (λ i. profile_on engines.meets request.platforms (profile_of (record { root = root i; config = means i; scripts = configured.scripts }) request.profile asked.is_profile.chain));
       };
       closure = subst (λ c. IsClosed engines.matches_binary c configured.scripts) means closed;
       each = asked.are_rows.each;

@@ -10,7 +10,7 @@ use Rattle.nextest_settings.specs.Queries.{Origin, setting_value, setting_origin
 use Rattle.nextest_settings.specs.Settings.{ValueOf}
 use Rattle.nextest_settings.specs.declared.setting.Setting.{Setting}
 use Rattle.nextest_settings.specs.declared.setting.Setting.TheVariants as at
-use Rattle.nextest_config.specs.Headline.{query_in, IsRow, numbers_for}
+use Rattle.nextest_config.specs.Headline.{query_in, IsTestRow, numbers_for}
 use Rattle.nextest_config.specs.RowView.{row_value, row_source, row_view}
 use Rattle.nextest_config.specs.declared.run.row.TestRow.{TestRow}
 
@@ -56,10 +56,10 @@ module _ {M Q : Type 0} (matches : M → Test → M → Bool) (profile : Evaluat
   one_more : map view (take (i + 1) qs) ≡ map view (take i qs) ++ view q ∷ []
   one_more = map_more view qs i d below ∙ ap (λ x. map view (take i qs) ++ view x ∷ []) (sym same)
 
-  pub rows_more : (rows : List TestRow) (row : TestRow) → AllZip (IsRow matches profile mode) (map view (take i qs)) (map row_view rows) → IsRow matches profile mode (view q) (row_view row)
-      → AllZip (IsRow matches profile mode) (map view (take (i + 1) qs)) (map row_view (rows ++ row ∷ []))
+  pub rows_more : (rows : List TestRow) (row : TestRow) → AllZip (IsTestRow matches profile mode) (map view (take i qs)) (map row_view rows) → IsTestRow matches profile mode (view q) (row_view row)
+      → AllZip (IsTestRow matches profile mode) (map view (take (i + 1) qs)) (map row_view (rows ++ row ∷ []))
   rows_more rows row before is =
-      rw (one_more, map-append row_view rows (row ∷ [])) (zip_push (IsRow matches profile mode) (map view (take i qs)) (map row_view rows) (view q) (row_view row) before is)
+      rw (one_more, map-append row_view rows (row ∷ [])) (zip_push (IsTestRow matches profile mode) (map view (take i qs)) (map row_view rows) (view q) (row_view row) before is)
 
   pub numbers_more : (old now new : List ℕ) → now ≡ old ++ flat_map (numbers_for matches profile mode) (map view (take i qs)) → new ≡ now ++ numbers_for matches profile mode (view q)
       → new ≡ old ++ flat_map (numbers_for matches profile mode) (map view (take (i + 1) qs))
@@ -73,7 +73,7 @@ module _ {M Q : Type 0} (matches : M → Test → M → Bool) (profile : Evaluat
 pub row_is : {M : Type 0} (matches : M → Test → M → Bool) (profile : EvaluatableModel M) (mode : NextestRunMode) (test : Test) (row : TestRow) (value : (s : Setting) → Option (ValueOf s)) (origin : Setting → Option Origin)
     → ((s : Setting) → row_value row s ≡ value s) → ((s : Setting) → row_source row s ≡ origin s)
     → ((s : Setting) → value s ≡ setting_value (query_in matches profile test) mode profile s) → ((s : Setting) → origin s ≡ setting_origin (query_in matches profile test) mode profile s)
-    → IsRow matches profile mode test (row_view row)
+    → IsTestRow matches profile mode test (row_view row)
 row_is matches profile mode test row value origin values sources of_values of_origins = record {
   values = λ s. values s ∙ of_values s;
   sources = λ s. sources s ∙ of_origins s;

@@ -8,15 +8,15 @@ use Rattle.nextest_sources.specs.Sources.{Source}
 use Rattle.nextest_sources.specs.declared.error.ConfigParseErrorKind.{ConfigParseErrorKind}
 use Rattle.nextest_sources.specs.declared.error.ConfigParseErrorKind.TheVariants as kinds
 use Rattle.nextest_config.specs.Headline.{bad_config, no_memory}
-use Rattle.nextest_config.specs.RunView.{TellsEnding, fault_in}
+use Rattle.nextest_config.specs.RunView.{TellsEnding, fault_of_ending}
 
-at_cause : (source : Source) (cause : Option LoadCause) → TellsEnding (ending_at source cause) (bad_config (fault_in (ending_at source cause)))
+at_cause : (source : Source) (cause : Option LoadCause) → TellsEnding (ending_at source cause) (bad_config (fault_of_ending (ending_at source cause)))
 at_cause source (Some cause) = refl
 at_cause source None = tt
 
 -- a refusal with a source is a fault of it
 pub with_source : (source : Option Source) (kind : ConfigParseErrorKind) → is_some source ≡ true
-    → TellsEnding (ending_with source kind) (bad_config (fault_in (ending_with source kind)))
+    → TellsEnding (ending_with source kind) (bad_config (fault_of_ending (ending_with source kind)))
 with_source (Some source) kind is = at_cause source (cause_view kind)
 with_source None kind is = cc
 

@@ -9,7 +9,7 @@ use Rattle.nextest_load.specs.Config.{config_parents}
 use Rattle.nextest_settings.specs.Profile.{Configured, EvaluatableModel, profile_of, profile_on}
 use Rattle.nextest_tables.specs.FileTexts.{names_in, IsIn}
 use Rattle.nextest_tables.specs.Written.{Name}
-use Rattle.nextest_config.specs.Headline.{Row, Refusal, IfBadConfig, IfNoProfile, IfRefused, IsMissing, IsRow, numbers_for}
+use Rattle.nextest_config.specs.Headline.{Row, Refusal, IfBadConfig, IfNoProfile, IfRefused, IsMissing, IsTestRow, numbers_for}
 
 -- what is asked of a configuration
 pub record Question (P : Type 0) : Type 0 where
@@ -31,7 +31,7 @@ pub record IsAskedProfile {M K P : Type 0} (meets : K → P → Option Bool)
 -- evaluated.
 pub record AreRowsIn {M : Type 0} (matches : M → Test → M → Bool) (profile : EvaluatableModel M)
     (mode : NextestRunMode) (tests : List Test) (rows : List Row) (numbers : List ℕ) : Type 0 where
-  pub each : AllZip (IsRow matches profile mode) tests rows
+  pub each : AllZip (IsTestRow matches profile mode) tests rows
   pub evaluated : numbers ≡ flat_map (numbers_for matches profile mode) tests
 
 -- Rows are those of the tests that are asked about, in the profile that is asked for.

@@ -102,7 +102,7 @@ pub record IsRefused {M K P : Type 0} (engines : Readings M K P) (request : Requ
     (fault : Option LoadFault) : Type 0 where
   pub broken : ¬ RulesHold engines request
   pub first : first_fault (steps_for engines request) ≡ fault
-  pub told : IsSome fault
+  pub is_fault : IsSome fault
 
 -- A profile is missing: its name is the one that was asked for, it is none of these names, and they
 -- are all told, in the order of their bytes.
@@ -120,7 +120,6 @@ configured_for engines request scripts = record {
   root = request.root;
   config = config_of engines (sources_in request.files);
   scripts = scripts;
-  warnings = [];
 }
 
 -- A profile on the platforms that are asked for: it is the one of the name that was asked for, by
@@ -141,7 +140,7 @@ query_in matches profile test = test_query matches profile.default_filter.filter
 
 -- A row is that of a test: each value by itself is what the first rule writes that holds and sets
 -- it, else the fallback, with its source.
-pub record IsRow {M : Type 0} (matches : M → Test → M → Bool) (profile : EvaluatableModel M)
+pub record IsTestRow {M : Type 0} (matches : M → Test → M → Bool) (profile : EvaluatableModel M)
     (mode : NextestRunMode) (test : Test) (row : Row) : Type 0 where
   pub values : (s : Setting)
       → row.value s ≡ setting_value (query_in matches profile test) mode profile s
@@ -166,7 +165,7 @@ pub record AreRows {M K P : Type 0} (engines : Readings M K P) (request : Reques
   pub is_profile : IsProfileFor engines request scripts profile
   pub closure : IsClosed engines.matches_binary (config_of engines (sources_in request.files))
       scripts
-  pub each : AllZip (IsRow engines.matches_test profile request.mode) request.tests rows
+  pub each : AllZip (IsTestRow engines.matches_test profile request.mode) request.tests rows
   pub evaluated :
       numbers ≡ flat_map (numbers_for engines.matches_test profile request.mode) request.tests
   pub rising : (test : Test) → Rising (HasFilterAt (filters_of profile)) 0

@@ -44,15 +44,15 @@ question_view profile platforms mode tests = record {
 }
 
 -- the fault with which a load ended, if it ended with one
-abbrev pub fault_in : Ending → Option LoadFault
-fault_in passed = None
-fault_in (refused fault) = Some fault
-fault_in out_of_memory = None
-fault_in malformed = None
+abbrev pub fault_of_ending : Ending → Option LoadFault
+fault_of_ending passed = None
+fault_of_ending (refused fault) = Some fault
+fault_of_ending out_of_memory = None
+fault_of_ending malformed = None
 
 -- why no rows are answered
 abbrev pub refusal_view : ResolveFault → Refusal
-refusal_view (Config error) = bad_config (fault_in (error_view error))
+refusal_view (Config error) = bad_config (fault_of_ending (error_view error))
 refusal_view (NoProfile missing) =
     no_profile (string_bytes missing.name) (map string_bytes missing.known.items)
 refusal_view Memory = no_memory

@@ -13,14 +13,15 @@ ghost use Rattle.nextest_sources.specs.Inputs.{LoadInputs, load_inputs_view};
 ghost use Rattle.nextest_sources.specs.Warnings.{Warning};
 ghost use Rattle.nextest_sources.specs.WarningsView.{warnings_view};
 ghost use Rattle.nextest_tables.specs.FileTexts.{names_in, IsIn};
-ghost use Rattle.nextest_config.specs.ConfigView.{loaded_in, loaded_by};
+ghost use Rattle.nextest_config.specs.ConfigView.{configured_in, loaded_by};
 ghost use Rattle.nextest_config.specs.ProfileError.{IsNotFound};
 
 use crate::profile_error::{ProfileError, ProfileNotFound};
 use nextest_elements::ConfigExperimental;
 use nextest_engines::{Filters, ParseContext, Specs};
+use nextest_inheritance::{DEFAULT_MIRI_PROFILE, DEFAULT_PROFILE};
 use nextest_load::{LoadedConfig, MergedProfile};
-use nextest_profiles::{DEFAULT_PROFILE, EarlyProfile};
+use nextest_profiles::EarlyProfile;
 use nextest_sources::{
     ConfigFileSelection, ConfigParseError, ConfigPaths, ConfigWarnings, DefaultConfigWarnings,
     FileInput, ToolConfigFile,
@@ -36,9 +37,6 @@ pub const CONFIG_PATH: &str = ".config/nextest.toml";
 /// What the names of nextest's environment variables begin with.
 pub const ENVIRONMENT_PREFIX: &str = "NEXTEST";
 
-/// The name of the profile of runs under Miri.
-pub const DEFAULT_MIRI_PROFILE: &str = "default-miri";
-
 /// The names of the profiles that every configuration has.
 pub const DEFAULT_PROFILES: &[&str] = &[DEFAULT_PROFILE, DEFAULT_MIRI_PROFILE];
 
@@ -52,9 +50,9 @@ pub struct NextestConfig<F: Filters, S: Specs> {
 
 impl<F: Filters, S: Specs> Model for NextestConfig<F, S> {
     ghost use Rattle.std.specs.Prelude.{string_bytes};
-    ghost use Rattle.nextest_settings.specs.Profile.{Configured};
+    ghost use Rattle.nextest_config.specs.ConfigView.{KeptConfig};
 
-    ghost Value = { Configured F.Expr S.Spec };
+    ghost Value = { KeptConfig F.Expr S.Spec };
 
     ghost use Rattle.nextest_sources.specs.WarningsView.{warnings_view};
 
@@ -271,7 +269,7 @@ impl<F: Filters, S: Specs> NextestConfig<F, S> {
     /// The profile of a name, by its chain.
     pub fn profile(&self, alloc: Global, name: &str) -> Result<EarlyProfile<'_, F, S>, ProfileError>
         ensures known { IfOk result (λ _. IsIn (names_in self.now.config.profiles) name.now) }
-        ensures found { IfOk result (IsProfileOf self.now name.now) }
+        ensures found { IfOk result (IsProfileOf (configured_in self.now) name.now) }
         ensures missing { IfErr result (IsNotFound (names_in self.now.config.profiles) name.now) }
     {
         let profiles = self.loaded.profiles();

@@ -25,9 +25,7 @@ mod profile_error;
 pub mod run;
 
 // What this crate has itself.
-pub use config::{
-    CONFIG_PATH, DEFAULT_MIRI_PROFILE, DEFAULT_PROFILES, ENVIRONMENT_PREFIX, NextestConfig,
-};
+pub use config::{CONFIG_PATH, DEFAULT_PROFILES, ENVIRONMENT_PREFIX, NextestConfig};
 pub use profile_error::{ProfileError, ProfileNotFound};
 
 // The engines, and what is asked of them.
@@ -49,7 +47,8 @@ pub use nextest_texts::{ConfigIdentifier, InvalidIdentifier, ToolName};
 pub use nextest_tree::{Element, ElementCause, ElementFault, Tree, Walk};
 
 // Profiles, settings and what decides them.
-pub use nextest_profiles::{DEFAULT_PROFILE, EarlyProfile, EvaluatableProfile, KnownGroups};
+pub use nextest_inheritance::{DEFAULT_MIRI_PROFILE, DEFAULT_PROFILE};
+pub use nextest_profiles::{EarlyProfile, EvaluatableProfile, KnownGroups};
 pub use nextest_rules::{CompiledOverride, CompiledProfileScripts, OverrideId, PlatformSpecs};
 pub use nextest_settings::{
     CompiledDefaultFilter, CompiledDefaultFilterSection, GroupLookup, ListSettings,

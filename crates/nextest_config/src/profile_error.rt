@@ -1,4 +1,5 @@
 //! Why a profile is not given.
+use nextest_sources::OneLine;
 use std::alloc::AllocError;
 use std::error::Error as StdError;
 use std::fmt;
@@ -13,13 +14,14 @@ pub struct ProfileNotFound {
     pub known: Vec<String>,
 }
 
+/// One line: no name leaves it.
 impl fmt::Display for ProfileNotFound {
     fn fmt<W: fmt::Write>(&self, f: &mut fmt::Formatter<W>) -> fmt::Result {
-        write!(f, "profile `{}` not found (known profiles: ", self.name)?;
+        let name = OneLine(self.name.as_str());
+        write!(f, "profile `{name}` not found (known profiles: ")?;
         let mut separator = "";
         for name in self.known.iter() {
-            f.write_str(separator)?;
-            f.write_str(name.as_str())?;
+            write!(f, "{separator}{}", OneLine(name.as_str()))?;
             separator = ", ";
         }
         f.write_str(")")

@@ -1,10 +1,12 @@
+-- The exit statuses of a run.
 use Rattle.std.specs.Prelude.{ℕ, ◌≡◌, ◌⊎◌}
 
--- The exit status of a run that has no lines of a test to tell: 2 where the words are no command, 3 where the
--- configuration is refused, 4 where there is no such profile, 5 for want of memory.
-abbrev pub IsRefusal : ℕ → Type 0
-IsRefusal n = (n ≡ 2) ⊎ (n ≡ 3) ⊎ (n ≡ 4) ⊎ (n ≡ 5)
+-- The exit status of a run that has no lines of a test to tell: 2 where the words are no command, 3
+-- where the configuration is refused, 4 where there is no such profile, 5 for want of memory.
+abbrev pub IsRefusalStatus : ℕ → Type 0
+IsRefusalStatus n = (n ≡ 2) ⊎ (n ≡ 3) ⊎ (n ≡ 4) ⊎ (n ≡ 5)
 
--- The exit status of a run: 0 with the lines of a test, that of a refusal, or 6 where a write failed.
+-- The exit status of a run: 0 with the lines of a test, that of a refusal, or 6 where a write
+-- failed.
 abbrev pub IsStatus : ℕ → Type 0
-IsStatus n = (n ≡ 0) ⊎ IsRefusal n ⊎ (n ≡ 6)
+IsStatus n = (n ≡ 0) ⊎ IsRefusalStatus n ⊎ (n ≡ 6)

@@ -1,10 +1,8 @@
 //! Why the program ends without the lines of a test, and what it tells of it.
-ghost use Rattle.nextest_explain.specs.Statuses.{IsRefusal};
+ghost use Rattle.nextest_explain.specs.Statuses.{IsRefusalStatus};
 
 use crate::command::{CommandError, USAGE};
-use crate::one_line::OneLine;
 use nextest_config::run::ResolveFault;
-use nextest_config::{ConfigParseError, ProfileNotFound};
 use std::alloc::{AllocError, Global};
 
 /// Why the program ends without the lines of a test.
@@ -45,7 +43,7 @@ impl From<ResolveFault> for Failure {
 impl Failure {
     /// The exit status.
     pub fn status(&self) -> u8
-        ensures { IsRefusal result }
+        ensures { IsRefusalStatus result }
     {
         match self {
             Failure::Usage => 2,
@@ -55,35 +53,18 @@ impl Failure {
         }
     }
 
-    /// What standard error is told of it: one line, and where a configuration is refused details behind it, on lines that
-    /// begin with two spaces.
+    /// What standard error is told of it: one line, and where a configuration is refused details
+    /// behind it, on lines that begin with two spaces.
     pub fn text(&self, alloc: Global) -> Result<String, AllocError> {
         match self {
             Failure::Usage => format!(in alloc; "{USAGE}\n"),
-            Failure::Refused(ResolveFault::Config(error)) => refusal_text(alloc, error),
-            Failure::Refused(ResolveFault::NoProfile(missing)) => missing_text(alloc, missing),
+            Failure::Refused(ResolveFault::Config(error)) => format!(in alloc; "error: {error}\n"),
+            Failure::Refused(ResolveFault::NoProfile(missing)) => {
+                format!(in alloc; "error: {missing}\n")
+            }
             Failure::Refused(ResolveFault::Memory) | Failure::Memory => {
                 String::from_str(alloc, OUT_OF_MEMORY)
             }
         }
     }
-}
-
-/// What is told of a configuration that is refused.
-fn refusal_text(alloc: Global, error: &ConfigParseError) -> Result<String, AllocError> {
-    let Some(path) = error.config_file() else {
-        return String::from_str(alloc, OUT_OF_MEMORY);
-    };
-    let path = OneLine(path.absolute_path());
-    let kind = error.kind();
-    match error.tool() {
-        Some(tool) => format!(in alloc; "error: {path} provided by tool `{tool}`: {kind}\n"),
-        None => format!(in alloc; "error: {path}: {kind}\n"),
-    }
-}
-
-/// What is told of a name that no profile has.
-fn missing_text(alloc: Global, missing: &ProfileNotFound) -> Result<String, AllocError> {
-    let text = missing.to_string(alloc)?;
-    format!(in alloc; "error: {}\n", OneLine(text.as_str()))
 }

@@ -1,10 +1,10 @@
-//! Explains what a nextest configuration gives a test, for words, a reader of files and two writers.
+//! Explains what a nextest configuration gives a test, for words, a reader of files and two
+//! writers.
 #![tactic(auto)]
 
 mod command;
 mod failure;
 mod files;
-mod one_line;
 mod options;
 mod program;
 mod row_lines;

@@ -1,7 +1,7 @@
 //! What the program does, over readers of files and writers of its own choosing.
 ghost use Rattle.std.specs.Prelude.{◌≡◌, ◌⊎◌, IsOk};
 ghost use Rattle.std.specs.Io.KnownBytes.{Appends};
-ghost use Rattle.nextest_explain.specs.Statuses.{IsRefusal, IsStatus};
+ghost use Rattle.nextest_explain.specs.Statuses.{IsRefusalStatus, IsStatus};
 
 use crate::command::Command;
 use crate::failure::{Failure, OUT_OF_MEMORY};
@@ -18,9 +18,10 @@ use toy_engines::platforms::ToySpecs;
 /// The triple of the host where none is named.
 const HOST: &str = "x86_64-unknown-linux-gnu";
 
-/// Explains what a configuration gives a test, and answers the exit status: 0, or 2 for a usage fault, 3 for a refused
-/// configuration, 4 where there is no such profile, 5 for want of memory, 6 where a write fails. Warnings come first,
-/// also before a refusal. After a write that failed nothing more is written.
+/// Explains what a configuration gives a test, and answers the exit status: 0, or 2 for a usage
+/// fault, 3 for a refused configuration, 4 where there is no such profile, 5 for want of memory, 6
+/// where a write fails. Warnings come first, also before a refusal. After a write that failed
+/// nothing more is written.
 pub fn explain<R: FileReader, O: Write, E: Write>(
     alloc: Global,
     words: &[String],
@@ -48,7 +49,7 @@ pub fn explain<R: FileReader, O: Write, E: Write>(
 /// Tells of want of memory, without any, and answers the exit status as `explain` does.
 pub fn refuse_for_memory<E: Write>(err: &mut E) -> u8
     ensures status { (result ≡ 5) ⊎ (result ≡ 6) }
-    ensures told { (result ≡ 6)
+    ensures message { (result ≡ 6)
         ⊎ Appends (E.contents err.old) (E.contents err.new) OUT_OF_MEMORY.now }
 {
     ended(err.write_all(OUT_OF_MEMORY.as_bytes()), 5)
@@ -56,7 +57,7 @@ pub fn refuse_for_memory<E: Write>(err: &mut E) -> u8
 
 /// Tells of a failure, and answers the exit status.
 fn refuse<E: Write>(alloc: Global, failure: &Failure, err: &mut E) -> u8
-    ensures { IsRefusal result ⊎ (result ≡ 6) }
+    ensures { IsRefusalStatus result ⊎ (result ≡ 6) }
 {
     match failure.text(alloc) {
         Ok(text) => ended(err.write_all(text.as_bytes()), failure.status()),

@@ -1,6 +1,6 @@
 //! The lines of a row: each setting with its value and where it comes from.
 use nextest_config::run::{PlainSource, TestRow};
-use nextest_config::{LeakTimeout, RetryPolicy, SlowTimeout};
+use nextest_config::{LeakTimeout, RetryPolicy, ScriptId, Setting, SlowTimeout};
 use std::fmt;
 
 /// A row, as its fifteen lines show it.
@@ -9,54 +9,56 @@ pub struct RowLines<'a>(pub &'a TestRow);
 
 impl fmt::Display for RowLines<'_> {
     fn fmt<W: fmt::Write>(&self, f: &mut fmt::Formatter<W>) -> fmt::Result {
-        write_run(f, self.0)?;
-        write_times(f, self.0)?;
-        write_output(f, self.0)
+        for setting in Setting::ALL.iter() {
+            write_setting(f, self.0, *setting)?;
+        }
+        Ok(())
     }
 }
 
-/// Writes the lines on how a test is run.
-fn write_run<W: fmt::Write>(f: &mut fmt::Formatter<W>, row: &TestRow) -> fmt::Result {
-    write_line(f, "priority", &row.priority.0.0, &row.priority.1)?;
-    write_line(
-        f,
-        "threads-required",
-        &row.threads_required.0,
-        &row.threads_required.1,
-    )?;
-    write_run_wrapper(f, row)?;
-    let arguments = Arguments(&row.run_extra_args.0);
-    write_line(f, "run-extra-args", &arguments, &row.run_extra_args.1)
+/// Writes the line that a row has of a setting.
+fn write_setting<W: fmt::Write>(
+    f: &mut fmt::Formatter<W>,
+    row: &TestRow,
+    setting: Setting,
+) -> fmt::Result {
+    let name = setting.name();
+    match setting {
+        Setting::Priority => write_line(f, name, &row.priority.0.0, &row.priority.1),
+        Setting::ThreadsRequired => write_pair(f, name, &row.threads_required),
+        Setting::RunWrapper => write_run_wrapper(f, name, &row.run_wrapper),
+        Setting::RunExtraArgs => {
+            let arguments = Arguments(&row.run_extra_args.0);
+            write_line(f, name, &arguments, &row.run_extra_args.1)
+        }
+        Setting::Retries => write_line(f, name, &Retries(row.retries.0), &row.retries.1),
+        Setting::FlakyResult => write_pair(f, name, &row.flaky_result),
+        Setting::SlowTimeout => {
+            write_line(f, name, &Slow(row.slow_timeout.0), &row.slow_timeout.1)
+        }
+        Setting::LeakTimeout => {
+            write_line(f, name, &Leak(row.leak_timeout.0), &row.leak_timeout.1)
+        }
+        Setting::TestGroup => write_pair(f, name, &row.test_group),
+        Setting::SuccessOutput => write_pair(f, name, &row.success_output),
+        Setting::FailureOutput => write_pair(f, name, &row.failure_output),
+        Setting::JunitStoreSuccessOutput => write_pair(f, name, &row.junit_store_success_output),
+        Setting::JunitStoreFailureOutput => write_pair(f, name, &row.junit_store_failure_output),
+        Setting::JunitReportSkipped => write_pair(f, name, &row.junit_report_skipped),
+        Setting::JunitFlakyFailStatus => write_pair(f, name, &row.junit_flaky_fail_status),
+    }
 }
 
-/// Writes the lines on repeats, on times and on the group.
-fn write_times<W: fmt::Write>(f: &mut fmt::Formatter<W>, row: &TestRow) -> fmt::Result {
-    write_line(f, "retries", &Retries(row.retries.0), &row.retries.1)?;
-    write_line(f, "flaky-result", &row.flaky_result.0, &row.flaky_result.1)?;
-    let slow_timeout = Slow(row.slow_timeout.0);
-    write_line(f, "slow-timeout", &slow_timeout, &row.slow_timeout.1)?;
-    let leak_timeout = Leak(row.leak_timeout.0);
-    write_line(f, "leak-timeout", &leak_timeout, &row.leak_timeout.1)?;
-    write_line(f, "test-group", &row.test_group.0, &row.test_group.1)
+/// Writes the line of a setting whose value is shown as it is.
+fn write_pair<W: fmt::Write, V: fmt::Display>(
+    f: &mut fmt::Formatter<W>,
+    setting: &str,
+    pair: &(V, PlainSource),
+) -> fmt::Result {
+    write_line(f, setting, &pair.0, &pair.1)
 }
 
-/// Writes the lines on output and on the JUnit report.
-fn write_output<W: fmt::Write>(f: &mut fmt::Formatter<W>, row: &TestRow) -> fmt::Result {
-    let (value, source) = &row.success_output;
-    write_line(f, "success-output", value, source)?;
-    let (value, source) = &row.failure_output;
-    write_line(f, "failure-output", value, source)?;
-    let (value, source) = &row.junit_store_success_output;
-    write_line(f, "junit-store-success-output", value, source)?;
-    let (value, source) = &row.junit_store_failure_output;
-    write_line(f, "junit-store-failure-output", value, source)?;
-    let (value, source) = &row.junit_report_skipped;
-    write_line(f, "junit-report-skipped", value, source)?;
-    let (value, source) = &row.junit_flaky_fail_status;
-    write_line(f, "junit-flaky-fail-status", value, source)
-}
-
-/// Writes the line of a setting.
+/// Writes the line of a setting, with its value and where it comes from.
 fn write_line<W: fmt::Write, V: fmt::Display>(
     f: &mut fmt::Formatter<W>,
     setting: &str,
@@ -68,10 +70,14 @@ fn write_line<W: fmt::Write, V: fmt::Display>(
 }
 
 /// Writes the line of the run wrapper, which may be absent.
-fn write_run_wrapper<W: fmt::Write>(f: &mut fmt::Formatter<W>, row: &TestRow) -> fmt::Result {
-    match &row.run_wrapper {
-        Some((id, source)) => write_line(f, "run-wrapper", id, source),
-        None => f.write_str("run-wrapper: none [-]\n"),
+fn write_run_wrapper<W: fmt::Write>(
+    f: &mut fmt::Formatter<W>,
+    setting: &str,
+    wrapper: &Option<(ScriptId, PlainSource)>,
+) -> fmt::Result {
+    match wrapper {
+        Some(pair) => write_pair(f, setting, pair),
+        None => write!(f, "{setting}: none [-]\n"),
     }
 }
 

@@ -7,7 +7,7 @@ use Rattle.std.specs.Str.{bytes_eq}
 use Rattle.std.proofs.lemmas.Bool.{and_parts, and_from, not-true, not_from_false, false_from_ne_true}
 use Rattle.std.proofs.lemmas.Cmp.{nat_list_eq_equiv}
 use Rattle.std.proofs.lemmas.Slice.Eq.{bytes_eq-Decides}
-use Rattle.nextest_inheritance.specs.Names.{Name, is_base, is_below}
+use Rattle.nextest_inheritance.specs.Names.{Name, is_base, precedes}
 use Rattle.nextest_inheritance.specs.Parents.{Parents}
 use Rattle.nextest_inheritance.specs.Cycles.{LeadTo, IsCycleFrom, ancestors, is_cycle, cycle_from}
 use Rattle.nextest_inheritance.proofs.Members.{In, here, there, here_at, split_at, in_member, member_in, distinct_head, distinct_cons}
@@ -127,22 +127,22 @@ plain_all (x ∷ xs) all = (not_from_false (is_base x) all.0, plain_all xs all.1
 record IsPlainFrom (least : Name) (others : List Name) : Type 0 where
   several : others ≢ []
   plain : AllByRecursion (λ name. is_base name ≡ false) (least ∷ others)
-  lowest : AllByRecursion (λ name. is_below least name ≡ true) others
+  lowest : AllByRecursion (λ name. precedes least name ≡ true) others
 
 plain_from : (least : Name) (others : List Name) → is_cycle least others ≡ true → IsPlainFrom least others
 plain_from least [] is = cc
 plain_from least (x ∷ xs) is =
-    let p = and_parts (list_all (λ name. not (is_base name)) (least ∷ x ∷ xs)) (list_all (is_below least) (x ∷ xs)) is in record {
+    let p = and_parts (list_all (λ name. not (is_base name)) (least ∷ x ∷ xs)) (list_all (precedes least) (x ∷ xs)) is in record {
       several = λ none. cc;
       plain = all_plain (least ∷ x ∷ xs) (all_pass (λ name. not (is_base name)) (least ∷ x ∷ xs) p.0);
-      lowest = all_pass (is_below least) (x ∷ xs) p.1;
+      lowest = all_pass (precedes least) (x ∷ xs) p.1;
     }
 
 from_plain : (least : Name) (others : List Name) → IsPlainFrom least others → is_cycle least others ≡ true
 from_plain least [] p = absurd (p.several refl)
 from_plain least (x ∷ xs) p = and_from _ _
     (pass_all (λ name. not (is_base name)) (least ∷ x ∷ xs) (plain_all (least ∷ x ∷ xs) p.plain))
-    (pass_all (is_below least) (x ∷ xs) p.lowest)
+    (pass_all (precedes least) (x ∷ xs) p.lowest)
 
 -- What is counted from a name is a cycle from it.
 pub record IsCounted (parents : Parents) (name : Name) (cycle : List Name) : Type 0 where

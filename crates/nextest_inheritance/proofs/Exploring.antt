@@ -7,7 +7,7 @@ use Rattle.std.specs.Map.{keys_of}
 use Rattle.std.specs.Set.{is_member}
 use Rattle.std.specs.Str.{bytes_eq}
 use Rattle.std.proofs.lemmas.Bool.{or_cases, or_left, or_right}
-use Rattle.nextest_inheritance.specs.Names.{Name, is_below}
+use Rattle.nextest_inheritance.specs.Names.{Name, precedes}
 use Rattle.nextest_inheritance.specs.Parents.{Parents, WrittenParents, parents_in}
 use Rattle.nextest_inheritance.specs.Cycles.{first_or, LeadTo, IsCycle, AreCycles}
 use Rattle.nextest_inheritance.specs.Walks.{cycle_parents, IsWalk, IsTurned, path_from}
@@ -81,10 +81,10 @@ pub record Turned (parents : Parents) (end : Name) (cycle : List Name) : Type 0 
   pub is : IsCycle parents cycle
   pub holds : In end cycle
 
-from_lowest : (least name : Name) → is_below name least ≡ false → IsFrom least name
+from_lowest : (least name : Name) → precedes name least ≡ false → IsFrom least name
 from_lowest least name above = at (one_below least name (slice_cmp nat_cmp least name) refl)
   where
-    at : (is_below least name ≡ true) ⊎ ((least ≡ name) ⊎ (is_below name least ≡ true)) → IsFrom least name
+    at : (precedes least name ≡ true) ⊎ ((least ≡ name) ⊎ (precedes name least ≡ true)) → IsFrom least name
     at (inl below) = inr below
     at (inr (inl same)) = inl (sym same)
     at (inr (inr under)) = absurd (let bad : true ≡ false = sym under ∙ above in cc)
@@ -92,10 +92,10 @@ from_lowest least name above = at (one_below least name (slice_cmp nat_cmp least
 ring_turned : (parents : Parents) (end : Name) (rest ring cycle : List Name) → IsRing (cycle_parents parents) end rest → ring ≡ end ∷ rest → IsTurned ring cycle → Turned parents end cycle
 ring_turned parents end rest ring cycle around is_ring t =
     let split : end ∷ rest ≡ t.front ++ t.least ∷ t.back = sym is_ring ∙ t.is_ring in
-    let P : List Name → Type 0 = λ l. AllByRecursion (λ name. is_below name t.least ≡ false) l in
+    let P : List Name → Type 0 = λ l. AllByRecursion (λ name. precedes name t.least ≡ false) l in
     let lowest = subst P is_ring t.lowest in
     let least = turned_least (cycle_parents parents) end rest t.front t.least t.back around split
-    (λ name i. from_lowest t.least name (all_at (λ name. is_below name t.least ≡ false) name (end ∷ rest) lowest i)) in
+    (λ name i. from_lowest t.least name (all_at (λ name. precedes name t.least ≡ false) name (end ∷ rest) lowest i)) in
     let Q : List Name → Type 0 = λ l. In end l in
     let R : List Name → Type 0 = IsCycle parents in record {
       is = subst R (sym t.is_cycle) (cycle_from_ring parents t.least (t.back ++ t.front) least);

@@ -3,18 +3,18 @@ use Rattle.std.proofs.Common.{◌≡◌, ℕ, suc, ◌+◌, ◌<◌, List, [], �
 use Rattle.std.specs.List.{AllByRecursion}
 use Rattle.std.proofs.lemmas.Bool.{false_from_ne_true}
 use Rattle.std.proofs.lemmas.List.{get_or_default}
-use Rattle.nextest_inheritance.specs.Names.{Name, is_below}
+use Rattle.nextest_inheritance.specs.Names.{Name, precedes}
 use Rattle.nextest_inheritance.specs.View.{borrowed_view}
 use Rattle.nextest_inheritance.specs.Walks.{IsTurned}
 use Rattle.nextest_inheritance.proofs.Turning.{below_other, below_below}
 
 -- No name below a place is below that of another.
 abbrev pub IsLeastBelow : List (Bor Name) → (least end : ℕ) → Type 0
-IsLeastBelow names least end = (place : ℕ) (d : Bor Name) → place < end → is_below (get_or names place d).now (get_or names least d).now ≡ false
+IsLeastBelow names least end = (place : ℕ) (d : Bor Name) → place < end → precedes (get_or names place d).now (get_or names least d).now ≡ false
 
-more : (names : List (Bor Name)) (least end : ℕ) → IsLeastBelow names least end → ((d : Bor Name) → is_below (get_or names end d).now (get_or names least d).now ≡ false) → IsLeastBelow names least (end + 1)
+more : (names : List (Bor Name)) (least end : ℕ) → IsLeastBelow names least end → ((d : Bor Name) → precedes (get_or names end d).now (get_or names least d).now ≡ false) → IsLeastBelow names least (end + 1)
 more names least end so_far at = λ place d below.
-    let P : ℕ → Type 0 = λ k. is_below (get_or names k d).now (get_or names least d).now ≡ false in
+    let P : ℕ → Type 0 = λ k. precedes (get_or names k d).now (get_or names least d).now ≡ false in
     below_more P end (λ k h. so_far k d h) (at d) place below
 
 name_at : (names : List (Bor Name)) (place : ℕ) (d e : Bor Name) → place < length names → (get_or names place d).now ≡ (get_or names place e).now
@@ -22,22 +22,22 @@ name_at names place d e short = ap (λ name. name.now) (get_or_default names pla
 
 -- a name that is not below the least so far
 pub least_kept : (names : List (Bor Name)) (least place : ℕ) (d e : Bor Name) → least < length names → place < length names
-    → is_below (get_or names place d).now (get_or names least e).now ≡ false → IsLeastBelow names least place → IsLeastBelow names least (place + 1)
+    → precedes (get_or names place d).now (get_or names least e).now ≡ false → IsLeastBelow names least place → IsLeastBelow names least (place + 1)
 least_kept names least place d e within short higher so_far =
     more names least place so_far (λ f. rw (name_at names place f d short, name_at names least f e within) higher)
 
 -- one that is
 pub least_lower : (names : List (Bor Name)) (least place : ℕ) (d e : Bor Name) → least < length names → place < length names
-    → is_below (get_or names place d).now (get_or names least e).now ≡ true → IsLeastBelow names least place → IsLeastBelow names place (place + 1)
+    → precedes (get_or names place d).now (get_or names least e).now ≡ true → IsLeastBelow names least place → IsLeastBelow names place (place + 1)
 least_lower names least place d e within short lower so_far =
     more names place place (λ other f below. false_from_ne_true _ (λ is. apart other f below is)) (λ f. itself (get_or names place f).now)
   where
-    itself : (x : Name) → is_below x x ≡ false
+    itself : (x : Name) → precedes x x ≡ false
     itself x = false_from_ne_true _ (λ is. below_other x x is refl)
 
-    apart : (other : ℕ) (f : Bor Name) → other < place → is_below (get_or names other f).now (get_or names place f).now ≡ true → ⊥
+    apart : (other : ℕ) (f : Bor Name) → other < place → precedes (get_or names other f).now (get_or names place f).now ≡ true → ⊥
     apart other f below is =
-        let under : is_below (get_or names place f).now (get_or names least f).now ≡ true = rw (name_at names place f d short, name_at names least f e within) lower in
+        let under : precedes (get_or names place f).now (get_or names least f).now ≡ true = rw (name_at names place f d short, name_at names least f e within) lower in
         let both = below_below (get_or names other f).now (get_or names place f).now (get_or names least f).now is under in
         let bad : true ≡ false = sym both ∙ so_far other f below in cc
 
@@ -58,7 +58,7 @@ least_split names least within lowest = record {
   back = borrowed_view (drop (suc least) names);
   is_ring = ap borrowed_view (sym (take-append-drop least names)) ∙ view_append (take least names) (drop least names) ∙ ap (λ l. borrowed_view (take least names) ++ l) rest;
   is_cycle = ap (λ l. l ++ borrowed_view (take least names)) rest;
-  lowest = all_places (λ name. is_below name (get_or names least d).now ≡ false) names
+  lowest = all_places (λ name. precedes name (get_or names least d).now ≡ false) names
       (λ place e short. rw (name_at names place e d short) (lowest place d short));
 }
   where

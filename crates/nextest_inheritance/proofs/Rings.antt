@@ -5,7 +5,7 @@ use Rattle.std.specs.Option.{option_and_then}
 use Rattle.std.specs.Str.{bytes_eq}
 use Rattle.std.proofs.lemmas.Bool.{false_from_ne_true}
 use Rattle.std.proofs.lemmas.Slice.Eq.{bytes_eq-Decides}
-use Rattle.nextest_inheritance.specs.Names.{Name, is_base, is_below}
+use Rattle.nextest_inheritance.specs.Names.{Name, is_base, precedes}
 use Rattle.nextest_inheritance.specs.Parents.{Parents}
 use Rattle.nextest_inheritance.specs.Cycles.{first_or, LeadTo, IsCycleFrom, IsCycle}
 use Rattle.nextest_inheritance.specs.Walks.{cycle_parents}
@@ -111,7 +111,7 @@ first_shared parents one ones other others ring around name i j =
 
 from_least : (parents : Parents) (least : Name) (others : List Name) → IsLeastRing parents least others → (name : Name) → In name (least ∷ others) → IsFrom least name
 from_least parents least others r name here = inl refl
-from_least parents least others r name (there i) = inr (all_at (λ name. is_below least name ≡ true) name others r.lowest i)
+from_least parents least others r name (there i) = inr (all_at (λ name. precedes least name ≡ true) name others r.lowest i)
 
 one_least : (x y : Name) → IsFrom x y → IsFrom y x → x ≡ y
 one_least x y (inl same) back = sym same

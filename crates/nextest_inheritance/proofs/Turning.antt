@@ -8,7 +8,7 @@ use Rattle.std.proofs.lemmas.Cmp.{nat_list_cmp_total, nat_list_eq_equiv, tied_it
 use Rattle.std.proofs.lemmas.List.Sorted.{IsPermutation-append_comm}
 use Rattle.std.proofs.lemmas.Map.Keys.{IsDistinct-IsPermutation}
 use Rattle.std.proofs.lemmas.Map.Lookups.{exact_bytes}
-use Rattle.nextest_inheritance.specs.Names.{Name, is_below}
+use Rattle.nextest_inheritance.specs.Names.{Name, precedes}
 use Rattle.nextest_inheritance.specs.Parents.{Parents}
 use Rattle.nextest_inheritance.specs.Cycles.{first_or, LeadTo}
 use Rattle.nextest_inheritance.proofs.Members.{In, here, there, in_front, in_back, in_either, all_from, distinct_head}
@@ -16,9 +16,9 @@ use Rattle.nextest_inheritance.proofs.Trails.{IsRing, first_or-append, lead_fron
 
 -- one name is another, or above it
 abbrev pub IsFrom : Name → Name → Type 0
-IsFrom least name = (name ≡ least) ⊎ (is_below least name ≡ true)
+IsFrom least name = (name ≡ least) ⊎ (precedes least name ≡ true)
 
-below_from : (x y : Name) → slice_cmp nat_cmp x y ≡ Less → is_below x y ≡ true
+below_from : (x y : Name) → slice_cmp nat_cmp x y ≡ Less → precedes x y ≡ true
 below_from x y less = ap is_lt less
 
 less_from : (o : Ordering) → is_lt o ≡ true → o ≡ Less
@@ -27,21 +27,21 @@ less_from Equal is = cc
 less_from Greater is = cc
 
 -- a name that is below another is not that one
-pub below_other : (x y : Name) → is_below x y ≡ true → x ≡ y → ⊥
+pub below_other : (x y : Name) → precedes x y ≡ true → x ≡ y → ⊥
 below_other x y below same =
     let less : slice_cmp nat_cmp x y ≡ Less = less_from _ below in
     let tied : slice_cmp nat_cmp x y ≡ Equal = rw same (tied_itself nat_list_cmp_total y) in
     let bad : Less ≡ Equal = sym less ∙ tied in cc
 
-pub below_below : (x y z : Name) → is_below x y ≡ true → is_below y z ≡ true → is_below x z ≡ true
+pub below_below : (x y z : Name) → precedes x y ≡ true → precedes y z ≡ true → precedes x z ≡ true
 below_below x y z one other = below_from x z (nat_list_cmp_total.trans x y z (less_from _ one) (less_from _ other))
 
-from_from : (x y z : Name) → is_below x y ≡ true → IsFrom y z → IsFrom x z
+from_from : (x y z : Name) → precedes x y ≡ true → IsFrom y z → IsFrom x z
 from_from x y z below (inl same) = inr (rw same below)
 from_from x y z below (inr above) = inr (below_below x y z below above)
 
 -- of two names one is below the other, or they are the same
-pub one_below : (x y : Name) (o : Ordering) → slice_cmp nat_cmp x y ≡ o → (is_below x y ≡ true) ⊎ ((x ≡ y) ⊎ (is_below y x ≡ true))
+pub one_below : (x y : Name) (o : Ordering) → slice_cmp nat_cmp x y ≡ o → (precedes x y ≡ true) ⊎ ((x ≡ y) ⊎ (precedes y x ≡ true))
 one_below x y Less is = inl (below_from x y is)
 one_below x y Equal is = inr (inl (exact_bytes x y is))
 one_below x y Greater is = inr (inr (below_from y x (nat_list_cmp_total.antisymm y x ∙ ap ordering_reverse is)))
@@ -59,15 +59,15 @@ least_of_more x xs l =
       | inr other ↦ record { name = l.name; within = there l.within; least = λ y i. over x xs l other y i }
     ]
   where
-    under : (x : Name) (xs : List Name) (l : Least xs) → is_below x l.name ≡ true → (y : Name) → In y (x ∷ xs) → IsFrom x y
+    under : (x : Name) (xs : List Name) (l : Least xs) → precedes x l.name ≡ true → (y : Name) → In y (x ∷ xs) → IsFrom x y
     under x xs l below y here = inl refl
     under x xs l below y (there i) = from_from x l.name y below (l.least y i)
 
-    at_head : (x y : Name) → (x ≡ y) ⊎ (is_below y x ≡ true) → IsFrom y x
+    at_head : (x y : Name) → (x ≡ y) ⊎ (precedes y x ≡ true) → IsFrom y x
     at_head x y (inl same) = inl same
     at_head x y (inr below) = inr below
 
-    over : (x : Name) (xs : List Name) (l : Least xs) → (x ≡ l.name) ⊎ (is_below l.name x ≡ true) → (y : Name) → In y (x ∷ xs) → IsFrom l.name y
+    over : (x : Name) (xs : List Name) (l : Least xs) → (x ≡ l.name) ⊎ (precedes l.name x ≡ true) → (y : Name) → In y (x ∷ xs) → IsFrom l.name y
     over x xs l other y here = at_head x l.name other
     over x xs l other y (there i) = l.least y i
 
@@ -82,7 +82,7 @@ least_of x (y ∷ ys) = least_of_more x (y ∷ ys) (least_of y ys)
 -- A way that comes back to its first name, none twice, from its least name.
 pub record IsLeastRing (parents : Parents) (least : Name) (others : List Name) : Type 0 where
   pub ring : IsRing parents least others
-  pub lowest : AllByRecursion (λ name. is_below least name ≡ true) others
+  pub lowest : AllByRecursion (λ name. precedes least name ≡ true) others
 
 -- it goes round from each of its names
 turned : (parents : Parents) (first : Name) (others front : List Name) (name : Name) (back : List Name) → IsRing parents first others
@@ -108,7 +108,7 @@ pub turned_least : (parents : Parents) (first : Name) (others front : List Name)
     → IsLeastRing parents name (back ++ front)
 turned_least parents first others front name back ring is least = record {
   ring = whole;
-  lowest = all_from (λ other. is_below name other ≡ true) (back ++ front) (λ other i. above other i (least other (inside other i)));
+  lowest = all_from (λ other. precedes name other ≡ true) (back ++ front) (λ other i. above other i (least other (inside other i)));
 }
   where
     whole : IsRing parents name (back ++ front)
@@ -122,7 +122,7 @@ turned_least parents first others front name back ring is least = record {
           | inr j ↦ in_front other front (name ∷ back) j
         ])
 
-    above : (other : Name) → In other (back ++ front) → IsFrom name other → is_below name other ≡ true
+    above : (other : Name) → In other (back ++ front) → IsFrom name other → precedes name other ≡ true
     above other i (inl same) =
         let P : Name → Type 0 = λ v. In v (back ++ front) in
         absurd (distinct_head name (back ++ front) whole.distinct (subst P same i))

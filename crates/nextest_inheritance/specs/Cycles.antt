@@ -6,7 +6,7 @@ use Rattle.std.specs.List.Sorted.{IsStrictlySortedBy}
 use Rattle.std.specs.Ordering.{nat_cmp}
 use Rattle.std.specs.Set.{is_member}
 use Rattle.std.specs.Str.{bytes_eq}
-use Rattle.nextest_inheritance.specs.Names.{Name, is_base, is_below, IsIn}
+use Rattle.nextest_inheritance.specs.Names.{Name, is_base, precedes, IsIn}
 use Rattle.nextest_inheritance.specs.Parents.{WrittenParents, Parents, parents_in}
 
 -- the first of these names, or the one that comes after them
@@ -27,7 +27,7 @@ pub record IsCycleFrom (parents : Parents) (least : Name) (others : List Name) :
   pub distinct : IsDistinct bytes_eq (least ∷ others)
   pub plain : AllByRecursion (λ name. is_base name ≡ false) (least ∷ others)
   pub around : LeadTo parents least (least ∷ others)
-  pub lowest : AllByRecursion (λ name. is_below least name ≡ true) others
+  pub lowest : AllByRecursion (λ name. precedes least name ≡ true) others
 
 -- A cycle is one that is written from its first name.
 abbrev pub IsCycle : Parents → List Name → Type 0
@@ -73,7 +73,7 @@ abbrev pub is_cycle : Name → List Name → Bool
 is_cycle least [] = false
 is_cycle least (other ∷ others) =
     list_all (λ name. not (is_base name)) (least ∷ other ∷ others)
-    && list_all (is_below least) (other ∷ others)
+    && list_all (precedes least) (other ∷ others)
 
 -- the cycle that is written from a name, if there is one: its ancestors before it comes again
 abbrev pub cycle_from : Parents → ℕ → Name → Option (List Name)

@@ -27,9 +27,9 @@ abbrev pub is_reserved : Name → Bool
 is_reserved name =
     starts_with nat_eq name (codes "default-") && not (bytes_eq name (codes "default-miri"))
 
--- one name stands below another by their bytes
-abbrev pub is_below : Name → Name → Bool
-is_below name other = is_lt (slice_cmp nat_cmp name other)
+-- one name stands before another by their bytes
+abbrev pub precedes : Name → Name → Bool
+precedes name other = is_lt (slice_cmp nat_cmp name other)
 
 -- a name is one of these
 abbrev pub IsIn : List Name → Name → Type 0

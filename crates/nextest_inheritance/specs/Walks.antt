@@ -4,7 +4,7 @@ use Rattle.std.specs.List.{AllByRecursion, IsDistinct, position_or_len}
 use Rattle.std.specs.Option.{option_and_then}
 use Rattle.std.specs.Set.{is_member}
 use Rattle.std.specs.Str.{bytes_eq}
-use Rattle.nextest_inheritance.specs.Names.{Name, is_base, is_below}
+use Rattle.nextest_inheritance.specs.Names.{Name, is_base, precedes}
 use Rattle.nextest_inheritance.specs.Parents.{Parents}
 use Rattle.nextest_inheritance.specs.Cycles.{first_or, LeadTo}
 
@@ -37,4 +37,4 @@ pub record IsTurned (ring cycle : List Name) : Type 0 where
   pub back : List Name
   pub is_ring : ring ≡ front ++ least ∷ back
   pub is_cycle : cycle ≡ least ∷ back ++ front
-  pub lowest : AllByRecursion (λ name. is_below name least ≡ false) ring
+  pub lowest : AllByRecursion (λ name. precedes name least ≡ false) ring

@@ -7,7 +7,7 @@ ghost use Rattle.std.specs.Set.{is_member};
 ghost use Rattle.std.specs.Str.{bytes_eq};
 ghost use denote.Ref.{Bor};
 ghost use Rattle.nextest_inheritance.specs.Cycles.{AreCycles};
-ghost use Rattle.nextest_inheritance.specs.Names.{Name, is_below};
+ghost use Rattle.nextest_inheritance.specs.Names.{Name, precedes};
 ghost use Rattle.nextest_inheritance.specs.Parents.{parents_in};
 ghost use Rattle.nextest_inheritance.specs.View.{parents_view, names_view, borrowed_view, has_name};
 ghost use Rattle.nextest_inheritance.specs.Walks.{cycle_parents, IsWalk, IsTurned, path_from};
@@ -89,7 +89,7 @@ impl<'a> Walk<'a> {
 fn place_of_least(names: &[&str]) -> usize
     ensures within { 0 < length names.now → result < length names.now }
     ensures least { (place : ℕ) (d : Bor Name) → place < length names.now
-        → is_below (slice_index_or names.now place d).now (slice_index_or names.now result d).now
+        → precedes (slice_index_or names.now place d).now (slice_index_or names.now result d).now
         ≡ false }
 {
     let mut least = 0;

@@ -17,10 +17,7 @@ pub trait Inherits {
 
 /// The parent that the profile of a name writes, if there is such a profile and it writes one.
 #[tactic(auto, using(crate::proofs::Views::parent_found))]
-pub(crate) fn parent_of<'a, P: Inherits>(
-    profiles: &'a BTreeMap<String, P>,
-    name: &str,
-) -> Option<&'a str>
+pub fn parent_of<'a, P: Inherits>(profiles: &'a BTreeMap<String, P>, name: &str) -> Option<&'a str>
     ensures { option_map (λ parent. parent.now) result
         ≡ parents_in (parents_view P.parent profiles.now.entries) name.now }
 {

@@ -15,7 +15,7 @@ mod parents;
 
 pub use chain::chain_of;
 pub use error::InheritsError;
-pub use inherits::Inherits;
+pub use inherits::{Inherits, parent_of};
 pub use laws::{law_each_has_one_chain, law_faults, law_one_chain_at_most};
-pub use names::{DEFAULT_PROFILE, is_reserved};
+pub use names::{DEFAULT_MIRI_PROFILE, DEFAULT_PROFILE, is_reserved};
 pub use parents::inheritance_errors;

@@ -9,7 +9,7 @@ pub const DEFAULT_PROFILE: &str = "default";
 const DEFAULT_PREFIX: &str = "default-";
 
 /// The profile beside `default` that the table of defaults defines.
-const DEFAULT_MIRI_PROFILE: &str = "default-miri";
+pub const DEFAULT_MIRI_PROFILE: &str = "default-miri";
 
 /// Whether a profile is `default`, or one whose name begins `default-`.
 pub(crate) fn is_base(name: &str) -> bool

@@ -18,5 +18,6 @@ mod SortedTrees
 mod Keeping
 mod Leading
 mod Closing
-mod Loads
 mod LeastFaults
+mod Exactness
+mod Loads

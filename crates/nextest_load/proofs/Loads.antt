@@ -20,6 +20,7 @@ use Rattle.nextest_load.specs.Steps.{load_steps}
 use Rattle.nextest_load.specs.declared.parts.ConfigParts.{ConfigParts}
 use Rattle.nextest_load.proofs.Accepting.{DefinitionsLaw, RulesLaw, ToolsLaw, accepted_from, verdict}
 use Rattle.nextest_load.proofs.Closing.{BinariesLaw, closed, merged_tree_readable}
+use Rattle.nextest_load.proofs.Exactness.{exact}
 use Rattle.nextest_load.proofs.MergedScripts.{have_ids}
 
 map_twice : {X Y Z : Type 0} (f : X → Y) (g : Y → Z) (xs : List X) → map g (map f xs) ≡ map (λ x. g (f x)) xs
@@ -34,6 +35,7 @@ module _ {M K P : Type 0} (engines : Readings M K P) (features : Features) (file
       record {
         verdict = verdict engines features definitions rules tools files r ran;
         ran = ran;
+        exact = exact files engines features ran;
         means = rw is tt;
         scripts = rw is tt;
         closed = rw is tt;
@@ -71,6 +73,7 @@ module _ {F S E T N Q M K P : Type 0} (meaning : E → M) (spec_meaning : N → 
       record {
         verdict = verdict engines features definitions rules tools files (Ok made) ran;
         ran = ran;
+        exact = exact files engines features ran;
         means = ap (λ (l : Loaded E N). config_meaning meaning spec_meaning l.config) made_is ∙ parts_mean parts all is are;
         scripts = subst (λ (l : Loaded E N). AreScriptsOf (sources_in files) l.scripts) (sym made_is) are.tables.scripts;
         closed = subst (λ (l : Loaded E N). IsClosed engines.matches_binary (loaded_meaning meaning spec_meaning l).config (loaded_meaning meaning spec_meaning l).scripts) (sym made_is)

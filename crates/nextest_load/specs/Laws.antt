@@ -1,6 +1,6 @@
 -- Laws of the trees of a load.
 use Rattle.std.specs.Prelude.{◌≡◌, List, [], ◌∷◌, ◌++◌, Some}
-use Rattle.nextest_inheritance.specs.Faults.{NameCycles, TellStranded, inheritance_faults}
+use Rattle.nextest_inheritance.specs.Faults.{ParentFault, NameCycles, TellStranded, inheritance_faults}
 use Rattle.nextest_inheritance.specs.Parents.{parents_in}
 use Rattle.nextest_rules.specs.Steps.{written_parents}
 use Rattle.nextest_sources.specs.Causes.{NameSet, bad_element}
@@ -26,10 +26,13 @@ pub record IsLeastFault (n : Node) (fault : Fault) : Type 0 where
 abbrev pub RefusesLeast : Node → Type 0
 RefusesLeast n = (fault : Fault) → element_cause n ≡ Some (bad_element fault) → IsLeastFault n fault
 
--- What the parents in a file are refused for names exactly its cycles, and so tells which of its
+-- Faults of parents tell the cycles of a file: they name exactly these, and so tell which of its
 -- profiles have no chain.
-pub record RefusesCycles (lower : NameSet) (file : FileText) : Type 0 where
-  pub cycles : let written = written_parents file.profiles in
-      NameCycles (parents_in written) (inheritance_faults lower written)
-  pub stranded : let written = written_parents file.profiles in
-      TellStranded (parents_in written) (inheritance_faults lower written)
+pub record TellCycles (file : FileText) (faults : List ParentFault) : Type 0 where
+  pub cycles : NameCycles (parents_in (written_parents file.profiles)) faults
+  pub stranded : TellStranded (parents_in (written_parents file.profiles)) faults
+
+-- what the parents in a file are refused for tells its cycles
+abbrev pub RefusesCycles : (lower : NameSet) → FileText → Type 0
+RefusesCycles lower file =
+    TellCycles file (inheritance_faults lower (written_parents file.profiles))

@@ -5,6 +5,7 @@ pub mod Config
 pub mod Complete
 pub mod Closed
 pub mod Scripts
+pub mod Exact
 pub mod Load
 pub mod Meaning
 pub mod ConfigView

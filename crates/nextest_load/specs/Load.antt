@@ -2,13 +2,15 @@
 use Rattle.std.specs.Prelude.{◌≡◌, ◌⊎◌, List, Result, MatchResult, IfOk}
 use Rattle.nextest_engines.specs.Readings.{Readings}
 use Rattle.nextest_rules.specs.Definitions.{Features}
-use Rattle.nextest_sources.specs.Endings.{Ran, ending, IsMemory}
+use Rattle.nextest_sources.specs.Causes.{LoadFault}
+use Rattle.nextest_sources.specs.Endings.{Ran, refused, ending, IsMemory}
 use Rattle.nextest_sources.specs.Inputs.{LoadInputs, sources_in}
 use Rattle.nextest_sources.specs.Warnings.{Warning}
 use Rattle.nextest_sources.specs.declared.error.ConfigParseError.{ConfigParseError}
 use Rattle.nextest_load.specs.Accepted.{IsAccepted}
 use Rattle.nextest_load.specs.Closed.{IsClosed}
 use Rattle.nextest_load.specs.Config.{ConfigModel, ScriptTables, config_of}
+use Rattle.nextest_load.specs.Exact.{IsExact}
 use Rattle.nextest_load.specs.Scripts.{AreScriptsOf}
 use Rattle.nextest_load.specs.Steps.{load_steps}
 
@@ -27,6 +29,8 @@ pub record IsLoad {T M K P : Type 0} (loaded : T → Loaded M K) (engines : Read
       (λ e. IsMemory e ⊎ (¬ IsAccepted engines features files))
   -- else the first fault, with its source and all it carries; and the warnings before it are told
   pub ran : Ran (load_steps engines features files) old new (ending r)
+  -- an element that is refused is the least fault, and refused parents tell exactly the cycles
+  pub exact : (fault : LoadFault) → ending r ≡ refused fault → IsExact files fault
   -- the configuration is what the texts mean
   pub means : IfOk r (λ c. (loaded c).config ≡ config_of engines (sources_in files))
   -- its scripts are those of the merged tree, in the order in which the files define them

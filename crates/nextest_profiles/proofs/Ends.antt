@@ -2,10 +2,11 @@
 use Rattle.std.proofs.Common.{◌≡◌, List, [], ◌∷◌, ◌++◌, Option, None, Some, option_map, refl, ap, subst, sym}
 use Rattle.std.specs.List.{cons_option}
 use Rattle.nextest_inheritance.specs.Names.{default_name}
+use Rattle.nextest_inheritance.specs.Parents.{with_default}
 use Rattle.nextest_load.specs.Closed.{HasDefaults}
 use Rattle.nextest_load.specs.Config.{MergedProfile}
 use Rattle.nextest_rules.specs.Rules.{at_name}
-use Rattle.nextest_settings.specs.Chains.{with_default, fields_of}
+use Rattle.nextest_settings.specs.Chains.{fields_of}
 use Rattle.nextest_settings.specs.ChainValues.{EndsComplete}
 use Rattle.nextest_tables.specs.Written.{Name, WrittenFields}
 use Rattle.nextest_profiles.specs.Profiles.{EndInDefault}

@@ -5,10 +5,11 @@ use Rattle.nextest_elements.specs.declared.run_mode.NextestRunMode.{NextestRunMo
 use Rattle.nextest_elements.specs.declared.test_group.TestGroup.{TestGroup}
 use Rattle.nextest_elements.specs.declared.test_group.TestGroup.TheVariants.{Global}
 use Rattle.nextest_engines.specs.declared.queries.BuildPlatforms.{BuildPlatforms}
+use Rattle.nextest_inheritance.specs.Parents.{with_default}
 use Rattle.nextest_load.specs.Closed.{BinaryMatch, IsClosed}
 use Rattle.nextest_rules.specs.Accepted.{IsAmong}
 use Rattle.nextest_rules.specs.Rules.{OverrideUse}
-use Rattle.nextest_settings.specs.Chains.{with_default, overrides_of}
+use Rattle.nextest_settings.specs.Chains.{overrides_of}
 use Rattle.nextest_settings.specs.Deciding.{QueryContext, decides}
 use Rattle.nextest_settings.specs.Platforms.{EvaluatedRule, rule_on}
 use Rattle.nextest_settings.specs.Profile.{Configured, EvaluatableModel, profile_of, profile_on}

@@ -8,12 +8,12 @@ use Rattle.std.specs.Option.{option_or, option_and_then}
 use Rattle.std.specs.Ordering.{nat_cmp}
 use Rattle.std.specs.Cmp.Lexicographic.{slice_cmp}
 use Rattle.nextest_engines.specs.declared.queries.BuildPlatforms.{BuildPlatforms}
-use Rattle.nextest_inheritance.specs.Parents.{parents_in, IsChain}
+use Rattle.nextest_inheritance.specs.Parents.{parents_in, with_default, IsChain}
 use Rattle.nextest_load.specs.Config.{ConfigModel, config_parents}
 use Rattle.nextest_load.specs.Meaning.{config_meaning}
 use Rattle.nextest_rules.specs.Meaning as rules
 use Rattle.nextest_rules.specs.Rules.{Compiled, OverrideUse, LayerProfile, Layer, at_name}
-use Rattle.nextest_settings.specs.Chains.{with_default, in_layer, in_order, overrides_of, script_rules_of, first_of, FilterChoice, at_profile, at_override, filter_of_profile, nearest_filter, filter_of_nothing}
+use Rattle.nextest_settings.specs.Chains.{in_layer, in_order, overrides_of, script_rules_of, first_of, FilterChoice, at_profile, at_override, filter_of_profile, nearest_filter, filter_of_nothing}
 use Rattle.nextest_settings.specs.Platforms.{spec_holds, EvaluatedRule, rule_on, filter_of_override, default_filter_of}
 use Rattle.nextest_settings.specs.Profile.{Configured, EarlyModel, EvaluatableModel, profile_of, profile_on}
 use Rattle.nextest_settings.specs.View.{override_meaning, script_rule_meaning}
@@ -54,12 +54,12 @@ first_meaning h h' k f same (x ∷ xs) =
     ∙ sym (first_in (h' (k x)) (filter_map h' (map k xs)))
 
 module _ {E N M K : Type 0} (f : E → M) (g : N → K) where
-  at_name_meaning : (name : Name) (l : Layer E N) → option_map (rules.profile_meaning f g) (at_name name l.profiles) ≡ at_name name (rules.layer_meaning f g l).profiles
-  at_name_meaning name l = sym (lookup-map_values (rules.profile_meaning f g) (is_at (slice_cmp nat_cmp name)) l.profiles)
+  at_name_meaning : (name : Name) (l : Layer E N) → option_map (rules.layer_profile_meaning f g) (at_name name l.profiles) ≡ at_name name (rules.layer_meaning f g l).profiles
+  at_name_meaning name l = sym (lookup-map_values (rules.layer_profile_meaning f g) (is_at (slice_cmp nat_cmp name)) l.profiles)
 
   module _ {X Y : Type 0} (part : LayerProfile E N → List X) (part' : LayerProfile M K → List Y) (h : X → Y)
-      (same : (p : LayerProfile E N) → map h (part p) ≡ part' (rules.profile_meaning f g p)) where
-    of_option : (o : Option (LayerProfile E N)) → map h (unwrap_or (option_map part o) []) ≡ unwrap_or (option_map part' (option_map (rules.profile_meaning f g) o)) []
+      (same : (p : LayerProfile E N) → map h (part p) ≡ part' (rules.layer_profile_meaning f g p)) where
+    of_option : (o : Option (LayerProfile E N)) → map h (unwrap_or (option_map part o) []) ≡ unwrap_or (option_map part' (option_map (rules.layer_profile_meaning f g) o)) []
     of_option None = refl
     of_option (Some p) = same p
 
@@ -82,7 +82,7 @@ module _ {E N M K : Type 0} (f : E → M) (g : N → K) where
   pub script_rules_meaning : (ls : List (Layer E N)) (names : List Name) → map (rules.script_rule_meaning f g) (script_rules_of ls names) ≡ script_rules_of (map (rules.layer_meaning f g) ls) names
   script_rules_meaning = of_names (λ p. p.script_rules) (λ p. p.script_rules) (rules.script_rule_meaning f g) (λ p. refl)
 
-  written_meaning : (o : Option (LayerProfile E N)) → option_map f (option_and_then (λ p. p.default_filter) o) ≡ option_and_then (λ p. p.default_filter) (option_map (rules.profile_meaning f g) o)
+  written_meaning : (o : Option (LayerProfile E N)) → option_map f (option_and_then (λ p. p.default_filter) o) ≡ option_and_then (λ p. p.default_filter) (option_map (rules.layer_profile_meaning f g) o)
   written_meaning None = refl
   written_meaning (Some p) = refl
 

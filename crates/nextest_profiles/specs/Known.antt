@@ -33,4 +33,5 @@ evaluated_use r = (script_rule_ref_view r.rule).writes
 abbrev pub AnswerLists : {F S E T N P M K : Type 0} → (E → M) → (N → K) → BinaryMatch M
     → List (Bor (CompiledProfileScripts F S E T N P)) → Type 0
 AnswerLists f g matches rules =
-    Each (AnswersBinaries matches) (map (λ r. script_rule_meaning f g (script_rule_ref_view r)) rules)
+    Each (AnswersBinaries matches)
+    (map (λ r. script_rule_meaning f g (script_rule_ref_view r)) rules)

@@ -8,8 +8,7 @@ use Rattle.nextest_settings.specs.View.{override_meaning, script_rule_meaning}
 
 -- the same beside another configuration, as the one that texts mean beside the one that is held
 abbrev pub with_config : {E N M K : Type 0} → Configured E N → ConfigModel M K → Configured M K
-with_config c config =
-    record { root = c.root; config = config; scripts = c.scripts; warnings = c.warnings }
+with_config c config = record { root = c.root; config = config; scripts = c.scripts }
 
 -- what a configuration means: its filters by f, its platform specs by g
 abbrev pub configured_meaning : {E N M K : Type 0} → (E → M) → (N → K) → Configured E N

@@ -1,8 +1,7 @@
 -- The profile of a name: the one of its chain.
 use Rattle.std.specs.Prelude.{◌≡◌, List}
-use Rattle.nextest_inheritance.specs.Parents.{Parents, parents_in, IsChain}
+use Rattle.nextest_inheritance.specs.Parents.{Parents, parents_in, with_default, IsChain}
 use Rattle.nextest_load.specs.Config.{config_parents}
-use Rattle.nextest_settings.specs.Chains.{with_default}
 use Rattle.nextest_settings.specs.Profile.{Configured, EarlyModel, profile_of}
 use Rattle.nextest_tables.specs.Written.{Name}
 

@@ -1,27 +1,15 @@
 //! The chain of a profile, over the profiles of the merged tree.
 ghost use Rattle.std.specs.Map.{keys_of};
-ghost use Rattle.std.specs.Prelude.{◌≡◌, IfOk, option_map};
+ghost use Rattle.std.specs.Prelude.{IfOk};
 ghost use Rattle.nextest_inheritance.specs.Parents.{parents_in, HasOneChain};
 ghost use Rattle.nextest_inheritance.specs.View.{parents_view, borrowed_view};
 ghost use Rattle.nextest_load.specs.Merged.{parent_in};
 ghost use Rattle.nextest_profiles.specs.Profiles.{IsChainAndDefault};
 
-use nextest_inheritance::{DEFAULT_PROFILE, Inherits, chain_of};
+use nextest_inheritance::{DEFAULT_PROFILE, chain_of};
 use nextest_load::MergedProfile;
 use std::alloc::{AllocError, Global};
 use std::collections::BTreeMap;
-
-/// The parent that the profile of a name writes, if there is such a profile and it writes one.
-#[tactic(auto, using(nextest_inheritance::proofs::Views::parent_found))]
-pub(crate) fn parent_of<'cfg>(
-    profiles: &'cfg BTreeMap<String, MergedProfile>,
-    name: &str,
-) -> Option<&'cfg str>
-    ensures { option_map (λ parent. parent.now) result
-        ≡ parents_in (parents_view parent_in profiles.now.entries) name.now }
-{
-    profiles.get(name)?.inherits()
-}
 
 /// The profiles that count for a profile, the nearest first: those of its chain, and then
 /// `default`.

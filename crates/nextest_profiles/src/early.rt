@@ -1,5 +1,5 @@
 //! Profiles before the platforms of a build are known.
-ghost use Rattle.std.specs.Prelude.{◌≡◌, [], Some, IfOk, IfErr, is_some};
+ghost use Rattle.std.specs.Prelude.{◌≡◌, Some, IfOk, IfErr, is_some};
 ghost use Rattle.nextest_load.specs.ConfigView.{groups_view};
 ghost use Rattle.nextest_settings.specs.Profile.{profile_on};
 ghost use Rattle.nextest_settings.specs.Settings.{report_path};
@@ -47,8 +47,8 @@ impl<'cfg, F: Filters, S: Specs> Model for EarlyProfile<'cfg, F, S> {
 
     ghost use Rattle.nextest_profiles.specs.Known.{KnowsScripts, AnswerLists, named_use};
 
-    /// The scripts that rules name are there, and each filter beside a list wrapper answers for each
-    /// binary.
+    /// The scripts that rules name are there, and each filter beside a list wrapper answers for
+    /// each binary.
     ghost invariant = { λ p. KnowsScripts p.grounds.scripts
         (map named_use p.rules.script_rules.items)
         × AnswerLists F.meaning S.spec_meaning F.holds_binary p.rules.script_rules.items };
@@ -67,7 +67,6 @@ impl<'cfg, F: Filters, S: Specs> EarlyProfile<'cfg, F, S> {
           root = workspace_root.now;
           config = config.now.config;
           scripts = config.now.scripts;
-          warnings = [];
         }) name.now) }
     {
         let names = names_of(alloc, config.profiles(), name)?;

@@ -4,7 +4,7 @@ ghost use Rattle.nextest_engines.specs.Engines.{test_view, binary_view};
 ghost use Rattle.nextest_load.specs.ConfigView.{groups_view, scripts_view};
 ghost use Rattle.nextest_rules.specs.Rules.{at_name};
 ghost use Rattle.nextest_settings.specs.FilterView.{filter_view};
-ghost use Rattle.nextest_settings.specs.GroupView.{group_in};
+ghost use Rattle.nextest_settings.specs.GroupView.{membership_group};
 ghost use Rattle.nextest_settings.specs.Queries.{test_query, binary_query, setting_value, setting_origin, wrapping_rule, evaluated_for_test, list_wrapper_of, evaluated_for_list, enabled_scripts, group_of, AnswerForBinaries};
 ghost use Rattle.nextest_settings.specs.ListView.{list_wrapper_at};
 ghost use Rattle.nextest_settings.specs.SettingsView.{value_at, origin_at, wrapper_at, wrapping_use_at};
@@ -60,8 +60,8 @@ impl<'cfg, F: Filters, S: Specs> Model for EvaluatableProfile<'cfg, F, S> {
     ghost use Rattle.nextest_settings.specs.View.{script_rule_of};
     ghost use Rattle.nextest_profiles.specs.Known.{KnowsScripts, evaluated_use};
 
-    /// The scripts that rules name are there, and each filter beside a list wrapper answers for each
-    /// binary.
+    /// The scripts that rules name are there, and each filter beside a list wrapper answers for
+    /// each binary.
     ghost invariant = { λ p. KnowsScripts p.grounds.scripts
         (map evaluated_use p.rules.script_rules.items)
         × AnswerForBinaries F.holds_binary
@@ -345,9 +345,10 @@ impl<'cfg, F: Filters, S: Specs> EvaluatableProfile<'cfg, F, S> {
         self.rules
             .setup_scripts(alloc, self.grounds.scripts(), queries, tally)
     }
+
     /// The groups of tests by name, for filters that ask for the group of a test. Of tests of one
-    /// name the last that gets a custom group counts; where it is asked for a name that is not among
-    /// them, the global group answers.
+    /// name the last that gets a custom group counts; where it is asked for a name that is not
+    /// among them, the global group answers.
     pub fn precompute_group_memberships(
         &self,
         alloc: Global,
@@ -355,7 +356,7 @@ impl<'cfg, F: Filters, S: Specs> EvaluatableProfile<'cfg, F, S> {
         tally: &mut F::Tally,
     ) -> Result<PrecomputedGroupMembership, AllocError>
         ensures groups { let profile = profile_meaning F.meaning self.now in
-            IfOk result (λ found. (binary_id name : List ℕ) → group_in found binary_id name
+            IfOk result (λ found. (binary_id name : List ℕ) → membership_group found binary_id name
             ≡ group_of F.holds profile (map test_view tests.now) binary_id name) }
         ensures tally { (added : List ℕ)
             × (F.Tally.numbers tally.new ≡ F.Tally.numbers tally.old ++ added) }

@@ -1,7 +1,7 @@
 //! What a profile says whatever the platforms.
-use crate::chain::parent_of;
 use nextest_elements::{CustomTestGroup, JunitConfig, TestGroupConfig};
 use nextest_engines::{Filters, Specs};
+use nextest_inheritance::parent_of;
 use nextest_load::{LoadedConfig, ScriptConfig};
 use nextest_scripts::join_paths;
 use nextest_settings::{ProfileValues, fields_of, values_of};
@@ -47,12 +47,12 @@ impl<'cfg> Model for Grounds<'cfg> {
 }
 
 impl<'cfg> Grounds<'cfg> {
-    ghost use Rattle.std.specs.Prelude.{◌≡◌, List, [], Some, IfOk, is_some, option_map};
+    ghost use Rattle.std.specs.Prelude.{◌≡◌, List, Some, IfOk, is_some, option_map};
     ghost use Rattle.nextest_load.specs.ConfigView.{groups_view, scripts_view};
     ghost use Rattle.nextest_settings.specs.Settings.{report_path};
     ghost use Rattle.nextest_profiles.specs.Junit.{IsJunit};
     ghost use Rattle.nextest_inheritance.specs.View.{borrowed_view};
-    ghost use Rattle.nextest_settings.specs.Chains.{with_default};
+    ghost use Rattle.nextest_inheritance.specs.Parents.{with_default};
     ghost use Rattle.nextest_settings.specs.ChainValues.{AreValues};
     ghost use Rattle.nextest_settings.specs.Profile.{grounds_of};
     ghost use Rattle.nextest_tables.specs.Written.{Name};
@@ -73,7 +73,6 @@ impl<'cfg> Grounds<'cfg> {
               root = workspace_root.now;
               config = config.now.config;
               scripts = config.now.scripts;
-              warnings = [];
             }) name.now chain) }
     {
         let profiles = config.profiles();

@@ -22,8 +22,8 @@ ghost use Rattle.nextest_profiles.specs.Profiles.{IsProfileOf};
 
 use nextest_engines::{Filters, Specs};
 
-/// A profile of a configuration, on the platforms of a build, means the profile of that name by what
-/// the texts of the sources mean. The premises are what the load and `profile` ensure, and the
+/// A profile of a configuration, on the platforms of a build, means the profile of that name by
+/// what the texts of the sources mean. The premises are what the load and `profile` ensure, and the
 /// profile on the platforms is the one that `apply_build_platforms` answers; whatever it is asked,
 /// it answers by its meaning.
 pub fn law_settings_of_texts<F: Filters, S: Specs>()

@@ -12,4 +12,3 @@ pub use early::EarlyProfile;
 pub use evaluatable::EvaluatableProfile;
 pub use known_groups::KnownGroups;
 pub use laws::{law_group_of_settings, law_known_groups, law_last_group, law_settings_of_texts};
-pub use nextest_inheritance::DEFAULT_PROFILE;

@@ -19,7 +19,7 @@ use Rattle.nextest_inheritance.specs.Parents.{parents_in}
 use Rattle.nextest_inheritance.proofs.Naming.{sound_parents}
 use Rattle.nextest_scripts.specs.declared.script_type.ProfileScriptType.{ProfileScriptType}
 use Rattle.nextest_scripts.specs.declared.script_type.ProfileScriptType.TheVariants as uses
-use Rattle.nextest_sources.specs.Causes.{NameSet, CompileCause, Section, in_default_filter, in_override, in_script_rule, two_filters, no_constraint, UnknownGroup, UnknownScript, WrongScript, bad_parents, compile_refusals, unknown_groups, bad_scripts}
+use Rattle.nextest_sources.specs.Causes.{NameSet, CompileCause, RuleSection, in_default_filter, in_override, in_script_rule, two_filters, no_constraint, UnknownGroup, UnknownScript, WrongScript, bad_parents, compile_refusals, unknown_groups, bad_scripts}
 use Rattle.nextest_sources.specs.InputFaults.{Each}
 use Rattle.nextest_sources.specs.Sources.{Source}
 use Rattle.nextest_sources.specs.Steps.{check, first_fault}
@@ -196,11 +196,11 @@ default_filter_compiles engines t =
       λ c. read.1 (refl, (refl, (listed_none _).1 ((read_or_none (engines.read_filter DefaultFilter) t).1 c))),
     )
 
-no_fault_in : (name : Name) (section : Section) (o : Option CompileCause) → (fault_in name section o ≡ []) ↔ (o ≡ None)
+no_fault_in : (name : Name) (section : RuleSection) (o : Option CompileCause) → (fault_in name section o ≡ []) ↔ (o ≡ None)
 no_fault_in name section None = (λ h. refl, λ h. refl)
 no_fault_in name section (Some c) = (λ h. cc, λ h. cc)
 
-numbered_faults : {X : Type 0} (name : Name) (section : ℕ → Section) (cause : X → Option CompileCause) (xs : List X)
+numbered_faults : {X : Type 0} (name : Name) (section : ℕ → RuleSection) (cause : X → Option CompileCause) (xs : List X)
     → (flat_map (λ e. fault_in name (section e.0) (cause e.1)) (enumerate_from 0 xs) ≡ []) ↔ Each (λ x. cause x ≡ None) xs
 numbered_faults name section cause xs =
     iff_trans (flat_none (λ e. fault_in name (section e.0) (cause e.1)) (enumerate_from 0 xs))

@@ -8,7 +8,7 @@ use Rattle.nextest_engines.specs.declared.queries.FiltersetKind.{FiltersetKind}
 use Rattle.nextest_engines.specs.declared.queries.FiltersetKind.TheVariants.{OverrideFilter, DefaultFilter}
 use Rattle.nextest_tables.specs.FileTexts.{PlatformText, OverrideText, ScriptRuleText, ProfileText}
 use Rattle.nextest_tables.specs.Written.{Name}
-use Rattle.nextest_sources.specs.Causes.{CompileCause, no_constraint, two_filters, parse_refusals, Section, in_default_filter, in_override, in_script_rule, CompileFault}
+use Rattle.nextest_sources.specs.Causes.{CompileCause, no_constraint, two_filters, parse_refusals, RuleSection, in_default_filter, in_override, in_script_rule, CompileFault}
 use Rattle.nextest_inheritance.specs.Names.{default_first}
 
 -- the message with which a text is refused, if there is a text and it is
@@ -104,7 +104,7 @@ default_filter_cause engines text =
     parse_cause None None (option_to_list (filter_refusal engines DefaultFilter text))
 
 -- a fault in a section of a profile, if there is a cause
-abbrev pub fault_in : Name → Section → Option CompileCause → List CompileFault
+abbrev pub fault_in : Name → RuleSection → Option CompileCause → List CompileFault
 fault_in name section cause = option_to_list
     (option_map (λ c. record { profile = name; section = section; cause = c }) cause)
 

@@ -32,9 +32,9 @@ abbrev pub script_rule_meaning : {E N M K : Type 0} → (E → M) → (N → K) 
 script_rule_meaning f g r = rule_meaning f g (λ u. u) r
 
 -- a profile of a source
-abbrev pub profile_meaning : {E N M K : Type 0} → (E → M) → (N → K) → LayerProfile E N
+abbrev pub layer_profile_meaning : {E N M K : Type 0} → (E → M) → (N → K) → LayerProfile E N
     → LayerProfile M K
-profile_meaning f g p = record {
+layer_profile_meaning f g p = record {
   default_filter = option_map f p.default_filter;
   overrides = map (override_meaning f g) p.overrides;
   script_rules = map (script_rule_meaning f g) p.script_rules;
@@ -43,4 +43,4 @@ profile_meaning f g p = record {
 -- a layer
 abbrev pub layer_meaning : {E N M K : Type 0} → (E → M) → (N → K) → Layer E N → Layer M K
 layer_meaning f g l =
-    record { source = l.source; profiles = map (λ e. (e.0, profile_meaning f g e.1)) l.profiles }
+    record { source = l.source; profiles = map (λ e. (e.0, layer_profile_meaning f g e.1)) l.profiles }

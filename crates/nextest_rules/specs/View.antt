@@ -6,7 +6,7 @@ use Rattle.nextest_sources.specs.Sources.{source_view}
 use Rattle.nextest_tables.specs.FileTexts.{ScriptUse}
 use Rattle.nextest_tables.specs.View.{by_name, settings_view, uses_view}
 use Rattle.nextest_tables.specs.Written.{Name}
-use Rattle.nextest_rules.specs.Meaning.{profile_meaning}
+use Rattle.nextest_rules.specs.Meaning.{layer_profile_meaning}
 use Rattle.nextest_rules.specs.Rules.{RuleId, Compiled, OverrideUse, LayerProfile, Layer}
 use Rattle.nextest_rules.specs.declared.overrides.OverrideId.{OverrideId}
 use Rattle.nextest_rules.specs.declared.overrides.CompiledOverride.{CompiledOverride}
@@ -58,7 +58,7 @@ layer_profile_view p = record {
 -- the rules of a profile, by what the engines mean
 abbrev pub profile_meaning_view : {F S E T N P M K : Type 0} → (E → M) → (N → K)
     → CompiledProfile F S E T N P → LayerProfile M K
-profile_meaning_view f g p = profile_meaning f g (layer_profile_view p)
+profile_meaning_view f g p = layer_profile_meaning f g (layer_profile_view p)
 
 -- profiles by name, by what the engines mean
 abbrev pub profiles_view : {F S E T N P M K : Type 0} → (E → M) → (N → K)

@@ -2,7 +2,7 @@
 ghost use Rattle.std.specs.Prelude.{◌≡◌, ◌||◌, map, ℕ, List, Some, IfOk, OnOk};
 ghost use Rattle.nextest_sources.specs.Causes.{ill_named_groups, ill_named_scripts};
 ghost use Rattle.nextest_sources.specs.Endings.{ending, Found};
-ghost use Rattle.nextest_sources.specs.Errors.{cause_view, groups_view, scripts_view};
+ghost use Rattle.nextest_sources.specs.Errors.{cause_view, group_names_view, script_names_view};
 ghost use Rattle.nextest_sources.specs.InputFaults.{fault_at_source};
 ghost use Rattle.nextest_sources.specs.Sources.{source_view, source_kind_view};
 ghost use Rattle.nextest_tables.specs.FileTexts.{names_in, script_ids_of};
@@ -64,7 +64,7 @@ fn forbidden_groups(
     source: &ConfigSource,
     file: &FileTable,
 ) -> Result<BTreeSet<CustomTestGroup>, AllocError>
-    ensures { IfOk result (λ groups. (q : List ℕ) → groups_view groups q
+    ensures { IfOk result (λ groups. (q : List ℕ) → group_names_view groups q
         ≡ is_one_of (forbidden_names (source_view source.now).kind
         (names_in (file_view file.now).groups)) q) }
 {
@@ -79,7 +79,7 @@ fn forbidden_scripts(
     source: &ConfigSource,
     file: &FileTable,
 ) -> Result<BTreeSet<ScriptId>, AllocError>
-    ensures { IfOk result (λ ids. (q : List ℕ) → scripts_view ids q
+    ensures { IfOk result (λ ids. (q : List ℕ) → script_names_view ids q
         ≡ is_one_of (forbidden_names (source_view source.now).kind
         (script_ids_of (file_view file.now))) q) }
 {
@@ -93,7 +93,7 @@ fn forbidden_scripts(
 /// The refusal of groups that a source may not define.
 fn groups_kind(source: &ConfigSource, groups: BTreeSet<CustomTestGroup>) -> ConfigParseErrorKind
     ensures { cause_view result ≡ Some (ill_named_groups
-        (defs.is_of_tool (source_view source.now).kind) (groups_view groups)) }
+        (defs.is_of_tool (source_view source.now).kind) (group_names_view groups)) }
 {
     match source.kind() {
         ConfigSourceKind::Tool(_) => ConfigParseErrorKind::InvalidTestGroupsDefinedByTool(groups),
@@ -106,7 +106,7 @@ fn groups_kind(source: &ConfigSource, groups: BTreeSet<CustomTestGroup>) -> Conf
 /// The refusal of scripts that a source may not define.
 fn scripts_kind(source: &ConfigSource, ids: BTreeSet<ScriptId>) -> ConfigParseErrorKind
     ensures { cause_view result ≡ Some (ill_named_scripts
-        (defs.is_of_tool (source_view source.now).kind) (scripts_view ids)) }
+        (defs.is_of_tool (source_view source.now).kind) (script_names_view ids)) }
 {
     match source.kind() {
         ConfigSourceKind::Tool(_) => ConfigParseErrorKind::InvalidConfigScriptsDefinedByTool(ids),

@@ -2,7 +2,7 @@
 ghost use Rattle.std.specs.Prelude.{◌≡◌, ◌||◌, ◌&&◌, map, ℕ, List, IfOk, OnOk};
 ghost use Rattle.nextest_scripts.specs.ScriptId.{script_text};
 ghost use Rattle.nextest_sources.specs.Endings.{ending, Found};
-ghost use Rattle.nextest_sources.specs.Errors.{scripts_view};
+ghost use Rattle.nextest_sources.specs.Errors.{script_names_view};
 ghost use Rattle.nextest_sources.specs.InputFaults.{fault_at_source};
 ghost use Rattle.nextest_sources.specs.Sources.{source_view};
 ghost use Rattle.nextest_tables.specs.FileTexts.{setup_ids_of, new_ids_of};
@@ -48,8 +48,9 @@ fn add_common<V, W>(
     scripts: &BTreeMap<ScriptId, V>,
     others: &BTreeMap<ScriptId, W>,
 ) -> Result<(), AllocError>
-    ensures { OnOk result ((q : List ℕ) → scripts_view found.new q ≡ (scripts_view found.old q
-        || is_one_of (common_names (map (λ e. script_text e.0) scripts.now.entries)
+    ensures { OnOk result ((q : List ℕ) → script_names_view found.new q
+        ≡ (script_names_view found.old q || is_one_of
+        (common_names (map (λ e. script_text e.0) scripts.now.entries)
         (map (λ e. script_text e.0) others.now.entries)) q)) }
 {
     for (id, _) in scripts.iter() {
@@ -63,7 +64,7 @@ fn add_common<V, W>(
 
 /// The ids that a file defines both as setup scripts and as wrapper scripts.
 fn ids_of_both_kinds(alloc: Global, file: &FileTable) -> Result<BTreeSet<ScriptId>, AllocError>
-    ensures { IfOk result (λ ids. (q : List ℕ) → scripts_view ids q
+    ensures { IfOk result (λ ids. (q : List ℕ) → script_names_view ids q
         ≡ is_one_of (common_names (setup_ids_of (file_view file.now))
         (file_view file.now).wrapper_scripts) q) }
 {

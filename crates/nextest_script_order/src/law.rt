@@ -2,7 +2,7 @@
 ghost use Rattle.nextest_script_order.specs.Law.{LongerDocumentsKeep};
 
 /// What stands in whole lines that are a document also stands in each longer document that begins
-/// with them, so that a search by halves finds the least number of lines.
+/// with them, so that a search by parts finds the least number of lines.
 pub fn law_longer_documents_keep()
     ensures { LongerDocumentsKeep }
 {}

@@ -1,4 +1,4 @@
-//! The order of the ids of a text, found by halves.
+//! The order of the ids of a text, found by reading parts of it.
 ghost use Rattle.std.specs.Prelude.{◌≡◌, ◌<◌, ◌≤◌, ◌+◌, ◌++◌, IfOk, IfSome, MatchOption, OnOk, Some, option_map};
 ghost use Rattle.nextest_tree.specs.Node as Node;
 ghost use Rattle.nextest_tree.specs.View.{tree_view};
@@ -96,7 +96,7 @@ fn document_between(
     }
 }
 
-/// The lines from `low` up to a header near the middle, read alone: where they begin with a header
+/// The lines from `low` up to a header near their front, read alone: where they begin with a header
 /// themselves, what they define does not hang on the lines before them.
 fn section_between(
     alloc: Global,
@@ -125,13 +125,14 @@ fn section_between(
     }
 }
 
-/// A number of lines between two, near their middle, after which a line begins like a header.
+/// A number of lines between two, near the first, after which a line begins like a header. A part
+/// of a sixteenth costs less than a half: few lines are read often, and the rest is split again.
 fn header_between(lines: &Lines, low: usize, high: usize) -> Option<usize>
     requires order { low ≤ high }
     requires within { high ≤ line_count lines.now }
     ensures { IfSome result (λ middle. low < middle × middle < high) }
 {
-    let middle = low + (high - low).div_ceil(2);
+    let middle = low + (high - low).div_ceil(16);
     'up: for count in middle..high {
         if lines.is_header(count) {
             return Some(count);
@@ -145,7 +146,7 @@ fn header_between(lines: &Lines, low: usize, high: usize) -> Option<usize>
     None
 }
 
-/// A number of lines between two, near their middle, that is a document, with that document.
+/// A number of lines between two, near the first, that is a document, with that document.
 fn front_between(
     alloc: Global,
     lines: &Lines,
@@ -158,7 +159,7 @@ fn front_between(
         (λ at. let n = Node.table (from_members (table_view at.1)) in
         TellsBetween lines.now low high at.0 n)) }
 {
-    let middle = low + (high - low).div_ceil(2);
+    let middle = low + (high - low).div_ceil(16);
     'up: for count in middle..high {
         if let Some(document) = document_of(alloc, lines.front(count))? {
             return Ok(Some((count, document)));

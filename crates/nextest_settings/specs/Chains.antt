@@ -1,15 +1,11 @@
 -- What counts for a chain of profiles: their rules in order, their fields, their default filters.
-use Rattle.std.specs.Prelude.{ℕ, List, [], ◌∷◌, ◌++◌, Option, option_map, option_and_then, unwrap_or, filter_map, flat_map, codes}
+use Rattle.std.specs.Prelude.{ℕ, List, [], ◌++◌, Option, option_map, option_and_then, unwrap_or, filter_map, flat_map, codes}
 use Rattle.nextest_inheritance.specs.Names.{default_name}
 use Rattle.nextest_load.specs.Config.{MergedProfile}
 use Rattle.nextest_rules.specs.Rules.{Compiled, OverrideUse, LayerProfile, Layer, at_name}
 use Rattle.nextest_tables.specs.FileTexts.{ScriptUse}
 use Rattle.nextest_tables.specs.Written.{Name, WrittenFields}
 use Rattle.nextest_tree.specs.Schema.{first}
-
--- the profiles of a chain, and then `default`
-abbrev pub with_default : List Name → List Name
-with_default chain = chain ++ default_name ∷ []
 
 -- what f has of the profile of a name in a layer, nothing where the layer has no such profile
 abbrev pub in_layer : {M K X : Type 0} → (LayerProfile M K → List X) → Name → Layer M K → List X

@@ -13,6 +13,6 @@ custom_group_in m binary_id name =
     option_and_then (λ tests. get_by_text tests name) (get_by_text m.groups binary_id)
 
 -- the group of the test of a binary and a name
-abbrev pub group_in : PrecomputedGroupMembership → (binary_id name : List ℕ) → TestGroup
-group_in m binary_id name =
+abbrev pub membership_group : PrecomputedGroupMembership → (binary_id name : List ℕ) → TestGroup
+membership_group m binary_id name =
     unwrap_or (option_map (λ group. Custom group) (custom_group_in m binary_id name)) Global

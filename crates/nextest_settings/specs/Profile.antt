@@ -2,22 +2,20 @@
 use Rattle.std.specs.Prelude.{ℕ, List, map, Bool, Option, option_map, option_and_then}
 use Rattle.nextest_elements.specs.declared.test_group.TestGroupConfig.{TestGroupConfig}
 use Rattle.nextest_engines.specs.declared.queries.BuildPlatforms.{BuildPlatforms}
+use Rattle.nextest_inheritance.specs.Parents.{with_default}
 use Rattle.nextest_load.specs.Config.{ConfigModel, ScriptTables}
 use Rattle.nextest_rules.specs.Rules.{Compiled, OverrideUse, at_name}
 use Rattle.nextest_scripts.specs.Paths.{joined_path}
-use Rattle.nextest_sources.specs.Warnings.{Warning}
 use Rattle.nextest_tables.specs.FileTexts.{ScriptUse}
 use Rattle.nextest_tables.specs.Written.{Name, WrittenFields}
-use Rattle.nextest_settings.specs.Chains.{with_default, overrides_of, script_rules_of, fields_of, FilterChoice, nearest_filter, filter_of_nothing}
+use Rattle.nextest_settings.specs.Chains.{overrides_of, script_rules_of, fields_of, FilterChoice, nearest_filter, filter_of_nothing}
 use Rattle.nextest_settings.specs.Platforms.{EvaluatedRule, rule_on, default_filter_of}
 
--- A configuration as its calls have it: the workspace's root, what was loaded, its scripts, and the
--- warnings that were kept of the load.
+-- A configuration as its calls have it: the workspace's root, what was loaded, and its scripts.
 pub record Configured (M K : Type 0) : Type 0 where
   pub root : List ℕ
   pub config : ConfigModel M K
   pub scripts : ScriptTables
-  pub warnings : List Warning
 
 -- what a profile says whatever the platforms: its name, parent, directory, groups and scripts, and
 -- what the profiles of its chain write, the nearest first

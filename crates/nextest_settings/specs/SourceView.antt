@@ -7,11 +7,11 @@ use Rattle.nextest_settings.specs.declared.source.SettingSource.{SettingSource}
 use Rattle.nextest_settings.specs.declared.source.SettingSource.TheVariants.{Default, Profile, Override, Script}
 
 -- the origin that a source tells
-abbrev pub source_view : {F S E T N P : Type 0} → SettingSource F S E T N P → Origin
-source_view Default = by_default
-source_view Profile = by_profile
-source_view (Override rule) = by_override (override_rule_view rule.now).writes.id
-source_view (Script rule) = by_script
+abbrev pub setting_source_view : {F S E T N P : Type 0} → SettingSource F S E T N P → Origin
+setting_source_view Default = by_default
+setting_source_view Profile = by_profile
+setting_source_view (Override rule) = by_override (override_rule_view rule.now).writes.id
+setting_source_view (Script rule) = by_script
 
 -- what the script rule writes that a source tells, if it tells one
 abbrev pub source_use : {F S E T N P : Type 0} → SettingSource F S E T N P → Option ScriptUse

@@ -7,7 +7,7 @@ ghost use Rattle.nextest_elements.specs.declared.test_group.CustomTestGroup.{Cus
 ghost use Rattle.nextest_elements.specs.declared.test_group.TestGroup.{TestGroup};
 ghost use Rattle.nextest_elements.specs.declared.test_group.TestGroup.TheVariants.{Custom};
 ghost use Rattle.nextest_engines.specs.Engines.{test_view};
-ghost use Rattle.nextest_settings.specs.GroupView.{custom_group_in, group_in};
+ghost use Rattle.nextest_settings.specs.GroupView.{custom_group_in, membership_group};
 ghost use Rattle.nextest_settings.specs.Queries.{custom_group, custom_group_by, is_of_name, last_group};
 ghost use Rattle.nextest_settings.specs.SettingsView.{slot_at};
 ghost use Rattle.nextest_settings.specs.View.{override_of};
@@ -126,7 +126,7 @@ impl fmt::Debug for PrecomputedGroupMembership {
 }
 
 impl GroupLookup for PrecomputedGroupMembership {
-    ghost group = { group_in };
+    ghost group = { membership_group };
 
     fn is_member_test<N: NameMatcher>(&self, test: &TestQuery<'_>, matcher: &N) -> bool {
         let global = TestGroup::Global;
@@ -185,7 +185,7 @@ impl<'cfg, F: Filters, S: Specs> EvaluatedRules<'cfg, F, S> {
         tally: &mut F::Tally,
     ) -> Result<PrecomputedGroupMembership, AllocError>
         ensures groups { IfOk result (λ found. (binary_id name : List ℕ)
-            → group_in found binary_id name ≡ last_group
+            → membership_group found binary_id name ≡ last_group
             (custom_group_by F.holds (F.meaning self.now.default_filter.expr.now)
             (map (override_of F.meaning) self.now.overrides.items))
             (map test_view queries.now) binary_id name) }

@@ -24,7 +24,7 @@ pub fn law_all_settings()
 
 /// The rules that are evaluated are a strictly rising list of numbers of rules that have a filter:
 /// so there are never more evaluations than rules with a filter.
-pub fn law_few_evaluations<F: Filters>()
+pub fn law_evaluated_at_most_once<F: Filters>()
     ensures test { (query : QueryContext F.Meaning) (mode : NextestRunMode)
         (p : EvaluatableModel F.Meaning)
         → Rising (HasFilterAt (filters_of p)) 0 (evaluated_for_test query mode p) }

@@ -2,7 +2,7 @@
 ghost use Rattle.std.specs.Prelude.{◌≡◌, ⊤, Some};
 ghost use Rattle.nextest_rules.specs.View.{id_view, override_rule_view, script_rule_view};
 ghost use Rattle.nextest_settings.specs.Queries.{Origin, by_default, by_profile, by_override, by_script, fallback_origin};
-ghost use Rattle.nextest_settings.specs.SourceView.{source_view, source_use, MarksOrigin};
+ghost use Rattle.nextest_settings.specs.SourceView.{setting_source_view, source_use, MarksOrigin};
 ghost use Rattle.nextest_tables.specs.FileTexts.{ScriptUse};
 
 use crate::setting::Setting;
@@ -67,7 +67,7 @@ pub enum SettingSource<'p, F: Filters, S: Specs> {
 }
 
 impl<'p, F: Filters, S: Specs> TrackSource<'p, F, S> for SettingSource<'p, F, S> {
-    ghost shows = { λ source origin. source_view source ≡ origin };
+    ghost shows = { λ source origin. setting_source_view source ≡ origin };
 
     ghost shows_use = { λ source uses. source_use source ≡ Some uses };
 

@@ -12,10 +12,10 @@ abbrev pub NameSet : Type 0
 NameSet = List ℕ → Bool
 
 -- where in a profile a fault of compilation stands
-pub data Section : Type 0 where
-  in_default_filter : Section
-  in_override : (index : ℕ) → Section
-  in_script_rule : (index : ℕ) → Section
+pub data RuleSection : Type 0 where
+  in_default_filter : RuleSection
+  in_override : (index : ℕ) → RuleSection
+  in_script_rule : (index : ℕ) → RuleSection
 
 -- what compilation refuses
 pub data CompileCause : Type 0 where
@@ -29,7 +29,7 @@ pub data CompileCause : Type 0 where
 -- a fault of compilation: the profile, the section, and why
 pub record CompileFault : Type 0 where
   pub profile : List ℕ
-  pub section : Section
+  pub section : RuleSection
   pub cause : CompileCause
 
 -- a rule of a profile writes a group that is not known

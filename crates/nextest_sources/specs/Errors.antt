@@ -9,7 +9,7 @@ use Rattle.nextest_inheritance.specs.View.{inherits_error_view}
 use Rattle.nextest_scripts.specs.ScriptId.{script_text}
 use Rattle.nextest_scripts.specs.declared.script_id.ScriptId.{ScriptId}
 use Rattle.nextest_texts.specs.IdentifierText.{tool_name_text}
-use Rattle.nextest_sources.specs.Causes.{NameSet, Section, in_default_filter, in_override, in_script_rule, CompileCause, no_constraint, two_filters, parse_refusals, CompileFault, UnknownGroup, UnknownScript, WrongScript, ListFilter, ScriptFaults, LoadCause, duplicate_tool, no_text, no_document, bad_element, ill_named_groups, ill_named_scripts, both_script_keys, missing_features, both_script_kinds, bad_parents, compile_refusals, unknown_groups, bad_scripts}
+use Rattle.nextest_sources.specs.Causes.{NameSet, RuleSection, in_default_filter, in_override, in_script_rule, CompileCause, no_constraint, two_filters, parse_refusals, CompileFault, UnknownGroup, UnknownScript, WrongScript, ListFilter, ScriptFaults, LoadCause, duplicate_tool, no_text, no_document, bad_element, ill_named_groups, ill_named_scripts, both_script_keys, missing_features, both_script_kinds, bad_parents, compile_refusals, unknown_groups, bad_scripts}
 use Rattle.nextest_sources.specs.Sources.{Source, source_view, outcome_view, path_view}
 use Rattle.nextest_sources.specs.declared.error.compile.ConfigCompileError.{ConfigCompileError}
 use Rattle.nextest_sources.specs.declared.error.compile.ConfigCompileErrorKind.{ConfigCompileErrorKind}
@@ -26,7 +26,7 @@ use Rattle.nextest_sources.specs.declared.error.ConfigParseErrorKind.{ConfigPars
 use Rattle.nextest_sources.specs.declared.error.ConfigParseErrorKind.TheVariants as kinds
 
 -- where something does not compile
-abbrev pub section_view : ConfigCompileSection → Section
+abbrev pub section_view : ConfigCompileSection → RuleSection
 section_view sections.DefaultFilter = in_default_filter
 section_view (sections.Override i) = in_override i
 section_view (sections.Script i) = in_script_rule i
@@ -83,12 +83,12 @@ script_errors_view e = record {
 }
 
 -- a set of groups
-abbrev pub groups_view : BTreeSet CustomTestGroup → NameSet
-groups_view set = is_one_of (map custom_group_text set.keys)
+abbrev pub group_names_view : BTreeSet CustomTestGroup → NameSet
+group_names_view set = is_one_of (map custom_group_text set.keys)
 
 -- a set of scripts
-abbrev pub scripts_view : BTreeSet ScriptId → NameSet
-scripts_view set = is_one_of (map script_text set.keys)
+abbrev pub script_names_view : BTreeSet ScriptId → NameSet
+script_names_view set = is_one_of (map script_text set.keys)
 
 -- the cause that a kind tells: a message for people is no part of it, and want of memory is none
 abbrev pub cause_view : ConfigParseErrorKind → Option LoadCause
@@ -98,16 +98,16 @@ cause_view (kinds.ReadError outcome) = Some (no_text (outcome_view outcome))
 cause_view (kinds.BuildError message) = Some no_document
 cause_view (kinds.DeserializeError fault) = option_map bad_element (fault_view fault)
 cause_view (kinds.InvalidTestGroupsDefined groups) =
-    Some (ill_named_groups false (groups_view groups))
+    Some (ill_named_groups false (group_names_view groups))
 cause_view (kinds.InvalidTestGroupsDefinedByTool groups) =
-    Some (ill_named_groups true (groups_view groups))
+    Some (ill_named_groups true (group_names_view groups))
 cause_view kinds.BothScriptAndScriptsDefined = Some both_script_keys
 cause_view (kinds.ExperimentalFeaturesNotEnabled features) = Some (missing_features features.items)
-cause_view (kinds.DuplicateConfigScriptNames ids) = Some (both_script_kinds (scripts_view ids))
+cause_view (kinds.DuplicateConfigScriptNames ids) = Some (both_script_kinds (script_names_view ids))
 cause_view (kinds.InvalidConfigScriptsDefined ids) =
-    Some (ill_named_scripts false (scripts_view ids))
+    Some (ill_named_scripts false (script_names_view ids))
 cause_view (kinds.InvalidConfigScriptsDefinedByTool ids) =
-    Some (ill_named_scripts true (scripts_view ids))
+    Some (ill_named_scripts true (script_names_view ids))
 cause_view (kinds.InheritanceErrors errors) =
     Some (bad_parents (map inherits_error_view errors.items))
 cause_view (kinds.CompileErrors errors) =

@@ -7,6 +7,7 @@
 mod error;
 mod inputs;
 pub mod laws;
+mod one_line;
 mod sources;
 mod warnings;
 
@@ -16,6 +17,7 @@ pub use error::{
     ProfileUnknownScriptError, ProfileWrongConfigScriptTypeError, UnknownTestGroupError,
 };
 pub use inputs::{SourceInput, gather, refuse_duplicates, repository_file, text_of};
+pub use one_line::OneLine;
 pub use sources::{
     ConfigFileSelection, ConfigPath, ConfigPaths, ConfigSource, ConfigSourceKind, FileInput,
     ReadOutcome, ToolConfigFile,

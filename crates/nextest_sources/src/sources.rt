@@ -6,6 +6,7 @@ ghost use Rattle.std.specs.Prelude.{◌≡◌, IfOk, option_map};
 ghost use Rattle.nextest_sources.specs.Sources.{path_view, outcome_view, source_view, source_kind_view, tool_of};
 ghost use Rattle.nextest_texts.specs.IdentifierText.{tool_name_text};
 
+use crate::one_line::OneLine;
 use nextest_texts::ToolName;
 use std::alloc::{AllocError, Global};
 use std::fmt;
@@ -184,12 +185,13 @@ impl ConfigSource {
     }
 }
 
-/// The path, and the tool that provided the file, where one did.
+/// The path on one line, and the tool that provided the file, where one did.
 impl fmt::Display for ConfigSource {
     fn fmt<W: fmt::Write>(&self, f: &mut fmt::Formatter<W>) -> fmt::Result {
+        let path = OneLine(self.path.absolute_path());
         match self.tool() {
-            Some(tool) => write!(f, "{} provided by tool `{tool}`", self.path),
-            None => write!(f, "{}", self.path),
+            Some(tool) => write!(f, "{path} provided by tool `{tool}`"),
+            None => write!(f, "{path}"),
         }
     }
 }

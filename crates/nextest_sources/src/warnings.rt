@@ -4,6 +4,7 @@ ghost use Rattle.nextest_sources.specs.Sources.{source_view};
 ghost use Rattle.nextest_sources.specs.Warnings.{Warning, unknown_keys, reserved_profiles, deprecated_scripts, empty_sections, texts_view};
 ghost use Rattle.nextest_sources.specs.WarningsView.{warning_view};
 
+use crate::one_line::OneLine;
 use crate::sources::ConfigSource;
 use std::alloc::{AllocError, Global};
 use std::collections::BTreeSet;
@@ -134,11 +135,12 @@ impl DefaultConfigWarnings {
 /// Writes unknown keys: one on the line itself, several on lines of their own.
 fn write_keys<W: fmt::Write>(f: &mut fmt::Formatter<W>, paths: &[String]) -> fmt::Result {
     if let [path] = paths {
+        let path = OneLine(path.as_str());
         return write!(f, "ignoring unknown configuration key: {path}");
     }
     f.write_str("ignoring unknown configuration keys:\n")?;
     for path in paths {
-        write!(f, "\n  - {path}")?;
+        write!(f, "\n  - {}", OneLine(path.as_str()))?;
     }
     Ok(())
 }
@@ -147,7 +149,7 @@ fn write_keys<W: fmt::Write>(f: &mut fmt::Formatter<W>, paths: &[String]) -> fmt
 fn write_profiles<W: fmt::Write>(f: &mut fmt::Formatter<W>, names: &[String]) -> fmt::Result {
     f.write_str("ignoring unknown profiles in the reserved `default-` namespace:")?;
     for name in names {
-        write!(f, "\n  {name}")?;
+        write!(f, "\n  {}", OneLine(name.as_str()))?;
     }
     Ok(())
 }
@@ -158,6 +160,7 @@ fn write_sections<W: fmt::Write>(
     profile: &str,
     count: usize,
 ) -> fmt::Result {
+    let profile = OneLine(profile);
     let sections = if count == 1 { "section" } else { "sections" };
     write!(
         f,
@@ -178,7 +181,7 @@ impl ConfigWarning {
     }
 }
 
-/// One line or more, the last without its end.
+/// One line or more, the last without its end. No text leaves its line.
 impl fmt::Display for ConfigWarning {
     fn fmt<W: fmt::Write>(&self, f: &mut fmt::Formatter<W>) -> fmt::Result {
         write!(f, "in config file {}, ", self.source())?;

@@ -84,7 +84,8 @@ at p None = []
 at p (Some c) = record { path = p; cause = c } ∷ []
 
 -- what f gives for each item, at its position from i on
-abbrev pub each_item : {A : Type 0} → (List ℕ → Node → List A) → List ℕ → ℕ → Nodes → List A
+abbrev pub each_item : {A : Type 0} → (List ℕ → Node → List A) → List ℕ → ℕ → Nodes
+    → List A
 each_item f p i no_nodes = []
 each_item f p i (node n ns) = f (below p (decimal i)) n ++ each_item f p (i + 1) ns
 

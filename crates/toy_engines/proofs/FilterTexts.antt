@@ -1,7 +1,6 @@
 -- Steps of reading filters.
-use Rattle.std.proofs.Common.{◌≡◌, ◌≢◌, ◌==◌, ◌+◌, ℕ, Bool, true, false, List, [], ◌∷◌, ◌++◌, Option, None, Some, option_map, codes, length, Bor, refl, sym, ◌∙◌, ap, arith, zero-add, lit<, cond, MatchOption, inl, inr}
+use Rattle.std.proofs.Common.{◌≡◌, ◌≢◌, ◌==◌, ◌+◌, ℕ, Bool, true, false, List, [], ◌∷◌, ◌++◌, Option, None, Some, Err, option_map, codes, length, Bor, refl, sym, ◌∙◌, ap, arith, zero-add, lit<, cond, MatchOption, inl, inr}
 use Rattle.std.specs.List.{slice_split, onto_first}
-use Rattle.std.specs.Option.{option_and_then}
 use Rattle.std.specs.Str.{bytes_eq}
 use Rattle.std.specs.Cmp.Lexicographic.{same_text}
 use Rattle.std.proofs.lemmas.Bool.Decides.{eqb_tells}
@@ -10,7 +9,7 @@ use Rattle.std.proofs.lemmas.List.Splits.{slice_split_none, slice_split_at}
 use Rattle.std.proofs.lemmas.Str.Pattern.{IsSplitOnceResult, split_parts}
 use Rattle.toy_engines.specs.Texts.{after_prefix}
 use Rattle.toy_engines.specs.FilterValues.{Term, Filter}
-use Rattle.toy_engines.specs.FilterTexts.{atom_in, term_in, plain, once_more, more_nots, SoFar, joined, continued, pieces, begun, filter_in_pieces, filter_in}
+use Rattle.toy_engines.specs.FilterTexts.{atom_in, term_in, plain, once_more, more_nots, SoFar, joined, unless_broken, continued, pieces, begun, filter_in_pieces, filter_in}
 use Rattle.toy_engines.proofs.PartsOfTexts.{after_is, after_own}
 
 -- No more `not`s change nothing.
@@ -75,22 +74,22 @@ pub begun_by : (complete : Filter) (last : List Term) (t : Term) → complete �
 begun_by complete last t none one = cc
 
 -- The first term, and what the further pieces add to it.
-pub first_none : (text piece rest : List ℕ) → pieces text ≡ piece ∷ pieces rest → term_in piece ≡ None → filter_in text ≡ None
+pub first_none : (text piece rest : List ℕ) → pieces text ≡ piece ∷ pieces rest → term_in piece ≡ None → filter_in text ≡ Err piece
 first_none text piece rest e none =
     let next = first_piece rest in
-    ap filter_in_pieces (e ∙ ap (λ more. piece ∷ more) next.2) ∙ ap (option_and_then (λ t. continued (begun t) (next.0 ∷ next.1))) none
+    ap filter_in_pieces (e ∙ ap (λ more. piece ∷ more) next.2) ∙ ap (unless_broken piece (λ t. continued (begun t) (next.0 ∷ next.1))) none
 
 pub first_some : (text piece rest : List ℕ) (t : Term) → pieces text ≡ piece ∷ pieces rest → term_in piece ≡ Some t → filter_in text ≡ continued (begun t) (pieces rest)
 first_some text piece rest t e some =
     let next = first_piece rest in
-    ap filter_in_pieces (e ∙ ap (λ more. piece ∷ more) next.2) ∙ ap (option_and_then (λ t. continued (begun t) (next.0 ∷ next.1))) some ∙ ap (continued (begun t)) (sym next.2)
+    ap filter_in_pieces (e ∙ ap (λ more. piece ∷ more) next.2) ∙ ap (unless_broken piece (λ t. continued (begun t) (next.0 ∷ next.1))) some ∙ ap (continued (begun t)) (sym next.2)
 
-pub more_none : (s : SoFar) (text piece rest : List ℕ) → pieces text ≡ piece ∷ pieces rest → joined s piece ≡ None → continued s (pieces text) ≡ None
+pub more_none : (s : SoFar) (text piece rest : List ℕ) → pieces text ≡ piece ∷ pieces rest → joined s piece ≡ None → continued s (pieces text) ≡ Err piece
 more_none s text piece rest e none =
     let next = first_piece rest in
-    ap (continued s) (e ∙ ap (λ more. piece ∷ more) next.2) ∙ ap (option_and_then (λ more. continued more (next.0 ∷ next.1))) none
+    ap (continued s) (e ∙ ap (λ more. piece ∷ more) next.2) ∙ ap (unless_broken piece (λ more. continued more (next.0 ∷ next.1))) none
 
 pub more_some : (s more : SoFar) (text piece rest : List ℕ) → pieces text ≡ piece ∷ pieces rest → joined s piece ≡ Some more → continued s (pieces text) ≡ continued more (pieces rest)
 more_some s more text piece rest e some =
     let next = first_piece rest in
-    ap (continued s) (e ∙ ap (λ more. piece ∷ more) next.2) ∙ ap (option_and_then (λ more. continued more (next.0 ∷ next.1))) some ∙ ap (continued more) (sym next.2)
+    ap (continued s) (e ∙ ap (λ more. piece ∷ more) next.2) ∙ ap (unless_broken piece (λ more. continued more (next.0 ∷ next.1))) some ∙ ap (continued more) (sym next.2)

@@ -1,5 +1,5 @@
 -- A filter that is read from a text is spelled by it.
-use Rattle.std.proofs.Common.{◌≡◌, ℕ, Bool, true, false, ◌&&◌, List, [], ◌∷◌, ◌++◌, Option, None, Some, option_map, codes, if◌then◌else◌, refl, sym, ◌∙◌, ap, append_assoc, append-nil}
+use Rattle.std.proofs.Common.{◌≡◌, ℕ, Bool, true, false, ◌&&◌, List, [], ◌∷◌, ◌++◌, Option, None, Some, Ok, option_map, codes, if◌then◌else◌, refl, sym, ◌∙◌, ap, append_assoc, append-nil}
 use Rattle.std.specs.List.{list_all, join_by, join_with_byte, flat_map}
 use Rattle.std.specs.Option.{option_and_then, option_or}
 use Rattle.std.specs.Str.{bytes_eq}
@@ -8,7 +8,7 @@ use Rattle.std.proofs.lemmas.List.Splits.{join_with_byte-slice_split}
 use Rattle.std.proofs.lemmas.List.Folds.{list_all-append}
 use Rattle.toy_engines.specs.Texts.{after_prefix}
 use Rattle.toy_engines.specs.FilterValues.{Atom, Always, Never, AsTheDefault, NameHas, BinaryIs, Term, Filter}
-use Rattle.toy_engines.specs.FilterTexts.{is_name, spelled_atom, spelled_term, spelled_terms, spelled, is_atom, is_filled, are_written, is_written, name_after, atom_in, plain, once_more, term_in, SoFar, filter_so_far, also, or_else, joined_by, joined, ended, continued, pieces, begun, filter_in_pieces, filter_in}
+use Rattle.toy_engines.specs.FilterTexts.{is_name, spelled_atom, spelled_term, spelled_terms, spelled, is_atom, is_filled, are_written, is_written, name_after, atom_in, plain, once_more, term_in, SoFar, filter_so_far, also, or_else, joined_by, joined, unless_broken, ended, continued, pieces, begun, filter_in_pieces, filter_in}
 use Rattle.toy_engines.proofs.PartsOfTexts.{after_is}
 
 abbrev close : List ℕ
@@ -177,15 +177,15 @@ filled_end : (complete : Filter) (last : List Term) → is_filled (complete ++ l
 filled_end [] last = refl
 filled_end (terms ∷ complete) last = refl
 
-ended_known : (s : SoFar) (piece : List ℕ) (filter : Filter) → IsRead s → ended s piece ≡ Some filter → ReadIs s piece filter
+ended_known : (s : SoFar) (piece : List ℕ) (filter : Filter) → IsRead s → ended s piece ≡ Ok filter → ReadIs s piece filter
 ended_known s [] filter is got =
     let same : filter_so_far s ≡ filter = cc in
     rw (sym same) (sym (append-nil (spelled (filter_so_far s))), both _ _ (filled_end s.complete s.last) (so_far_written s is))
 ended_known s (c ∷ piece) filter is got = absurd (cc)
 
 more_known : (next : List ℕ) (pieces : List (List ℕ)) (s : SoFar) (piece : List ℕ) (filter : Filter) (found : Option SoFar) → joined s piece ≡ found → IsRead s
-    → ((more : SoFar) → IsRead more → continued more (next ∷ pieces) ≡ Some filter → ReadIs more (join_with_byte 41 (next ∷ pieces)) filter)
-    → option_and_then (λ more. continued more (next ∷ pieces)) found ≡ Some filter
+    → ((more : SoFar) → IsRead more → continued more (next ∷ pieces) ≡ Ok filter → ReadIs more (join_with_byte 41 (next ∷ pieces)) filter)
+    → unless_broken piece (λ more. continued more (next ∷ pieces)) found ≡ Ok filter
     → ReadIs s (piece ++ (41 ∷ join_with_byte 41 (next ∷ pieces))) filter
 more_known next pieces s piece filter None x is known got = absurd (cc)
 more_known next pieces s piece filter (Some more) x is known got =
@@ -197,13 +197,13 @@ more_known next pieces s piece filter (Some more) x is known got =
       it.1,
     )
 
-continued_known : (pieces : List (List ℕ)) (s : SoFar) (filter : Filter) → IsRead s → continued s pieces ≡ Some filter → ReadIs s (join_with_byte 41 pieces) filter
+continued_known : (pieces : List (List ℕ)) (s : SoFar) (filter : Filter) → IsRead s → continued s pieces ≡ Ok filter → ReadIs s (join_with_byte 41 pieces) filter
 continued_known [] s filter is got = absurd (cc)
 continued_known (piece ∷ []) s filter is got = ended_known s piece filter is got
 continued_known (piece ∷ next ∷ pieces) s filter is got = more_known next pieces s piece filter _ refl is (λ more read. continued_known (next ∷ pieces) more filter read) got
 
 first_known : (piece next : List ℕ) (pieces : List (List ℕ)) (filter : Filter) (found : Option Term) → term_in piece ≡ found
-    → option_and_then (λ t. continued (begun t) (next ∷ pieces)) found ≡ Some filter
+    → unless_broken piece (λ t. continued (begun t) (next ∷ pieces)) found ≡ Ok filter
     → (spelled filter ≡ piece ++ (41 ∷ join_with_byte 41 (next ∷ pieces))) × (is_written filter ≡ true)
 first_known piece next pieces filter None x got = absurd (cc)
 first_known piece next pieces filter (Some t) x got =
@@ -214,12 +214,12 @@ first_known piece next pieces filter (Some t) x got =
       it.1,
     )
 
-pieces_known : (pieces : List (List ℕ)) (filter : Filter) → filter_in_pieces pieces ≡ Some filter → (spelled filter ≡ join_with_byte 41 pieces) × (is_written filter ≡ true)
+pieces_known : (pieces : List (List ℕ)) (filter : Filter) → filter_in_pieces pieces ≡ Ok filter → (spelled filter ≡ join_with_byte 41 pieces) × (is_written filter ≡ true)
 pieces_known [] filter got = absurd (cc)
 pieces_known (piece ∷ []) filter got = absurd (cc)
 pieces_known (piece ∷ next ∷ pieces) filter got = first_known piece next pieces filter _ refl got
 
 -- A filter that a text writes is spelled by it.
-pub spells_what_is_read : (text : List ℕ) (filter : Filter) → filter_in text ≡ Some filter → (spelled filter ≡ text) × (is_written filter ≡ true)
+pub spells_what_is_read : (text : List ℕ) (filter : Filter) → filter_in text ≡ Ok filter → (spelled filter ≡ text) × (is_written filter ≡ true)
 spells_what_is_read text filter got =
     let it = pieces_known (pieces text) filter got in (it.0 ∙ join_with_byte-slice_split 41 text, it.1)

@@ -1,5 +1,5 @@
 -- A default filter with no part that only a test can answer has an answer for each binary.
-use Rattle.std.proofs.Common.{◌≡◌, ℕ, zero, suc, Bool, true, false, ◌||◌, List, [], ◌∷◌, ◌++◌, Option, None, Some, Ok, Err, IsSome, option_map, not, refl, sym, ◌∙◌, ap}
+use Rattle.std.proofs.Common.{◌≡◌, ℕ, zero, suc, Bool, true, false, ◌||◌, List, [], ◌∷◌, ◌++◌, Option, None, Some, Result, Ok, Err, IsSome, option_map, not, refl, sym, ◌∙◌, ap}
 use Rattle.std.specs.List.{fold, list_any, flat_map}
 use Rattle.nextest_engines.specs.Engines.{Binary}
 use Rattle.nextest_engines.specs.declared.queries.FiltersetKind.TheVariants.{DefaultFilter}
@@ -72,15 +72,15 @@ known_lists s default (terms ∷ filter) value none other is =
     (known_or_known value (terms_value s default terms) is first)
 
 -- A default filter does not ask for the default filter.
-asks_nothing : (asks : Bool) (read filter : Filter) → asks_default read ≡ asks → read_for DefaultFilter (Some read) ≡ Ok filter → asks_default filter ≡ false
-asks_nothing true read filter e is = absurd (let clash : Err default_in_default ≡ Ok filter = rw e at is in cc)
-asks_nothing false read filter e is = let same : Ok read ≡ Ok filter = rw e at is in let it : read ≡ filter = cc in ap asks_default (sym it) ∙ e
+asks_nothing : (asks : Bool) (text : List ℕ) (read filter : Filter) → asks_default read ≡ asks → read_for DefaultFilter text (Ok read) ≡ Ok filter → asks_default filter ≡ false
+asks_nothing true text read filter e is = absurd (let clash : Err (default_in_default text) ≡ Ok filter = rw e at is in cc)
+asks_nothing false text read filter e is = let same : Ok read ≡ Ok filter = rw e at is in let it : read ≡ filter = cc in ap asks_default (sym it) ∙ e
 
-read_asks_nothing : (found : Option Filter) (filter : Filter) → read_for DefaultFilter found ≡ Ok filter → asks_default filter ≡ false
-read_asks_nothing None filter is = absurd (cc)
-read_asks_nothing (Some read) filter is = asks_nothing (asks_default read) read filter refl is
+read_asks_nothing : (text : List ℕ) (found : Result Filter (List ℕ)) (filter : Filter) → read_for DefaultFilter text found ≡ Ok filter → asks_default filter ≡ false
+read_asks_nothing text (Err piece) filter is = absurd (cc)
+read_asks_nothing text (Ok read) filter is = asks_nothing (asks_default read) text read filter refl is
 
 pub default_filter_decides : (text : List ℕ) (filter : Filter) → filter_read DefaultFilter text ≡ Ok filter → filter_leaves filter ≡ []
     → (binary : Binary) (default : Filter) → IsSome (filter_holds_binary filter binary default)
 default_filter_decides text filter read none binary default =
-    known_lists (binary_subject binary) _ filter (Some false) none (read_asks_nothing (filter_in text) filter read) refl
+    known_lists (binary_subject binary) _ filter (Some false) none (read_asks_nothing text (filter_in text) filter read) refl

@@ -1,10 +1,12 @@
-use Rattle.std.specs.Prelude.{◌≡◌, ℕ, zero, suc, Bool, true, false, not, ◌+◌, ◌==◌, ◌&&◌, List, [], ◌∷◌, ◌++◌, Option, None, Some, length, map, option_map, codes, if◌then◌else◌}
+use Rattle.std.specs.Prelude.{◌≡◌, ℕ, zero, suc, Bool, true, false, not, ◌+◌, ◌==◌, ◌&&◌, List, [], ◌∷◌, ◌++◌, Option, None, Some, Result, Ok, Err, length, map, option_map, codes, if◌then◌else◌}
 use Rattle.std.specs.List.{list_all, slice_split, join_by}
 use Rattle.std.specs.Option.{option_and_then, option_or}
 use Rattle.std.specs.Str.{bytes_eq}
 use Rattle.toy_engines.specs.Texts.{after_prefix}
 use Rattle.toy_engines.specs.FilterValues.{Atom, Always, Never, AsTheDefault, NameHas, BinaryIs, Term, Filter, term_of, lists_of}
 use Rattle.toy_engines.specs.declared.parse.Alternatives as read
+use Rattle.toy_engines.specs.declared.parse.Reading.{Reading}
+use Rattle.toy_engines.specs.declared.parse.Reading.TheVariants.{BreaksAt, Filter as TheFilter}
 
 -- Whether a byte is neither `(` nor `)`.
 abbrev pub is_no_parenthesis : ℕ → Bool
@@ -67,7 +69,8 @@ Spells text filter = (spelled filter ≡ text) × (is_written filter ≡ true)
 
 -- The name that follows a prefix.
 abbrev pub name_after : List ℕ → List ℕ → Option (List ℕ)
-name_after prefix piece = option_and_then (λ name. if is_name name then Some name else None) (after_prefix prefix piece)
+name_after prefix piece =
+    option_and_then (λ name. if is_name name then Some name else None) (after_prefix prefix piece)
 
 -- The atom that a piece writes.
 abbrev pub atom_in : List ℕ → Option Atom
@@ -75,7 +78,8 @@ atom_in piece =
     if bytes_eq piece (codes "all(") then Some Always else
     (if bytes_eq piece (codes "none(") then Some Never else
     (if bytes_eq piece (codes "default(") then Some AsTheDefault else
-    option_or (option_map NameHas (name_after (codes "test(") piece)) (option_map BinaryIs (name_after (codes "binary_id(") piece))))
+    option_or (option_map NameHas (name_after (codes "test(") piece))
+    (option_map BinaryIs (name_after (codes "binary_id(") piece))))
 
 -- An atom alone, and a term behind one more `not`.
 abbrev pub plain : Atom → Term
@@ -91,7 +95,8 @@ more_nots n t = record { negations = n + t.negations; atom = t.atom }
 -- The term that a piece writes.
 abbrev pub term_in : List ℕ → Option Term
 term_in (a ∷ b ∷ c ∷ d ∷ piece) =
-    if bytes_eq (a ∷ b ∷ c ∷ d ∷ []) (codes "not ") then option_map once_more (term_in piece) else option_map plain (atom_in (a ∷ b ∷ c ∷ d ∷ piece))
+    if bytes_eq (a ∷ b ∷ c ∷ d ∷ []) (codes "not ") then option_map once_more (term_in piece)
+    else option_map plain (atom_in (a ∷ b ∷ c ∷ d ∷ piece))
 term_in piece = option_map plain (atom_in piece)
 
 -- What was read so far: the lists that are complete, and the last one.
@@ -120,18 +125,26 @@ joined_by s None (Some text) = option_map (or_else s) (term_in text)
 joined_by s None None = None
 
 abbrev pub joined : SoFar → List ℕ → Option SoFar
-joined s piece = joined_by s (after_prefix (codes " and ") piece) (after_prefix (codes " or ") piece)
+joined s piece =
+    joined_by s (after_prefix (codes " and ") piece) (after_prefix (codes " or ") piece)
+
+-- What follows where a piece is read. Else the text breaks at this piece.
+abbrev pub unless_broken : {X : Type 0} → List ℕ → (X → Result Filter (List ℕ)) → Option X
+    → Result Filter (List ℕ)
+unless_broken piece next None = Err piece
+unless_broken piece next (Some x) = next x
 
 -- What is complete where nothing stands behind the last `)`.
-abbrev pub ended : SoFar → List ℕ → Option Filter
-ended s [] = Some (filter_so_far s)
-ended s (c ∷ piece) = None
+abbrev pub ended : SoFar → List ℕ → Result Filter (List ℕ)
+ended s [] = Ok (filter_so_far s)
+ended s (c ∷ piece) = Err (c ∷ piece)
 
--- What further pieces add.
-abbrev pub continued : SoFar → List (List ℕ) → Option Filter
-continued s [] = None
+-- What further pieces add, or the piece at which they break.
+abbrev pub continued : SoFar → List (List ℕ) → Result Filter (List ℕ)
+continued s [] = Err []
 continued s (piece ∷ []) = ended s piece
-continued s (piece ∷ next ∷ pieces) = option_and_then (λ more. continued more (next ∷ pieces)) (joined s piece)
+continued s (piece ∷ next ∷ pieces) =
+    unless_broken piece (λ more. continued more (next ∷ pieces)) (joined s piece)
 
 -- A text, cut at each `)`.
 abbrev pub pieces : List ℕ → List (List ℕ)
@@ -141,12 +154,18 @@ pieces text = slice_split (λ c. c == 41) text
 abbrev pub begun : Term → SoFar
 begun t = record { complete = []; last = t ∷ [] }
 
--- The filter that the pieces of a text write.
-abbrev pub filter_in_pieces : List (List ℕ) → Option Filter
-filter_in_pieces [] = None
-filter_in_pieces (piece ∷ []) = None
-filter_in_pieces (piece ∷ next ∷ more) = option_and_then (λ t. continued (begun t) (next ∷ more)) (term_in piece)
+-- The filter that the pieces of a text write, or the piece at which they break.
+abbrev pub filter_in_pieces : List (List ℕ) → Result Filter (List ℕ)
+filter_in_pieces [] = Err []
+filter_in_pieces (piece ∷ []) = Err piece
+filter_in_pieces (piece ∷ next ∷ more) =
+    unless_broken piece (λ t. continued (begun t) (next ∷ more)) (term_in piece)
 
--- The filter that a text writes.
-abbrev pub filter_in : List ℕ → Option Filter
+-- The filter that a text writes, or the piece at which the text breaks.
+abbrev pub filter_in : List ℕ → Result Filter (List ℕ)
 filter_in text = filter_in_pieces (pieces text)
+
+-- What a text is read as, of what stands in memory.
+abbrev pub reading_view : Reading → Result Filter (List ℕ)
+reading_view (TheFilter lists) = Ok (lists_of lists.items)
+reading_view (BreaksAt piece) = Err piece.now

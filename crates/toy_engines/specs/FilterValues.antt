@@ -63,7 +63,8 @@ pub record Subject : Type 0 where
 
 -- What an evaluation is asked about.
 abbrev pub subject_of : subject.Subject → Subject
-subject_of s = record { binary_id = s.binary_id.now; test_name = option_map (λ name. name.now) s.test_name }
+subject_of s =
+    record { binary_id = s.binary_id.now; test_name = option_map (λ name. name.now) s.test_name }
 
 -- `and` is false if a side is false, else unknown if a side is unknown.
 abbrev pub known_and : Option Bool → Option Bool → Option Bool
@@ -84,7 +85,8 @@ abbrev pub negated : ℕ → Option Bool → Option Bool
 negated zero value = value
 negated (suc n) value = option_map not (negated n value)
 
--- Whether an atom holds: the name has the part, the binary is the one named, `default()` has the value given.
+-- Whether an atom holds: the name has the part, the binary is the one named, `default()` has the
+-- value given.
 abbrev pub atom_value : Subject → Option Bool → Atom → Option Bool
 atom_value s default Always = Some true
 atom_value s default Never = Some false
@@ -98,8 +100,10 @@ term_value s default t = negated t.negations (atom_value s default t.atom)
 
 -- Whether each term holds.
 abbrev pub terms_value : Subject → Option Bool → List Term → Option Bool
-terms_value s default terms = fold (λ known t. known_and known (term_value s default t)) (Some true) terms
+terms_value s default terms =
+    fold (λ known t. known_and known (term_value s default t)) (Some true) terms
 
 -- Whether each term of one of the lists holds.
 abbrev pub filter_value : Subject → Option Bool → Filter → Option Bool
-filter_value s default filter = fold (λ known terms. known_or known (terms_value s default terms)) (Some false) filter
+filter_value s default filter =
+    fold (λ known terms. known_or known (terms_value s default terms)) (Some false) filter

@@ -1,4 +1,4 @@
-use Rattle.std.specs.Prelude.{ℕ, Bool, true, false, List, [], ◌∷◌, Option, None, Some, Result, Ok, Err, codes, unwrap_or, if◌then◌else◌}
+use Rattle.std.specs.Prelude.{ℕ, Bool, true, false, List, [], ◌∷◌, ◌++◌, Option, None, Some, Result, Ok, Err, codes, unwrap_or, if◌then◌else◌}
 use Rattle.std.specs.List.{list_any, flat_map}
 use Rattle.nextest_engines.specs.Engines as engines
 use Rattle.nextest_engines.specs.declared.queries.FiltersetKind.{FiltersetKind}
@@ -51,18 +51,22 @@ abbrev pub asks_default : Filter → Bool
 asks_default filter = list_any (λ terms. list_any is_default terms) filter
 
 -- The messages of refusals.
-abbrev pub no_filter : List ℕ
-no_filter = codes "this is no filter"
+abbrev pub no_filter : (text piece : List ℕ) → List ℕ
+no_filter text piece =
+    codes "`" ++ text ++ codes "` is no filter: it breaks at `" ++ piece ++ codes "`"
 
-abbrev pub default_in_default : List ℕ
-default_in_default = codes "a default filter may not ask for the default filter"
+abbrev pub default_in_default : List ℕ → List ℕ
+default_in_default text =
+    codes "`" ++ text ++ codes "` asks for the default filter, which a default filter may not"
 
--- What a filter means that is read for a kind: a default filter may not ask for itself.
-abbrev pub read_for : FiltersetKind → Option Filter → Result Filter (List ℕ)
-read_for kind None = Err no_filter
-read_for DefaultFilter (Some filter) = if asks_default filter then Err default_in_default else Ok filter
-read_for _ (Some filter) = Ok filter
+-- What a text means that is read for a kind, by the filter that it writes or the piece at which it
+-- breaks: a default filter may not ask for itself.
+abbrev pub read_for : FiltersetKind → List ℕ → Result Filter (List ℕ) → Result Filter (List ℕ)
+read_for kind text (Err piece) = Err (no_filter text piece)
+read_for DefaultFilter text (Ok filter) =
+    if asks_default filter then Err (default_in_default text) else Ok filter
+read_for _ text (Ok filter) = Ok filter
 
 -- What a text means that is read for a kind.
 abbrev pub filter_read : FiltersetKind → List ℕ → Result Filter (List ℕ)
-filter_read kind text = read_for kind (filter_in text)
+filter_read kind text = read_for kind text (filter_in text)

@@ -1,4 +1,4 @@
-use Rattle.std.specs.Prelude.{ℕ, Bool, not, ◌==◌, ◌||◌, ◌&&◌, List, Option, None, Some, Result, ok_or, length, is_some, string_bytes, codes, eqb, if◌then◌else◌}
+use Rattle.std.specs.Prelude.{ℕ, Bool, not, ◌==◌, ◌||◌, ◌&&◌, List, ◌++◌, Option, None, Some, Result, ok_or, length, is_some, string_bytes, codes, eqb, if◌then◌else◌}
 use Rattle.std.specs.List.{list_all, ends_with}
 use Rattle.std.specs.Char.{is_ascii_alphanumeric}
 use Rattle.std.specs.Str.{bytes_eq}
@@ -38,7 +38,9 @@ is_triple text = not (length text == 0) && list_all is_triple_byte text
 
 -- What a text asks that is no `cfg` of a known name.
 abbrev pub other_spec : List ℕ → Option Platforms
-other_spec text = if is_cfg text then Some NotKnown else (if is_triple text then Some (OnTriple text) else None)
+other_spec text =
+    if is_cfg text then Some NotKnown else
+    (if is_triple text then Some (OnTriple text) else None)
 
 -- What a text asks of a triple.
 abbrev pub spec_in : List ℕ → Option Platforms
@@ -58,9 +60,9 @@ meets NotKnown triple = None
 meets (OnTriple wanted) triple = Some (bytes_eq triple wanted)
 
 -- The message of a refusal.
-abbrev pub no_spec : List ℕ
-no_spec = codes "this is no platform spec"
+abbrev pub no_spec : List ℕ → List ℕ
+no_spec text = codes "`" ++ text ++ codes "` is no platform spec"
 
 -- What a text means, or the message of its refusal.
 abbrev pub spec_read : List ℕ → Result Platforms (List ℕ)
-spec_read text = ok_or (spec_in text) no_spec
+spec_read text = ok_or (spec_in text) (no_spec text)

@@ -1,13 +1,14 @@
 //! The engine of filters.
-ghost use Rattle.std.specs.Prelude.{◌≡◌, ◌++◌, [], Some, Ok, Err, IfOk, IfErr, map, refl, string_bytes};
+ghost use Rattle.std.specs.Prelude.{◌≡◌, ◌++◌, [], Ok, Err, IfOk, IfErr, map, refl, string_bytes};
 ghost use Rattle.std.specs.List.{flat_map, list_any};
 ghost use Rattle.nextest_engines.specs.Engines.{IfFilterRefused};
 ghost use Rattle.toy_engines.specs.FilterValues.{Filter, match_all as nothing_asked, term_of, lists_of, filter_of, subject_of};
+ghost use Rattle.toy_engines.specs.Filters as messages;
 ghost use Rattle.toy_engines.specs.Filters.{filter_read, read_for, filter_holds, filter_holds_binary, filter_leaves, term_leaves, value_beside as value_beside_default, asks_default, is_default as asks_for_default};
 ghost use Rattle.toy_engines.specs.Decided.{default_filter_decides};
 
 use crate::expr::{Leaf, Subject, Term, ToyExpr};
-use crate::parse::read_filter;
+use crate::parse::{Reading, read_filter};
 use nextest_engines::history::RuleHistory;
 use nextest_engines::{
     BinaryQuery, EvalContext, FilterFault, Filters, FiltersetKind, Tally, TestQuery,
@@ -72,31 +73,46 @@ fn with_leaves(alloc: Global, found: Vec<String>, terms: &[Term]) -> Result<Vec<
     Ok(found)
 }
 
-fn refused(alloc: Global, message: &str) -> FilterFault
-    ensures { IfFilterRefused result (λ text. text ≡ message.now) }
+/// The refusal of a text that breaks at a piece.
+fn no_filter(alloc: Global, text: &str, piece: &str) -> FilterFault
+    ensures { IfFilterRefused result (λ message. message ≡ messages.no_filter text.now piece.now) }
 {
-    match String::from_str(alloc, message) {
+    match format!(in alloc; "`{text}` is no filter: it breaks at `{piece}`") {
         Ok(message) => FilterFault::Refused(message),
         Err(_) => FilterFault::Memory,
     }
 }
 
-/// The filter of some lists of terms, unless a default filter asks for itself.
+/// The refusal of a default filter that asks for itself.
+fn default_in_default(alloc: Global, text: &str) -> FilterFault
+    ensures { IfFilterRefused result (λ message. message ≡ messages.default_in_default text.now) }
+{
+    let message = format!(in alloc;
+        "`{text}` asks for the default filter, which a default filter may not"
+    );
+    match message {
+        Ok(message) => FilterFault::Refused(message),
+        Err(_) => FilterFault::Memory,
+    }
+}
+
+/// The filter of the lists of terms that a text writes, unless a default filter asks for itself.
 #[tactic(auto, using(crate::proofs::Lists::asks_default_by_terms))]
 fn for_kind(
     alloc: Global,
     kind: FiltersetKind,
+    text: &str,
     lists: Vec<Vec<Term>>,
 ) -> Result<ToyExpr, FilterFault>
     ensures ok { IfOk result
-        (λ expr. read_for kind (Some (lists_of lists.items)) ≡ Ok (filter_of expr)) }
+        (λ expr. read_for kind text.now (Ok (lists_of lists.items)) ≡ Ok (filter_of expr)) }
     ensures err { IfErr result (λ fault. IfFilterRefused fault
-        (λ message. read_for kind (Some (lists_of lists.items)) ≡ Err message)) }
+        (λ message. read_for kind text.now (Ok (lists_of lists.items)) ≡ Err message)) }
 {
     match kind {
         FiltersetKind::DefaultFilter => {
             if any_has_default(&lists) {
-                return Err(refused(alloc, "a default filter may not ask for the default filter"));
+                return Err(default_in_default(alloc, text));
             }
             Ok(ToyExpr::AnyOf(lists))
         }
@@ -138,8 +154,8 @@ impl Filters for ToyFilters {
         kind: FiltersetKind,
     ) -> Result<ToyExpr, FilterFault> {
         match read_filter(alloc, text) {
-            Ok(Some(lists)) => for_kind(alloc, kind, lists),
-            Ok(None) => Err(refused(alloc, "this is no filter")),
+            Ok(Reading::Filter(lists)) => for_kind(alloc, kind, text, lists),
+            Ok(Reading::BreaksAt(piece)) => Err(no_filter(alloc, text, piece)),
             Err(_) => Err(FilterFault::Memory),
         }
     }
@@ -192,5 +208,5 @@ impl Filters for ToyFilters {
 
     ghost match_all_matches_binaries = { λ _ _. refl };
 
-    ghost default_filters_answer = { λ _ text filter read none binary default. default_filter_decides text filter read none binary default };
+    ghost default_filters_answer = { λ _. default_filter_decides };
 }

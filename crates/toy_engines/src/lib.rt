@@ -1,8 +1,10 @@
-//! Two small engines with which the program and tests run: a language of filters and one of platforms.
+//! Two small engines with which the program and tests run: a language of filters and one of
+//! platforms.
 //!
-//! A filter is one or more lists of terms with ` or ` between the lists and ` and ` between the terms. A term is an
-//! atom behind any number of `not `, and an atom is `all()`, `none()`, `default()`, `test(T)` or `binary_id(T)`, where T
-//! is one or more characters other than parentheses.
+//! A filter is one or more lists of terms with ` or ` between the lists and ` and ` between the
+//! terms. A term is an atom behind any number of `not `, and an atom is `all()`, `none()`,
+//! `default()`, `test(T)` or `binary_id(T)`, where T is one or more characters other than
+//! parentheses.
 #![tactic(auto)]
 
 pub mod expr;

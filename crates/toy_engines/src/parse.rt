@@ -1,9 +1,9 @@
 //! Reads the texts of filters. Each atom ends with the next `)`, so a text is read by the pieces
 //! before each.
-ghost use Rattle.std.specs.Prelude.{◌≡◌, ◌<◌, ◌∷◌, [], length, None, Some, IfOk, IfSome, MatchOption, map, option_map};
+ghost use Rattle.std.specs.Prelude.{◌≡◌, ◌<◌, ◌∷◌, [], length, None, Some, Ok, IfOk, IfSome, MatchOption, option_map};
 ghost use Rattle.std.specs.List.{list_all};
-ghost use Rattle.toy_engines.specs.FilterValues.{Filter, atom_of, term_of, lists_of};
-ghost use Rattle.toy_engines.specs.FilterTexts.{is_no_parenthesis, name_after, atom_in, term_in, so_far, joined, pieces, filter_in, Spells};
+ghost use Rattle.toy_engines.specs.FilterValues.{Filter, atom_of, term_of};
+ghost use Rattle.toy_engines.specs.FilterTexts.{is_no_parenthesis, name_after, atom_in, term_in, so_far, joined, pieces, filter_in, reading_view, Spells};
 ghost use Rattle.toy_engines.specs.FilterTexts.{is_name as name_test};
 
 use crate::expr::{Leaf, Term};
@@ -15,6 +15,15 @@ use std::alloc::{AllocError, Global};
 struct Alternatives {
     complete: Vec<Vec<Term>>,
     last: Vec<Term>,
+}
+
+/// What a text is read as.
+#[derive(Drop)]
+pub enum Reading<'a> {
+    /// The lists of terms of a filter.
+    Filter(Vec<Vec<Term>>),
+    /// No filter: the text breaks at this piece, which ends before the next `)`.
+    BreaksAt(&'a str),
 }
 
 fn lacks_parentheses(text: &str) -> bool
@@ -117,16 +126,15 @@ fn cut(text: &str) -> Option<(&str, &str)>
     text.split_once(')')
 }
 
-/// The lists of terms that a text writes, or `None` where it is no filter.
-pub fn read_filter(alloc: Global, text: &str) -> Result<Option<Vec<Vec<Term>>>, AllocError>
-    ensures { IfOk result
-        (λ read. option_map (λ lists. lists_of lists.items) read ≡ filter_in text.now) }
+/// Reads the lists of terms that a text writes.
+pub fn read_filter<'a>(alloc: Global, text: &'a str) -> Result<Reading<'a>, AllocError>
+    ensures { IfOk result (λ reading. reading_view reading ≡ filter_in text.now) }
 {
     let Some((piece, mut rest)) = cut(text) else {
-        return Ok(None);
+        return Ok(Reading::BreaksAt(text));
     };
     let Some(term) = read_term(alloc, piece)? else {
-        return Ok(None);
+        return Ok(Reading::BreaksAt(piece));
     };
     let mut read = Alternatives {
         complete: Vec::new(alloc),
@@ -134,22 +142,22 @@ pub fn read_filter(alloc: Global, text: &str) -> Result<Option<Vec<Vec<Term>>>, 
     };
     while let Some((piece, behind)) = cut(rest) {
         let Some(more) = read_joined(alloc, read, piece)? else {
-            return Ok(None);
+            return Ok(Reading::BreaksAt(piece));
         };
         read = more;
         rest = behind;
     }
     if !rest.is_empty() {
-        return Ok(None);
+        return Ok(Reading::BreaksAt(rest));
     }
     let Alternatives { mut complete, last } = read;
     complete.push(last)?;
-    Ok(Some(complete))
+    Ok(Reading::Filter(complete))
 }
 
 /// Each filter that is read from a text is spelled by it.
 pub fn law_grammar(text: &str)
-    ensures { (filter : Filter) → filter_in text.now ≡ Some filter → Spells text.now filter }
+    ensures { (filter : Filter) → filter_in text.now ≡ Ok filter → Spells text.now filter }
 {
     let _text = text;
 }

@@ -2,6 +2,7 @@
 ghost use Rattle.std.specs.Prelude.{◌≡◌, ◌||◌, Some, IfOk, option_map, string_bytes};
 ghost use Rattle.std.specs.List.{list_all};
 ghost use Rattle.nextest_engines.specs.Engines.{IfSpecRefused};
+ghost use Rattle.toy_engines.specs.Platforms as messages;
 ghost use Rattle.toy_engines.specs.Platforms.{Platforms, platforms_of, spec_in, spec_read, other_spec, meets, OnUnix, is_triple_byte};
 ghost use Rattle.toy_engines.specs.Platforms.{is_cfg as cfg_test, is_triple as triple_test};
 
@@ -81,10 +82,11 @@ fn read_spec(alloc: Global, text: &str) -> Result<Option<ToySpec>, AllocError>
     read_other(alloc, text)
 }
 
-fn refused(alloc: Global, message: &str) -> SpecFault
-    ensures { IfSpecRefused result (λ text. text ≡ message.now) }
+/// The refusal of a text.
+fn no_spec(alloc: Global, text: &str) -> SpecFault
+    ensures { IfSpecRefused result (λ message. message ≡ messages.no_spec text.now) }
 {
-    match String::from_str(alloc, message) {
+    match format!(in alloc; "`{text}` is no platform spec") {
         Ok(message) => SpecFault::Refused(message),
         Err(_) => SpecFault::Memory,
     }
@@ -112,7 +114,7 @@ impl Specs for ToySpecs {
     fn parse(&self, alloc: Global, text: &str) -> Result<ToySpec, SpecFault> {
         match read_spec(alloc, text) {
             Ok(Some(spec)) => Ok(spec),
-            Ok(None) => Err(refused(alloc, "this is no platform spec")),
+            Ok(None) => Err(no_spec(alloc, text)),
             Err(_) => Err(SpecFault::Memory),
         }
     }

@@ -54,7 +54,7 @@ pub fn name_answer(alloc: Global, reader: &str, tree: &Tree) -> Option<Result<St
 }
 
 /// The walk that stands at the setting of a reader.
-fn walk_at(alloc: Global, reader: &str) -> Result<Walk, AllocError> {
+pub fn walk_at(alloc: Global, reader: &str) -> Result<Walk, AllocError> {
     let mut walk = Walk::new(alloc);
     walk.path = String::from_str(alloc, reader)?;
     Ok(walk)

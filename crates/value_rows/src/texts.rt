@@ -1,6 +1,7 @@
 //! What readers of texts answer.
 use nextest_documents::{TextFault, merge_layers, tree_from_text};
-use nextest_elements::{ConfigIdentifier, ToolName, Tree, parse_duration};
+use nextest_elements::{ConfigIdentifier, Key, ToolName, Tree, parse_duration};
+use nextest_script_order::ids_in_order;
 use nextest_scripts::{ScriptId, split_shell_words, validate_env_var_key};
 use std::alloc::{AllocError, Global};
 use std::fmt::Display;
@@ -15,6 +16,8 @@ pub fn text_answer(alloc: Global, reader: &str, text: &str) -> Option<Result<Str
         "shell-words" => words_answer(alloc, text),
         "env-key" => key_answer(alloc, text),
         "document" => document_answer(alloc, text),
+        "setup-order" => order_answer(alloc, text, Key::Setup),
+        "wrapper-order" => order_answer(alloc, text, Key::Wrapper),
         _ => return None,
     })
 }
@@ -70,6 +73,18 @@ fn key_answer(alloc: Global, text: &str) -> Result<String, AllocError> {
 fn document_answer(alloc: Global, text: &str) -> Result<String, AllocError> {
     match tree_from_text(alloc, text) {
         Ok(tree) => format!(in alloc; "{tree:?}"),
+        Err(TextFault::NotDocument(_)) => String::from_str(alloc, "refused: no document"),
+        Err(TextFault::Memory) => Err(AllocError),
+    }
+}
+
+/// The ids of scripts of a kind, in the order in which a document defines them.
+fn order_answer(alloc: Global, text: &str, kind: Key) -> Result<String, AllocError> {
+    match tree_from_text(alloc, text) {
+        Ok(tree) => {
+            let ids = ids_in_order(alloc, text, &tree, &[Key::Scripts, kind])?;
+            format!(in alloc; "{ids:?}")
+        }
         Err(TextFault::NotDocument(_)) => String::from_str(alloc, "refused: no document"),
         Err(TextFault::Memory) => Err(AllocError),
     }

@@ -3,6 +3,7 @@ ghost use Rattle.std.specs.Prelude.{◌≡◌, ◌++◌, List, ℕ, IfOk, map};
 ghost use Rattle.nextest_engines.specs.Engines.{test_view};
 ghost use Rattle.nextest_profiles.specs.Meaning.{configured_meaning, profile_meaning};
 ghost use Rattle.nextest_config.specs.Answers.{Answers, AreRowsIn};
+ghost use Rattle.nextest_config.specs.ConfigView.{configured_in};
 ghost use Rattle.nextest_config.specs.RowView.{row_view};
 ghost use Rattle.nextest_config.specs.RunView.{question_view, answer_view};
 
@@ -47,7 +48,7 @@ pub(super) fn rows_of<F: Filters, S: Specs>(
     tally: &mut F::Tally,
 ) -> Result<Vec<TestRow>, ResolveFault>
     ensures answers { Answers S.holds_on F.holds
-        (configured_meaning F.meaning S.spec_meaning config.now)
+        (configured_meaning F.meaning S.spec_meaning (configured_in config.now))
         (question_view profile.now platforms.now mode tests.now)
         (answer_view result) (F.Tally.numbers tally.old) (F.Tally.numbers tally.new) }
 {

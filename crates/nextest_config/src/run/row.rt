@@ -3,7 +3,6 @@ ghost use Rattle.std.specs.Prelude.{◌≡◌, Some, IfOk, IsSome, map, option_m
 ghost use Rattle.nextest_scripts.specs.ScriptId.{script_text};
 ghost use Rattle.nextest_settings.specs.Queries.{fallback_origin};
 ghost use Rattle.nextest_settings.specs.SettingsView.{value_at, origin_at};
-ghost use Rattle.nextest_settings.specs.SourceView.{source_view};
 ghost use Rattle.nextest_settings.specs.declared.setting.Setting.{Setting};
 ghost use Rattle.nextest_config.specs.RowView.{origin_view, row_value, row_source};
 ghost use Rattle.nextest_config.specs.RowSources.{AreRunSources, AreEndSources, AreReportSources};

@@ -7,7 +7,7 @@ ghost use Rattle.nextest_sources.specs.Errors.{compile_error_view};
 ghost use Rattle.nextest_sources.specs.Sources.{source_view};
 ghost use Rattle.nextest_tables.specs.View.{override_view, profile_view, script_rule_view};
 ghost use Rattle.nextest_rules.specs.CompileFaults.{default_filter_cause, fault_in, override_faults, script_rule_faults, profile_faults};
-ghost use Rattle.nextest_rules.specs.Meaning.{override_meaning, profile_meaning, script_rule_meaning};
+ghost use Rattle.nextest_rules.specs.Meaning.{override_meaning, layer_profile_meaning, script_rule_meaning};
 ghost use Rattle.nextest_rules.specs.Rules.{filter_meaning, layer_profile, override_rules, script_rule};
 ghost use Rattle.nextest_rules.specs.View as view;
 ghost use Rattle.nextest_rules.specs.View.{layer_profile_view, override_rule_view};
@@ -134,7 +134,7 @@ pub(crate) fn compile_profile<F: Filters, S: Specs>(
         (S.read_spec pcx.now.specs.now) F.match_all F.holds F.holds_binary
         F.leaves S.holds_on in
         IfOk result (λ profile.
-        profile_meaning F.meaning S.spec_meaning (layer_profile_view profile)
+        layer_profile_meaning F.meaning S.spec_meaning (layer_profile_view profile)
         ≡ layer_profile engines (source_view source.now) name.now (profile_view table)) }
     ensures errors { let engines = readings_view (F.read pcx.now.filters.now)
         (S.read_spec pcx.now.specs.now) F.match_all F.holds F.holds_binary

@@ -4,7 +4,7 @@ use Rattle.nextest_load.specs.Load.{IsLoad}
 use Rattle.nextest_profiles.specs.Meaning.{configured_meaning}
 use Rattle.nextest_sources.specs.Endings.{error_view}
 use Rattle.nextest_sources.proofs.Ends.{not_passed}
-use Rattle.nextest_config.specs.ConfigView.{loaded_by}
+use Rattle.nextest_config.specs.ConfigView.{configured_in, loaded_by}
 use Rattle.nextest_config.specs.RunView.{request_view}
 use Rattle.nextest_config.proofs.Resolving.{load_accepted, load_refused}
 use Rattle.nextest_config.proofs.run.resolve.Goals as goal
@@ -18,7 +18,7 @@ returns-in-Ok g c =
     let request = request_view c.args.inputs.now c.args.profile.now c.args.platforms.now c.args.mode c.args.tests.now in
     let load = subst (λ r. IsLoad (loaded_by F.meaning S.spec_meaning) engines request.features request.files (W.warnings c.args.warnings.now) (W.warnings c.from_sources_with_paths-loaded.new.warnings) r) c.in-Ok.is c.from_sources_with_paths-loaded.ensures.loads in
     record {
-      resolves = load_accepted engines request _ _ load.verdict load.ran.is (configured_meaning F.meaning S.spec_meaning c.in-Ok.config) c.in-Ok.ensures.root load.means load.scripts load.closed
+      resolves = load_accepted engines request _ _ load.verdict load.ran.is (configured_meaning F.meaning S.spec_meaning (configured_in c.in-Ok.config)) c.in-Ok.ensures.root load.means load.scripts load.closed
           _ _ _ c.rows_of.ensures.answers;
     }
 

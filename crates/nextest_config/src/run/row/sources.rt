@@ -2,7 +2,7 @@
 ghost use Rattle.std.specs.Prelude.{◌≡◌, Some, IfOk, IsSome};
 ghost use Rattle.nextest_settings.specs.Queries.{fallback_origin};
 ghost use Rattle.nextest_settings.specs.SettingsView.{origin_at};
-ghost use Rattle.nextest_settings.specs.SourceView.{source_view};
+ghost use Rattle.nextest_settings.specs.SourceView.{setting_source_view};
 ghost use Rattle.nextest_config.specs.RowView.{origin_view};
 ghost use Rattle.nextest_config.specs.RowSources.{AreRunSources, AreEndSources, AreReportSources};
 
@@ -45,7 +45,7 @@ pub(super) fn plain_source<F: Filters, S: Specs>(
     alloc: Global,
     source: SettingSource<'_, F, S>,
 ) -> Result<PlainSource, AllocError>
-    ensures { IfOk result (λ plain. origin_view plain ≡ source_view source.entry) }
+    ensures { IfOk result (λ plain. origin_view plain ≡ setting_source_view source.entry) }
 {
     match source {
         SettingSource::Default => Ok(PlainSource::Default),

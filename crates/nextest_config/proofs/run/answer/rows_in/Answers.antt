@@ -5,7 +5,7 @@ use Rattle.nextest_engines.specs.Engines.{test_view}
 use Rattle.nextest_profiles.specs.Meaning.{profile_meaning}
 use Rattle.nextest_settings.specs.SettingsView.{value_at, origin_at}
 use Rattle.nextest_settings.specs.declared.setting.Setting.TheVariants as at
-use Rattle.nextest_config.specs.Headline.{query_in, IsRow, numbers_for}
+use Rattle.nextest_config.specs.Headline.{query_in, IsTestRow, numbers_for}
 use Rattle.nextest_config.specs.RowView.{row_view}
 use Rattle.nextest_config.proofs.Rows.{rows_more, numbers_more, row_is}
 use Rattle.nextest_config.proofs.Wrapping.{has_id}
@@ -43,7 +43,7 @@ returns g c =
       flat_map (numbers_for F.holds profile c.args.mode) (map test_view tests),
       subst (λ ts. g.F.Tally.Tally.numbers c.loop-test.tally ≡ g.F.Tally.Tally.numbers c.args.tally.now ++ flat_map (numbers_for F.holds profile c.args.mode) (map test_view ts)) all c.loop-test.invariant.tally,
       record {
-        each = subst (λ ts. AllZip (IsRow F.holds profile c.args.mode) (map test_view ts) (map row_view c.loop-test.rows.items)) all c.loop-test.invariant.rows;
+        each = subst (λ ts. AllZip (IsTestRow F.holds profile c.args.mode) (map test_view ts) (map row_view c.loop-test.rows.items)) all c.loop-test.invariant.rows;
         evaluated = refl;
       },
     )

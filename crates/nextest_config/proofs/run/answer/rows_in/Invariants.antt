@@ -2,7 +2,7 @@ use Rattle.std.proofs.Common.{◌≡◌, ◌++◌, map, take}
 use Rattle.std.specs.List.{AllZip, flat_map}
 use Rattle.nextest_engines.specs.Engines.{test_view}
 use Rattle.nextest_profiles.specs.Meaning.{profile_meaning}
-use Rattle.nextest_config.specs.Headline.{IsRow, numbers_for}
+use Rattle.nextest_config.specs.Headline.{IsTestRow, numbers_for}
 use Rattle.nextest_config.specs.RowView.{row_view}
 use Rattle.nextest_config.proofs.run.answer.rows_in.Given as goal
 
@@ -14,6 +14,6 @@ invariant-loop-test g l =
     let profile = profile_meaning F.meaning l.profile in
     let tests = map test_view (take l.test-index l.tests) in
     record {
-      rows : AllZip (IsRow F.holds profile l.mode) tests (map row_view l.rows.items);
+      rows : AllZip (IsTestRow F.holds profile l.mode) tests (map row_view l.rows.items);
       tally : numbers l.tally ≡ numbers l.fn.tally ++ flat_map (numbers_for F.holds profile l.mode) tests;
     }

@@ -2,7 +2,7 @@ use Rattle.std.proofs.Common.{map, ◌∷◌, [], is_some}
 use Rattle.nextest_tables.specs.FileTexts.{ScriptUse}
 use Rattle.nextest_settings.specs.Settings.{settings, is_set}
 use Rattle.nextest_settings.proofs.Few.{all_rise, others_rise}
-use Rattle.nextest_settings.proofs.laws.law_few_evaluations.Goals as goal
+use Rattle.nextest_settings.proofs.laws.law_evaluated_at_most_once.Goals as goal
 
 pub returns-clause-test : goal.returns-clause-test
 returns-clause-test g c = λ query mode p. all_rise p.overrides p.script_rules (map (λ s w. is_set w.settings mode s) settings) ((λ (w : ScriptUse). is_some w.run_wrapper) ∷ []) query

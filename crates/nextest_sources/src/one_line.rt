@@ -1,4 +1,4 @@
-//! Texts on the lines that the program writes.
+//! Texts within the lines of messages.
 use std::fmt;
 
 /// A text on one line: its line breaks are spelled as escapes.

@@ -1,0 +1,224 @@
+//! An engine whose tally counts, asked through its bound.
+ghost use Rattle.std.specs.Prelude.{◌≡◌, ◌==◌, ◌++◌, ◌∷◌, [], List, ℕ, Bool, true, Option, None, Some, Result, Ok, Err, option_map, string_bytes, length, refl, if◌then◌else◌};
+ghost use Rattle.std.proofs.Common.{rules};
+ghost use Rattle.std.specs.Option.{option_map_or};
+ghost use Rattle.std.specs.Str.{bytes_eq};
+
+use crate::queries::test_of;
+use nextest_engines::history::RuleHistory;
+use nextest_engines::{
+    BinaryQuery, EvalContext, FilterFault, Filters, FiltersetKind, SpecFault, Specs, Tally,
+    TestQuery,
+};
+use std::alloc::{AllocError, Global};
+use std::test::Fail;
+
+/// Filters by name: a text matches the tests of that name and the binaries of that id, and the
+/// empty
+/// text all.
+pub struct Names;
+
+/// A name, or none where all match.
+#[derive(Drop)]
+pub struct Name(Option<String>);
+
+/// How many rules are counted one by one.
+pub const RULES: usize = 25;
+
+/// How often each rule was evaluated, and whether each evaluation was of the text that spells its
+/// rule's number.
+#[derive(Clone, Copy)]
+pub struct Counts {
+    pub times: [usize; RULES],
+    pub is_numbered: bool,
+}
+
+impl Counts {
+    fn add(&mut self, rule: usize, expr: &Name) {
+        if let Some(times) = self.times.get_mut(rule) {
+            *times = times.wrapping_add(1);
+        }
+        self.is_numbered = self.is_numbered && is_number(expr, rule);
+    }
+}
+
+/// The rules that were evaluated, and their counts.
+#[derive(Drop)]
+pub struct Counted {
+    pub counts: Counts,
+    rules: RuleHistory,
+}
+
+impl Tally for Counted {
+    ghost numbers = { λ tally. tally.rules };
+}
+
+impl Counted {
+    pub fn new() -> Counted {
+        Counted {
+            counts: Counts {
+                times: [0; RULES],
+                is_numbered: true,
+            },
+            rules: RuleHistory::new(),
+        }
+    }
+
+    fn record(&mut self, rule: usize, expr: &Name)
+        ensures { self.new.rules ≡ self.old.rules ++ rule ∷ [] }
+    {
+        self.counts.add(rule, expr);
+        self.rules.push(rule);
+    }
+}
+
+/// Whether the text of a filter spells this rule's number.
+fn is_number(expr: &Name, rule: usize) -> bool {
+    match &expr.0 {
+        Some(name) => name.as_str().parse::<usize>() == Ok(rule),
+        None => false,
+    }
+}
+
+impl Filters for Names {
+    type Expr = Name;
+
+    type Tally = Counted;
+
+    ghost Meaning = { Option (List ℕ) };
+
+    ghost meaning = { λ expr. option_map string_bytes expr.0 };
+
+    ghost read = { λ _ _ text. Ok (if length text == 0 then None else Some text) };
+
+    ghost match_all = { None };
+
+    ghost holds = { λ filter test _. option_map_or (λ name. bytes_eq name test.name) filter true };
+
+    ghost holds_binary = { λ filter binary _.
+        Some (option_map_or (λ name. bytes_eq name binary.binary_id) filter true) };
+
+    ghost leaves = { λ _. [] };
+
+    fn parse(&self, alloc: Global, text: &str, kind: FiltersetKind) -> Result<Name, FilterFault> {
+        let _kind = kind;
+        if text.is_empty() {
+            return Ok(Name(None));
+        }
+        match String::from_str(alloc, text) {
+            Ok(name) => Ok(Name(Some(name))),
+            Err(_) => Err(FilterFault::Memory),
+        }
+    }
+
+    fn all(&self) -> Name {
+        Name(None)
+    }
+
+    fn matches_test(
+        expr: &Name,
+        rule: usize,
+        query: &TestQuery<'_>,
+        cx: &EvalContext<'_, Name>,
+        tally: &mut Counted,
+    ) -> bool {
+        let _cx = cx;
+        tally.record(rule, expr);
+        match &expr.0 {
+            None => true,
+            Some(name) => name.as_str() == query.test_name,
+        }
+    }
+
+    fn matches_binary(
+        expr: &Name,
+        rule: usize,
+        query: &BinaryQuery<'_>,
+        cx: &EvalContext<'_, Name>,
+        tally: &mut Counted,
+    ) -> Option<bool> {
+        let _cx = cx;
+        tally.record(rule, expr);
+        match &expr.0 {
+            None => Some(true),
+            Some(name) => Some(name.as_str() == query.binary_id),
+        }
+    }
+
+    fn runtime_only_leaves(alloc: Global, expr: &Name) -> Result<Vec<String>, AllocError> {
+        let _expr = expr;
+        Ok(Vec::new(alloc))
+    }
+
+    ghost match_all_matches = { λ _ _. refl };
+
+    ghost match_all_matches_binaries = { λ _ _. refl };
+
+    ghost default_filters_answer = { λ _ text filter read none binary default. Prim.search rules };
+}
+
+/// Platforms that every spec holds on.
+pub struct Anywhere;
+
+impl Specs for Anywhere {
+    type Spec = ();
+
+    type Platform = ();
+
+    ghost SpecMeaning = { Unit {0} };
+
+    ghost spec_meaning = { λ spec. spec };
+
+    ghost read_spec = { λ _ _. Ok tt };
+
+    ghost holds_on = { λ _ _. Some true };
+
+    fn parse(&self, alloc: Global, text: &str) -> Result<(), SpecFault> {
+        let _alloc = alloc;
+        let _text = text;
+        Ok(())
+    }
+
+    fn eval(spec: &(), platform: &()) -> Option<bool> {
+        let _spec = spec;
+        let _platform = platform;
+        Some(true)
+    }
+}
+
+/// The answers of two rules to one test, in order.
+fn ask_both<F: Filters>(
+    alloc: Global,
+    filters: &F,
+    texts: [&str; 2],
+    query: &TestQuery<'_>,
+    tally: &mut F::Tally,
+) -> Result<(bool, bool), FilterFault> {
+    let all = filters.all();
+    let cx = EvalContext {
+        default_filter: &all,
+    };
+    let first = filters.parse(alloc, texts[0], FiltersetKind::OverrideFilter)?;
+    let second = filters.parse(alloc, texts[1], FiltersetKind::OverrideFilter)?;
+    let first = F::matches_test(&first, 3, query, &cx, tally);
+    let second = F::matches_test(&second, 5, query, &cx, tally);
+    Ok((first, second))
+}
+
+/// Whether the rules 3 and 5 were evaluated once each, the latter by another number than its own.
+fn are_both_counted(counts: &Counts) -> bool {
+    for (rule, times) in counts.times.iter().enumerate() {
+        if *times != usize::from(rule == 3 || rule == 5) {
+            return false;
+        }
+    }
+    !counts.is_numbered
+}
+
+#[test]
+fn a_tally_can_count(rt: HostRuntime) -> Result<(), Fail> {
+    let mut tally = Counted::new();
+    let answers = ask_both(rt.alloc(), &Names, ["3", "4"], &test_of("3"), &mut tally)?;
+    assert!(rt; answers == (true, false) && are_both_counted(&tally.counts));
+    Ok(())
+}

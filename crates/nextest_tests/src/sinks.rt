@@ -1,0 +1,99 @@
+//! A sink that has no memory for more than so many warnings.
+use crate::files::workspace_paths;
+use crate::loaded::load_files;
+use crate::toys::{Config, ENGINES};
+use nextest_config::{ConfigParseError, ConfigSource, ConfigWarnings, DefaultConfigWarnings};
+use std::alloc::{AllocError, Global};
+use std::collections::BTreeSet;
+use std::test::Fail;
+
+/// Keeps so many warnings, and then has no memory.
+#[derive(Drop)]
+struct Scarce {
+    kept: DefaultConfigWarnings,
+    room: usize,
+}
+
+impl ConfigWarnings for Scarce {
+    ghost use Rattle.nextest_sources.specs.WarningsView.{warnings_view};
+
+    ghost warnings = { λ sink. warnings_view sink.kept };
+
+    fn unknown_config_keys(
+        &mut self,
+        alloc: Global,
+        source: &ConfigSource,
+        keys: &BTreeSet<String>,
+    ) -> Result<(), AllocError> {
+        self.room = self.room.checked_sub(1).ok_or(AllocError)?;
+        self.kept.unknown_config_keys(alloc, source, keys)
+    }
+
+    fn unknown_reserved_profiles(
+        &mut self,
+        alloc: Global,
+        source: &ConfigSource,
+        names: &[&str],
+    ) -> Result<(), AllocError> {
+        self.room = self.room.checked_sub(1).ok_or(AllocError)?;
+        self.kept.unknown_reserved_profiles(alloc, source, names)
+    }
+
+    fn deprecated_script_config(
+        &mut self,
+        alloc: Global,
+        source: &ConfigSource,
+    ) -> Result<(), AllocError> {
+        self.room = self.room.checked_sub(1).ok_or(AllocError)?;
+        self.kept.deprecated_script_config(alloc, source)
+    }
+
+    fn empty_script_sections(
+        &mut self,
+        alloc: Global,
+        source: &ConfigSource,
+        profile: &str,
+        count: usize,
+    ) -> Result<(), AllocError> {
+        self.room = self.room.checked_sub(1).ok_or(AllocError)?;
+        self.kept
+            .empty_script_sections(alloc, source, profile, count)
+    }
+}
+
+/// A file with a warning of each kind.
+static WARNED: &str = r#"
+zz = 1
+[script.s]
+command = "x"
+[profile.default-x]
+[[profile.default.scripts]]
+filter = "all()"
+"#;
+
+/// Whether a load ends as room for so many warnings lets it.
+fn ends_so(loaded: &Result<Config, ConfigParseError>, room: usize) -> bool {
+    match loaded {
+        Ok(_) => room >= 4,
+        Err(error) => room < 4 && error.kind().number() == 16 && error.config_file().is_none(),
+    }
+}
+
+/// Whether with room for so many warnings these are kept, and the load ends so.
+fn keeps_room(alloc: Global, room: usize) -> Result<bool, Fail> {
+    let paths = workspace_paths(alloc, WARNED)?;
+    let mut sink = Scarce {
+        kept: DefaultConfigWarnings::new(alloc),
+        room,
+    };
+    let loaded = load_files(alloc, &ENGINES, &paths, &[], &mut sink);
+    Ok(sink.kept.warnings().len() == room.min(4) && ends_so(&loaded, room))
+}
+
+#[test]
+fn warnings_without_memory(rt: HostRuntime) -> Result<(), Fail> {
+    for room in 0..6 {
+        assert!(rt; keeps_room(rt.alloc(), room)?, "with room for {room}");
+    }
+    Ok(())
+}
