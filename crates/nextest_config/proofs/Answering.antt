@@ -1,6 +1,5 @@
 -- What a configuration answers, by how its parts end.
-use Rattle.std.proofs.Common.{◌≡◌, ◌++◌, ◌∙◌, ℕ, Bool, true, false, List, [], ◌∷◌, Option, Result, Ok, Err, map, refl, sym, ap, append-nil, string_bytes, Vec, Global}
-use Rattle.std.specs.List.{AllZip, flat_map}
+use Rattle.std.proofs.Common.{◌≡◌, ◌++◌, ◌∙◌, ℕ, Bool, true, false, List, [], Option, Result, Ok, Err, map, refl, sym, ap, append-nil, string_bytes, Vec, Global}
 use Rattle.std.specs.Result.{IfOk}
 use Rattle.nextest_engines.specs.Engines.{Test}
 use Rattle.nextest_profiles.specs.Meaning.{configured_meaning, profile_meaning}
@@ -8,10 +7,9 @@ use Rattle.nextest_profiles.specs.Profiles.{IsProfileOf}
 use Rattle.nextest_profiles.proofs.Natural.{profile_means}
 use Rattle.nextest_settings.specs.Profile.{Configured, EarlyModel, EvaluatableModel, profile_on}
 use Rattle.nextest_tables.specs.FileTexts.{names_in, IsIn}
-use Rattle.nextest_tables.specs.Written.{Name}
 use Rattle.nextest_tree.specs.Schema.{is_one_of}
-use Rattle.nextest_config.specs.Answers.{Question, IsAskedProfile, AreRowsIn, AreAskedRows, Answers}
-use Rattle.nextest_config.specs.Headline.{Row, no_memory, IsTestRow, numbers_for}
+use Rattle.nextest_config.specs.Answers.{Question, IsAskedProfile, AreRowsIn, Answers}
+use Rattle.nextest_config.specs.Headline.{Row, no_memory}
 use Rattle.nextest_config.specs.ProfileError.{IsNotFound}
 use Rattle.nextest_config.specs.RunView.{refusal_view, profile_fault, answer_view}
 use Rattle.nextest_config.specs.declared.profile_error.ProfileError.{ProfileError}

@@ -1,5 +1,5 @@
 -- A load that ends for want of memory before it begins.
-use Rattle.std.proofs.Common.{◌≡◌, ◌++◌, List, [], Result, Err, refl, sym, subst, append-nil, inl, ◌∙◌}
+use Rattle.std.proofs.Common.{◌≡◌, List, [], Err, refl, sym, subst, append-nil, inl, ◌∙◌}
 use Rattle.nextest_engines.specs.Readings.{Readings}
 use Rattle.nextest_load.specs.Load.{Loaded, IsLoad}
 use Rattle.nextest_load.specs.Steps.{load_steps}

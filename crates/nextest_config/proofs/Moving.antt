@@ -1,5 +1,5 @@
 -- A profile of a configuration, made of its parts.
-use Rattle.std.proofs.Common.{◌≡◌, ◌∙◌, ℕ, List, [], subst}
+use Rattle.std.proofs.Common.{◌≡◌, ◌∙◌, ℕ, List, subst}
 use Rattle.nextest_inheritance.specs.Parents.{parents_in, IsChain}
 use Rattle.nextest_load.specs.Config.{config_parents}
 use Rattle.nextest_profiles.specs.Profiles.{IsProfileOf}

@@ -1,5 +1,5 @@
 -- From what a load and a profile answer to what resolving promises.
-use Rattle.std.proofs.Common.{map, is_some, ◌≡◌, ◌++◌, ◌∙◌, ◌⊎◌, inl, inr, ℕ, List, [], ◌∷◌, Option, None, Some, Result, Ok, Err, refl, sym, ap, subst, append-nil}
+use Rattle.std.proofs.Common.{map, is_some, ◌≡◌, ◌∙◌, ◌⊎◌, inl, inr, ℕ, List, [], ◌∷◌, Result, Ok, Err, refl, sym, ap, subst, append-nil}
 use Rattle.nextest_engines.specs.Readings.{Readings}
 use Rattle.nextest_inheritance.specs.Parents.{parents_in, IsChain}
 use Rattle.nextest_load.specs.Closed.{IsClosed}
@@ -9,14 +9,13 @@ use Rattle.nextest_settings.specs.Profile.{Configured, profile_of, profile_on}
 use Rattle.nextest_settings.specs.Settings.{settings, is_set}
 use Rattle.nextest_tables.specs.FileTexts.{ScriptUse}
 use Rattle.nextest_settings.proofs.Few.{all_rise}
-use Rattle.nextest_sources.specs.Causes.{LoadFault}
-use Rattle.nextest_sources.specs.Endings.{Ending, passed, refused, no_memory as out_of_memory, malformed, WentThrough, Ran}
+use Rattle.nextest_sources.specs.Endings.{Ending, passed, refused, no_memory as out_of_memory, malformed, WentThrough}
 use Rattle.nextest_sources.specs.Inputs.{sources_in}
 use Rattle.nextest_sources.specs.Steps.{warnings_before}
 use Rattle.nextest_sources.specs.Warnings.{Warning}
 use Rattle.nextest_tables.specs.FileTexts.{names_in, IsIn}
 use Rattle.nextest_config.specs.Answers.{Question, AreAskedRows, Answers}
-use Rattle.nextest_config.specs.Headline.{Request, Row, Refusal, bad_config, no_profile, no_memory, RulesHold, steps_for, configured_for, AreRows, query_in, Resolves}
+use Rattle.nextest_config.specs.Headline.{Request, Row, Refusal, bad_config, no_profile, no_memory, RulesHold, steps_for, AreRows, query_in, Resolves}
 use Rattle.nextest_config.specs.RunView.{TellsEnding, run_view}
 
 module _ {M K P : Type 0} (engines : Readings M K P) (request : Request P) (wold wnew : List Warning) where

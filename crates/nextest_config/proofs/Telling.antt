@@ -1,7 +1,7 @@
 -- How a refusal of a load tells its ending.
-use Rattle.std.proofs.Common.{◌≡◌, Bool, true, false, not, is_some, Option, None, Some, refl, option_map}
+use Rattle.std.proofs.Common.{◌≡◌, true, false, not, is_some, Option, None, Some, refl, option_map}
 use Rattle.nextest_sources.specs.Causes.{LoadCause}
-use Rattle.nextest_sources.specs.Endings.{Ending, refused, no_memory as out_of_memory, ending_at, ending_with}
+use Rattle.nextest_sources.specs.Endings.{ending_at, ending_with}
 use Rattle.nextest_sources.specs.ErrorKinds.{is_memory}
 use Rattle.nextest_sources.specs.Errors.{cause_view}
 use Rattle.nextest_sources.specs.Sources.{Source}

@@ -1,5 +1,5 @@
 -- The wrapper of a test: its id and what decides it.
-use Rattle.std.proofs.Common.{◌≡◌, Option, None, Some, option_map, IsSome, refl, sym, ap}
+use Rattle.std.proofs.Common.{◌≡◌, Option, None, Some, option_map, refl, sym, ap}
 use Rattle.std.specs.Option.{option_or, option_and_then}
 use Rattle.nextest_settings.specs.Queries.{Origin, by_script}
 use Rattle.nextest_settings.specs.SourceView.{MarksOrigin}

@@ -1,9 +1,9 @@
 -- A test that a rule gives a wrapper has its id.
-use Rattle.std.proofs.Common.{◌≡◌, Bool, true, false, ◌&&◌, List, [], ◌∷◌, Option, None, Some, option_map, is_some, IsSome, find, if◌then◌else◌, refl}
+use Rattle.std.proofs.Common.{◌≡◌, Bool, true, false, ◌&&◌, List, [], ◌∷◌, Option, None, Some, option_map, is_some, IsSome, if◌then◌else◌, refl}
 use Rattle.std.specs.Option.{option_or, option_and_then}
 use Rattle.nextest_settings.specs.Deciding.{QueryContext, rule_holds, winner}
 use Rattle.nextest_settings.specs.Platforms.{EvaluatedRule}
-use Rattle.nextest_settings.specs.Queries.{Origin, by_script}
+use Rattle.nextest_settings.specs.Queries.{by_script}
 use Rattle.nextest_tables.specs.FileTexts.{ScriptUse}
 use Rattle.nextest_tables.specs.Written.{Name}
 

@@ -1,5 +1,5 @@
 -- WHAT RESOLVING PROMISES: from the texts of files to the settings of tests.
-use Rattle.std.specs.Prelude.{◌≡◌, ◌++◌, ℕ, Bool, List, [], map, Option, IsSome, Result, Ok, Err, IfOk}
+use Rattle.std.specs.Prelude.{◌≡◌, ◌++◌, ℕ, Bool, List, Option, IsSome, Result, Ok, Err, IfOk}
 use Rattle.std.specs.Cmp.Lexicographic.{slice_cmp}
 use Rattle.std.specs.List.{AllZip, flat_map}
 use Rattle.std.specs.List.Sorted.{IsStrictlySortedBy}
@@ -18,7 +18,7 @@ use Rattle.nextest_rules.specs.Definitions.{Features}
 use Rattle.nextest_sources.specs.Causes.{LoadFault}
 use Rattle.nextest_sources.specs.Endings.{IsFollowedInPart}
 use Rattle.nextest_sources.specs.Inputs.{LoadInputs, sources_in}
-use Rattle.nextest_sources.specs.Steps.{Step, first_fault, warnings_before}
+use Rattle.nextest_sources.specs.Steps.{LoadStep, first_fault, warnings_before}
 use Rattle.nextest_sources.specs.Warnings.{Warning}
 use Rattle.nextest_tables.specs.FileTexts.{names_in, IsIn}
 use Rattle.nextest_tables.specs.Written.{Name}
@@ -89,7 +89,7 @@ abbrev pub RulesHold : {M K P : Type 0} → Readings M K P → Request P → Typ
 RulesHold engines request = IsAccepted engines request.features request.files
 
 -- the steps of the load that is asked for
-abbrev pub steps_for : {M K P : Type 0} → Readings M K P → Request P → List Step
+abbrev pub steps_for : {M K P : Type 0} → Readings M K P → Request P → List LoadStep
 steps_for engines request = load_steps engines request.features request.files
 
 -- the names of the profiles of the merged tree

@@ -1,5 +1,5 @@
 -- What contracts see of a profile that is not given.
-use Rattle.std.specs.Prelude.{◌≡◌, List, Bool, false, map, string_bytes}
+use Rattle.std.specs.Prelude.{◌≡◌, List, false, map, string_bytes}
 use Rattle.std.specs.Cmp.Lexicographic.{slice_cmp}
 use Rattle.std.specs.List.Sorted.{IsStrictlySortedBy}
 use Rattle.std.specs.Ordering.{nat_cmp}

@@ -1,14 +1,14 @@
 -- A map beside the members that it stands for.
-use Rattle.std.proofs.Common.{◌≡◌, ℕ, List, [], ◌∷◌, ◌++◌, cond, Option, Some, None, option_map, String, Global, Ordering, Less, Equal, Greater, nat_cmp, string_bytes, is_eq, refl, ap, ◌∙◌}
+use Rattle.std.proofs.Common.{◌≡◌, ℕ, List, [], ◌∷◌, ◌++◌, cond, Some, None, String, Global, Ordering, Less, Equal, Greater, nat_cmp, string_bytes, is_eq, refl, ap, ◌∙◌}
 use Rattle.std.proofs.lemmas.Cmp.{nat_list_cmp_total}
 use Rattle.std.specs.Cmp.Lexicographic.{slice_cmp}
 use Rattle.std.specs.List.{AllByRecursion}
 use Rattle.std.specs.List.Sorted.{IsStrictlySortedBy}
 use Rattle.std.specs.Map.{keys_of, lookup, set_value}
 use Rattle.std.specs.Ordering.{match_ordering, ordering_reverse}
-use Rattle.std.specs.BTreeMap.{insert_entry, is_at}
+use Rattle.std.specs.BTreeMap.{is_at}
 use Rattle.std.specs.String.{string_cmp}
-use Rattle.nextest_tree.specs.Node.{Node, entry, get, put}
+use Rattle.nextest_tree.specs.Node.{entry, put}
 use Rattle.nextest_tree.specs.View.{tree_view, entries_view}
 use Rattle.nextest_tree.specs.declared.tree.Tree.{Tree}
 use Rattle.nextest_tree.proofs.Trees.{below_middle}

@@ -4,24 +4,24 @@ use Rattle.std.proofs.lemmas.Cmp.{nat_list_cmp_total}
 use Rattle.std.specs.List.{AllByRecursion}
 use Rattle.std.specs.Option.{option_map_or}
 use Rattle.std.specs.Ordering.{match_ordering}
-use Rattle.nextest_tree.specs.Node.{Node, table, Entries, no_entries, entry, get, put, IsBefore, IsSorted, EntriesAreSorted}
+use Rattle.nextest_tree.specs.Node.{Node, table, Entries, no_entries, entry, get, put, PrecedesKeys, IsSorted, EntriesAreSorted}
 use Rattle.std.specs.declared.alloc.AllocError.{AllocError}
 use Rattle.nextest_tree.specs.View.{tree_view}
 use Rattle.nextest_tree.specs.declared.tree.Tree.{Tree}
 use Rattle.nextest_documents.specs.Merge.{over, entries_over, merged}
 use Rattle.nextest_documents.proofs.Laying.{cmp, turned}
 
-before_lower : (j k : List ℕ) (es : Entries) → cmp j k ≡ Less → IsBefore k es → IsBefore j es
+before_lower : (j k : List ℕ) (es : Entries) → cmp j k ≡ Less → PrecedesKeys k es → PrecedesKeys j es
 before_lower j k no_entries h b = tt
 before_lower j k (entry l m es) h b = (nat_list_cmp_total.trans j k l h b.0, before_lower j k es h b.1)
 
-before_at : (o : Ordering) (j k l : List ℕ) (n m : Node) (es : Entries) → cmp j k ≡ Less → IsBefore j (entry l m es) → IsBefore j (put k n es)
-    → IsBefore j (match_ordering o (entry k n (entry l m es)) (entry l n es) (entry l m (put k n es)))
+before_at : (o : Ordering) (j k l : List ℕ) (n m : Node) (es : Entries) → cmp j k ≡ Less → PrecedesKeys j (entry l m es) → PrecedesKeys j (put k n es)
+    → PrecedesKeys j (match_ordering o (entry k n (entry l m es)) (entry l n es) (entry l m (put k n es)))
 before_at Less j k l n m es h b ih = (h, b)
 before_at Equal j k l n m es h b ih = b
 before_at Greater j k l n m es h b ih = (b.0, ih)
 
-before_put : (j k : List ℕ) (n : Node) (es : Entries) → cmp j k ≡ Less → IsBefore j es → IsBefore j (put k n es)
+before_put : (j k : List ℕ) (n : Node) (es : Entries) → cmp j k ≡ Less → PrecedesKeys j es → PrecedesKeys j (put k n es)
 before_put j k n no_entries h b = (h, tt)
 before_put j k n (entry l m es) h b = before_at (cmp k l) j k l n m es h b (before_put j k n es h b.1)
 

@@ -2,7 +2,7 @@
 use Rattle.std.proofs.Common.{◌≡◌, ℕ, List, Option, Some, None, option_map, unwrap_or, refl}
 use Rattle.toml.specs.Data.{Members}
 use Rattle.toml.specs.Parse.{parse_document}
-use Rattle.nextest_tree.specs.Node.{Node, table, Entries, no_entries}
+use Rattle.nextest_tree.specs.Node.{table, Entries, no_entries}
 use Rattle.nextest_documents.specs.Text.{tree_of}
 use Rattle.nextest_documents.specs.Value.{from_members}
 

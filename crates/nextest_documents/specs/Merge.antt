@@ -1,5 +1,5 @@
 -- A higher node laid over a lower one, and layers laid over one another.
-use Rattle.std.specs.Prelude.{ℕ, List, [], ◌∷◌}
+use Rattle.std.specs.Prelude.{List, [], ◌∷◌}
 use Rattle.std.specs.Option.{option_map_or}
 use Rattle.nextest_tree.specs.Node.{Node, table, Entries, no_entries, entry, get, put}
 

@@ -3,8 +3,8 @@ use Rattle.std.specs.Prelude.{ℕ, List, Option, option_map}
 use Rattle.toml.specs.Parse.{parse_document}
 use Rattle.nextest_tree.specs.Node.{Node, table}
 use Rattle.nextest_documents.specs.Value.{from_members}
-use Rattle.nextest_documents.specs.declared.text.TextFault.{TextFault}
-use Rattle.nextest_documents.specs.declared.text.TextFault.TheVariants.{NotDocument, Memory}
+use Rattle.nextest_documents.specs.declared.document.TextFault.{TextFault}
+use Rattle.nextest_documents.specs.declared.document.TextFault.TheVariants.{NotDocument, Memory}
 
 -- a text that is a document is the table of what its members read to; any other text is nothing
 abbrev pub tree_of : List ℕ → Option Node

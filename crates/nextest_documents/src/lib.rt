@@ -3,8 +3,8 @@
 //! Nothing here knows a key or a setting.
 #![tactic(auto)]
 
+mod document;
 mod merge;
-mod text;
 
+pub use document::{TextFault, tree_from_text};
 pub use merge::{copy_tree, lay_over, merge_layers};
-pub use text::{TextFault, tree_from_text};

@@ -5,7 +5,7 @@ use Rattle.nextest_elements.specs.declared.retry_policy.RetryPolicy.{RetryPolicy
 use Rattle.nextest_elements.specs.declared.retry_policy.RetryPolicy.TheVariants as policies
 use Rattle.nextest_tree.specs.declared.key.Key.TheVariants.{Backoff as backoff_key, Count as count_key, Delay, Jitter, MaxDelay}
 use Rattle.nextest_tree.specs.Key.{key_text}
-use Rattle.nextest_tree.specs.Leaf.{Spells, bool_at, leaf_at}
+use Rattle.nextest_tree.specs.Leaf.{bool_at, leaf_at}
 use Rattle.nextest_tree.specs.Node.{Node, Entries, get}
 use Rattle.nextest_tree.specs.Reads.{IsDefaulted}
 use Rattle.nextest_tree.specs.Schema.{FaultCause}

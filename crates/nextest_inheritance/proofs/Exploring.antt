@@ -10,7 +10,7 @@ use Rattle.std.proofs.lemmas.Bool.{or_cases, or_left, or_right}
 use Rattle.nextest_inheritance.specs.Names.{Name, precedes}
 use Rattle.nextest_inheritance.specs.Parents.{Parents, WrittenParents, parents_in}
 use Rattle.nextest_inheritance.specs.Cycles.{first_or, LeadTo, IsCycle, AreCycles}
-use Rattle.nextest_inheritance.specs.Walks.{cycle_parents, IsWalk, IsTurned, path_from}
+use Rattle.nextest_inheritance.specs.Walks.{cycle_parents, IsWalk, IsTurned, path_from_name}
 use Rattle.nextest_inheritance.proofs.Members.{In, here, there, split_at, in_front, in_back, in_either, in_member, member_in, all_at, all_from}
 use Rattle.nextest_inheritance.proofs.Trails.{IsRing, lead_back, lead_parent, ring_of}
 use Rattle.nextest_inheritance.proofs.Turning.{IsFrom, one_below, turned_least}
@@ -108,10 +108,10 @@ ring_turned parents end rest ring cycle around is_ring t =
 
 -- a walk that comes back comes round a cycle
 pub walk_turned : (parents : Parents) (start : Name) (old new : Name → Bool) (path : List Name) (end : Name) (cycle : List Name) → IsWalk (cycle_parents parents) start old new path end
-    → IsTurned (path_from end path) cycle → Turned parents end cycle
-walk_turned parents start old new path end cycle walk t = at (path_from end path) refl t
+    → IsTurned (path_from_name end path) cycle → Turned parents end cycle
+walk_turned parents start old new path end cycle walk t = at (path_from_name end path) refl t
   where
-    at : (ring : List Name) → path_from end path ≡ ring → IsTurned ring cycle → Turned parents end cycle
+    at : (ring : List Name) → path_from_name end path ≡ ring → IsTurned ring cycle → Turned parents end cycle
     at [] is t = none t.front t.is_ring
       where
         none : (front : List Name) → [] ≡ front ++ t.least ∷ t.back → Turned parents end cycle
@@ -194,7 +194,7 @@ progress_past es e rest old new path end found walk ended away p = record {
 
 -- a walk that does
 pub progress_found : (es : WrittenParents) (e : Name × Option Name) (rest : WrittenParents) (old new : Name → Bool) (path : List Name) (end : Name) (cycle : List Name) (found more : List (List Name))
-    → IsWalk (cycle_parents (parents_in es)) e.0 old new path end → Ended (parents_in es) new end → IsTurned (path_from end path) cycle → Progress es old found (e ∷ rest)
+    → IsWalk (cycle_parents (parents_in es)) e.0 old new path end → Ended (parents_in es) new end → IsTurned (path_from_name end path) cycle → Progress es old found (e ∷ rest)
     → ((c : List Name) → In c more → (c ≡ cycle) ⊎ In c found) → In cycle more → ((c : List Name) → In c found → In c more)
     → IsStrictlySortedBy (slice_cmp (slice_cmp nat_cmp)) more → Progress es new more rest
 progress_found es e rest old new path end cycle found more walk ended turned p only new_one others order = record {

@@ -12,7 +12,7 @@ use Rattle.std.proofs.lemmas.Cmp.{nat_list_eq_equiv}
 use Rattle.std.proofs.lemmas.Slice.Eq.{bytes_eq-Decides}
 use Rattle.nextest_inheritance.specs.Names.{Name}
 use Rattle.nextest_inheritance.specs.Parents.{Parents, WrittenParents, parents_in}
-use Rattle.nextest_inheritance.specs.Walks.{cycle_parents, IsWalk, path_from}
+use Rattle.nextest_inheritance.specs.Walks.{cycle_parents, IsWalk, path_from_name}
 use Rattle.nextest_inheritance.proofs.Members.{In, here, there, member_in, distinct_cons}
 use Rattle.nextest_inheritance.proofs.Trails.{first_or-append, lead_push, lead_parent}
 use Rattle.nextest_inheritance.proofs.Rings.{cycle_parent_is}
@@ -99,7 +99,7 @@ drop_seen n names = sym (drop-map (λ name. name.now) n names)
 
 -- what a walk's ring is
 pub ring_seen : (end : Name) (names : List (Bor Name)) (from : ℕ) → from ≡ unwrap_or (position (λ name. bytes_eq end name.now) names) (length names)
-    → borrowed_view (take (length names - from) (drop from names)) ≡ path_from end (borrowed_view names)
+    → borrowed_view (take (length names - from) (drop from names)) ≡ path_from_name end (borrowed_view names)
 ring_seen end names from is =
     let place : from ≡ position_or_len (bytes_eq end) (borrowed_view names) = is ∙ place_at (λ name. bytes_eq end name.now) names _ refl ∙ place_seen end names in
     let long : length (drop from names) ≡ length names - from = length-drop from names in
@@ -107,19 +107,19 @@ ring_seen end names from is =
     ap borrowed_view whole ∙ drop_seen from names ∙ ap (λ n. drop n (borrowed_view names)) place
 
 -- a path from a name on
-from_at : (end x : Name) (path : List Name) (same : Bool) → drop (cond (not same) (1 + position_or_len (bytes_eq end) path) 0) (x ∷ path) ≡ cond same (x ∷ path) (path_from end path)
+from_at : (end x : Name) (path : List Name) (same : Bool) → drop (cond (not same) (1 + position_or_len (bytes_eq end) path) 0) (x ∷ path) ≡ cond same (x ∷ path) (path_from_name end path)
 from_at end x path true = refl
 from_at end x path false = rw one-add refl
 
-from_is : (end x : Name) (path : List Name) → path_from end (x ∷ path) ≡ cond (bytes_eq end x) (x ∷ path) (path_from end path)
+from_is : (end x : Name) (path : List Name) → path_from_name end (x ∷ path) ≡ cond (bytes_eq end x) (x ∷ path) (path_from_name end path)
 from_is end x path = from_at end x path (bytes_eq end x)
 
 -- it is empty where the name is not on the path
-pub nothing_from : (end : Name) (path : List Name) → path_from end path ≡ [] → is_member bytes_eq path end ≡ false
+pub nothing_from : (end : Name) (path : List Name) → path_from_name end path ≡ [] → is_member bytes_eq path end ≡ false
 nothing_from end [] none = refl
 nothing_from end (x ∷ path) none = out (bytes_eq end x) refl (sym (from_is end x path) ∙ none) (λ later. nothing_from end path later)
   where
-    out : (same : Bool) → bytes_eq end x ≡ same → cond same (x ∷ path) (path_from end path) ≡ [] → (path_from end path ≡ [] → is_member bytes_eq path end ≡ false)
+    out : (same : Bool) → bytes_eq end x ≡ same → cond same (x ∷ path) (path_from_name end path) ≡ [] → (path_from_name end path ≡ [] → is_member bytes_eq path end ≡ false)
         → (bytes_eq end x || is_member bytes_eq path end) ≡ false
     out true is none later = cc
     out false is none later = rw is (later none)
@@ -131,11 +131,11 @@ pub record FromName (end : Name) (path ring : List Name) : Type 0 where
   pub is_path : path ≡ front ++ end ∷ back
   pub is_ring : ring ≡ end ∷ back
 
-pub something_from : (end : Name) (path : List Name) (first : Name) (rest : List Name) → path_from end path ≡ first ∷ rest → FromName end path (first ∷ rest)
+pub something_from : (end : Name) (path : List Name) (first : Name) (rest : List Name) → path_from_name end path ≡ first ∷ rest → FromName end path (first ∷ rest)
 something_from end [] first rest is = cc
 something_from end (x ∷ path) first rest is = at (bytes_eq end x) refl (sym (from_is end x path) ∙ is) (λ later. something_from end path first rest later)
   where
-    at : (same : Bool) → bytes_eq end x ≡ same → cond same (x ∷ path) (path_from end path) ≡ first ∷ rest → (path_from end path ≡ first ∷ rest → FromName end path (first ∷ rest))
+    at : (same : Bool) → bytes_eq end x ≡ same → cond same (x ∷ path) (path_from_name end path) ≡ first ∷ rest → (path_from_name end path ≡ first ∷ rest → FromName end path (first ∷ rest))
         → FromName end (x ∷ path) (first ∷ rest)
     at true same is later =
         let e : end ≡ x = (bytes_eq-Decides end x).0 same in record {

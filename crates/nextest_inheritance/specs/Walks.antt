@@ -27,8 +27,8 @@ pub record IsWalk (parents : Parents) (start : Name) (old new : Name → Bool) (
   pub walked : (name : Name) → new name ≡ (old name || is_member bytes_eq path name)
 
 -- the part of a path from a name on
-abbrev pub path_from : Name → List Name → List Name
-path_from name path = drop (position_or_len (bytes_eq name) path) path
+abbrev pub path_from_name : Name → List Name → List Name
+path_from_name name path = drop (position_or_len (bytes_eq name) path) path
 
 -- A cycle is a ring of names, written from its least name.
 pub record IsTurned (ring cycle : List Name) : Type 0 where

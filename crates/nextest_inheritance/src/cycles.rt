@@ -10,7 +10,7 @@ ghost use Rattle.nextest_inheritance.specs.Cycles.{AreCycles};
 ghost use Rattle.nextest_inheritance.specs.Names.{Name, precedes};
 ghost use Rattle.nextest_inheritance.specs.Parents.{parents_in};
 ghost use Rattle.nextest_inheritance.specs.View.{parents_view, names_view, borrowed_view, has_name};
-ghost use Rattle.nextest_inheritance.specs.Walks.{cycle_parents, IsWalk, IsTurned, path_from};
+ghost use Rattle.nextest_inheritance.specs.Walks.{cycle_parents, IsWalk, IsTurned, path_from_name};
 
 use crate::inherits::{Inherits, parent_of};
 use crate::names::is_base;
@@ -78,7 +78,7 @@ impl<'a> Walk<'a> {
     /// through.
     fn ring(&self) -> &[&'a str]
         ensures { borrowed_view result.now
-            ≡ path_from self.now.end.now (borrowed_view self.now.path.items) }
+            ≡ path_from_name self.now.end.now (borrowed_view self.now.path.items) }
     {
         let place = place_of(&self.path, self.end);
         &self.path[place.unwrap_or(self.path.len())..]
@@ -123,7 +123,7 @@ fn names_from(alloc: Global, names: &[&str], place: usize) -> Result<Vec<String>
 fn cycle_of(alloc: Global, walk: &Walk<'_>) -> Result<Option<Vec<String>>, AllocError>
     ensures { let path = borrowed_view walk.now.path.items in
         IfOk result (λ cycle. MatchOption cycle (is_member bytes_eq path walk.now.end.now ≡ false)
-        (λ cycle. IsTurned (path_from walk.now.end.now path) (names_view cycle))) }
+        (λ cycle. IsTurned (path_from_name walk.now.end.now path) (names_view cycle))) }
 {
     let ring = walk.ring();
     if ring.is_empty() {

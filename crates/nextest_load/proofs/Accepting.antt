@@ -15,9 +15,9 @@ use Rattle.nextest_rules.specs.Steps.{if_some, warn_if_some, definition_steps, r
 use Rattle.nextest_sources.specs.Causes.{LoadCause, NameSet, bad_element, bad_parents}
 use Rattle.nextest_sources.specs.Endings.{Ending, passed, refused, no_memory, malformed, error_view, ending, WentThrough, Ran, IsMemory}
 use Rattle.nextest_sources.specs.InputFaults.{Each, IsReadOrMissing, HaveOneFileEach, missing_cause, outcome_cause, duplicate_fault}
-use Rattle.nextest_sources.specs.Inputs.{Input, LoadInputs, SourceText, texts_of, inputs_of, sources_in, repository_of}
+use Rattle.nextest_sources.specs.Inputs.{Input, LoadInputs, SourceText, source_texts_of, inputs_of, sources_in, repository_of}
 use Rattle.nextest_sources.specs.Sources.{Source, SourceKind, tool_file, explicit_file, discovered_file, Outcome, text, not_found, not_a_directory, failed, ToolFile}
-use Rattle.nextest_sources.specs.Steps.{Step, check, first_fault}
+use Rattle.nextest_sources.specs.Steps.{LoadStep, check, first_fault}
 use Rattle.nextest_sources.specs.Warnings.{Warning, unknown_keys}
 use Rattle.nextest_sources.specs.declared.error.ConfigParseError.{ConfigParseError}
 use Rattle.nextest_sources.proofs.Ends.{not_passed}
@@ -33,7 +33,7 @@ use Rattle.nextest_load.proofs.SortedTrees.{own_sorted, whole_sorted, profiles_a
 use Rattle.nextest_load.proofs.Tools.{tools_fault}
 
 -- steps meet no fault
-abbrev pub Pass : List Step → Type 0
+abbrev pub Pass : List LoadStep → Type 0
 Pass steps = first_fault steps ≡ None
 
 or_left : {X : Type 0} (a b : Option X) → option_or a b ≡ None → a ≡ None
@@ -44,24 +44,24 @@ or_right : {X : Type 0} (a b : Option X) → option_or a b ≡ None → b ≡ No
 or_right None b h = h
 or_right (Some x) b h = cc
 
-pub pass_left : (xs ys : List Step) → Pass (xs ++ ys) → Pass xs
+pub pass_left : (xs ys : List LoadStep) → Pass (xs ++ ys) → Pass xs
 pass_left xs ys h = or_left (first_fault xs) (first_fault ys) (sym (first_fault-append xs ys) ∙ h)
 
-pub pass_right : (xs ys : List Step) → Pass (xs ++ ys) → Pass ys
+pub pass_right : (xs ys : List LoadStep) → Pass (xs ++ ys) → Pass ys
 pass_right xs ys h = or_right (first_fault xs) (first_fault ys) (sym (first_fault-append xs ys) ∙ h)
 
-pub pass_both : (xs ys : List Step) → Pass xs → Pass ys → Pass (xs ++ ys)
+pub pass_both : (xs ys : List LoadStep) → Pass xs → Pass ys → Pass (xs ++ ys)
 pass_both xs ys h k = first_fault-append xs ys ∙ ap (λ o. option_or o (first_fault ys)) h ∙ k
 
-cause_at : (source : Source) (c : Option LoadCause) (steps : List Step) → Pass (check source c ∷ steps) → c ≡ None
+cause_at : (source : Source) (c : Option LoadCause) (steps : List LoadStep) → Pass (check source c ∷ steps) → c ≡ None
 cause_at source None steps h = refl
 cause_at source (Some c) steps h = cc
 
-rest_at : (source : Source) (c : Option LoadCause) (steps : List Step) → Pass (check source c ∷ steps) → Pass steps
+rest_at : (source : Source) (c : Option LoadCause) (steps : List LoadStep) → Pass (check source c ∷ steps) → Pass steps
 rest_at source None steps h = h
 rest_at source (Some c) steps h = cc
 
-check_passes : (source : Source) (c : Option LoadCause) (steps : List Step) → c ≡ None → Pass steps → Pass (check source c ∷ steps)
+check_passes : (source : Source) (c : Option LoadCause) (steps : List LoadStep) → c ≡ None → Pass steps → Pass (check source c ∷ steps)
 check_passes source c steps is h = rw is h
 
 warnings_pass : {X : Type 0} (w : List X → Warning) (xs : List X) → Pass (warn_if_some w xs)
@@ -187,35 +187,35 @@ module _ {M K P : Type 0} (engines : Readings M K P) (features : Features) (defi
   -- inputs pass exactly where each is read or may be missing, and each source is accepted
   record Fine (under : List SourceText) (is : List Input) : Type 0 where
     outcomes : Each (λ i. IsReadOrMissing i.source.kind i.outcome) is
-    sources : AllFrom under (flat_map texts_of is)
+    sources : AllFrom under (flat_map source_texts_of is)
 
-  no_text_from : (under : List SourceText) (i : Input) (is : List Input) → texts_of i ≡ [] → Pass (one_input_steps engines features under i ++ input_steps engines features (under ++ texts_of i) is)
+  no_text_from : (under : List SourceText) (i : Input) (is : List Input) → source_texts_of i ≡ [] → Pass (one_input_steps engines features under i ++ input_steps engines features (under ++ source_texts_of i) is)
       → (Pass (input_steps engines features under is) → Fine under is) → Fine under (i ∷ is)
   no_text_from under i is none h ih =
       let cause = outcome_cause i.source.kind i.outcome in
       let here = one_input_steps engines features under i in
-      let rest = pass_right here (input_steps engines features (under ++ texts_of i) is) h in
-      let same : under ++ texts_of i ≡ under = ap (λ ts. under ++ ts) none ∙ append-nil under in
+      let rest = pass_right here (input_steps engines features (under ++ source_texts_of i) is) h in
+      let same : under ++ source_texts_of i ≡ under = ap (λ ts. under ++ ts) none ∙ append-nil under in
       let more = ih (subst (λ (us : List SourceText). Pass (input_steps engines features us is)) same rest) in
       record {
-        outcomes = (outcome_from i.source.kind i.outcome (cause_at i.source cause (flat_map (source_steps engines features under) (texts_of i)) (pass_left here (input_steps engines features (under ++ texts_of i) is) h)), more.outcomes);
-        sources = subst (λ (ts : List SourceText). AllFrom under (ts ++ flat_map texts_of is)) (sym none) more.sources;
+        outcomes = (outcome_from i.source.kind i.outcome (cause_at i.source cause (flat_map (source_steps engines features under) (source_texts_of i)) (pass_left here (input_steps engines features (under ++ source_texts_of i) is) h)), more.outcomes);
+        sources = subst (λ (ts : List SourceText). AllFrom under (ts ++ flat_map source_texts_of is)) (sym none) more.sources;
       }
 
-  text_from : (under : List SourceText) (i : Input) (s : SourceText) (is : List Input) → texts_of i ≡ s ∷ [] → Pass (one_input_steps engines features under i ++ input_steps engines features (under ++ texts_of i) is)
+  text_from : (under : List SourceText) (i : Input) (s : SourceText) (is : List Input) → source_texts_of i ≡ s ∷ [] → Pass (one_input_steps engines features under i ++ input_steps engines features (under ++ source_texts_of i) is)
       → (Pass (input_steps engines features (under ++ s ∷ []) is) → Fine (under ++ s ∷ []) is) → Fine under (i ∷ is)
   unfolding AllFrom
   text_from under i s is one h ih =
       let cause = outcome_cause i.source.kind i.outcome in
       let here = one_input_steps engines features under i in
-      let rest = pass_right here (input_steps engines features (under ++ texts_of i) is) h in
-      let first_part = pass_left here (input_steps engines features (under ++ texts_of i) is) h in
-      let said = rest_at i.source cause (flat_map (source_steps engines features under) (texts_of i)) first_part in
-      let only : flat_map (source_steps engines features under) (texts_of i) ≡ source_steps engines features under s = rw one (append-nil (source_steps engines features under s)) in
+      let rest = pass_right here (input_steps engines features (under ++ source_texts_of i) is) h in
+      let first_part = pass_left here (input_steps engines features (under ++ source_texts_of i) is) h in
+      let said = rest_at i.source cause (flat_map (source_steps engines features under) (source_texts_of i)) first_part in
+      let only : flat_map (source_steps engines features under) (source_texts_of i) ≡ source_steps engines features under s = rw one (append-nil (source_steps engines features under s)) in
       let more = ih (subst (λ (ts : List SourceText). Pass (input_steps engines features (under ++ ts) is)) one rest) in
       record {
-        outcomes = (outcome_from i.source.kind i.outcome (cause_at i.source cause (flat_map (source_steps engines features under) (texts_of i)) first_part), more.outcomes);
-        sources = subst (λ (ts : List SourceText). AllFrom under (ts ++ flat_map texts_of is)) (sym one) (source_from under s (subst Pass only said), more.sources);
+        outcomes = (outcome_from i.source.kind i.outcome (cause_at i.source cause (flat_map (source_steps engines features under) (source_texts_of i)) first_part), more.outcomes);
+        sources = subst (λ (ts : List SourceText). AllFrom under (ts ++ flat_map source_texts_of is)) (sym one) (source_from under s (subst Pass only said), more.sources);
       }
 
   input_from : (under : List SourceText) (source : Source) (o : Outcome) (is : List Input)
@@ -231,28 +231,28 @@ module _ {M K P : Type 0} (engines : Readings M K P) (features : Features) (defi
   inputs_from under [] h = record { outcomes = tt; sources = tt }
   inputs_from under (i ∷ is) h = input_from under i.source i.outcome is h (λ us. inputs_from us is)
 
-  no_text_to : (under : List SourceText) (i : Input) (is : List Input) → texts_of i ≡ [] → IsReadOrMissing i.source.kind i.outcome → Pass (input_steps engines features under is)
-      → Pass (one_input_steps engines features under i ++ input_steps engines features (under ++ texts_of i) is)
+  no_text_to : (under : List SourceText) (i : Input) (is : List Input) → source_texts_of i ≡ [] → IsReadOrMissing i.source.kind i.outcome → Pass (input_steps engines features under is)
+      → Pass (one_input_steps engines features under i ++ input_steps engines features (under ++ source_texts_of i) is)
   no_text_to under i is none read h =
       let cause = outcome_cause i.source.kind i.outcome in
-      let nothing : Pass (flat_map (source_steps engines features under) (texts_of i)) = rw none refl in
-      let same : under ≡ under ++ texts_of i = sym (ap (λ ts. under ++ ts) none ∙ append-nil under) in
-      pass_both (one_input_steps engines features under i) (input_steps engines features (under ++ texts_of i) is)
-      (check_passes i.source cause (flat_map (source_steps engines features under) (texts_of i)) (outcome_to i.source.kind i.outcome read) nothing)
+      let nothing : Pass (flat_map (source_steps engines features under) (source_texts_of i)) = rw none refl in
+      let same : under ≡ under ++ source_texts_of i = sym (ap (λ ts. under ++ ts) none ∙ append-nil under) in
+      pass_both (one_input_steps engines features under i) (input_steps engines features (under ++ source_texts_of i) is)
+      (check_passes i.source cause (flat_map (source_steps engines features under) (source_texts_of i)) (outcome_to i.source.kind i.outcome read) nothing)
       (subst (λ (us : List SourceText). Pass (input_steps engines features us is)) same h)
 
-  text_to : (under : List SourceText) (i : Input) (s : SourceText) (is : List Input) → texts_of i ≡ s ∷ [] → IsReadOrMissing i.source.kind i.outcome → IsAcceptedSource engines features under s → Pass (input_steps engines features (under ++ s ∷ []) is)
-      → Pass (one_input_steps engines features under i ++ input_steps engines features (under ++ texts_of i) is)
+  text_to : (under : List SourceText) (i : Input) (s : SourceText) (is : List Input) → source_texts_of i ≡ s ∷ [] → IsReadOrMissing i.source.kind i.outcome → IsAcceptedSource engines features under s → Pass (input_steps engines features (under ++ s ∷ []) is)
+      → Pass (one_input_steps engines features under i ++ input_steps engines features (under ++ source_texts_of i) is)
   text_to under i s is one read accepted h =
       let cause = outcome_cause i.source.kind i.outcome in
-      let only : flat_map (source_steps engines features under) (texts_of i) ≡ source_steps engines features under s = rw one (append-nil (source_steps engines features under s)) in
-      pass_both (one_input_steps engines features under i) (input_steps engines features (under ++ texts_of i) is)
-      (check_passes i.source cause (flat_map (source_steps engines features under) (texts_of i)) (outcome_to i.source.kind i.outcome read) (subst Pass (sym only) (source_to under s accepted)))
+      let only : flat_map (source_steps engines features under) (source_texts_of i) ≡ source_steps engines features under s = rw one (append-nil (source_steps engines features under s)) in
+      pass_both (one_input_steps engines features under i) (input_steps engines features (under ++ source_texts_of i) is)
+      (check_passes i.source cause (flat_map (source_steps engines features under) (source_texts_of i)) (outcome_to i.source.kind i.outcome read) (subst Pass (sym only) (source_to under s accepted)))
       (subst (λ (ts : List SourceText). Pass (input_steps engines features (under ++ ts) is)) (sym one) h)
 
   input_to : (under : List SourceText) (source : Source) (o : Outcome) (is : List Input)
-      → let i : Input = record { source = source; outcome = o } in IsReadOrMissing source.kind o → AllFrom under (texts_of i ++ flat_map texts_of is)
-      → ((us : List SourceText) → AllFrom us (flat_map texts_of is) → Pass (input_steps engines features us is)) → Pass (input_steps engines features under (i ∷ is))
+      → let i : Input = record { source = source; outcome = o } in IsReadOrMissing source.kind o → AllFrom under (source_texts_of i ++ flat_map source_texts_of is)
+      → ((us : List SourceText) → AllFrom us (flat_map source_texts_of is) → Pass (input_steps engines features us is)) → Pass (input_steps engines features under (i ∷ is))
   unfolding AllFrom
   input_to under source (text t) is read h ih =
       let s : SourceText = record { source = source; text = t } in
@@ -261,7 +261,7 @@ module _ {M K P : Type 0} (engines : Readings M K P) (features : Features) (defi
   input_to under source not_a_directory is read h ih = no_text_to under (record { source = source; outcome = not_a_directory }) is refl read (ih under h)
   input_to under source (failed message) is read h ih = no_text_to under (record { source = source; outcome = failed message }) is refl read (ih under h)
 
-  inputs_to : (under : List SourceText) (is : List Input) → Each (λ i. IsReadOrMissing i.source.kind i.outcome) is → AllFrom under (flat_map texts_of is) → Pass (input_steps engines features under is)
+  inputs_to : (under : List SourceText) (is : List Input) → Each (λ i. IsReadOrMissing i.source.kind i.outcome) is → AllFrom under (flat_map source_texts_of is) → Pass (input_steps engines features under is)
   inputs_to under [] read h = refl
   inputs_to under (i ∷ is) read h = input_to under i.source i.outcome is read.0 h (λ us. inputs_to us is read.1)
 

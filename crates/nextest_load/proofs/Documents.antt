@@ -13,7 +13,7 @@ use Rattle.toml_parser.specs.declared.scalar.Scalar.TheVariants.{Boolean, Intege
 use Rattle.nextest_documents.specs.Text.{tree_of}
 use Rattle.nextest_documents.specs.Value.{from_data, from_items, from_members}
 use Rattle.nextest_documents.proofs.Laying.{cmp, turned}
-use Rattle.nextest_tree.specs.Node.{IsBefore, IsSorted, NodesAreSorted, EntriesAreSorted}
+use Rattle.nextest_tree.specs.Node.{PrecedesKeys, IsSorted, NodesAreSorted, EntriesAreSorted}
 
 -- what is there, if something is, has a fact
 pub data Holds {A : Type 0} (P : A → Type 0) : Option A → Type 0 where
@@ -56,7 +56,7 @@ push_ascends : (ds : Items) (d : Data) → NodesAreSorted (from_items ds) → Is
 push_ascends no_items d hs h = (h, tt)
 push_ascends (item e ds) d hs h = (hs.0, push_ascends ds d hs.1 h)
 
-close_before : (k : List ℕ) (ns : Nodes) → IsAhead k ns → IsBefore k (from_members (close ns))
+close_before : (k : List ℕ) (ns : Nodes) → IsAhead k ns → PrecedesKeys k (from_members (close ns))
 close_before k no_nodes h = tt
 close_before k (node l x ns) h = (h.0, close_before k ns h.1)
 

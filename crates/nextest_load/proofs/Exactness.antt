@@ -12,13 +12,13 @@ use Rattle.nextest_rules.specs.Definitions.{Features, is_of_tool}
 use Rattle.nextest_rules.specs.Known.{KnownSets, known_to, known_scripts, sets_of, with_global}
 use Rattle.nextest_rules.specs.RuleFaults.{names_none, script_faults_in}
 use Rattle.nextest_rules.specs.Rules.{LayerProfile, layer_of}
-use Rattle.nextest_rules.specs.Steps.{if_some, if_true, warn_if_some, written_parents, parent_cause, group_name_cause, script_name_cause, key_cause, feature_cause, kind_cause, compile_cause, group_cause_in, script_cause_in, deprecated_steps, reserved_steps, empty_steps_of, empty_steps_in, definition_steps, name_steps, rule_steps}
+use Rattle.nextest_rules.specs.Steps.{if_some, if_true, warn_if_some, written_parents, parent_cause, group_name_cause, script_name_cause, key_cause, feature_cause, kind_cause, compile_cause, group_cause_in, script_cause_in, deprecated_steps, empty_steps_of, empty_steps_in, definition_steps, name_steps, rule_steps}
 use Rattle.nextest_sources.specs.Causes.{NameSet, LoadCause, LoadFault, at_source, duplicate_tool, bad_element, ill_named_groups, ill_named_scripts, both_script_keys, missing_features, both_script_kinds, bad_parents, compile_refusals, unknown_groups, bad_scripts}
 use Rattle.nextest_sources.specs.Endings.{Ending, passed, refused, no_memory, malformed, WentThrough, Ran}
 use Rattle.nextest_sources.specs.InputFaults.{first_path, missing_cause, outcome_cause}
-use Rattle.nextest_sources.specs.Inputs.{Input, LoadInputs, SourceText, inputs_of, texts_of, sources_in, repository_of, tool_source}
+use Rattle.nextest_sources.specs.Inputs.{Input, LoadInputs, SourceText, inputs_of, source_texts_of, sources_in, repository_of, tool_source}
 use Rattle.nextest_sources.specs.Sources.{Source, SourceKind, tool_file, explicit_file, discovered_file, Outcome, text, not_found, not_a_directory, failed, ToolFile}
-use Rattle.nextest_sources.specs.Steps.{Step, warn, check, first_fault}
+use Rattle.nextest_sources.specs.Steps.{LoadStep, check, first_fault}
 use Rattle.nextest_sources.specs.Warnings.{Warning, deprecated_scripts, empty_sections, reserved_profiles, unknown_keys}
 use Rattle.nextest_sources.proofs.Runs.{first_fault-append}
 use Rattle.nextest_tables.specs.FileTexts.{FileText, file_text}
@@ -77,7 +77,7 @@ module _ (files : LoadInputs) where
     told : (cause : LoadCause) → found ≡ Some cause → IsExact files (at_source source cause)
 
   -- the first fault of steps is exact
-  record AreExact (steps : List Step) : Type 0 where
+  record AreExact (steps : List LoadStep) : Type 0 where
     first : (fault : LoadFault) → first_fault steps ≡ Some fault → IsExact files fault
 
   -- ---- what checks find
@@ -126,7 +126,7 @@ module _ (files : LoadInputs) where
   no_step : AreExact []
   no_step = record { first = λ fault is. cc }
 
-  checked : (source : Source) (found : Option LoadCause) (steps : List Step) → Finds source found → AreExact steps → AreExact (check source found ∷ steps)
+  checked : (source : Source) (found : Option LoadCause) (steps : List LoadStep) → Finds source found → AreExact steps → AreExact (check source found ∷ steps)
   checked source None steps finds rest = record { first = λ fault is. rest.first fault is }
   checked source (Some cause) steps finds rest = record {
     first = λ fault is. let same : at_source source cause ≡ fault = cc in subst (λ (f : LoadFault). IsExact files f) same (finds.told cause refl);
@@ -137,7 +137,7 @@ module _ (files : LoadInputs) where
   one_of None b h k fault is = k fault is
   one_of (Some f) b h k fault is = h fault is
 
-  both : (xs ys : List Step) → AreExact xs → AreExact ys → AreExact (xs ++ ys)
+  both : (xs ys : List LoadStep) → AreExact xs → AreExact ys → AreExact (xs ++ ys)
   both xs ys h k = record { first = λ fault is. one_of (first_fault xs) (first_fault ys) h.first k.first fault (sym (first_fault-append xs ys) ∙ is) }
 
   warned : {X : Type 0} (w : List X → Warning) (xs : List X) → AreExact (warn_if_some w xs)
@@ -198,13 +198,13 @@ module _ (files : LoadInputs) where
         (of_source below s (are s (Contains-append_left (s ∷ []) ss s (0, omega arith, refl))))
         (of_texts below ss (λ t is. are t (Contains-append_right (s ∷ []) ss t is)))
 
-    of_inputs : (below : List SourceText) (is : List Input) → AreSources (flat_map texts_of is) → AreExact (input_steps engines features below is)
+    of_inputs : (below : List SourceText) (is : List Input) → AreSources (flat_map source_texts_of is) → AreExact (input_steps engines features below is)
     of_inputs below [] are = no_step
     of_inputs below (i ∷ is) are =
-        both (one_input_steps engines features below i) (input_steps engines features (below ++ texts_of i) is)
+        both (one_input_steps engines features below i) (input_steps engines features (below ++ source_texts_of i) is)
         (checked i.source (outcome_cause i.source.kind i.outcome) _ (apart i.source _ (apart_outcome i.source.kind i.outcome))
-        (of_texts below (texts_of i) (λ s at. are s (Contains-append_left (texts_of i) (flat_map texts_of is) s at))))
-        (of_inputs (below ++ texts_of i) is (λ s at. are s (Contains-append_right (texts_of i) (flat_map texts_of is) s at)))
+        (of_texts below (source_texts_of i) (λ s at. are s (Contains-append_left (source_texts_of i) (flat_map source_texts_of is) s at))))
+        (of_inputs (below ++ source_texts_of i) is (λ s at. are s (Contains-append_right (source_texts_of i) (flat_map source_texts_of is) s at)))
 
     of_tools : (before tools : List ToolFile) → AreExact (tool_steps before tools)
     of_tools before [] = no_step

@@ -6,9 +6,9 @@ use Rattle.std.proofs.lemmas.List.Concat.{flat_map-append}
 use Rattle.nextest_engines.specs.Readings.{Readings}
 use Rattle.nextest_rules.specs.Definitions.{Features}
 use Rattle.nextest_sources.specs.Endings.{passed, error_view, Ran}
-use Rattle.nextest_sources.specs.Inputs.{SourceText, texts_of}
+use Rattle.nextest_sources.specs.Inputs.{SourceText, source_texts_of}
 use Rattle.nextest_sources.specs.InputsView.{input_view}
-use Rattle.nextest_sources.specs.Steps.{Step}
+use Rattle.nextest_sources.specs.Steps.{LoadStep}
 use Rattle.nextest_sources.specs.Warnings.{Warning}
 use Rattle.nextest_sources.specs.declared.error.ConfigParseError.{ConfigParseError}
 use Rattle.nextest_sources.specs.declared.inputs.SourceInput.{SourceInput}
@@ -19,12 +19,12 @@ use Rattle.nextest_load.specs.declared.layers.LoadedLayers.{LoadedLayers}
 
 -- the sources of the inputs before one
 abbrev pub sources_before : ℕ → List SourceInput → List SourceText
-sources_before i inputs = flat_map texts_of (map input_view (take i inputs))
+sources_before i inputs = flat_map source_texts_of (map input_view (take i inputs))
 
 -- The inputs before one passed, and their sources are loaded.
 pub record HaveRun {F S E T N Q M K P : Type 0} (meaning : E → M) (spec_meaning : N → K) (engines : Readings M K P) (features : Features) (inputs : List SourceInput) (i : ℕ) (old now : List Warning)
     (loaded : LoadedLayers F S E T N Q) : Type 0 where
-  pub done : List Step
+  pub done : List LoadStep
   pub splits : input_steps engines features [] (map input_view inputs) ≡ done ++ input_steps engines features (sources_before i inputs) (map input_view (drop i inputs))
   pub ran : Ran done old now passed
   pub sources : HasLoaded meaning spec_meaning engines (sources_before i inputs) loaded
@@ -47,16 +47,16 @@ module _ {F S E T N Q M K P : Type 0} (meaning : E → M) (spec_meaning : N → 
   -- or it passed
   pub runs_next : {i : ℕ} {old now new : List Warning} {loaded more : LoadedLayers F S E T N Q} (input : SourceInput) → drop i inputs ≡ input ∷ drop (i + 1) inputs → take (i + 1) inputs ≡ take i inputs ++ input ∷ []
       → HaveRun meaning spec_meaning engines features inputs i old now loaded → Ran (one_input_steps engines features (sources_before i inputs) (input_view input)) now new passed
-      → HasLoaded meaning spec_meaning engines (sources_before i inputs ++ texts_of (input_view input)) more → HaveRun meaning spec_meaning engines features inputs (i + 1) old new more
+      → HasLoaded meaning spec_meaning engines (sources_before i inputs ++ source_texts_of (input_view input)) more → HaveRun meaning spec_meaning engines features inputs (i + 1) old new more
   runs_next {i} {old} {now} {new} {loaded} {more} input next taken so_far ran has =
       let below = sources_before i inputs in
       let here = one_input_steps engines features below (input_view input) in
       let rest = λ (ss : List SourceText). input_steps engines features ss (map input_view (drop (i + 1) inputs)) in
-      let texts = texts_of (input_view input) in
+      let texts = source_texts_of (input_view input) in
       let with_texts : sources_before (i + 1) inputs ≡ below ++ texts =
-      ap (λ is. flat_map texts_of (map input_view is)) taken
-      ∙ ap (flat_map texts_of) (map-append input_view (take i inputs) (input ∷ []))
-      ∙ flat_map-append texts_of (map input_view (take i inputs)) (input_view input ∷ [])
+      ap (λ is. flat_map source_texts_of (map input_view is)) taken
+      ∙ ap (flat_map source_texts_of) (map-append input_view (take i inputs) (input ∷ []))
+      ∙ flat_map-append source_texts_of (map input_view (take i inputs)) (input_view input ∷ [])
       ∙ ap (λ ts. below ++ ts) (append-nil texts)
       in record {
         done = so_far.done ++ here;
@@ -75,5 +75,5 @@ module _ {F S E T N Q M K P : Type 0} (meaning : E → M) (spec_meaning : N → 
 
   -- and all sources are loaded
   pub runs_loaded : {i : ℕ} {old now : List Warning} {loaded : LoadedLayers F S E T N Q} → take i inputs ≡ inputs → HaveRun meaning spec_meaning engines features inputs i old now loaded
-      → HasLoaded meaning spec_meaning engines (flat_map texts_of (map input_view inputs)) loaded
-  runs_loaded {i} {old} {now} {loaded} all so_far = subst (λ (is : List SourceInput). HasLoaded meaning spec_meaning engines (flat_map texts_of (map input_view is)) loaded) all so_far.sources
+      → HasLoaded meaning spec_meaning engines (flat_map source_texts_of (map input_view inputs)) loaded
+  runs_loaded {i} {old} {now} {loaded} all so_far = subst (λ (is : List SourceInput). HasLoaded meaning spec_meaning engines (flat_map source_texts_of (map input_view is)) loaded) all so_far.sources

@@ -12,8 +12,8 @@ use Rattle.nextest_rules.specs.View.{layer_view}
 use Rattle.nextest_rules.specs.declared.overrides.LayerRules.{LayerRules}
 use Rattle.nextest_sources.specs.Endings.{Ending, passed, no_memory, error_view, ending, Found, Ran}
 use Rattle.nextest_sources.specs.InputFaults.{outcome_cause, fault_at_source}
-use Rattle.nextest_sources.specs.Inputs.{Input, SourceText, texts_of}
-use Rattle.nextest_sources.specs.Steps.{Step, check}
+use Rattle.nextest_sources.specs.Inputs.{Input, SourceText, source_texts_of}
+use Rattle.nextest_sources.specs.Steps.{LoadStep, check}
 use Rattle.nextest_sources.specs.Warnings.{Warning}
 use Rattle.nextest_sources.specs.declared.error.ConfigParseError.{ConfigParseError}
 use Rattle.nextest_sources.proofs.Runs.{ran_check, ran_first, ran_memory, ran_next}
@@ -45,13 +45,13 @@ lowest_laid [] s own so_far is = ap (λ n. Some n) is
 lowest_laid (t ∷ ss) s own so_far is = cc
 
 -- memory ran out after some steps
-pub ran_spent : {old new : List Warning} (steps : List Step) (e : ConfigParseError) → error_view e ≡ no_memory → Ran steps old new passed → Ran steps old new (error_view e)
+pub ran_spent : {old new : List Warning} (steps : List LoadStep) (e : ConfigParseError) → error_view e ≡ no_memory → Ran steps old new passed → Ran steps old new (error_view e)
 ran_spent {old} {new} steps e memory ran =
     let spent = ran_next steps [] old new new (error_view e) ran (ran_memory [] new new e memory refl) in
-    subst (λ (all : List Step). Ran all old new (error_view e)) (append-nil steps) spent
+    subst (λ (all : List LoadStep). Ran all old new (error_view e)) (append-nil steps) spent
 
 -- and that ended a call
-pub ran_out : {T : Type 0} {old new : List Warning} (steps : List Step) (r : Result T ConfigParseError) → IsErrAnd r (λ e. error_view e ≡ no_memory) → Ran steps old new passed → Ran steps old new (ending r)
+pub ran_out : {T : Type 0} {old new : List Warning} (steps : List LoadStep) (r : Result T ConfigParseError) → IsErrAnd r (λ e. error_view e ≡ no_memory) → Ran steps old new passed → Ran steps old new (ending r)
 ran_out steps (Ok x) h ran = absurd h
 ran_out steps (Err e) h ran = ran_spent steps e h ran
 
@@ -60,22 +60,22 @@ module _ {M K P : Type 0} (engines : Readings M K P) (features : Features) (belo
   pub outcome_ended : (told : List Warning) (e : ConfigParseError) → Found (fault_at_source i.source (outcome_cause i.source.kind i.outcome)) (error_view e) → Ran (one_input_steps engines features below i) told told (error_view e)
   outcome_ended told e found =
       let cause = outcome_cause i.source.kind i.outcome in
-      ran_first (check i.source cause ∷ []) (flat_map (source_steps engines features below) (texts_of i)) told told e (ran_check i.source cause told told (error_view e) refl found)
+      ran_first (check i.source cause ∷ []) (flat_map (source_steps engines features below) (source_texts_of i)) told told e (ran_check i.source cause told told (error_view e) refl found)
 
   -- it gave no text
-  pub no_text_given : (told : List Warning) → fault_at_source i.source (outcome_cause i.source.kind i.outcome) ≡ None → texts_of i ≡ [] → Ran (one_input_steps engines features below i) told told passed
+  pub no_text_given : (told : List Warning) → fault_at_source i.source (outcome_cause i.source.kind i.outcome) ≡ None → source_texts_of i ≡ [] → Ran (one_input_steps engines features below i) told told passed
   no_text_given told found none =
       let cause = outcome_cause i.source.kind i.outcome in
       rw none (ran_check i.source cause told told passed refl found)
 
   -- or it ended as its source did
-  pub source_ended : {old new : List Warning} {o : Ending} (s : SourceText) → fault_at_source i.source (outcome_cause i.source.kind i.outcome) ≡ None → texts_of i ≡ s ∷ []
+  pub source_ended : {old new : List Warning} {o : Ending} (s : SourceText) → fault_at_source i.source (outcome_cause i.source.kind i.outcome) ≡ None → source_texts_of i ≡ s ∷ []
       → Ran (source_steps engines features below s) old new o → Ran (one_input_steps engines features below i) old new o
   source_ended {old} {new} {o} s found one ran =
       let cause = outcome_cause i.source.kind i.outcome in
-      let only : flat_map (source_steps engines features below) (texts_of i) ≡ source_steps engines features below s = rw one (append-nil (source_steps engines features below s)) in
-      ran_next (check i.source cause ∷ []) (flat_map (source_steps engines features below) (texts_of i)) old old new o (ran_check i.source cause old old passed refl found)
-      (subst (λ (steps : List Step). Ran steps old new o) (sym only) ran)
+      let only : flat_map (source_steps engines features below) (source_texts_of i) ≡ source_steps engines features below s = rw one (append-nil (source_steps engines features below s)) in
+      ran_next (check i.source cause ∷ []) (flat_map (source_steps engines features below) (source_texts_of i)) old old new o (ran_check i.source cause old old passed refl found)
+      (subst (λ (steps : List LoadStep). Ran steps old new o) (sym only) ran)
 
 module _ {F S E T N Q M K P : Type 0} (meaning : E → M) (spec_meaning : N → K) (engines : Readings M K P) where
   -- one source more was loaded

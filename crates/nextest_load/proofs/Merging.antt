@@ -20,7 +20,7 @@ use Rattle.nextest_tree.specs.Schema.{is_one_of}
 use Rattle.nextest_load.specs.ConfigView.{merged_profile_view}
 use Rattle.nextest_load.specs.Merged.{parent_in, profiles_of}
 use Rattle.nextest_load.specs.Steps.{element_cause, no_profiles, tree_steps}
-use Rattle.nextest_load.specs.declared.config.MergedProfile.{MergedProfile}
+use Rattle.nextest_load.specs.declared.loaded_config.MergedProfile.{MergedProfile}
 
 -- profiles that are seen have the parents that they write
 parents_are : (es : List (String Global × MergedProfile)) → parents_view parent_in es ≡ map (λ p. (p.0, p.1.parent)) (by_name merged_profile_view es)

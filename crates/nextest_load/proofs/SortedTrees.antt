@@ -17,7 +17,7 @@ use Rattle.nextest_tables.proofs.Defaulting.{sorted}
 use Rattle.nextest_tree.specs.declared.key.Key.{Key}
 use Rattle.nextest_tree.specs.declared.key.Key.TheVariants as keys
 use Rattle.nextest_tree.specs.Key.{key_text}
-use Rattle.nextest_tree.specs.Node.{Node, table, array, text, int, bool, opaque, Entries, no_entries, entry, get, as_table, member_of, IsBefore, IsSorted, EntriesAreSorted}
+use Rattle.nextest_tree.specs.Node.{Node, table, array, text, int, bool, opaque, Entries, no_entries, entry, get, as_table, member_of, PrecedesKeys, IsSorted, EntriesAreSorted}
 use Rattle.nextest_load.specs.Trees.{tree_in, own_tree, merged_tree}
 use Rattle.nextest_load.proofs.Documents.{Holds, nothing, just, document_sorted}
 
@@ -73,7 +73,7 @@ table_sorted (Some n) (just h) = as_sorted n h
 pub entries_sorted : (k : Key) (n : Node) → IsSorted n → EntriesAreSorted (entries_at k n)
 entries_sorted k n s = table_sorted (at_key k n) (member (key_text k) n s)
 
-before_names : {X : Type 0} (f : Node → X) (k : List ℕ) (es : Entries) → IsBefore k es → AllByRecursion (λ y. slice_cmp nat_cmp k y ≡ Less) (names_in (each_in f es))
+before_names : {X : Type 0} (f : Node → X) (k : List ℕ) (es : Entries) → PrecedesKeys k es → AllByRecursion (λ y. slice_cmp nat_cmp k y ≡ Less) (names_in (each_in f es))
 before_names f k no_entries h = tt
 before_names f k (entry l n es) h = (h.0, before_names f k es h.1)
 

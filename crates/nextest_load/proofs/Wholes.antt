@@ -12,7 +12,7 @@ use Rattle.nextest_rules.specs.Rules.{Layer, at_name}
 use Rattle.nextest_rules.specs.View.{layer_view}
 use Rattle.nextest_rules.specs.declared.overrides.LayerRules.{LayerRules}
 use Rattle.nextest_sources.specs.Endings.{Ending, Ran}
-use Rattle.nextest_sources.specs.Inputs.{Input, SourceText, texts_of}
+use Rattle.nextest_sources.specs.Inputs.{Input, SourceText, source_texts_of}
 use Rattle.nextest_sources.specs.Sources.{Source}
 use Rattle.nextest_sources.specs.Warnings.{Warning}
 use Rattle.nextest_sources.specs.declared.error.ConfigParseError.{ConfigParseError}
@@ -80,7 +80,7 @@ parts_are meaning spec_meaning engines ss loaded (Err e) has tables turned = tt
 
 -- inputs and the repository's source that are those of files
 pub steps_same : {M K P : Type 0} (engines : Readings M K P) (features : Features) (all inputs : List Input) (one source : Source) {old new : List Warning} {o : Ending} → all ≡ inputs → one ≡ source
-    → Ran (input_steps engines features [] all ++ merged_steps one (flat_map texts_of all)) old new o → Ran (input_steps engines features [] inputs ++ merged_steps source (flat_map texts_of inputs)) old new o
+    → Ran (input_steps engines features [] all ++ merged_steps one (flat_map source_texts_of all)) old new o → Ran (input_steps engines features [] inputs ++ merged_steps source (flat_map source_texts_of inputs)) old new o
 steps_same engines features all inputs one source {old} {new} {o} is at ran =
-    let first = subst (λ (i : List Input). Ran (input_steps engines features [] i ++ merged_steps one (flat_map texts_of i)) old new o) is ran in
-    subst (λ (s : Source). Ran (input_steps engines features [] inputs ++ merged_steps s (flat_map texts_of inputs)) old new o) at first
+    let first = subst (λ (i : List Input). Ran (input_steps engines features [] i ++ merged_steps one (flat_map source_texts_of i)) old new o) is ran in
+    subst (λ (s : Source). Ran (input_steps engines features [] inputs ++ merged_steps s (flat_map source_texts_of inputs)) old new o) at first

@@ -9,8 +9,8 @@ use Rattle.nextest_tables.specs.View.{fields_view}
 use Rattle.nextest_tables.specs.Written.{Name}
 use Rattle.nextest_load.specs.Config as model
 use Rattle.nextest_load.specs.Config.{ScriptTables}
-use Rattle.nextest_load.specs.declared.config.MergedProfile.{MergedProfile}
-use Rattle.nextest_load.specs.declared.config.ScriptConfig.{ScriptConfig}
+use Rattle.nextest_load.specs.declared.loaded_config.MergedProfile.{MergedProfile}
+use Rattle.nextest_load.specs.declared.loaded_config.ScriptConfig.{ScriptConfig}
 
 -- groups by their names
 abbrev pub groups_view : List (CustomTestGroup × TestGroupConfig)

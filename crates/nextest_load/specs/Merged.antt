@@ -7,7 +7,7 @@ use Rattle.nextest_tables.specs.Written.{Name}
 use Rattle.nextest_load.specs.Config as model
 use Rattle.nextest_load.specs.Config.{merged_profile}
 use Rattle.nextest_load.specs.ConfigView.{groups_view, merged_profile_view}
-use Rattle.nextest_load.specs.declared.config.MergedProfile.{MergedProfile}
+use Rattle.nextest_load.specs.declared.loaded_config.MergedProfile.{MergedProfile}
 use Rattle.nextest_load.specs.declared.merged.MergedTables.{MergedTables}
 
 -- the parent that a profile writes

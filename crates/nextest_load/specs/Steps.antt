@@ -9,9 +9,9 @@ use Rattle.nextest_rules.specs.Known.{known_names, known_to, sets_of}
 use Rattle.nextest_rules.specs.Steps.{warn_if_some, definition_steps, parent_cause, rule_steps}
 use Rattle.nextest_sources.specs.Causes.{NameSet, LoadCause, duplicate_tool, no_document, bad_element}
 use Rattle.nextest_sources.specs.InputFaults.{outcome_cause, first_path}
-use Rattle.nextest_sources.specs.Inputs.{LoadInputs, Input, SourceText, tool_source, inputs_of, texts_of, sources_in, repository_of}
+use Rattle.nextest_sources.specs.Inputs.{LoadInputs, Input, SourceText, tool_source, inputs_of, source_texts_of, sources_in, repository_of}
 use Rattle.nextest_sources.specs.Sources.{Source, ToolFile}
-use Rattle.nextest_sources.specs.Steps.{Step, check}
+use Rattle.nextest_sources.specs.Steps.{LoadStep, check}
 use Rattle.nextest_sources.specs.Warnings.{unknown_keys}
 use Rattle.nextest_tables.specs.FileTexts.{FileText, file_text}
 use Rattle.nextest_tables.specs.Tables.{a_file}
@@ -40,11 +40,11 @@ abbrev pub element_cause : Node → Option LoadCause
 element_cause n = option_map bad_element (first (faults a_file [] n))
 
 -- the warning of keys that no schema knows, if there are any
-abbrev pub unknown_steps : Source → Node → List Step
+abbrev pub unknown_steps : Source → Node → List LoadStep
 unknown_steps source n = warn_if_some (unknown_keys source) (in_byte_order (unknown a_file [] n))
 
 -- the steps of the tree of a source: its elements, its unknown keys
-abbrev pub own_steps : Source → Node → List Step
+abbrev pub own_steps : Source → Node → List LoadStep
 own_steps source n = check source (element_cause n) ∷ unknown_steps source n
 
 -- the names of the profiles of files
@@ -54,7 +54,7 @@ profiles_in files = is_one_of (known_names files).profiles
 -- The steps of a file over the files below it, in order: its elements and unknown keys, what it
 -- defines, its rules.
 abbrev pub file_steps : {M K P : Type 0} → Readings M K P → Features → List FileText → Source
-    → Node → List Step
+    → Node → List LoadStep
 file_steps engines features below source n =
     own_steps source n
     ++ (definition_steps features source (file_text n)
@@ -68,28 +68,28 @@ lower_profiles below = profiles_in (map own_file below)
 -- The steps of a source over those below it, in order: it is a document, and its file over the
 -- defaults.
 abbrev pub source_steps : {M K P : Type 0} → Readings M K P → Features → List SourceText
-    → SourceText → List Step
+    → SourceText → List LoadStep
 source_steps engines features below s =
     check s.source (document_cause (tree_of s.text))
     ∷ file_steps engines features (map own_file below) s.source (own_tree s)
 
 -- the steps of an input over the sources below it: its outcome, and then its text, if it gave one
 abbrev pub one_input_steps : {M K P : Type 0} → Readings M K P → Features → List SourceText → Input
-    → List Step
+    → List LoadStep
 one_input_steps engines features below i =
     check i.source (outcome_cause i.source.kind i.outcome)
-    ∷ flat_map (source_steps engines features below) (texts_of i)
+    ∷ flat_map (source_steps engines features below) (source_texts_of i)
 
 -- the steps of inputs over the sources below them, the lowest first
 abbrev pub input_steps : {M K P : Type 0} → Readings M K P → Features → List SourceText
-    → List Input → List Step
+    → List Input → List LoadStep
 input_steps engines features below [] = []
 input_steps engines features below (i ∷ above) =
     one_input_steps engines features below i
-    ++ input_steps engines features (below ++ texts_of i) above
+    ++ input_steps engines features (below ++ source_texts_of i) above
 
 -- the steps of tools' files: a file is refused where one before it is of the same tool
-abbrev pub tool_steps : List ToolFile → List ToolFile → List Step
+abbrev pub tool_steps : List ToolFile → List ToolFile → List LoadStep
 tool_steps before [] = []
 tool_steps before (t ∷ ts) =
     check (tool_source t) (option_map (duplicate_tool t.tool) (first_path t.tool before))
@@ -100,18 +100,18 @@ abbrev pub no_profiles : NameSet
 no_profiles = is_one_of []
 
 -- the steps of a tree that sources were merged to, at the repository's source
-abbrev pub tree_steps : Source → Node → List Step
+abbrev pub tree_steps : Source → Node → List LoadStep
 tree_steps repository n =
     check repository (element_cause n)
     ∷ check repository (parent_cause no_profiles (file_text n).profiles)
     ∷ []
 
 -- the steps of the merged tree
-abbrev pub merged_steps : Source → List SourceText → List Step
+abbrev pub merged_steps : Source → List SourceText → List LoadStep
 merged_steps repository ss = tree_steps repository (merged_tree ss)
 
 -- The steps of a load: the tools, the inputs from the lowest, the merged tree.
-abbrev pub load_steps : {M K P : Type 0} → Readings M K P → Features → LoadInputs → List Step
+abbrev pub load_steps : {M K P : Type 0} → Readings M K P → Features → LoadInputs → List LoadStep
 load_steps engines features files =
     tool_steps [] files.tools
     ++ (input_steps engines features [] (inputs_of files)

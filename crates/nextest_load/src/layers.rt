@@ -14,7 +14,7 @@ ghost use Rattle.nextest_rules.specs.View.{layer_view};
 ghost use Rattle.nextest_script_order.specs.Order.{IsOrder};
 ghost use Rattle.nextest_script_order.specs.Standing.{ids_view};
 ghost use Rattle.nextest_sources.specs.Endings.{Ran, ending};
-ghost use Rattle.nextest_sources.specs.Inputs.{SourceText, texts_of};
+ghost use Rattle.nextest_sources.specs.Inputs.{SourceText, source_texts_of};
 ghost use Rattle.nextest_sources.specs.InputsView.{input_view};
 ghost use Rattle.nextest_tree.specs.View.{tree_view};
 
@@ -119,7 +119,7 @@ impl<F: Filters, S: Specs> LoadedLayers<F, S> {
             S.holds_on in
             (below : List SourceText) → HasLoaded F.meaning S.spec_meaning engines below self.old
             → OnOk result (HasLoaded F.meaning S.spec_meaning engines
-            (below ++ texts_of (input_view input.now)) self.new) }
+            (below ++ source_texts_of (input_view input.now)) self.new) }
     {
         let Some(text) = text_of(input)? else {
             return Ok(());
@@ -151,7 +151,7 @@ pub(crate) fn load_inputs<F: Filters, S: Specs, W: ConfigWarnings>(
         (S.read_spec pcx.now.specs.now) F.match_all F.holds F.holds_binary F.leaves
         S.holds_on in
         IfOk result (HasLoaded F.meaning S.spec_meaning engines
-        (flat_map texts_of (map input_view inputs.now))) }
+        (flat_map source_texts_of (map input_view inputs.now))) }
 {
     let mut loaded = LoadedLayers::new(alloc);
     for input in inputs {

@@ -1,13 +1,13 @@
 //! Loads a configuration: its sources over the defaults, and what they are merged to.
 #![tactic(auto)]
 
-mod config;
 pub mod laws;
 mod layers;
 mod load;
+mod loaded_config;
 mod merged;
 mod parts;
 mod scripts;
 mod source;
 
-pub use config::{LoadedConfig, MergedProfile, ScriptConfig};
+pub use loaded_config::{LoadedConfig, MergedProfile, ScriptConfig};

@@ -5,7 +5,7 @@ ghost use Rattle.nextest_load.specs.Meaning.{loaded_meaning};
 ghost use Rattle.nextest_rules.specs.KnownView.{features_view};
 ghost use Rattle.nextest_sources.specs.Inputs.{load_inputs_view};
 
-use crate::config::LoadedConfig;
+use crate::loaded_config::LoadedConfig;
 use crate::parts::{ConfigParts, load_parts};
 use nextest_elements::ConfigExperimental;
 use nextest_engines::{Filters, ParseContext, Specs};

@@ -20,11 +20,11 @@ ghost use Rattle.nextest_sources.specs.Warnings.{Warning};
 ghost use Rattle.nextest_tables.specs.Complete.{HasCompleteDefault, IsMergedTree};
 ghost use Rattle.nextest_tables.specs.FileTexts.{file_text};
 ghost use Rattle.nextest_tables.specs.Scripts.{AreFileScripts, file_scripts_view};
-ghost use Rattle.nextest_tables.specs.View.{by_name, file_view, profile_view};
+ghost use Rattle.nextest_tables.specs.View.{by_name, file_table_view, profile_view};
 ghost use Rattle.nextest_tree.specs.Node.{Node};
 ghost use Rattle.nextest_tree.specs.View.{tree_view};
 
-use crate::config::{MergedProfile, ScriptConfig};
+use crate::loaded_config::{MergedProfile, ScriptConfig};
 use crate::scripts::{ScriptNames, script_config};
 use crate::source::read_elements;
 use nextest_elements::{CustomTestGroup, TestGroupConfig};
@@ -108,13 +108,13 @@ fn merged_tables(
     table: FileTable,
 ) -> Result<MergedTables, ConfigParseError>
     ensures found { Found (fault_at_source (source_view repository.now)
-        (parent_cause no_profiles (file_view table).profiles))
+        (parent_cause no_profiles (file_table_view table).profiles))
         (ending result) }
-    ensures means { IfOk result (λ tables. tables_view tables ≡ tables_of (file_view table)) }
+    ensures means { IfOk result (λ tables. tables_view tables ≡ tables_of (file_table_view table)) }
     ensures scripts { (ss : List SourceText) → AreScriptNames ss names
         → AreFileScripts (merged_tree ss) (file_scripts_view table)
         → IfOk result (λ tables. AreScriptsOf ss (scripts_view tables.scripts)) }
-    ensures defaults { HasCompleteDefault (file_view table)
+    ensures defaults { HasCompleteDefault (file_table_view table)
         → IfOk result (λ tables. HasDefaults (tables_view tables).profiles) }
 {
     let FileTable {

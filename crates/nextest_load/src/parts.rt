@@ -9,7 +9,7 @@ ghost use Rattle.nextest_load.specs.Steps.{input_steps, load_steps, merged_steps
 ghost use Rattle.nextest_load.specs.Trees.{merged_tree};
 ghost use Rattle.nextest_rules.specs.KnownView.{features_view};
 ghost use Rattle.nextest_sources.specs.Endings.{Ran, ending};
-ghost use Rattle.nextest_sources.specs.Inputs.{SourceText, inputs_of, load_inputs_view, repository_of, sources_in, texts_of};
+ghost use Rattle.nextest_sources.specs.Inputs.{SourceText, inputs_of, load_inputs_view, repository_of, sources_in, source_texts_of};
 ghost use Rattle.nextest_sources.specs.InputsView.{input_view};
 ghost use Rattle.nextest_sources.specs.Sources.{source_view};
 ghost use Rattle.nextest_sources.specs.Warnings.{Warning};
@@ -87,13 +87,13 @@ fn load_merged_inputs<F: Filters, S: Specs, W: ConfigWarnings>(
         S.holds_on in
         let all = map input_view inputs.now in
         Ran (input_steps engines (features_view features.now) [] all
-        ++ merged_steps (source_view repository.now) (flat_map texts_of all))
+        ++ merged_steps (source_view repository.now) (flat_map source_texts_of all))
         (W.warnings warnings.old) (W.warnings warnings.new) (ending result) }
     ensures parts { let engines = readings_view (F.read pcx.now.filters.now)
         (S.read_spec pcx.now.specs.now) F.match_all F.holds F.holds_binary F.leaves
         S.holds_on in
         IfOk result (AreParts F.meaning S.spec_meaning engines
-        (flat_map texts_of (map input_view inputs.now))) }
+        (flat_map source_texts_of (map input_view inputs.now))) }
 {
     let loaded = load_inputs(alloc, pcx, features, inputs, warnings)?;
     parts_of(alloc, repository, loaded)

@@ -16,7 +16,7 @@ ghost use Rattle.nextest_load.specs.Trees.{merged_tree};
 ghost use Rattle.nextest_sources.specs.Inputs.{SourceText};
 ghost use Rattle.nextest_tables.specs.Scripts.{AreFileScripts};
 
-use crate::config::ScriptConfig;
+use crate::loaded_config::ScriptConfig;
 use indexmap::IndexMap;
 use nextest_script_order::ids_in_order;
 use nextest_scripts::{ScriptId, SetupScriptConfig};

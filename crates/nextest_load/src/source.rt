@@ -24,7 +24,7 @@ ghost use Rattle.nextest_tables.specs.Complete.{HasCompleteDefault, IsMergedTree
 ghost use Rattle.nextest_tables.specs.FileTexts.{FileText, file_text};
 ghost use Rattle.nextest_tables.specs.Scripts.{AreFileScripts, file_scripts_view};
 ghost use Rattle.nextest_tables.specs.Tables.{a_file};
-ghost use Rattle.nextest_tables.specs.View.{file_view};
+ghost use Rattle.nextest_tables.specs.View.{file_table_view};
 ghost use Rattle.nextest_tree.specs.Node.{Node};
 ghost use Rattle.nextest_tree.specs.Schema.{is_one_of, unknown};
 ghost use Rattle.nextest_tree.specs.View.{tree_view};
@@ -95,14 +95,14 @@ pub(crate) fn read_elements(
 ) -> Result<(FileTable, BTreeSet<String>), ConfigParseError>
     ensures found { let cause = element_cause (tree_view tree.now) in
         Found (fault_at_source (source_view source.now) cause) (ending result) }
-    ensures value { IfOk result (λ read. file_view read.0 ≡ file_text (tree_view tree.now)) }
+    ensures value { IfOk result (λ read. file_table_view read.0 ≡ file_text (tree_view tree.now)) }
     ensures scripts { IfOk result
         (λ read. AreFileScripts (tree_view tree.now) (file_scripts_view read.0)) }
     ensures unknown { IfOk result
         (λ read. (q : List ℕ)
         → contains_text read.1 q ≡ is_one_of (unknown a_file [] (tree_view tree.now)) q) }
     ensures complete { (files : List Node) → IsMergedTree files (tree_view tree.now)
-        → IfOk result (λ read. HasCompleteDefault (file_view read.0)) }
+        → IfOk result (λ read. HasCompleteDefault (file_table_view read.0)) }
 {
     let mut walk = Walk::new(alloc);
     match read_file(alloc, tree, &mut walk) {
@@ -142,7 +142,7 @@ fn read_own<W: ConfigWarnings>(
 ) -> Result<FileTable, ConfigParseError>
     ensures ran { Ran (own_steps (source_view source.now) (tree_view own.now))
         (W.warnings warnings.old) (W.warnings warnings.new) (ending result) }
-    ensures value { IfOk result (λ table. file_view table ≡ file_text (tree_view own.now)) }
+    ensures value { IfOk result (λ table. file_table_view table ≡ file_text (tree_view own.now)) }
 {
     let (table, unknown) = read_elements(alloc, source, own)?;
     warn_of_unknown(alloc, source, &unknown, warnings)?;

@@ -1,7 +1,6 @@
 -- The last profile that counts is `default`, which writes every field.
-use Rattle.std.proofs.Common.{◌≡◌, List, [], ◌∷◌, ◌++◌, Option, None, Some, option_map, refl, ap, subst, sym}
+use Rattle.std.proofs.Common.{List, [], ◌∷◌, Option, None, Some, option_map}
 use Rattle.std.specs.List.{cons_option}
-use Rattle.nextest_inheritance.specs.Names.{default_name}
 use Rattle.nextest_inheritance.specs.Parents.{with_default}
 use Rattle.nextest_load.specs.Closed.{HasDefaults}
 use Rattle.nextest_load.specs.Config.{MergedProfile}

@@ -1,12 +1,12 @@
 -- What holds of each rule of a configuration holds of those that are gathered along a chain.
-use Rattle.std.proofs.Common.{◌≡◌, Bool, true, false, List, [], ◌∷◌, ◌++◌, map, Option, Some, None, unwrap_or, option_map, cond, refl, ap, ◌∙◌, subst}
+use Rattle.std.proofs.Common.{◌≡◌, Bool, true, false, List, [], ◌∷◌, ◌++◌, map, Some, unwrap_or, option_map, cond, subst}
 use Rattle.std.proofs.lemmas.Bool.{or_cases}
 use Rattle.std.proofs.lemmas.Slice.Eq.{bytes_eq-Decides}
 use Rattle.std.specs.List.{flat_map}
 use Rattle.std.specs.Map.{lookup}
 use Rattle.std.specs.Str.{bytes_eq}
-use Rattle.std.proofs.Common.{◌⊎◌, inl, inr}
-use Rattle.nextest_rules.specs.Rules.{Compiled, LayerProfile, Layer}
+use Rattle.std.proofs.Common.{inl, inr}
+use Rattle.nextest_rules.specs.Rules.{LayerProfile, Layer}
 use Rattle.nextest_settings.specs.Chains.{in_layer, in_order}
 use Rattle.nextest_sources.specs.InputFaults.{Each}
 use Rattle.nextest_tables.specs.Written.{Name}

@@ -1,5 +1,5 @@
 -- A profile of a closed configuration gives tests groups of the configuration.
-use Rattle.std.proofs.Common.{List, [], ◌∷◌, Bool, true, false, cond, find, map, Option, None, Some, IfSome, option_and_then}
+use Rattle.std.proofs.Common.{List, [], ◌∷◌, Bool, true, false, cond, find, Option, None, Some, IfSome, option_and_then}
 use Rattle.std.specs.Option.{option_or}
 use Rattle.nextest_elements.specs.declared.run_mode.NextestRunMode.{NextestRunMode}
 use Rattle.nextest_elements.specs.declared.test_group.TestGroup.{TestGroup}

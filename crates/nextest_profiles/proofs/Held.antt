@@ -1,8 +1,8 @@
 -- What a profile means whose rules code holds.
-use Rattle.std.proofs.Common.{◌≡◌, map, refl, ap}
+use Rattle.std.proofs.Common.{◌≡◌, map}
 use Rattle.nextest_settings.specs.FilterView.{filter_view}
 use Rattle.nextest_settings.specs.Profile.{ProfileGrounds, EvaluatableModel}
-use Rattle.nextest_settings.specs.View.{evaluated_override_view, evaluated_script_rule_view, override_meaning, script_rule_meaning, override_of, script_rule_of}
+use Rattle.nextest_settings.specs.View.{evaluated_override_view, evaluated_script_rule_view, evaluated_override_meaning, evaluated_script_rule_meaning, override_of, script_rule_of}
 use Rattle.nextest_settings.specs.declared.evaluated.EvaluatedRules.{EvaluatedRules}
 use Rattle.nextest_profiles.specs.Meaning.{choice_meaning, profile_meaning}
 use Rattle.nextest_profiles.proofs.Closing.{fused}
@@ -29,7 +29,7 @@ module _ {F S E T N P M : Type 0} (f : E → M) (grounds : ProfileGrounds) (rule
   pub means_held : profile_meaning f held ≡ held_meaning
   means_held = λ i. record {
     grounds = grounds;
-    overrides = fused (override_meaning f) evaluated_override_view rules.overrides.items i;
-    script_rules = fused (script_rule_meaning f) evaluated_script_rule_view rules.script_rules.items i;
+    overrides = fused (evaluated_override_meaning f) evaluated_override_view rules.overrides.items i;
+    script_rules = fused (evaluated_script_rule_meaning f) evaluated_script_rule_view rules.script_rules.items i;
     default_filter = choice_meaning f (filter_view rules.default_filter);
   }

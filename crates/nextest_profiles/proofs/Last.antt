@@ -1,5 +1,5 @@
 -- The last of the tests of a name that gets a custom group.
-use Rattle.std.proofs.Common.{◌≡◌, ◌<◌, ◌++◌, ℕ, zero, suc, arith, List, [], ◌∷◌, reverse, Bool, true, false, cond, if◌then◌else◌, Option, None, Some, IfSome, option_and_then, unwrap_or, filter, slice_get, refl, sym, ap, ◌∙◌, subst}
+use Rattle.std.proofs.Common.{◌≡◌, ◌<◌, ◌++◌, ℕ, zero, suc, arith, List, [], ◌∷◌, reverse, Bool, true, false, if◌then◌else◌, Option, None, Some, option_and_then, unwrap_or, filter, slice_get, refl, sym, ap, ◌∙◌}
 use Rattle.std.proofs.lemmas.Bool.{and_parts, and_from}
 use Rattle.std.proofs.lemmas.List.{reverse-append}
 use Rattle.std.proofs.lemmas.Option.{same_Some}

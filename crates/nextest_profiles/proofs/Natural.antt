@@ -13,10 +13,10 @@ use Rattle.nextest_load.specs.Config.{ConfigModel, config_parents}
 use Rattle.nextest_load.specs.Meaning.{config_meaning}
 use Rattle.nextest_rules.specs.Meaning as rules
 use Rattle.nextest_rules.specs.Rules.{Compiled, OverrideUse, LayerProfile, Layer, at_name}
-use Rattle.nextest_settings.specs.Chains.{in_layer, in_order, overrides_of, script_rules_of, first_of, FilterChoice, at_profile, at_override, filter_of_profile, nearest_filter, filter_of_nothing}
+use Rattle.nextest_settings.specs.Chains.{in_layer, in_order, overrides_of, script_rules_of, first_of, FilterChoice, at_profile, filter_of_profile, nearest_filter, filter_of_nothing}
 use Rattle.nextest_settings.specs.Platforms.{spec_holds, EvaluatedRule, rule_on, filter_of_override, default_filter_of}
 use Rattle.nextest_settings.specs.Profile.{Configured, EarlyModel, EvaluatableModel, profile_of, profile_on}
-use Rattle.nextest_settings.specs.View.{override_meaning, script_rule_meaning}
+use Rattle.nextest_settings.specs.View.{evaluated_override_meaning, evaluated_script_rule_meaning}
 use Rattle.nextest_tables.specs.FileTexts.{ScriptUse}
 use Rattle.nextest_tables.specs.Written.{Name}
 use Rattle.nextest_tree.specs.Schema.{first}
@@ -112,33 +112,33 @@ module _ {E N M K : Type 0} (f : E → M) (g : N → K) where
     spec_meaning platform None = refl
     spec_meaning platform (Some spec) = refl
 
-    override_on : (r : Compiled E N (OverrideUse E)) → override_meaning f (rule_on (λ spec platform. meets (g spec) platform) platforms r) ≡ rule_on meets platforms (rules.override_meaning f g r)
+    override_on : (r : Compiled E N (OverrideUse E)) → evaluated_override_meaning f (rule_on (λ spec platform. meets (g spec) platform) platforms r) ≡ rule_on meets platforms (rules.override_meaning f g r)
     override_on r = rw (spec_meaning platforms.host r.host, spec_meaning platforms.host r.target, spec_meaning (unwrap_or platforms.target platforms.host) r.target) refl
 
-    overrides_on : (rs : List (Compiled E N (OverrideUse E))) → map (override_meaning f) (map (rule_on (λ spec platform. meets (g spec) platform) platforms) rs) ≡ map (rule_on meets platforms) (map (rules.override_meaning f g) rs)
+    overrides_on : (rs : List (Compiled E N (OverrideUse E))) → map (evaluated_override_meaning f) (map (rule_on (λ spec platform. meets (g spec) platform) platforms) rs) ≡ map (rule_on meets platforms) (map (rules.override_meaning f g) rs)
     overrides_on [] = refl
     overrides_on (r ∷ rs) = λ i. override_on r i ∷ overrides_on rs i
 
-    script_rule_on : (r : Compiled E N ScriptUse) → script_rule_meaning f (rule_on (λ spec platform. meets (g spec) platform) platforms r) ≡ rule_on meets platforms (rules.script_rule_meaning f g r)
+    script_rule_on : (r : Compiled E N ScriptUse) → evaluated_script_rule_meaning f (rule_on (λ spec platform. meets (g spec) platform) platforms r) ≡ rule_on meets platforms (rules.script_rule_meaning f g r)
     script_rule_on r = rw (spec_meaning platforms.host r.host, spec_meaning platforms.host r.target, spec_meaning (unwrap_or platforms.target platforms.host) r.target) refl
 
-    script_rules_on : (rs : List (Compiled E N ScriptUse)) → map (script_rule_meaning f) (map (rule_on (λ spec platform. meets (g spec) platform) platforms) rs) ≡ map (rule_on meets platforms) (map (rules.script_rule_meaning f g) rs)
+    script_rules_on : (rs : List (Compiled E N ScriptUse)) → map (evaluated_script_rule_meaning f) (map (rule_on (λ spec platform. meets (g spec) platform) platforms) rs) ≡ map (rule_on meets platforms) (map (rules.script_rule_meaning f g) rs)
     script_rules_on [] = refl
     script_rules_on (r ∷ rs) = λ i. script_rule_on r i ∷ script_rules_on rs i
 
-  choice_of : (on : Bool) (index : Option E) (r : EvaluatedRule E (OverrideUse E)) → r.for_target ≡ on → r.writes.default_filter ≡ index → option_map (choice_meaning f) (filter_of_override r) ≡ filter_of_override (override_meaning f r)
+  choice_of : (on : Bool) (index : Option E) (r : EvaluatedRule E (OverrideUse E)) → r.for_target ≡ on → r.writes.default_filter ≡ index → option_map (choice_meaning f) (filter_of_override r) ≡ filter_of_override (evaluated_override_meaning f r)
   choice_of false o r is written = rw is refl
   choice_of true None r is written = rw (is, written) refl
   choice_of true (Some e) r is written = rw (is, written) refl
 
-  of_override_meaning : (r : EvaluatedRule E (OverrideUse E)) → option_map (choice_meaning f) (filter_of_override r) ≡ filter_of_override (override_meaning f r)
+  of_override_meaning : (r : EvaluatedRule E (OverrideUse E)) → option_map (choice_meaning f) (filter_of_override r) ≡ filter_of_override (evaluated_override_meaning f r)
   of_override_meaning r = choice_of r.for_target r.writes.default_filter r refl refl
 
   counting_meaning : (rs : List (EvaluatedRule E (OverrideUse E))) (nearest : Option (FilterChoice E)) (nothing : FilterChoice E)
-      → choice_meaning f (default_filter_of rs nearest nothing) ≡ default_filter_of (map (override_meaning f) rs) (option_map (choice_meaning f) nearest) (choice_meaning f nothing)
+      → choice_meaning f (default_filter_of rs nearest nothing) ≡ default_filter_of (map (evaluated_override_meaning f) rs) (option_map (choice_meaning f) nearest) (choice_meaning f nothing)
   counting_meaning rs nearest nothing =
       unwrap_meaning (choice_meaning f) (option_or (first_of filter_of_override rs) nearest) nothing
-      ∙ rw (or_meaning (choice_meaning f) (first_of filter_of_override rs) nearest, first_meaning filter_of_override filter_of_override (override_meaning f) (choice_meaning f) of_override_meaning rs) refl
+      ∙ rw (or_meaning (choice_meaning f) (first_of filter_of_override rs) nearest, first_meaning filter_of_override filter_of_override (evaluated_override_meaning f) (choice_meaning f) of_override_meaning rs) refl
 
   -- what a profile on the platforms of a build means
   pub profile_means : {P : Type 0} (meets : K → P → Option Bool) (platforms : BuildPlatforms P) (c : Configured E N) (name : Name) (chain : List Name)

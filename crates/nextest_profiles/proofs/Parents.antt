@@ -11,7 +11,7 @@ use Rattle.nextest_inheritance.specs.View.{parents_view}
 use Rattle.nextest_load.specs.Config.{MergedProfile as MergedProfile'}
 use Rattle.nextest_load.specs.ConfigView.{merged_profile_view}
 use Rattle.nextest_load.specs.Merged.{parent_in}
-use Rattle.nextest_load.specs.declared.config.MergedProfile.{MergedProfile}
+use Rattle.nextest_load.specs.declared.loaded_config.MergedProfile.{MergedProfile}
 use Rattle.nextest_rules.specs.Rules.{at_name}
 use Rattle.nextest_tables.specs.FileTexts.{names_in}
 use Rattle.nextest_tables.specs.View.{by_name}

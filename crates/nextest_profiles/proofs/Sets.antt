@@ -1,5 +1,5 @@
 -- Names in sets.
-use Rattle.std.proofs.Common.{◌≡◌, List, [], ◌∷◌, ◌||◌, map, Some, Bool, true, false, cond, String, Global, string_bytes, refl, sym, ap, ◌∙◌}
+use Rattle.std.proofs.Common.{◌≡◌, List, ◌∷◌, ◌||◌, map, Some, Bool, true, false, cond, String, Global, string_bytes, refl, ap, ◌∙◌}
 use Rattle.std.specs.BTreeSet.{BTreeSet, contains_text, Updates}
 use Rattle.std.specs.Str.{bytes_eq}
 use Rattle.std.specs.String.{string_cmp}

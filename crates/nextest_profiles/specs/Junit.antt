@@ -28,6 +28,6 @@ pub record IsReport (grounds : ProfileGrounds) (report : JunitConfig) : Type 0 w
       ≡ Some report.flaky_fail_status
 
 -- there is a report exactly where a path is set, and then it is that of the profile
-abbrev pub IsJunit : ProfileGrounds → Option JunitConfig → Type 0
-IsJunit grounds None = report_path grounds.fields ≡ None
-IsJunit grounds (Some report) = IsReport grounds report
+abbrev pub IsReportWhereSet : ProfileGrounds → Option JunitConfig → Type 0
+IsReportWhereSet grounds None = report_path grounds.fields ≡ None
+IsReportWhereSet grounds (Some report) = IsReport grounds report

@@ -4,7 +4,7 @@ use Rattle.nextest_load.specs.Config.{ConfigModel}
 use Rattle.nextest_load.specs.Meaning.{config_meaning}
 use Rattle.nextest_settings.specs.Chains.{FilterChoice}
 use Rattle.nextest_settings.specs.Profile.{Configured, EvaluatableModel}
-use Rattle.nextest_settings.specs.View.{override_meaning, script_rule_meaning}
+use Rattle.nextest_settings.specs.View.{evaluated_override_meaning, evaluated_script_rule_meaning}
 
 -- the same beside another configuration, as the one that texts mean beside the one that is held
 abbrev pub with_config : {E N M K : Type 0} → Configured E N → ConfigModel M K → Configured M K
@@ -23,7 +23,7 @@ choice_meaning f c = record { filter = f c.filter; profile = c.profile; section 
 abbrev pub profile_meaning : {E M : Type 0} → (E → M) → EvaluatableModel E → EvaluatableModel M
 profile_meaning f p = record {
   grounds = p.grounds;
-  overrides = map (override_meaning f) p.overrides;
-  script_rules = map (script_rule_meaning f) p.script_rules;
+  overrides = map (evaluated_override_meaning f) p.overrides;
+  script_rules = map (evaluated_script_rule_meaning f) p.script_rules;
   default_filter = choice_meaning f p.default_filter;
 }

@@ -13,7 +13,7 @@ ghost use Rattle.nextest_settings.specs.declared.setting.Setting.{Setting};
 ghost use Rattle.nextest_settings.specs.Settings.{slow_timeout_in, global_timeout_in};
 ghost use Rattle.nextest_settings.specs.Values.{nearest};
 ghost use Rattle.nextest_settings.specs.View.{evaluated_override_view, evaluated_script_rule_view, script_rule_of};
-ghost use Rattle.nextest_profiles.specs.Junit.{IsJunit};
+ghost use Rattle.nextest_profiles.specs.Junit.{IsReportWhereSet};
 ghost use Rattle.nextest_profiles.specs.Known.{KnowsScripts, evaluated_use};
 ghost use Rattle.nextest_profiles.specs.Meaning.{profile_meaning};
 
@@ -233,7 +233,7 @@ impl<'cfg, F: Filters, S: Specs> EvaluatableProfile<'cfg, F, S> {
 
     /// The report of the run, if one is written.
     pub fn junit(&self, alloc: Global) -> Result<Option<JunitConfig>, AllocError>
-        ensures { IfOk result (IsJunit self.now.grounds) }
+        ensures { IfOk result (IsReportWhereSet self.now.grounds) }
     {
         self.grounds.junit(alloc)
     }

@@ -50,7 +50,7 @@ impl<'cfg> Grounds<'cfg> {
     ghost use Rattle.std.specs.Prelude.{◌≡◌, List, Some, IfOk, is_some, option_map};
     ghost use Rattle.nextest_load.specs.ConfigView.{groups_view, scripts_view};
     ghost use Rattle.nextest_settings.specs.Settings.{report_path};
-    ghost use Rattle.nextest_profiles.specs.Junit.{IsJunit};
+    ghost use Rattle.nextest_profiles.specs.Junit.{IsReportWhereSet};
     ghost use Rattle.nextest_inheritance.specs.View.{borrowed_view};
     ghost use Rattle.nextest_inheritance.specs.Parents.{with_default};
     ghost use Rattle.nextest_settings.specs.ChainValues.{AreValues};
@@ -141,7 +141,7 @@ impl<'cfg> Grounds<'cfg> {
 
     /// The report of the run, if one is written.
     pub(crate) fn junit(&self, alloc: Global) -> Result<Option<JunitConfig>, AllocError>
-        ensures { IfOk result (IsJunit self.now) }
+        ensures { IfOk result (IsReportWhereSet self.now) }
     {
         let report = self.values.report;
         let Some(path) = report.path else {

@@ -6,12 +6,12 @@ use Rattle.nextest_sources.specs.Causes.{LoadCause, LoadFault}
 use Rattle.nextest_sources.specs.Endings.{Ending, passed, refused, no_memory, malformed, Found, WentThrough, Ran, error_view, ending}
 use Rattle.nextest_sources.specs.InputFaults.{fault_at_source}
 use Rattle.nextest_sources.specs.Sources.{Source}
-use Rattle.nextest_sources.specs.Steps.{Step, check, first_fault, warnings_before}
+use Rattle.nextest_sources.specs.Steps.{LoadStep, check, first_fault, warnings_before}
 use Rattle.nextest_sources.specs.Warnings.{Warning}
 use Rattle.nextest_sources.specs.declared.error.ConfigParseError.{ConfigParseError}
 use Rattle.nextest_sources.proofs.Runs.{ran_memory}
 
-went : (steps : List Step) (fault : Option LoadFault) (old new : List Warning) (o : Ending) → first_fault steps ≡ fault → warnings_before steps ≡ [] → new ≡ old
+went : (steps : List LoadStep) (fault : Option LoadFault) (old new : List Warning) (o : Ending) → first_fault steps ≡ fault → warnings_before steps ≡ [] → new ≡ old
     → Found fault o → WentThrough steps old new o
 went steps fault old new passed first none same h = (first ∙ h, same ∙ sym (append-nil old) ∙ ap (λ ws. old ++ ws) (sym none))
 went steps fault old new (refused f) first none same h = (first ∙ h, same ∙ sym (append-nil old) ∙ ap (λ ws. old ++ ws) (sym none))
@@ -50,6 +50,6 @@ ran_three s a b c old new o same found =
     record { is = went (check s a ∷ check s b ∷ check s c ∷ []) _ old new o (fault_of_three s a b c) (silent_three s a b c) same found }
 
 -- a call for which memory ran out before any step
-pub ran_failed : {T : Type 0} (steps : List Step) (old new : List Warning) (r : Result T ConfigParseError) → IsErrAnd r (λ e. error_view e ≡ no_memory)
+pub ran_failed : {T : Type 0} (steps : List LoadStep) (old new : List Warning) (r : Result T ConfigParseError) → IsErrAnd r (λ e. error_view e ≡ no_memory)
     → new ≡ old → Ran steps old new (ending r)
 ran_failed steps old new r failed same = let p = err_from_is_err_and r failed in rw p.1 (ran_memory steps old new p.0 p.2 same)

@@ -5,7 +5,7 @@ use Rattle.std.proofs.lemmas.Bool.{false≢true}
 use Rattle.nextest_sources.specs.Causes.{LoadCause}
 use Rattle.nextest_sources.specs.InputFaults.{Each}
 use Rattle.nextest_sources.specs.Sources.{Source}
-use Rattle.nextest_sources.specs.Steps.{Step, check, first_fault}
+use Rattle.nextest_sources.specs.Steps.{LoadStep, check, first_fault}
 use Rattle.nextest_sources.specs.Warnings.{Warning}
 use Rattle.nextest_sources.proofs.Runs.{first_fault-append}
 use Rattle.nextest_rules.specs.Steps.{if_some, if_true, warn_if_some}
@@ -28,14 +28,14 @@ no_more None b = (λ h. (refl, h), λ p. p.1)
 no_more (Some x) b = (λ h. cc, λ p. p.0)
 
 -- two lists of steps have no fault exactly where neither has one
-pub both_pass : (xs ys : List Step) → (first_fault (xs ++ ys) ≡ None) ↔ ((first_fault xs ≡ None) × (first_fault ys ≡ None))
+pub both_pass : (xs ys : List LoadStep) → (first_fault (xs ++ ys) ≡ None) ↔ ((first_fault xs ≡ None) × (first_fault ys ≡ None))
 both_pass xs ys =
     let split = no_more (first_fault xs) (first_fault ys) in
     let same = first_fault-append xs ys in
     (λ h. split.0 (sym same ∙ h), λ p. same ∙ split.1 p)
 
 -- a check has no fault exactly where it has no cause
-pub check_passes : (s : Source) (c : Option LoadCause) (steps : List Step) → (first_fault (check s c ∷ steps) ≡ None) ↔ ((c ≡ None) × (first_fault steps ≡ None))
+pub check_passes : (s : Source) (c : Option LoadCause) (steps : List LoadStep) → (first_fault (check s c ∷ steps) ≡ None) ↔ ((c ≡ None) × (first_fault steps ≡ None))
 check_passes s None steps = (λ h. (refl, h), λ p. p.1)
 check_passes s (Some c) steps = (λ h. cc, λ p. absurd (some_is_none c p.0))
   where

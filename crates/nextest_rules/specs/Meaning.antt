@@ -42,5 +42,7 @@ layer_profile_meaning f g p = record {
 
 -- a layer
 abbrev pub layer_meaning : {E N M K : Type 0} → (E → M) → (N → K) → Layer E N → Layer M K
-layer_meaning f g l =
-    record { source = l.source; profiles = map (λ e. (e.0, layer_profile_meaning f g e.1)) l.profiles }
+layer_meaning f g l = record {
+  source = l.source;
+  profiles = map (λ e. (e.0, layer_profile_meaning f g e.1)) l.profiles;
+}

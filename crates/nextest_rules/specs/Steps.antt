@@ -9,7 +9,7 @@ use Rattle.nextest_tables.specs.FileTexts.{ProfileText, FileText, names_in, setu
 use Rattle.nextest_tables.specs.Written.{Name}
 use Rattle.nextest_sources.specs.Causes.{NameSet, ScriptFaults, LoadCause, ill_named_groups, ill_named_scripts, both_script_keys, missing_features, both_script_kinds, bad_parents, compile_refusals, unknown_groups, bad_scripts}
 use Rattle.nextest_sources.specs.Sources.{Source}
-use Rattle.nextest_sources.specs.Steps.{Step, warn, check}
+use Rattle.nextest_sources.specs.Steps.{LoadStep, warn, check}
 use Rattle.nextest_sources.specs.Warnings.{Warning, reserved_profiles, deprecated_scripts, empty_sections}
 use Rattle.nextest_rules.specs.CompileFaults.{compile_faults}
 use Rattle.nextest_rules.specs.Definitions.{is_of_tool, forbidden_names, common_names, Features, is_nonempty, features_missing}
@@ -23,7 +23,7 @@ if_some cause [] = None
 if_some cause (x ∷ xs) = Some (cause (x ∷ xs))
 
 -- a warning that tells what was found, if anything was
-abbrev pub warn_if_some : {X : Type 0} → (List X → Warning) → List X → List Step
+abbrev pub warn_if_some : {X : Type 0} → (List X → Warning) → List X → List LoadStep
 warn_if_some warning [] = []
 warn_if_some warning (x ∷ xs) = warn (warning (x ∷ xs)) ∷ []
 
@@ -58,16 +58,16 @@ kind_cause file = if_some (λ names. both_script_kinds (is_one_of names))
     (common_names (setup_ids_of file) file.wrapper_scripts)
 
 -- the warning of scripts under the old key, if there are any
-abbrev pub deprecated_steps : Source → FileText → List Step
+abbrev pub deprecated_steps : Source → FileText → List LoadStep
 deprecated_steps source file = warn_if_some (λ _. deprecated_scripts source) file.old_setup_scripts
 
 -- the warning of profiles with reserved names, if there are any
-abbrev pub reserved_steps : Source → FileText → List Step
+abbrev pub reserved_steps : Source → FileText → List LoadStep
 reserved_steps source file =
     warn_if_some (reserved_profiles source) (filter is_reserved (names_in file.profiles))
 
 -- The steps of what a source defines, in order.
-abbrev pub definition_steps : Features → Source → FileText → List Step
+abbrev pub definition_steps : Features → Source → FileText → List LoadStep
 definition_steps features source file =
     check source (group_name_cause source file)
     ∷ check source (key_cause file)
@@ -114,19 +114,19 @@ script_cause_in leaves known order =
     if_true (bad_scripts faults (known_scripts known)) (not (are_none faults))
 
 -- the warning of the script rules of a profile that name no script, if there are any: how many
-abbrev pub empty_steps_of : {M K : Type 0} → Source → Name → LayerProfile M K → List Step
+abbrev pub empty_steps_of : {M K : Type 0} → Source → Name → LayerProfile M K → List LoadStep
 empty_steps_of source name p =
     warn_if_some (λ rules. empty_sections source name (length rules))
     (filter (λ r. names_none r.writes) p.script_rules)
 
 -- the warnings of script rules that name no script, in the order of the profiles
 abbrev pub empty_steps_in : {M K : Type 0} → Source → (order : List (Name × LayerProfile M K))
-    → List Step
+    → List LoadStep
 empty_steps_in source order = flat_map (λ p. empty_steps_of source p.0 p.1) order
 
 -- the steps of the groups and scripts that rules name, in the order of the profiles
 abbrev pub name_steps : {M K : Type 0} → (M → List (List ℕ)) → KnownSets → Source
-    → (order : List (Name × LayerProfile M K)) → List Step
+    → (order : List (Name × LayerProfile M K)) → List LoadStep
 name_steps leaves known source order =
     check source (group_cause_in known.groups order)
     ∷ empty_steps_in source order
@@ -135,7 +135,7 @@ name_steps leaves known source order =
 
 -- The steps of the rules of a source over lower files, in order.
 abbrev pub rule_steps : {M K P : Type 0} → Readings M K P → (lower : NameSet) → KnownSets → Source
-    → FileText → List Step
+    → FileText → List LoadStep
 rule_steps engines lower known source file =
     check source (parent_cause lower file.profiles)
     ∷ check source (compile_cause engines file.profiles)

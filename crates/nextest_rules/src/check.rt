@@ -11,7 +11,7 @@ ghost use Rattle.nextest_rules.specs.View.{layer_view, order_view, profiles_view
 ghost use Rattle.nextest_sources.specs.Endings.{ending, Ran};
 ghost use Rattle.nextest_sources.specs.Sources.{source_view};
 ghost use Rattle.nextest_tables.specs.FileTexts.{FileText};
-ghost use Rattle.nextest_tables.specs.View.{file_view};
+ghost use Rattle.nextest_tables.specs.View.{file_table_view};
 ghost use Rattle.nextest_tree.specs.Schema.{is_one_of};
 
 use crate::compile::compile_layer;
@@ -78,17 +78,17 @@ pub fn check_rules<F: Filters, S: Specs, W: ConfigWarnings>(
         F.leaves S.holds_on in
         (below : List FileText) → known_view known.old ≡ sets_of (known_names below)
         → Ran (rule_steps engines (is_one_of (known_names below).profiles)
-        (sets_of (known_to below (file_view file))) (source_view source.now)
-        (file_view file))
+        (sets_of (known_to below (file_table_view file))) (source_view source.now)
+        (file_table_view file))
         (W.warnings warnings.old) (W.warnings warnings.new) (ending result) }
     ensures rules { let engines = readings_view (F.read pcx.now.filters.now)
         (S.read_spec pcx.now.specs.now) F.match_all F.holds F.holds_binary
         F.leaves S.holds_on in
         IfOk result
         (λ layer. layer_meaning F.meaning S.spec_meaning (layer_view layer)
-        ≡ layer_of engines (source_view source.now) (file_view file).profiles) }
+        ≡ layer_of engines (source_view source.now) (file_table_view file).profiles) }
     ensures known { (below : List FileText) → known_view known.old ≡ sets_of (known_names below)
-        → OnOk result (known_view known.new ≡ sets_of (known_to below (file_view file))) }
+        → OnOk result (known_view known.new ≡ sets_of (known_to below (file_table_view file))) }
 {
     check_parents(alloc, source, &known.profiles, &file.profiles)?;
     known.add(&file)?;

@@ -7,7 +7,7 @@ ghost use Rattle.nextest_sources.specs.InputFaults.{fault_at_source};
 ghost use Rattle.nextest_sources.specs.Sources.{source_view};
 ghost use Rattle.nextest_sources.specs.Warnings.{texts_view};
 ghost use Rattle.nextest_tables.specs.FileTexts.{names_in};
-ghost use Rattle.nextest_tables.specs.View.{file_view};
+ghost use Rattle.nextest_tables.specs.View.{file_table_view};
 ghost use Rattle.nextest_rules.specs.KnownView.{features_view};
 ghost use Rattle.nextest_rules.specs.Steps.{definition_steps, deprecated_steps, reserved_steps, group_name_cause, key_cause, feature_cause, kind_cause, script_name_cause};
 
@@ -29,7 +29,7 @@ fn check_groups_and_keys(
     file: &FileTable,
 ) -> Result<(), ConfigParseError>
     ensures { let s = source_view source.now in
-        let f = file_view file.now in
+        let f = file_table_view file.now in
         Found (option_or (fault_at_source s (group_name_cause s f))
         (fault_at_source s (key_cause f))) (ending result) }
 {
@@ -45,7 +45,7 @@ fn check_scripts(
     file: &FileTable,
 ) -> Result<(), ConfigParseError>
     ensures { let s = source_view source.now in
-        let f = file_view file.now in
+        let f = file_table_view file.now in
         Found (option_or (fault_at_source s (feature_cause (features_view features.now) f))
         (option_or (fault_at_source s (kind_cause f)) (fault_at_source s (script_name_cause s f))))
         (ending result) }
@@ -62,7 +62,7 @@ fn warn_of_old_key<W: ConfigWarnings>(
     file: &FileTable,
     warnings: &mut W,
 ) -> Result<(), ConfigParseError>
-    ensures { Ran (deprecated_steps (source_view source.now) (file_view file.now))
+    ensures { Ran (deprecated_steps (source_view source.now) (file_table_view file.now))
         (W.warnings warnings.old) (W.warnings warnings.new) (ending result) }
 {
     if !has_entries(&file.script) {
@@ -75,7 +75,7 @@ fn warn_of_old_key<W: ConfigWarnings>(
 /// The names of profiles that are reserved.
 fn reserved_names<'a>(alloc: Global, file: &'a FileTable) -> Result<Vec<&'a str>, AllocError>
     ensures { IfOk result (λ reserved. texts_view reserved.items
-        ≡ filter names.is_reserved (names_in (file_view file.now).profiles)) }
+        ≡ filter names.is_reserved (names_in (file_table_view file.now).profiles)) }
 {
     let mut reserved = Vec::new(alloc);
     for (name, _) in file.profiles.iter() {
@@ -93,7 +93,7 @@ fn warn_of_reserved<W: ConfigWarnings>(
     file: &FileTable,
     warnings: &mut W,
 ) -> Result<(), ConfigParseError>
-    ensures { Ran (reserved_steps (source_view source.now) (file_view file.now))
+    ensures { Ran (reserved_steps (source_view source.now) (file_table_view file.now))
         (W.warnings warnings.old) (W.warnings warnings.new) (ending result) }
 {
     let names = reserved_names(alloc, file)?;
@@ -114,7 +114,7 @@ pub fn check_definitions<W: ConfigWarnings>(
     warnings: &mut W,
 ) -> Result<(), ConfigParseError>
     ensures { Ran (definition_steps (features_view features.now) (source_view source.now)
-        (file_view file.now))
+        (file_table_view file.now))
         (W.warnings warnings.old) (W.warnings warnings.new) (ending result) }
 {
     check_groups_and_keys(alloc, source, file)?;

@@ -3,7 +3,7 @@ ghost use Rattle.std.specs.Prelude.{◌≡◌, ◌++◌, ◌∷◌, [], IfOk, On
 ghost use Rattle.nextest_sources.specs.Endings.{ending, Found};
 ghost use Rattle.nextest_sources.specs.InputFaults.{fault_at_source};
 ghost use Rattle.nextest_sources.specs.Sources.{source_view};
-ghost use Rattle.nextest_tables.specs.View.{file_view};
+ghost use Rattle.nextest_tables.specs.View.{file_table_view};
 ghost use Rattle.nextest_rules.specs.Definitions as defs;
 ghost use Rattle.nextest_rules.specs.Definitions.{features_missing};
 ghost use Rattle.nextest_rules.specs.KnownView.{features_view};
@@ -19,7 +19,7 @@ use std::collections::BTreeSet;
 /// Whether a file needs a feature: for its setup scripts, for its wrapper scripts.
 #[tactic(auto, using(crate::proofs::Knowing::either_nonempty))]
 fn needs_feature(file: &FileTable, feature: ConfigExperimental) -> bool
-    ensures { result ≡ defs.needs_feature (file_view file.now) feature }
+    ensures { result ≡ defs.needs_feature (file_table_view file.now) feature }
 {
     match feature {
         ConfigExperimental::SetupScripts => {
@@ -44,7 +44,7 @@ fn add_if_missing(
     feature: ConfigExperimental,
 ) -> Result<(), AllocError>
     ensures { OnOk result (missing.new.items ≡ missing.old.items
-        ++ (if defs.needs_feature (file_view file.now) feature
+        ++ (if defs.needs_feature (file_table_view file.now) feature
         && not (features_view features.now feature) then feature ∷ [] else [])) }
 {
     if needs_feature(file, feature) && !is_on(features, feature) {
@@ -60,7 +60,7 @@ fn missing_features(
     file: &FileTable,
 ) -> Result<Vec<ConfigExperimental>, AllocError>
     ensures { IfOk result (λ missing. missing.items
-        ≡ features_missing (features_view features.now) (file_view file.now)) }
+        ≡ features_missing (features_view features.now) (file_table_view file.now)) }
 {
     let mut missing = Vec::new(alloc);
     add_if_missing(
@@ -86,7 +86,7 @@ pub(crate) fn check_features(
     file: &FileTable,
 ) -> Result<(), ConfigParseError>
     ensures { Found (fault_at_source (source_view source.now)
-        (feature_cause (features_view features.now) (file_view file.now))) (ending result) }
+        (feature_cause (features_view features.now) (file_table_view file.now))) (ending result) }
 {
     let missing_features = missing_features(alloc, features, file)?;
     if missing_features.is_empty() {

@@ -6,7 +6,7 @@ ghost use Rattle.nextest_sources.specs.Errors.{cause_view, group_names_view, scr
 ghost use Rattle.nextest_sources.specs.InputFaults.{fault_at_source};
 ghost use Rattle.nextest_sources.specs.Sources.{source_view, source_kind_view};
 ghost use Rattle.nextest_tables.specs.FileTexts.{names_in, script_ids_of};
-ghost use Rattle.nextest_tables.specs.View.{file_view};
+ghost use Rattle.nextest_tables.specs.View.{file_table_view};
 ghost use Rattle.nextest_texts.specs.IdentifierText.{identifier_text};
 ghost use Rattle.nextest_tree.specs.Schema.{is_one_of};
 ghost use Rattle.nextest_rules.specs.Definitions as defs;
@@ -66,7 +66,7 @@ fn forbidden_groups(
 ) -> Result<BTreeSet<CustomTestGroup>, AllocError>
     ensures { IfOk result (λ groups. (q : List ℕ) → group_names_view groups q
         ≡ is_one_of (forbidden_names (source_view source.now).kind
-        (names_in (file_view file.now).groups)) q) }
+        (names_in (file_table_view file.now).groups)) q) }
 {
     let mut groups = BTreeSet::new(alloc);
     add_forbidden(&mut groups, source, &file.test_groups)?;
@@ -81,7 +81,7 @@ fn forbidden_scripts(
 ) -> Result<BTreeSet<ScriptId>, AllocError>
     ensures { IfOk result (λ ids. (q : List ℕ) → script_names_view ids q
         ≡ is_one_of (forbidden_names (source_view source.now).kind
-        (script_ids_of (file_view file.now))) q) }
+        (script_ids_of (file_table_view file.now))) q) }
 {
     let mut ids = BTreeSet::new(alloc);
     add_forbidden(&mut ids, source, &file.scripts.setup)?;
@@ -123,7 +123,7 @@ pub(crate) fn check_group_names(
     file: &FileTable,
 ) -> Result<(), ConfigParseError>
     ensures { Found (fault_at_source (source_view source.now)
-        (group_name_cause (source_view source.now) (file_view file.now))) (ending result) }
+        (group_name_cause (source_view source.now) (file_table_view file.now))) (ending result) }
 {
     let groups = forbidden_groups(alloc, source, file)?;
     if groups.is_empty() {
@@ -139,7 +139,7 @@ pub(crate) fn check_script_names(
     file: &FileTable,
 ) -> Result<(), ConfigParseError>
     ensures { Found (fault_at_source (source_view source.now)
-        (script_name_cause (source_view source.now) (file_view file.now))) (ending result) }
+        (script_name_cause (source_view source.now) (file_table_view file.now))) (ending result) }
 {
     let ids = forbidden_scripts(alloc, source, file)?;
     if ids.is_empty() {

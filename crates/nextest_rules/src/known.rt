@@ -19,7 +19,7 @@ impl KnownNames {
     ghost use Rattle.nextest_rules.specs.Known.{known_names, known_to, sets_of};
     ghost use Rattle.nextest_rules.specs.KnownView.{known_view};
     ghost use Rattle.nextest_tables.specs.FileTexts.{FileText};
-    ghost use Rattle.nextest_tables.specs.View.{file_view};
+    ghost use Rattle.nextest_tables.specs.View.{file_table_view};
 
     /// No name.
     pub fn new(alloc: Global) -> KnownNames
@@ -37,7 +37,8 @@ impl KnownNames {
     /// Adds the names that a file defines.
     pub fn add(&mut self, file: &FileTable) -> Result<(), AllocError>
         ensures { (below : List FileText) → known_view self.old ≡ sets_of (known_names below)
-            → OnOk result (known_view self.new ≡ sets_of (known_to below (file_view file.now))) }
+            → OnOk result (known_view self.new
+            ≡ sets_of (known_to below (file_table_view file.now))) }
     {
         let alloc = self.alloc;
         add_names(alloc, &mut self.groups, &file.test_groups)?;

@@ -6,7 +6,7 @@ ghost use Rattle.nextest_sources.specs.Errors.{script_names_view};
 ghost use Rattle.nextest_sources.specs.InputFaults.{fault_at_source};
 ghost use Rattle.nextest_sources.specs.Sources.{source_view};
 ghost use Rattle.nextest_tables.specs.FileTexts.{setup_ids_of, new_ids_of};
-ghost use Rattle.nextest_tables.specs.View.{file_view};
+ghost use Rattle.nextest_tables.specs.View.{file_table_view};
 ghost use Rattle.nextest_tree.specs.Schema.{is_one_of};
 ghost use Rattle.nextest_rules.specs.Definitions.{common_names, is_nonempty};
 ghost use Rattle.nextest_rules.specs.Steps.{key_cause, kind_cause};
@@ -21,8 +21,8 @@ use std::collections::{BTreeMap, BTreeSet};
 /// Whether a file has scripts under `script` and under `scripts`.
 #[tactic(auto, using(crate::proofs::Knowing::either_nonempty))]
 fn has_both_keys(file: &FileTable) -> bool
-    ensures { result ≡ (is_nonempty (file_view file.now).old_setup_scripts
-        && is_nonempty (new_ids_of (file_view file.now))) }
+    ensures { result ≡ (is_nonempty (file_table_view file.now).old_setup_scripts
+        && is_nonempty (new_ids_of (file_table_view file.now))) }
 {
     has_entries(&file.script)
         && (has_entries(&file.scripts.setup) || has_entries(&file.scripts.wrapper))
@@ -33,7 +33,8 @@ pub(crate) fn check_script_keys(
     source: &ConfigSource,
     file: &FileTable,
 ) -> Result<(), ConfigParseError>
-    ensures { Found (fault_at_source (source_view source.now) (key_cause (file_view file.now)))
+    ensures { Found
+        (fault_at_source (source_view source.now) (key_cause (file_table_view file.now)))
         (ending result) }
 {
     if !has_both_keys(file) {
@@ -65,8 +66,8 @@ fn add_common<V, W>(
 /// The ids that a file defines both as setup scripts and as wrapper scripts.
 fn ids_of_both_kinds(alloc: Global, file: &FileTable) -> Result<BTreeSet<ScriptId>, AllocError>
     ensures { IfOk result (λ ids. (q : List ℕ) → script_names_view ids q
-        ≡ is_one_of (common_names (setup_ids_of (file_view file.now))
-        (file_view file.now).wrapper_scripts) q) }
+        ≡ is_one_of (common_names (setup_ids_of (file_table_view file.now))
+        (file_table_view file.now).wrapper_scripts) q) }
 {
     let mut ids = BTreeSet::new(alloc);
     add_common(&mut ids, &file.scripts.setup, &file.scripts.wrapper)?;
@@ -80,7 +81,8 @@ pub(crate) fn check_script_kinds(
     source: &ConfigSource,
     file: &FileTable,
 ) -> Result<(), ConfigParseError>
-    ensures { Found (fault_at_source (source_view source.now) (kind_cause (file_view file.now)))
+    ensures { Found
+        (fault_at_source (source_view source.now) (kind_cause (file_table_view file.now)))
         (ending result) }
 {
     let ids = ids_of_both_kinds(alloc, file)?;

@@ -8,7 +8,7 @@ use Rattle.std.specs.Str.{bytes_eq}
 use Rattle.nextest_tree.specs.Node.{Node, table, array, text, int, bool, opaque, Entries, no_entries, entry, get, keys}
 use Rattle.nextest_documents.specs.Shown.{Path, node_at}
 use Rattle.nextest_documents.specs.Text.{tree_of}
-use Rattle.nextest_script_order.specs.Standing.{has_id, ids_in, is_among, keys_at, stands_in}
+use Rattle.nextest_script_order.specs.Standing.{has_id, ids_in_text, is_among, keys_at, stands_in}
 
 among_or : (o : Ordering) (b : Bool) (rest : List (List ℕ)) (id : List ℕ) (n : Node) (found : Option Node) → is_eq o ≡ b → is_among rest id ≡ is_some found
     → (b || is_among rest id) ≡ is_some (match_ordering o found (Some n) found)
@@ -48,6 +48,6 @@ among_in path id None = refl
 among_in path id (Some n) = among_path path n id
 
 -- the ids of a text are those that stand in it
-pub among_ids : (path : Path) (body id : List ℕ) → is_among (ids_in path body) id ≡ stands_in path body id
-unfolding ids_in stands_in
+pub among_ids : (path : Path) (body id : List ℕ) → is_among (ids_in_text path body) id ≡ stands_in path body id
+unfolding ids_in_text stands_in
 among_ids path body id = among_in path id (tree_of body)

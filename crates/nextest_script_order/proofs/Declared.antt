@@ -8,7 +8,7 @@ use Rattle.std.specs.Cmp.Lexicographic.{slice_cmp}
 use Rattle.std.specs.Str.{bytes_eq}
 use Rattle.nextest_script_order.specs.Lines.{line_count}
 use Rattle.nextest_documents.specs.Shown.{Path}
-use Rattle.nextest_script_order.specs.Standing.{Ascends, ids_in, is_among}
+use Rattle.nextest_script_order.specs.Standing.{IdsAscend, ids_in_text, is_among}
 use Rattle.nextest_script_order.specs.Order.{appears_at, appears_before, is_place, placed_before, order_of, IsPlace, IsBefore, AllBefore, IsOrder}
 use Rattle.nextest_script_order.proofs.Keeping.{all_lines, starts_between}
 use Rattle.nextest_script_order.proofs.Filters.{all_both, all_kept, all_map, all_pass, not_true}
@@ -63,7 +63,7 @@ module _ (path : Path) (text : List ℕ) where
       (all_map _ (IsPlacedBelow (suc n)) (λ id h. record { place = n; below = omega arith; is = h }) (filter (is_place path text n) ids) (here_placed ids n))
 
   -- ids with one place stand as they did
-  tied_before : (n : ℕ) (ids : List (List ℕ)) → Ascends ids → AllBefore path text (filter (is_place path text n) ids)
+  tied_before : (n : ℕ) (ids : List (List ℕ)) → IdsAscend ids → AllBefore path text (filter (is_place path text n) ids)
   tied_before n [] h = h
   tied_before n (x ∷ ids) h =
       elim (cases_Bool (is_place path text n x)) [
@@ -83,7 +83,7 @@ module _ (path : Path) (text : List ℕ) where
         before_append n xs ys h.1 i below.1 at,
       )
 
-  placed_ordered : (ids : List (List ℕ)) (n : ℕ) → Ascends ids → AllBefore path text (placed_before path text ids n)
+  placed_ordered : (ids : List (List ℕ)) (n : ℕ) → IdsAscend ids → AllBefore path text (placed_before path text ids n)
   placed_ordered ids zero h = search
   placed_ordered ids (suc n) h = before_append n (placed_before path text ids n) _ (placed_ordered ids n h) (tied_before n ids h) (placed_below ids n) (here_placed ids n)
 
@@ -115,15 +115,15 @@ module _ (path : Path) (text : List ℕ) where
       list_any-append (bytes_eq id) (placed_before path text ids n) (filter (is_place path text n) ids)
       ∙ rw (among_placed ids id n, among_filter (is_place path text n) ids id) (both_ways (is_among ids id) (appears_before path text id n) (appears_at path text id n))
 
-  whole_at : (id : List ℕ) → appears_at path text id (line_count text) ≡ is_among (ids_in path text) id
+  whole_at : (id : List ℕ) → appears_at path text id (line_count text) ≡ is_among (ids_in_text path text) id
   whole_at id = rw (all_lines text 0 (line_count text) (omega arith)) (sym (among_ids path text id))
 
   absorbed : (i b a : Bool) → a ≡ i → (i && (b || a)) ≡ i
   absorbed i b a e = rw e (absorbs i b)
 
-  pub order_is : Ascends (ids_in path text) → IsOrder path text (order_of path text)
+  pub order_is : IdsAscend (ids_in_text path text) → IsOrder path text (order_of path text)
   order_is h =
-      let ids = ids_in path text in
+      let ids = ids_in_text path text in
       record {
         ordered = placed_ordered ids (suc (line_count text)) h;
         exact = λ id. among_placed ids id (suc (line_count text))
@@ -132,7 +132,7 @@ module _ (path : Path) (text : List ℕ) where
       }
 
   -- fewer than two ids are in order as they are
-  pub few_is : length (ids_in path text) < 2 → order_of path text ≡ ids_in path text
+  pub few_is : length (ids_in_text path text) < 2 → order_of path text ≡ ids_in_text path text
   few_is h =
       let next : line_count text + 1 ≡ suc (line_count text) = add-one (line_count text) in
-      rw next at (placed_few path text (ids_in path text) 0 (line_count text) h (starts_between path text))
+      rw next at (placed_few path text (ids_in_text path text) 0 (line_count text) h (starts_between path text))

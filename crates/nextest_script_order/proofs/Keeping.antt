@@ -10,7 +10,7 @@ use Rattle.nextest_tree.specs.Node.{Node, table, no_entries}
 use Rattle.nextest_documents.specs.Shown.{Path}
 use Rattle.nextest_documents.specs.Text.{tree_of}
 use Rattle.nextest_script_order.specs.Lines.{first_lines, line_ends, line_count}
-use Rattle.nextest_script_order.specs.Standing.{has_id, ids_in, is_among, keys_at, stands_in}
+use Rattle.nextest_script_order.specs.Standing.{has_id, ids_in_text, is_among, keys_at, stands_in}
 use Rattle.nextest_script_order.specs.Order.{appears_at, appears_before}
 use Rattle.nextest_script_order.specs.Search.{AppearBetween}
 use Rattle.nextest_script_order.proofs.Fronts.{more_left}
@@ -110,16 +110,16 @@ none_at_start : (path : Path) (text : List ℕ) (ids : List (List ℕ)) → AllB
 none_at_start path text [] = search
 none_at_start path text (x ∷ ids) = (none_in_empty path x, none_at_start path text ids)
 
-stands_whole : (path : Path) (text id : List ℕ) → is_among (ids_in path text) id ≡ true → appears_at path text id (line_count text) ≡ true
+stands_whole : (path : Path) (text id : List ℕ) → is_among (ids_in_text path text) id ≡ true → appears_at path text id (line_count text) ≡ true
 stands_whole path text id h = rw (all_lines text 0 (line_count text) (omega arith)) (sym (among_ids path text id) ∙ h)
 
-pub starts_between : (path : Path) (text : List ℕ) → AppearBetween path text 0 (line_count text) (ids_in path text)
+pub starts_between : (path : Path) (text : List ℕ) → AppearBetween path text 0 (line_count text) (ids_in_text path text)
 starts_between path text = record {
-  later = none_at_start path text (ids_in path text);
-  there = each_stands (ids_in path text) (λ id. appears_at path text id (line_count text)) (λ id e. stands_whole path text id e);
+  later = none_at_start path text (ids_in_text path text);
+  there = each_stands (ids_in_text path text) (λ id. appears_at path text id (line_count text)) (λ id e. stands_whole path text id e);
 }
 
 -- the ids of a text are those of its document
-pub ids_whole : (path : Path) (text : List ℕ) (n : Node) → tree_of text ≡ Some n → ids_in path text ≡ keys_at path n
-unfolding ids_in
+pub ids_whole : (path : Path) (text : List ℕ) (n : Node) → tree_of text ≡ Some n → ids_in_text path text ≡ keys_at path n
+unfolding ids_in_text
 ids_whole path text n e = rw e refl

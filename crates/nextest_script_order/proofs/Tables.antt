@@ -14,7 +14,7 @@ use Rattle.nextest_tree.specs.Node.{Node}
 use Rattle.nextest_tree.specs.Node as nodes
 use Rattle.nextest_documents.specs.Shown.{Path, node_at}
 use Rattle.nextest_documents.specs.Value.{from_data, from_members}
-use Rattle.nextest_script_order.specs.Standing.{has_id, path_view}
+use Rattle.nextest_script_order.specs.Standing.{has_id, key_path_view}
 use Rattle.nextest_script_order.proofs.Longer.{get_member_is}
 
 -- the node of a table's members
@@ -46,8 +46,8 @@ has_below k path id ms = rw (get_member_is k ms) (only_tables path id (get_membe
 -- one key further along a path
 pub key_further : (path : List Key) (i : ℕ) (d : Key) (id : List ℕ) (ms : Members) (found : Option Members) → i < length path
     → found ≡ option_and_then as_table (get_member (key_text (get_or path i d)) ms)
-    → has_id (path_view (drop i path)) (node_of ms) id ≡ has_inside (path_view (drop (i + 1) path)) id found
-key_further path i d id ms found h is = rw (drop_more path i d h, is) (has_below (key_text (get_or path i d)) (path_view (drop (i + 1) path)) id ms)
+    → has_id (key_path_view (drop i path)) (node_of ms) id ≡ has_inside (key_path_view (drop (i + 1) path)) id found
+key_further path i d id ms found h is = rw (drop_more path i d h, is) (has_below (key_text (get_or path i d)) (key_path_view (drop (i + 1) path)) id ms)
 
 some_there : (o : Option Data) → is_some (option_and_then (node_at []) (option_map from_data o)) ≡ is_some o
 some_there None = refl
@@ -63,7 +63,7 @@ some_map f (Some x) = refl
 
 -- where the path is over, the table's map has the id
 pub at_end : (path : List Key) (i : ℕ) (id : List ℕ) (es : List Entry) → length path ≤ i
-    → is_some (lookup (is_at (λ x. slice_cmp nat_cmp id (string_bytes x))) es) ≡ has_id (path_view (drop i path)) (node_of (members_view es)) id
+    → is_some (lookup (is_at (λ x. slice_cmp nat_cmp id (string_bytes x))) es) ≡ has_id (key_path_view (drop i path)) (node_of (members_view es)) id
 at_end path i id es h =
     let over : drop i path ≡ [] = drop_all i path h in
     rw over (some_map view _ ∙ ap is_some (view-lookup id es) ∙ sym (key_there id (members_view es)))

@@ -6,7 +6,7 @@ use Rattle.std.specs.declared.cmp.Ordering.TheVariants.{Less}
 use Rattle.std.specs.Cmp.Lexicographic.{slice_cmp}
 use Rattle.nextest_documents.specs.Shown.{Path}
 use Rattle.nextest_script_order.specs.Lines.{first_lines, line_count}
-use Rattle.nextest_script_order.specs.Standing.{ids_in, is_among, stands_in}
+use Rattle.nextest_script_order.specs.Standing.{ids_in_text, is_among, stands_in}
 
 -- An id appears at n lines if it stands in the first n lines of the text.
 abbrev pub appears_at : Path → List ℕ → List ℕ → ℕ → Bool
@@ -54,4 +54,4 @@ placed_before path text ids (suc n) =
 
 -- The order of a text as a list: its ids by place, and at one place by their bytes.
 abbrev pub order_of : Path → List ℕ → List (List ℕ)
-order_of path text = placed_before path text (ids_in path text) (suc (line_count text))
+order_of path text = placed_before path text (ids_in_text path text) (suc (line_count text))

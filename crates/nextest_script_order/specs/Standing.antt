@@ -14,8 +14,8 @@ use Rattle.nextest_documents.specs.Shown.{Path, node_at}
 use Rattle.nextest_documents.specs.Text.{tree_of}
 
 -- The path that some keys are, as they are written.
-abbrev pub path_view : List Key → Path
-path_view = map key_text
+abbrev pub key_path_view : List Key → Path
+key_path_view = map key_text
 
 -- What contracts see of a list of ids.
 abbrev pub ids_view : Vec (String Global) Global → List (List ℕ)
@@ -44,11 +44,11 @@ keys_at [] n = keys_of n
 keys_at (key ∷ path) n = option_map_or (keys_at path) (member_of key n) []
 
 -- The ids of a text, in the order of their bytes, and none where it is no document.
-unfoldable pub ids_in : Path → List ℕ → List (List ℕ)
-ids_in path text = option_map_or (keys_at path) (tree_of text) []
+unfoldable pub ids_in_text : Path → List ℕ → List (List ℕ)
+ids_in_text path text = option_map_or (keys_at path) (tree_of text) []
 
 -- Each id comes, by its bytes, before those that follow it.
-abbrev pub Ascends : List (List ℕ) → Type 0
-Ascends [] = ⊤
-Ascends (id ∷ ids) =
-    AllByRecursion (λ other. slice_cmp nat_cmp id other ≡ Less) ids × Ascends ids
+abbrev pub IdsAscend : List (List ℕ) → Type 0
+IdsAscend [] = ⊤
+IdsAscend (id ∷ ids) =
+    AllByRecursion (λ other. slice_cmp nat_cmp id other ≡ Less) ids × IdsAscend ids

@@ -6,7 +6,7 @@ ghost use Rattle.nextest_tree.specs.View.{tree_view, entries_view};
 ghost use Rattle.nextest_documents.specs.Value.{from_members};
 ghost use Rattle.toml.specs.Data.{as_table, get_member};
 ghost use Rattle.toml.specs.View.{table_view};
-ghost use Rattle.nextest_script_order.specs.Standing.{Ascends, has_id, ids_view, keys_at, path_view};
+ghost use Rattle.nextest_script_order.specs.Standing.{IdsAscend, has_id, ids_view, keys_at, key_path_view};
 
 use nextest_tree::{Key, Tree};
 use std::alloc::{AllocError, Global};
@@ -15,7 +15,7 @@ use std::collections::BTreeMap;
 /// The table at a path, if one is there.
 fn table_at<'a>(document: &'a Tree, path: &[Key]) -> Option<&'a BTreeMap<String, Tree>>
     ensures { option_map_or (λ members. Node.keys (entries_view members.now.entries)) result []
-        ≡ keys_at (path_view path.now) (tree_view document.now) }
+        ≡ keys_at (key_path_view path.now) (tree_view document.now) }
 {
     let mut tree = document;
     for key in path {
@@ -28,7 +28,7 @@ fn table_at<'a>(document: &'a Tree, path: &[Key]) -> Option<&'a BTreeMap<String,
 fn keys_of(alloc: Global, members: &BTreeMap<String, Tree>) -> Result<Vec<String>, AllocError>
     ensures keys { IfOk result (λ keys.
         ids_view keys ≡ Node.keys (entries_view members.now.entries)) }
-    ensures ascends { IfOk result (λ keys. Ascends (ids_view keys)) }
+    ensures ascends { IfOk result (λ keys. IdsAscend (ids_view keys)) }
 {
     let mut keys = Vec::new(alloc);
     for (key, _) in members.iter() {
@@ -44,8 +44,8 @@ pub(crate) fn ids_of(
     path: &[Key],
 ) -> Result<Vec<String>, AllocError>
     ensures ids { IfOk result (λ ids.
-        ids_view ids ≡ keys_at (path_view path.now) (tree_view document.now)) }
-    ensures ascends { IfOk result (λ ids. Ascends (ids_view ids)) }
+        ids_view ids ≡ keys_at (key_path_view path.now) (tree_view document.now)) }
+    ensures ascends { IfOk result (λ ids. IdsAscend (ids_view ids)) }
 {
     match table_at(document, path) {
         Some(members) => keys_of(alloc, members),
@@ -64,7 +64,7 @@ fn table_in<'a>(table: &'a toml::Table, key: &str) -> Option<&'a toml::Table>
 /// Whether a document defines an id.
 fn defines(document: &toml::Table, path: &[Key], id: &str) -> bool
     ensures { let n = Node.table (from_members (table_view document.now)) in
-        result ≡ has_id (path_view path.now) n id.now }
+        result ≡ has_id (key_path_view path.now) n id.now }
 {
     let mut table = document;
     for key in path {
@@ -85,10 +85,10 @@ pub(crate) fn split(
 ) -> Result<(Vec<String>, Vec<String>), AllocError>
     ensures early { let n = Node.table (from_members (table_view document.now)) in
         IfOk result (λ halves.
-        ids_view halves.0 ≡ filter (has_id (path_view path.now) n) (ids_view ids)) }
+        ids_view halves.0 ≡ filter (has_id (key_path_view path.now) n) (ids_view ids)) }
     ensures late { let n = Node.table (from_members (table_view document.now)) in
         IfOk result (λ halves. ids_view halves.1
-        ≡ filter (λ id. not (has_id (path_view path.now) n id)) (ids_view ids)) }
+        ≡ filter (λ id. not (has_id (key_path_view path.now) n id)) (ids_view ids)) }
 {
     let mut early = Vec::new(alloc);
     let mut late = Vec::new(alloc);

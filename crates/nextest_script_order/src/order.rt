@@ -8,7 +8,7 @@ ghost use Rattle.toml.specs.View.{table_view};
 ghost use Rattle.nextest_script_order.specs.Lines.{line_count};
 ghost use Rattle.nextest_script_order.specs.Order.{IsOrder, order_of, placed_before};
 ghost use Rattle.nextest_script_order.specs.Search.{AppearBetween, IsDocument, NoDocumentBetween, TellsBetween};
-ghost use Rattle.nextest_script_order.specs.Standing.{ids_view, path_view};
+ghost use Rattle.nextest_script_order.specs.Standing.{ids_view, key_path_view};
 
 use crate::ids::{ids_of, split};
 use crate::lines::{Lines, is_header};
@@ -28,8 +28,10 @@ pub fn ids_in_order(
     path: &[Key],
 ) -> Result<Vec<String>, AllocError>
     requires { tree_of text.now ≡ Some (tree_view document.now) }
-    ensures declared { IfOk result (λ ids. IsOrder (path_view path.now) text.now (ids_view ids)) }
-    ensures listed { IfOk result (λ ids. ids_view ids ≡ order_of (path_view path.now) text.now) }
+    ensures declared { IfOk result (λ ids.
+        IsOrder (key_path_view path.now) text.now (ids_view ids)) }
+    ensures listed { IfOk result (λ ids.
+        ids_view ids ≡ order_of (key_path_view path.now) text.now) }
 {
     let ids = ids_of(alloc, document, path)?;
     if ids.len() < 2 {
@@ -56,8 +58,9 @@ fn place_between(
     requires within { high ≤ line_count lines.now }
     requires front { IsDocument lines.now low }
     requires whole { IsDocument lines.now high }
-    requires between { AppearBetween (path_view path.now) lines.now low high (ids_view ids) }
-    ensures { let placed = placed_before (path_view path.now) lines.now (ids_view ids) (high + 1) in
+    requires between { AppearBetween (key_path_view path.now) lines.now low high (ids_view ids) }
+    ensures { let placed =
+        placed_before (key_path_view path.now) lines.now (ids_view ids) (high + 1) in
         OnOk result (ids_view order.new ≡ ids_view order.old ++ placed) }
 {
     if ids.len() < 2 {
@@ -73,9 +76,9 @@ fn place_between(
     }
 }
 
-/// A number of lines between two that is a document, with a document that tells which ids are there
-/// by then. Lines from a header on are read alone, so that few lines are read often; where that does
-/// not serve, the lines are read from the first one on.
+/// A number of lines between two that is a document, with a document that tells which ids are
+/// there by then. Lines from a header on are read alone, so that few lines are read often; where
+/// that does not serve, the lines are read from the first one on.
 fn document_between(
     alloc: Global,
     lines: &Lines,

@@ -16,18 +16,18 @@ abbrev pub is_plain : List ℕ → Bool
 is_plain key = list_all (λ byte. is_ascii_alphanumeric byte || byte == 95) key
 
 -- The key begins with `NEXTEST`.
-abbrev pub is_reserved : List ℕ → Bool
-is_reserved key = starts_with nat_eq key (codes "NEXTEST")
+abbrev pub is_reserved_key : List ℕ → Bool
+is_reserved_key key = starts_with nat_eq key (codes "NEXTEST")
 
 -- A key is good if it starts well, is plain and is not reserved.
 pub record IsEnvVarKey (key : List ℕ) : Type 0 where
   pub starts : IsTrue (starts_well key)
   pub plain : IsTrue (is_plain key)
-  pub free : IsFalse (is_reserved key)
+  pub free : IsFalse (is_reserved_key key)
 
 -- The same as one test.
 abbrev pub is_env_var_key : List ℕ → Bool
-is_env_var_key key = starts_well key && is_plain key && not (is_reserved key)
+is_env_var_key key = starts_well key && is_plain key && not (is_reserved_key key)
 
 -- An error names the key, and the first of the three conditions that fails; want of memory names
 -- none.
@@ -37,5 +37,5 @@ IsFaultOf key (InvalidKey named) =
     (string_bytes named ≡ key) × IsTrue (starts_well key) × IsFalse (is_plain key)
 IsFaultOf key (ReservedKey named) =
     (string_bytes named ≡ key) × IsTrue (starts_well key) × IsTrue (is_plain key)
-    × IsTrue (is_reserved key)
+    × IsTrue (is_reserved_key key)
 IsFaultOf key Memory = ⊤

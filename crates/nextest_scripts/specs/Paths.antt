@@ -10,13 +10,13 @@ abbrev pub is_absolute : List ℕ → Bool
 is_absolute path = slice_index path 0 == slash
 
 -- A path is open if a name can follow it as it stands: it is empty, or ends with a slash.
-abbrev pub is_open : List ℕ → Bool
-is_open path = length path == 0 || slice_index path (length path - 1) == slash
+abbrev pub is_open_path : List ℕ → Bool
+is_open_path path = length path == 0 || slice_index path (length path - 1) == slash
 
 -- Two paths joined: an absolute second one replaces the first; else a slash stands between, unless
 -- the first is open.
 abbrev pub joined_path : (first second : List ℕ) → List ℕ
 joined_path first second =
     if is_absolute second then second
-    else if is_open first then first ++ second
+    else if is_open_path first then first ++ second
     else first ++ slash ∷ second

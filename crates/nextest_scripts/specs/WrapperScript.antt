@@ -24,6 +24,10 @@ target_runner_names =
 unfoldable pub target_runner_expected : List ℕ
 target_runner_expected = codes "`ignore`, `overrides-wrapper`, `within-wrapper`, `around-wrapper`"
 
+-- A target runner is ignored where nothing else is said.
+abbrev pub usual_target_runner : WrapperScriptTargetRunner
+usual_target_runner = runners.Ignore
+
 -- What a wrapper makes of a target runner, as a node spells it.
 abbrev pub target_runner_at : Node → Result WrapperScriptTargetRunner FaultCause
 target_runner_at = name_at target_runner_names target_runner_expected
@@ -40,9 +44,8 @@ wrapper_script_fields = must keys.Command a_command (may keys.TargetRunner a_tar
 unfoldable pub a_wrapper_script : Schema
 a_wrapper_script = struct wrapper_script_fields
 
--- A wrapper script's table spells its command; a target runner is ignored where nothing else is
--- said.
+-- A wrapper script's table spells its command, and what it makes of a target runner.
 pub record IsWrapperScript (es : Entries) (script : WrapperScriptConfig) : Type 0 where
   pub command : IsOptional IsCommand (get (key_text keys.Command) es) (Some script.command)
   pub target_runner : script.target_runner
-      ≡ leaf_or runners.Ignore target_runner_at (get (key_text keys.TargetRunner) es)
+      ≡ leaf_or usual_target_runner target_runner_at (get (key_text keys.TargetRunner) es)

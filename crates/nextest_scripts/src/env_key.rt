@@ -1,7 +1,7 @@
 //! Keys of environment variables that a script may set.
 
 ghost use Rattle.std.specs.Prelude.{◌≡◌, ◌↔◌, IfErr, IsOk, IsTrue};
-ghost use Rattle.nextest_scripts.specs.EnvKey.{IsEnvVarKey, IsFaultOf, is_env_var_key, is_plain, is_reserved, starts_well};
+ghost use Rattle.nextest_scripts.specs.EnvKey.{IsEnvVarKey, IsFaultOf, is_env_var_key, is_plain, is_reserved_key, starts_well};
 
 use std::alloc::{AllocError, Global};
 use thiserror::Error;
@@ -77,7 +77,7 @@ fn has_plain_characters(key: &str) -> bool
 }
 
 fn begins_reserved(key: &str) -> bool
-    ensures { result ≡ is_reserved key.now }
+    ensures { result ≡ is_reserved_key key.now }
 {
     key.as_bytes().starts_with(b"NEXTEST")
 }

@@ -1,6 +1,6 @@
 //! Paths as texts.
 ghost use Rattle.std.specs.Prelude.{◌≡◌, IfOk, string_bytes};
-ghost use Rattle.nextest_scripts.specs.Paths.{is_absolute, is_open, joined_path};
+ghost use Rattle.nextest_scripts.specs.Paths.{is_absolute, is_open_path, joined_path};
 
 use std::alloc::{AllocError, Global};
 
@@ -12,7 +12,7 @@ pub fn join_paths(alloc: Global, first: &str, second: &str) -> Result<String, Al
     if is_absolute(second) {
         return String::from_str(alloc, second);
     }
-    if is_open(first) {
+    if is_open_path(first) {
         return format!(in alloc; "{first}{second}");
     }
     format!(in alloc; "{first}/{second}")
@@ -24,8 +24,8 @@ fn is_absolute(path: &str) -> bool
     path.starts_with('/')
 }
 
-fn is_open(path: &str) -> bool
-    ensures { result ≡ is_open path.now }
+fn is_open_path(path: &str) -> bool
+    ensures { result ≡ is_open_path path.now }
 {
     path.is_empty() || path.ends_with('/')
 }

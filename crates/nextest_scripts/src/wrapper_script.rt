@@ -11,10 +11,9 @@ use std::alloc::Global;
 use std::collections::BTreeMap;
 
 /// What a wrapper script makes of the runner of a target. By default it ignores it.
-#[derive(Clone, Copy, Debug, Default, PartialEq, Eq)]
+#[derive(Clone, Copy, Debug, PartialEq, Eq)]
 pub enum WrapperScriptTargetRunner {
     /// The runner is not used.
-    #[default]
     Ignore,
     /// The runner is used in place of the wrapper.
     OverridesWrapper,
@@ -22,6 +21,17 @@ pub enum WrapperScriptTargetRunner {
     WithinWrapper,
     /// The runner runs the wrapper, which runs the test.
     AroundWrapper,
+}
+
+impl Default for WrapperScriptTargetRunner {
+    ghost use Rattle.std.specs.Prelude.{◌≡◌};
+    ghost use Rattle.nextest_scripts.specs.WrapperScript.{usual_target_runner};
+
+    ghost is_default = { λ runner. runner ≡ usual_target_runner };
+
+    fn default() -> Self {
+        WrapperScriptTargetRunner::Ignore
+    }
 }
 
 /// The names of what a wrapper makes of a runner.
@@ -84,7 +94,7 @@ impl Record for WrapperScriptConfig {
         let target_runner = optional(alloc, members, Key::TargetRunner, walk)?;
         Ok(WrapperScriptConfig {
             command,
-            target_runner: target_runner.unwrap_or(WrapperScriptTargetRunner::Ignore),
+            target_runner: target_runner.unwrap_or_default(),
         })
     }
 }

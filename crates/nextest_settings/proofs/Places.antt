@@ -5,7 +5,7 @@ use Rattle.std.specs.List.{AllByRecursion, flat_map}
 use Rattle.nextest_tables.specs.Written.{Name}
 use Rattle.nextest_rules.specs.Rules.{LayerProfile, Layer}
 use Rattle.nextest_settings.specs.Chains.{in_layer, in_order}
-use Rattle.nextest_settings.specs.Order.{RulePlace, Before, Ascend, at_place, AreInOrder}
+use Rattle.nextest_settings.specs.Order.{RulePlace, Before, Ascend, at_place, RulesAreInOrder}
 
 -- lists in general
 
@@ -175,7 +175,7 @@ module _ {M K X : Type 0} (f : LayerProfile M K → List X) where
       let same : (p + 1) + j ≡ p + suc j = omega arith in
       among_right (record { name = p + suc j; layer = m; index = k }) (places_on x p 0 layers) (places_of layers (p + 1) names) (rw (← same) h)
 
-  pub in_place_order : (layers : List (Layer M K)) (names : List Name) → AreInOrder f layers names (in_order f layers names)
+  pub in_place_order : (layers : List (Layer M K)) (names : List Name) → RulesAreInOrder f layers names (in_order f layers names)
   in_place_order layers names = record {
     places = places_of layers 0 names;
     ascend = ascend_of layers 0 names;

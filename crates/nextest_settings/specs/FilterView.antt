@@ -5,11 +5,11 @@ use Rattle.nextest_settings.specs.declared.default_filter.CompiledDefaultFilterS
 use Rattle.nextest_settings.specs.declared.default_filter.CompiledDefaultFilterSection.TheVariants.{Profile, Override}
 
 -- where a default filter stands
-abbrev pub section_view : CompiledDefaultFilterSection → FilterSection
-section_view Profile = at_profile
-section_view (Override index) = at_override index
+abbrev pub filter_section_view : CompiledDefaultFilterSection → FilterSection
+filter_section_view Profile = at_profile
+filter_section_view (Override index) = at_override index
 
 -- a default filter
 abbrev pub filter_view : {F E T : Type 0} → CompiledDefaultFilter F E T → FilterChoice E
 filter_view f =
-    record { filter = f.expr.now; profile = f.profile.now; section = section_view f.section }
+    record { filter = f.expr.now; profile = f.profile.now; section = filter_section_view f.section }

@@ -31,8 +31,8 @@ at_place f layers names p = option_and_then
 
 -- Rules stand in the order of their places: there are places that ascend, at which these rules
 -- stand in turn, and each place with a rule is one of them.
-pub record AreInOrder {M K X : Type 0} (f : LayerProfile M K → List X) (layers : List (Layer M K))
-    (names : List Name) (rules : List X) : Type 0 where
+pub record RulesAreInOrder {M K X : Type 0} (f : LayerProfile M K → List X)
+    (layers : List (Layer M K)) (names : List Name) (rules : List X) : Type 0 where
   pub places : List RulePlace
   pub ascend : Ascend places
   pub stand : map (at_place f layers names) places ≡ map Some rules

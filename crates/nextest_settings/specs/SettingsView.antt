@@ -1,5 +1,5 @@
 -- What contracts see of the settings of a test.
-use Rattle.std.specs.Prelude.{ℕ, List, Option, None, Some, option_map, option_and_then, slice_get, pos, map, string_bytes}
+use Rattle.std.specs.Prelude.{List, Option, None, Some, option_map, option_and_then, slice_get, pos, map, string_bytes}
 use Rattle.std.specs.Option.{option_or}
 use Rattle.nextest_elements.specs.declared.run_mode.NextestRunMode.{NextestRunMode}
 use Rattle.nextest_elements.specs.declared.test_group.TestGroup.{TestGroup}

@@ -61,24 +61,24 @@ evaluated_meaning f h r = record {
 }
 
 -- an override on the platforms of a build, by what its filters mean
-abbrev pub override_meaning : {E M : Type 0} → (E → M) → EvaluatedRule E (OverrideUse E)
+abbrev pub evaluated_override_meaning : {E M : Type 0} → (E → M) → EvaluatedRule E (OverrideUse E)
     → EvaluatedRule M (OverrideUse M)
-override_meaning f r = evaluated_meaning f (use_meaning f) r
+evaluated_override_meaning f r = evaluated_meaning f (use_meaning f) r
 
 -- a script rule on the platforms of a build, by what its filter means
-abbrev pub script_rule_meaning : {E M : Type 0} → (E → M) → EvaluatedRule E ScriptUse
+abbrev pub evaluated_script_rule_meaning : {E M : Type 0} → (E → M) → EvaluatedRule E ScriptUse
     → EvaluatedRule M ScriptUse
-script_rule_meaning f r = evaluated_meaning f (λ u. u) r
+evaluated_script_rule_meaning f r = evaluated_meaning f (λ u. u) r
 
 -- an override that code holds, by what its filters mean
 abbrev pub override_of : {F S E T N P M : Type 0} → (E → M)
     → EvaluatedRule' (CompiledOverride F S E T N P) → EvaluatedRule M (OverrideUse M)
-override_of meaning r = override_meaning meaning (evaluated_override_view r)
+override_of meaning r = evaluated_override_meaning meaning (evaluated_override_view r)
 
 -- a script rule that code holds, by what its filter means
 abbrev pub script_rule_of : {F S E T N P M : Type 0} → (E → M)
     → EvaluatedRule' (CompiledProfileScripts F S E T N P) → EvaluatedRule M ScriptUse
-script_rule_of meaning r = script_rule_meaning meaning (evaluated_script_rule_view r)
+script_rule_of meaning r = evaluated_script_rule_meaning meaning (evaluated_script_rule_view r)
 
 -- each run wrapper that script rules name is a wrapper script of a configuration
 abbrev pub KnowsRunWrappers : {F S E T N P : Type 0} → ScriptTables

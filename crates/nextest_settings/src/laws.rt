@@ -4,7 +4,7 @@ ghost use Rattle.nextest_elements.specs.declared.run_mode.NextestRunMode.{Nextes
 ghost use Rattle.nextest_rules.specs.Rules.{Layer, OverrideUse};
 ghost use Rattle.nextest_settings.specs.Chains.{overrides_of, script_rules_of};
 ghost use Rattle.nextest_settings.specs.Deciding.{QueryContext, Rising, HasFilterAt, StandsFirst, decides, winner};
-ghost use Rattle.nextest_settings.specs.Order.{AreInOrder};
+ghost use Rattle.nextest_settings.specs.Order.{RulesAreInOrder};
 ghost use Rattle.nextest_settings.specs.Platforms.{EvaluatedRule};
 ghost use Rattle.nextest_settings.specs.Profile.{EvaluatableModel};
 ghost use Rattle.nextest_settings.specs.Queries.{filters_of, evaluated_for_test, evaluated_for_list};
@@ -60,7 +60,7 @@ pub fn law_first_script_rule<F: Filters>()
 /// from the highest, and then by position in its file.
 pub fn law_rule_order<F: Filters, S: Specs>()
     ensures overrides { (layers : List (Layer F.Meaning S.SpecMeaning)) (names : List Name)
-        → AreInOrder (λ p. p.overrides) layers names (overrides_of layers names) }
+        → RulesAreInOrder (λ p. p.overrides) layers names (overrides_of layers names) }
     ensures script_rules { (layers : List (Layer F.Meaning S.SpecMeaning)) (names : List Name)
-        → AreInOrder (λ p. p.script_rules) layers names (script_rules_of layers names) }
+        → RulesAreInOrder (λ p. p.script_rules) layers names (script_rules_of layers names) }
 {}

@@ -1,11 +1,10 @@
 -- How calls end: what a refusal tells, and what two checks in a row tell.
-use Rattle.std.proofs.Common.{◌≡◌, List, [], ◌∷◌, map, Option, Some, None, Result, Ok, Err, IsErrAnd, option_map, refl, sym, ap}
+use Rattle.std.proofs.Common.{◌≡◌, Option, Some, None, Result, IsErrAnd, refl}
 use Rattle.std.specs.Option.{option_or}
 use Rattle.std.proofs.lemmas.Result.{err_from_is_err_and}
-use Rattle.nextest_sources.specs.Causes.{LoadCause, LoadFault, at_source}
+use Rattle.nextest_sources.specs.Causes.{LoadCause, LoadFault}
 use Rattle.nextest_sources.specs.Endings.{Ending, passed, refused, no_memory, malformed, ending_at, ending_with, error_view, ending, Found, IsRefusal, Refuses}
 use Rattle.nextest_sources.specs.Errors.{cause_view, source_of}
-use Rattle.nextest_sources.specs.InputFaults.{fault_at_source}
 use Rattle.nextest_sources.specs.Sources.{Source}
 use Rattle.nextest_sources.specs.declared.error.ConfigParseError.{ConfigParseError}
 use Rattle.nextest_sources.specs.declared.error.ConfigParseErrorKind.{ConfigParseErrorKind}

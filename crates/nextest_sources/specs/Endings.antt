@@ -1,9 +1,9 @@
 -- How calls of a load end: what they tell, and which steps they went through.
-use Rattle.std.specs.Prelude.{◌≡◌, List, ◌++◌, Option, Some, None, option_map, Result, Ok, Err}
+use Rattle.std.specs.Prelude.{◌≡◌, List, ◌++◌, Option, Some, None, Result, Ok, Err}
 use Rattle.nextest_sources.specs.Causes.{LoadCause, LoadFault, at_source}
 use Rattle.nextest_sources.specs.Errors.{cause_view, source_of}
 use Rattle.nextest_sources.specs.Sources.{Source}
-use Rattle.nextest_sources.specs.Steps.{Step, first_fault, warnings_before}
+use Rattle.nextest_sources.specs.Steps.{LoadStep, first_fault, warnings_before}
 use Rattle.nextest_sources.specs.Warnings.{Warning}
 use Rattle.nextest_sources.specs.declared.error.ConfigParseError.{ConfigParseError}
 use Rattle.nextest_sources.specs.declared.error.ConfigParseErrorKind.{ConfigParseErrorKind}
@@ -68,7 +68,7 @@ abbrev pub IsFollowedInPart : {X : Type 0} → (old new more : List X) → Type 
 IsFollowedInPart {X} old new more = (front : List X) × Begins front more × (new ≡ old ++ front)
 
 -- how a call that went through steps left the warnings and ended
-abbrev pub WentThrough : List Step → (old new : List Warning) → Ending → Type 0
+abbrev pub WentThrough : List LoadStep → (old new : List Warning) → Ending → Type 0
 WentThrough steps old new passed = (first_fault steps ≡ None) × (new ≡ old ++ warnings_before steps)
 WentThrough steps old new (refused f) =
     (first_fault steps ≡ Some f) × (new ≡ old ++ warnings_before steps)
@@ -77,5 +77,5 @@ WentThrough steps old new malformed = ⊥
 
 -- A call ran over steps: it ended with their first fault, if there is one, and told the warnings
 -- before it; where memory ran out, a beginning of them.
-pub record Ran (steps : List Step) (old new : List Warning) (end : Ending) : Type 0 where
+pub record Ran (steps : List LoadStep) (old new : List Warning) (end : Ending) : Type 0 where
   pub is : WentThrough steps old new end

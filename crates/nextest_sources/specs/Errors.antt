@@ -1,5 +1,5 @@
 -- What contracts see of refusals: their source and their cause.
-use Rattle.std.specs.Prelude.{ℕ, List, map, true, false, Option, Some, None, option_map, string_bytes}
+use Rattle.std.specs.Prelude.{map, true, false, Option, Some, None, option_map, string_bytes}
 use Rattle.std.specs.BTreeSet.{BTreeSet, contains_text}
 use Rattle.nextest_tree.specs.Reads.{fault_view}
 use Rattle.nextest_tree.specs.Schema.{is_one_of}

@@ -66,9 +66,9 @@ texts_at source not_a_directory = []
 texts_at source (failed message) = []
 
 -- an input with its text, if it gave one
-abbrev pub texts_of : Input → List SourceText
-texts_of i = texts_at i.source i.outcome
+abbrev pub source_texts_of : Input → List SourceText
+source_texts_of i = texts_at i.source i.outcome
 
 -- the sources that gave text, the lowest first
 abbrev pub sources_in : LoadInputs → List SourceText
-sources_in files = flat_map texts_of (inputs_of files)
+sources_in files = flat_map source_texts_of (inputs_of files)

@@ -27,10 +27,10 @@ source_kind_view kinds.ExplicitRepository = explicit_file
 source_kind_view kinds.DiscoveredRepository = discovered_file
 
 -- the tool of a source, where it is one of a tool
-abbrev pub tool_of : SourceKind → Option (List ℕ)
-tool_of (tool_file tool) = Some tool
-tool_of explicit_file = None
-tool_of discovered_file = None
+abbrev pub tool_of_source : SourceKind → Option (List ℕ)
+tool_of_source (tool_file tool) = Some tool
+tool_of_source explicit_file = None
+tool_of_source discovered_file = None
 
 -- a source: the path of a file, and what kind of source it is
 pub record Source : Type 0 where

@@ -5,19 +5,19 @@ use Rattle.nextest_sources.specs.Sources.{Source}
 use Rattle.nextest_sources.specs.Warnings.{Warning}
 
 -- A step of a load: a warning, or a check of a source, with what it refuses, if it does.
-pub data Step : Type 0 where
-  warn : Warning → Step
-  check : Source → Option LoadCause → Step
+pub data LoadStep : Type 0 where
+  warn : Warning → LoadStep
+  check : Source → Option LoadCause → LoadStep
 
 -- the first fault of some steps
-abbrev pub first_fault : List Step → Option LoadFault
+abbrev pub first_fault : List LoadStep → Option LoadFault
 first_fault [] = None
 first_fault (warn w ∷ steps) = first_fault steps
 first_fault (check s None ∷ steps) = first_fault steps
 first_fault (check s (Some cause) ∷ steps) = Some (at_source s cause)
 
 -- the warnings before the first fault
-abbrev pub warnings_before : List Step → List Warning
+abbrev pub warnings_before : List LoadStep → List Warning
 warnings_before [] = []
 warnings_before (warn w ∷ steps) = w ∷ warnings_before steps
 warnings_before (check s None ∷ steps) = warnings_before steps

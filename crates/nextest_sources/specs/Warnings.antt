@@ -1,5 +1,5 @@
 -- What a load may warn of, and what contracts see of warnings.
-use Rattle.std.specs.Prelude.{ℕ, List, map, string_bytes}
+use Rattle.std.specs.Prelude.{ℕ, List, map}
 use denote.Ref.{Bor}
 use Rattle.nextest_sources.specs.Sources.{Source}
 

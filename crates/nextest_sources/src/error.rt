@@ -256,7 +256,7 @@ impl ConfigParseError {
     ghost use Rattle.nextest_sources.specs.Endings.{error_view, no_memory, Refuses};
     ghost use Rattle.nextest_sources.specs.ErrorKinds.{is_memory};
     ghost use Rattle.nextest_sources.specs.Errors.{source_of, cause_view};
-    ghost use Rattle.nextest_sources.specs.Sources.{path_view, source_view, tool_of};
+    ghost use Rattle.nextest_sources.specs.Sources.{path_view, source_view, tool_of_source};
 
     /// The file that is refused: `None` exactly for want of memory.
     pub fn config_file(&self) -> Option<&ConfigPath>
@@ -273,7 +273,7 @@ impl ConfigParseError {
     /// The tool that provides the file that is refused, where one does.
     pub fn tool(&self) -> Option<&ToolName>
         ensures { option_map (λ tool. tool_name_text tool.now) result
-            ≡ option_and_then (λ source. tool_of source.kind) (source_of self.now) }
+            ≡ option_and_then (λ source. tool_of_source source.kind) (source_of self.now) }
     {
         match &self.source {
             Some(source) => source.tool(),

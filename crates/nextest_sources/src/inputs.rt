@@ -4,7 +4,7 @@ ghost use Rattle.nextest_texts.specs.IdentifierText.{tool_name_text};
 ghost use Rattle.nextest_sources.specs.Endings.{Found, ending};
 ghost use Rattle.nextest_sources.specs.InputFaults.{fault_at_source, outcome_cause, first_path, second_file, duplicate_fault};
 ghost use Rattle.nextest_sources.specs.InputsView.{input_view};
-ghost use Rattle.nextest_sources.specs.Inputs.{tool_input, repository_input, texts_of};
+ghost use Rattle.nextest_sources.specs.Inputs.{tool_input, repository_input, source_texts_of};
 ghost use Rattle.nextest_sources.specs.Sources.{ToolFile, path_view, source_view, file_view, tool_file_view};
 
 use crate::error::{ConfigParseError, ConfigParseErrorKind};
@@ -122,8 +122,8 @@ pub fn text_of<'a>(input: &SourceInput<'a>) -> Result<Option<&'a str>, ConfigPar
     ensures text { let read = input_view input.now in
         IfOk result
         (λ text. MatchOption text
-        (texts_of read ≡ [])
-        (λ t. texts_of read ≡ record { source = read.source; text = t.now } ∷ [])) }
+        (source_texts_of read ≡ [])
+        (λ t. source_texts_of read ≡ record { source = read.source; text = t.now } ∷ [])) }
 {
     match (input.outcome, input.source.kind()) {
         (ReadOutcome::Text(text), _) => Ok(Some(text.as_str())),

@@ -3,7 +3,7 @@
 //!
 //! Nothing here reads a file. A caller reads them and hands the outcomes in.
 ghost use Rattle.std.specs.Prelude.{◌≡◌, IfOk, option_map};
-ghost use Rattle.nextest_sources.specs.Sources.{path_view, outcome_view, source_view, source_kind_view, tool_of};
+ghost use Rattle.nextest_sources.specs.Sources.{path_view, outcome_view, source_view, source_kind_view, tool_of_source};
 ghost use Rattle.nextest_texts.specs.IdentifierText.{tool_name_text};
 
 use crate::one_line::OneLine;
@@ -169,7 +169,7 @@ impl ConfigSource {
     /// The tool that provides the file, where one does.
     pub fn tool(&self) -> Option<&ToolName>
         ensures { option_map (λ tool. tool_name_text tool.now) result
-            ≡ tool_of (source_view self.now).kind }
+            ≡ tool_of_source (source_view self.now).kind }
     {
         match &self.kind {
             ConfigSourceKind::Tool(tool) => Some(tool),

@@ -18,7 +18,7 @@ use Rattle.nextest_elements.specs.declared.junit.JunitImpl.{JunitImpl}
 use Rattle.nextest_tables.specs.Complete.{IsComplete, HasCompleteDefault, IsMergedTree}
 use Rattle.nextest_tables.specs.FileTexts.{ProfileText}
 use Rattle.nextest_tables.specs.Values.{AreTexts, IsProfile, IsFile}
-use Rattle.nextest_tables.specs.View.{report_view, fields_view, profile_view, by_name, file_view}
+use Rattle.nextest_tables.specs.View.{report_view, fields_view, profile_view, by_name, file_table_view}
 use Rattle.nextest_tables.specs.Written.{WrittenReport, default_name}
 use Rattle.nextest_tables.specs.declared.file_table.FileTable.{FileTable}
 use Rattle.nextest_tables.specs.declared.profile_table.ProfileTable.{ProfileTable}
@@ -143,12 +143,12 @@ find_default (Some (bool b)) xs g h = absurd g
 find_default (Some opaque) xs g h = absurd g
 find_default None xs g h = absurd g
 
-whole_complete : (es : Entries) (x : FileTable) → Keeps file_form (table es) → IsFile es x → HasCompleteDefault (file_view x)
+whole_complete : (es : Entries) (x : FileTable) → Keeps file_form (table es) → IsFile es x → HasCompleteDefault (file_table_view x)
 whole_complete es x g h =
     let found = find_default (get (key_text keys.Profile) es) x.profiles.entries g.0 h.profiles in
     record { profile = found.profile; there = found.there; complete = found.complete }
 
-file_complete : (n : Node) (x : FileTable) → Keeps file_form n → InTable IsFile n x → HasCompleteDefault (file_view x)
+file_complete : (n : Node) (x : FileTable) → Keeps file_form n → InTable IsFile n x → HasCompleteDefault (file_table_view x)
 file_complete (table es) x g h = whole_complete es x g h
 file_complete (array ns) x g h = absurd h
 file_complete (text t) x g h = absurd h
@@ -157,6 +157,6 @@ file_complete (bool b) x g h = absurd h
 file_complete opaque x g h = absurd h
 
 -- what was read of such a tree, if it was read
-pub read_complete : (r : Result FileTable ElementFault) (n : Node) (files : List Node) → IfOk r (InTable IsFile n) → IsMergedTree files n → IfOk r (λ x. HasCompleteDefault (file_view x))
+pub read_complete : (r : Result FileTable ElementFault) (n : Node) (files : List Node) → IfOk r (InTable IsFile n) → IsMergedTree files n → IfOk r (λ x. HasCompleteDefault (file_table_view x))
 read_complete (Ok x) n files h merged = file_complete n x (merged_form files n merged) h
 read_complete (Err e) n files h merged = tt

@@ -13,7 +13,7 @@ use Rattle.nextest_scripts.specs.declared.script_id.ScriptId.{ScriptId}
 use Rattle.nextest_tables.specs.FileTexts.{each_node, override_text, script_rule_text, profile_text, file_text}
 use Rattle.nextest_tables.specs.Values.{nodes_under, IsOverride, IsScriptRule, IsProfile, IsFile}
 use Rattle.nextest_tables.specs.Texts.{group_in, each_in, entries_at, settings_in, fields_in}
-use Rattle.nextest_tables.specs.View.{settings_view, fields_view, override_view, script_rule_view, profile_view, file_view}
+use Rattle.nextest_tables.specs.View.{settings_view, fields_view, override_view, script_rule_table_view, profile_view, file_table_view}
 use Rattle.nextest_tables.specs.declared.file_table.FileTable.{FileTable}
 use Rattle.nextest_tables.specs.declared.override_table.OverrideTable.{OverrideTable}
 use Rattle.nextest_tables.specs.declared.profile_table.ProfileTable.{ProfileTable}
@@ -84,7 +84,7 @@ override_is es x h =
 id_seen : (o : Option Node) (x : Option ScriptId) → IsOptional IsScriptId o x → option_map script_text x ≡ option_and_then as_text o
 id_seen o x h = seen_at IsScriptId script_text as_text id_text o x h
 
-script_rule_is : (es : Entries) (x : ScriptRuleTable) → IsScriptRule es x → script_rule_view x ≡ script_rule_text (table es)
+script_rule_is : (es : Entries) (x : ScriptRuleTable) → IsScriptRule es x → script_rule_table_view x ≡ script_rule_text (table es)
 script_rule_is es x h =
     let platform = h.platform in
     let filter = text_seen (get (key_text keys.Filter) es) x.filter h.filter in
@@ -135,7 +135,7 @@ profile_is es x h =
     let default_filter = text_seen (get (key_text keys.DefaultFilter) es) x.default_filter h.default_filter in
     let fields = fields_are es x h in
     let overrides = list_is IsOverride override_view override_text override_is _ x.overrides.items h.overrides in
-    let script_rules = list_is IsScriptRule script_rule_view script_rule_text script_rule_is _ x.scripts.items h.scripts in
+    let script_rules = list_is IsScriptRule script_rule_table_view script_rule_text script_rule_is _ x.scripts.items h.scripts in
     λ i. record { parent = parent i; default_filter = default_filter i; fields = fields i; overrides = overrides i; script_rules = script_rules i }
 
 -- what stands at a key of the table of scripts
@@ -149,7 +149,7 @@ under_scripts k (Some (bool b)) = refl
 under_scripts k (Some opaque) = refl
 
 -- a whole file
-whole_is : (es : Entries) (x : FileTable) → IsFile es x → file_view x ≡ file_text (table es)
+whole_is : (es : Entries) (x : FileTable) → IsFile es x → file_table_view x ≡ file_text (table es)
 whole_is es x h =
     let scripts = get (key_text keys.Scripts) es in
     let store_dir = h.store_dir in
@@ -160,5 +160,5 @@ whole_is es x h =
     let profiles = map_is string_bytes IsProfile profile_view profile_text profile_is _ x.profiles.entries h.profiles in
     λ i. record { store_dir = store_dir i; groups = groups i; new_setup_scripts = new_setup i; old_setup_scripts = old_setup i; wrapper_scripts = wrapper i; profiles = profiles i }
 
-pub file_is : (n : Node) (x : FileTable) → InTable IsFile n x → file_view x ≡ file_text n
-file_is n x h = in_table IsFile file_view file_text whole_is n x h
+pub file_is : (n : Node) (x : FileTable) → InTable IsFile n x → file_table_view x ≡ file_text n
+file_is n x h = in_table IsFile file_table_view file_text whole_is n x h

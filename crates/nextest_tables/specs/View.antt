@@ -90,8 +90,8 @@ uses_view s = record {
 }
 
 -- a script rule
-abbrev pub script_rule_view : ScriptRuleTable → ScriptRuleText
-script_rule_view r = record {
+abbrev pub script_rule_table_view : ScriptRuleTable → ScriptRuleText
+script_rule_table_view r = record {
   platform = platform_view r.platform;
   filter = option_map string_bytes r.filter;
   scripts = uses_view r.scripts;
@@ -104,12 +104,12 @@ profile_view p = record {
   default_filter = option_map string_bytes p.default_filter;
   fields = fields_view p.fields;
   overrides = map override_view p.overrides.items;
-  script_rules = map script_rule_view p.scripts.items;
+  script_rules = map script_rule_table_view p.scripts.items;
 }
 
 -- a whole file
-abbrev pub file_view : FileTable → FileText
-file_view f = record {
+abbrev pub file_table_view : FileTable → FileText
+file_table_view f = record {
   store_dir = Some (string_bytes f.store_dir);
   groups = map (λ e. (custom_group_text e.0, Some e.1)) f.test_groups.entries;
   new_setup_scripts = map (λ e. script_text e.0) f.scripts.setup.entries;

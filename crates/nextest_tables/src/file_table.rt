@@ -8,7 +8,7 @@ ghost use Rattle.nextest_tables.specs.FileTexts.{file_text};
 ghost use Rattle.nextest_tables.specs.Scripts.{AreFileScripts, file_scripts_view};
 ghost use Rattle.nextest_tables.specs.Values.{AreScripts, IsFile, IsStore};
 ghost use Rattle.nextest_tables.specs.Tables.{a_file, a_scripts_table, a_store, file_fields, scripts_fields, store_fields};
-ghost use Rattle.nextest_tables.specs.View.{file_view};
+ghost use Rattle.nextest_tables.specs.View.{file_table_view};
 
 use crate::fields::map_at;
 use crate::profile_table::ProfileTable;
@@ -193,14 +193,14 @@ impl Element for FileTable {
 
 /// Reads a whole file: what it writes, or its first fault. The walk notes its unknown keys.
 ///
-/// Files are read over the defaults. So the profile `default` writes every field but the path of its
-/// report: a file can replace what the defaults write, and takes nothing away.
+/// Files are read over the defaults. So the profile `default` writes every field but the path of
+/// its report: a file can replace what the defaults write, and takes nothing away.
 pub fn read_file(alloc: Global, tree: &Tree, walk: &mut Walk) -> Result<FileTable, ElementFault>
-    ensures value { IfOk result (λ table. file_view table ≡ file_text (tree_view tree.now)) }
+    ensures value { IfOk result (λ table. file_table_view table ≡ file_text (tree_view tree.now)) }
     ensures scripts { IfOk result
         (λ table. AreFileScripts (tree_view tree.now) (file_scripts_view table)) }
     ensures complete { (files : List Node) → IsMergedTree files (tree_view tree.now)
-        → IfOk result (λ table. HasCompleteDefault (file_view table)) }
+        → IfOk result (λ table. HasCompleteDefault (file_table_view table)) }
     ensures reads { Gives result walk.new
         (reading a_file (tree_view tree.now) (walk_view walk.old)) }
 {

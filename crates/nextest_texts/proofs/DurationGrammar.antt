@@ -19,8 +19,8 @@ use Rattle.nextest_texts.specs.declared.duration.DurationError.{DurationError}
 use Rattle.nextest_texts.specs.declared.duration.DurationError.TheVariants.{Malformed, OutOfRange}
 use Rattle.nextest_texts.specs.DurationSteps.{within_limit, NotFirst}
 use Rattle.nextest_texts.specs.Duration.{longest_duration, duration_units, IsUnit, Item, IsItem, spaces, spelling, nanoseconds, IsRow, IsDuration}
-use Rattle.nextest_texts.specs.DurationFunction.{duration_result, kind_of, same_kind, Run, run, with_byte, runs, without_spaces, words_of, sum_of, some_sum_of, unit_size, duration_of}
-use Rattle.nextest_texts.proofs.Durations.{AreOf, kind_of-digit, kind_of-space, kind_of-from_digit_value, digit_value-digit, words_of-spaces, words_of-run, words_of-nil, sum_of-nil, some_sum_of-cons, sum_of-pair, false_from}
+use Rattle.nextest_texts.specs.DurationFunction.{duration_result, byte_kind, same_kind, ByteRun, run, with_byte, runs, without_spaces, words_of, sum_of, some_sum_of, unit_size, duration_of}
+use Rattle.nextest_texts.proofs.Durations.{AreOf, byte_kind-digit, byte_kind-space, byte_kind-from_digit_value, digit_value-digit, words_of-spaces, words_of-run, words_of-nil, sum_of-nil, some_sum_of-cons, sum_of-pair, false_from}
 
 -- ---- units
 
@@ -39,11 +39,11 @@ other_kind Space h = absurd (false≢true h)
 other_kind Digit h = absurd (false≢true h)
 other_kind Other h = refl
 
-AreOf-from_test : (bs : List ℕ) → list_all (λ b. same_kind Other (kind_of b)) bs ≡ true → AreOf Other bs
+AreOf-from_test : (bs : List ℕ) → list_all (λ b. same_kind Other (byte_kind b)) bs ≡ true → AreOf Other bs
 AreOf-from_test [] h = tt
 AreOf-from_test (b ∷ bs) h =
-    let parts = and_parts (same_kind Other (kind_of b)) _ h in
-    (other_kind (kind_of b) parts.0, AreOf-from_test bs parts.1)
+    let parts = and_parts (same_kind Other (byte_kind b)) _ h in
+    (other_kind (byte_kind b) parts.0, AreOf-from_test bs parts.1)
 
 abbrev is_size : Option ℕ → ℕ → Bool
 is_size None size = false
@@ -55,7 +55,7 @@ is_size-true (Some n) size h = ap Some (eqb-true n size h)
 
 -- a name with no space and no digit, which the look-up finds
 abbrev is_word : List ℕ × ℕ → Bool
-is_word e = list_all (λ b. same_kind Other (kind_of b)) e.0 && (nat_lt 0 (length e.0) && is_size (unit_size e.0) e.1)
+is_word e = list_all (λ b. same_kind Other (byte_kind b)) e.0 && (nat_lt 0 (length e.0) && is_size (unit_size e.0) e.1)
 
 words : list_all is_word duration_units ≡ true
 unfolding duration_units unit_size
@@ -69,7 +69,7 @@ record IsWord (name : List ℕ) (size : ℕ) : Type 0 where
 IsWord-from_IsUnit : (name : List ℕ) (size : ℕ) → IsUnit name size → IsWord name size
 IsWord-from_IsUnit name size u =
     let passes = each_row is_word duration_units (name, size) u.0 words u.1 u.2 in
-    let parts = and_parts (list_all (λ b. same_kind Other (kind_of b)) name) _ passes in
+    let parts = and_parts (list_all (λ b. same_kind Other (byte_kind b)) name) _ passes in
     let more = and_parts (nat_lt 0 (length name)) _ parts.1 in
     record { bytes = AreOf-from_test name parts.0; some = ltb-true _ _ more.0; found = is_size-true (unit_size name) size more.1 }
 
@@ -83,13 +83,13 @@ IsUnit-from_unit_size name size h =
 AllDigits-from_AreOf : (ds : List ℕ) → AreOf Digit ds → AllDigits 10 ds
 AllDigits-from_AreOf [] h = tt
 AllDigits-from_AreOf (d ∷ ds) h =
-    let range = kind_of-digit d h.0 in
+    let range = byte_kind-digit d h.0 in
     let value = digit_value-digit d range.0 range.1 in
     (omega (arith, value), AllDigits-from_AreOf ds h.1)
 
 AreOf-from_AllDigits : (ds : List ℕ) → AllDigits 10 ds → AreOf Digit ds
 AreOf-from_AllDigits [] h = tt
-AreOf-from_AllDigits (d ∷ ds) h = (kind_of-from_digit_value d h.0, AreOf-from_AllDigits ds h.1)
+AreOf-from_AllDigits (d ∷ ds) h = (byte_kind-from_digit_value d h.0, AreOf-from_AllDigits ds h.1)
 
 -- ---- from the grammar to the function
 
@@ -105,7 +105,7 @@ not_other (item ∷ items) after h = starts item.before item.digits (All-head Is
   where
     starts : (before : ℕ) (digits : List ℕ) → IsNumeral 10 digits → NotFirst Other (((spaces before ++ (digits ++ (spaces item.between ++ item.unit))) ++ flat_map spelling items) ++ spaces after)
     starts zero [] number = absurd (omega (arith, number.0))
-    starts zero (d ∷ ds) number = λ e. let digit = kind_of-from_digit_value d number.1.0 in cc
+    starts zero (d ∷ ds) number = λ e. let digit = byte_kind-from_digit_value d number.1.0 in cc
     starts (suc n) digits number = λ e. cc
 
 -- what follows the digits of an item does not begin with a digit
@@ -157,16 +157,16 @@ some_sum_of-items (item ∷ items) after l h =
 -- ---- from the function to the grammar
 
 -- the bytes of runs
-abbrev flat : List Run → List ℕ
+abbrev flat : List ByteRun → List ℕ
 flat [] = []
 flat (run k bytes ∷ rs) = bytes ++ flat rs
 
 -- each run has a byte, and its bytes are of its kind
-abbrev AreMade : List Run → Type 0
+abbrev AreMade : List ByteRun → Type 0
 AreMade [] = Unit {0}
 AreMade (run k bytes ∷ rs) = AreOf k bytes × (0 < length bytes) × AreMade rs
 
-flat-with_byte : (k : ByteKind) (b : ℕ) (rs : List Run) → flat (with_byte k b rs) ≡ b ∷ flat rs
+flat-with_byte : (k : ByteKind) (b : ℕ) (rs : List ByteRun) → flat (with_byte k b rs) ≡ b ∷ flat rs
 flat-with_byte k b [] = refl
 flat-with_byte Space b (run Space bytes ∷ rs) = refl
 flat-with_byte Space b (run Digit bytes ∷ rs) = refl
@@ -178,7 +178,7 @@ flat-with_byte Other b (run Space bytes ∷ rs) = refl
 flat-with_byte Other b (run Digit bytes ∷ rs) = refl
 flat-with_byte Other b (run Other bytes ∷ rs) = refl
 
-AreMade-with_byte : (k : ByteKind) (b : ℕ) (rs : List Run) → kind_of b ≡ k → AreMade rs → AreMade (with_byte k b rs)
+AreMade-with_byte : (k : ByteKind) (b : ℕ) (rs : List ByteRun) → byte_kind b ≡ k → AreMade rs → AreMade (with_byte k b rs)
 AreMade-with_byte k b [] e h = ((e, tt), (omega arith), tt)
 AreMade-with_byte Space b (run Space bytes ∷ rs) e h = ((e, h.0), (omega arith), h.2)
 AreMade-with_byte Space b (run Digit bytes ∷ rs) e h = ((e, tt), (omega arith), h)
@@ -193,12 +193,12 @@ AreMade-with_byte Other b (run Other bytes ∷ rs) e h = ((e, h.0), (omega arith
 flat-runs : (text : List ℕ) → flat (runs text) ≡ text
 unfolding runs
 flat-runs [] = refl
-flat-runs (b ∷ rest) = flat-with_byte (kind_of b) b (runs rest) ∙ ap (λ bs. b ∷ bs) (flat-runs rest)
+flat-runs (b ∷ rest) = flat-with_byte (byte_kind b) b (runs rest) ∙ ap (λ bs. b ∷ bs) (flat-runs rest)
 
 AreMade-runs : (text : List ℕ) → AreMade (runs text)
 unfolding runs
 AreMade-runs [] = tt
-AreMade-runs (b ∷ rest) = AreMade-with_byte (kind_of b) b (runs rest) refl (AreMade-runs rest)
+AreMade-runs (b ∷ rest) = AreMade-with_byte (byte_kind b) b (runs rest) refl (AreMade-runs rest)
 
 -- the text is a row of items, which may be none
 record Row (text : List ℕ) (n : ℕ) : Type 0 where
@@ -238,7 +238,7 @@ Row-space text n row = more row.items row.after row.is
 Row-spaces : (front text : List ℕ) (n : ℕ) → AreOf Space front → Row text n → Row (front ++ text) n
 Row-spaces [] text n h row = row
 Row-spaces (b ∷ bs) text n h row =
-    subst (λ c. Row (c ∷ (bs ++ text)) n) (sym (kind_of-space b h.0)) (Row-space (bs ++ text) n (Row-spaces bs text n h.1 row))
+    subst (λ c. Row (c ∷ (bs ++ text)) n) (sym (byte_kind-space b h.0)) (Row-space (bs ++ text) n (Row-spaces bs text n h.1 row))
 
 -- a number, spaces and a unit before a row
 Row-item : (digits : List ℕ) (between : ℕ) (unit : List ℕ) (size : ℕ) (text : List ℕ) (n : ℕ) → IsNumeral 10 digits → IsUnit unit size → Row text n → Row (digits ++ (spaces between ++ (unit ++ text))) (digits_value 10 digits * size + n)
@@ -261,7 +261,7 @@ spaces-more : (between : ℕ) (front text : List ℕ) → AreOf Space front → 
 spaces-more between [] text h = (between, refl)
 spaces-more between (b ∷ bs) text h =
     let more = spaces-more (suc between) bs text h.1 in
-    (more.0, ap (λ c. spaces between ++ (c ∷ (bs ++ text))) (kind_of-space b h.0) ∙ shift between (bs ++ text) ∙ more.1)
+    (more.0, ap (λ c. spaces between ++ (c ∷ (bs ++ text))) (byte_kind-space b h.0) ∙ shift between (bs ++ text) ∙ more.1)
   where
     shift : (n : ℕ) (t : List ℕ) → spaces n ++ (32 ∷ t) ≡ 32 ∷ (spaces n ++ t)
     shift zero t = refl
@@ -275,11 +275,11 @@ Row-found digits between unit size text (Some m) n number found rows e =
     (Row-item digits between unit size text m number (IsUnit-from_unit_size unit size found) (rows m refl))
 
 -- what runs say whose sum is known: as they stand, and behind the digits of an item and spaces
-record Reads (rs : List Run) : Type 0 where
+record Reads (rs : List ByteRun) : Type 0 where
   row : (n : ℕ) → sum_of (without_spaces rs) ≡ Some n → Row (flat rs) n
   behind : (digits : List ℕ) (between n : ℕ) → IsNumeral 10 digits → sum_of (run Digit digits ∷ without_spaces rs) ≡ Some n → Row (digits ++ (spaces between ++ flat rs)) n
 
-reads : (rs : List Run) → AreMade rs → Reads rs
+reads : (rs : List ByteRun) → AreMade rs → Reads rs
 unfolding sum_of without_spaces
 reads [] made = record {
   row = λ n e. subst (Row []) (same_Some 0 n e) Row-nil;
@@ -314,7 +314,7 @@ some_sum_of-nil : some_sum_of [] ≡ None
 unfolding some_sum_of
 some_sum_of-nil = refl
 
-some_sum_of-some : (rs : List Run) (n : ℕ) → some_sum_of rs ≡ Some n → sum_of rs ≡ Some n
+some_sum_of-some : (rs : List ByteRun) (n : ℕ) → some_sum_of rs ≡ Some n → sum_of rs ≡ Some n
 unfolding some_sum_of
 some_sum_of-some [] n e = absurd (none-some n e)
 some_sum_of-some (r ∷ rs) n e = e

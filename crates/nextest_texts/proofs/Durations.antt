@@ -12,7 +12,7 @@ use Rattle.std.proofs.lemmas.Bool.{and_parts, ltb-true, eqb-true, eqb-false}
 use Rattle.std.proofs.lemmas.Option.{none-some}
 use Rattle.nextest_texts.specs.declared.duration.ByteKind.{ByteKind}
 use Rattle.nextest_texts.specs.declared.duration.ByteKind.TheVariants.{Space, Digit, Other}
-use Rattle.nextest_texts.specs.DurationFunction.{kind_of, same_kind, Run, run, with_byte, runs, without_spaces, words_of, sum_of, some_sum_of, unit_size}
+use Rattle.nextest_texts.specs.DurationFunction.{byte_kind, same_kind, ByteRun, run, with_byte, runs, without_spaces, words_of, sum_of, some_sum_of, unit_size}
 use Rattle.nextest_texts.specs.DurationSteps.{within_limit, NotFirst, SplitsRun, TakesItem}
 use Rattle.nextest_texts.specs.Duration.{longest_duration, duration_units}
 
@@ -37,16 +37,16 @@ same_kind-other Other Other h = absurd (h refl)
 -- each byte is of this kind
 abbrev pub AreOf : ByteKind → List ℕ → Type 0
 AreOf kind [] = Unit {0}
-AreOf kind (b ∷ bs) = (kind_of b ≡ kind) × AreOf kind bs
+AreOf kind (b ∷ bs) = (byte_kind b ≡ kind) × AreOf kind bs
 
-pub AreOf-from_All : (kind : ByteKind) (bs : List ℕ) → All (λ b. kind_of b ≡ kind) bs → AreOf kind bs
+pub AreOf-from_All : (kind : ByteKind) (bs : List ℕ) → All (λ b. byte_kind b ≡ kind) bs → AreOf kind bs
 AreOf-from_All kind [] h = tt
 AreOf-from_All kind (b ∷ bs) h = (h 0 0 (omega arith), AreOf-from_All kind bs (λ k d l. h (suc k) d (omega arith)))
 
 -- ---- runs
 
 -- the first run of a text is of the kind of its first byte
-with_byte-head : (k : ByteKind) (b : ℕ) (rs : List Run) → (bytes : List ℕ) × (more : List Run) × (with_byte k b rs ≡ run k bytes ∷ more)
+with_byte-head : (k : ByteKind) (b : ℕ) (rs : List ByteRun) → (bytes : List ℕ) × (more : List ByteRun) × (with_byte k b rs ≡ run k bytes ∷ more)
 with_byte-head k b [] = (b ∷ [], [], refl)
 with_byte-head Space b (run Space bytes ∷ rs) = (b ∷ bytes, rs, refl)
 with_byte-head Space b (run Digit bytes ∷ rs) = (b ∷ [], run Digit bytes ∷ rs, refl)
@@ -59,10 +59,10 @@ with_byte-head Other b (run Digit bytes ∷ rs) = (b ∷ [], run Digit bytes ∷
 with_byte-head Other b (run Other bytes ∷ rs) = (b ∷ bytes, rs, refl)
 
 -- a byte before a run of another kind
-pub with_byte-other : (k j : ByteKind) (b : ℕ) (bytes : List ℕ) (rs : List Run) → (j ≡ k → ⊥) → with_byte k b (run j bytes ∷ rs) ≡ run k (b ∷ []) ∷ run j bytes ∷ rs
+pub with_byte-other : (k j : ByteKind) (b : ℕ) (bytes : List ℕ) (rs : List ByteRun) → (j ≡ k → ⊥) → with_byte k b (run j bytes ∷ rs) ≡ run k (b ∷ []) ∷ run j bytes ∷ rs
 with_byte-other k j b bytes rs h = rw (same_kind-other k j (λ e. h (sym e))) refl
 
-pub with_byte-same : (k : ByteKind) (b : ℕ) (bytes : List ℕ) (rs : List Run) → with_byte k b (run k bytes ∷ rs) ≡ run k (b ∷ bytes) ∷ rs
+pub with_byte-same : (k : ByteKind) (b : ℕ) (bytes : List ℕ) (rs : List ByteRun) → with_byte k b (run k bytes ∷ rs) ≡ run k (b ∷ bytes) ∷ rs
 with_byte-same k b bytes rs = rw (same_kind-same k) refl
 
 -- one byte before what begins with another kind is a run
@@ -70,8 +70,8 @@ runs-one : (k : ByteKind) (b : ℕ) (rest : List ℕ) → NotFirst k rest → wi
 unfolding runs
 runs-one k b [] h = refl
 runs-one k b (c ∷ rest) h =
-    let head = with_byte-head (kind_of c) c (runs rest) in
-    rw head.2 (with_byte-other k (kind_of c) b head.0 head.1 h)
+    let head = with_byte-head (byte_kind c) c (runs rest) in
+    rw head.2 (with_byte-other k (byte_kind c) b head.0 head.1 h)
 
 -- bytes of one kind before what begins with another are a run
 runs-append : (k : ByteKind) (b : ℕ) (bs rest : List ℕ) → AreOf k (b ∷ bs) → NotFirst k rest → runs (b ∷ (bs ++ rest)) ≡ run k (b ∷ bs) ∷ runs rest
@@ -82,14 +82,14 @@ runs-append k b (c ∷ bs) rest h n =
 
 -- ---- runs without spaces
 
-without_spaces-space : (b : ℕ) (rs : List Run) → without_spaces (with_byte Space b rs) ≡ without_spaces rs
+without_spaces-space : (b : ℕ) (rs : List ByteRun) → without_spaces (with_byte Space b rs) ≡ without_spaces rs
 unfolding without_spaces
 without_spaces-space b [] = refl
 without_spaces-space b (run Space bytes ∷ rs) = refl
 without_spaces-space b (run Digit bytes ∷ rs) = refl
 without_spaces-space b (run Other bytes ∷ rs) = refl
 
-without_spaces-run : (k : ByteKind) (bytes : List ℕ) (rs : List Run) → (k ≡ Space → ⊥) → without_spaces (run k bytes ∷ rs) ≡ run k bytes ∷ without_spaces rs
+without_spaces-run : (k : ByteKind) (bytes : List ℕ) (rs : List ByteRun) → (k ≡ Space → ⊥) → without_spaces (run k bytes ∷ rs) ≡ run k bytes ∷ without_spaces rs
 unfolding without_spaces
 without_spaces-run Space bytes rs h = absurd (h refl)
 without_spaces-run Digit bytes rs h = refl
@@ -106,11 +106,11 @@ pub words_of-run : (k : ByteKind) (b : ℕ) (bs rest : List ℕ) → (k ≡ Spac
 unfolding words_of
 words_of-run k b bs rest s h n = ap without_spaces (runs-append k b bs rest h n) ∙ without_spaces-run k (b ∷ bs) (runs rest) s
 
-pub words_of-head : (b : ℕ) (rest : List ℕ) → (kind_of b ≡ Space → ⊥) → (bytes : List ℕ) × (more : List Run) × (words_of (b ∷ rest) ≡ run (kind_of b) bytes ∷ more)
+pub words_of-head : (b : ℕ) (rest : List ℕ) → (byte_kind b ≡ Space → ⊥) → (bytes : List ℕ) × (more : List ByteRun) × (words_of (b ∷ rest) ≡ run (byte_kind b) bytes ∷ more)
 unfolding words_of runs
 words_of-head b rest s =
-    let head = with_byte-head (kind_of b) b (runs rest) in
-    (head.0, without_spaces head.1, ap without_spaces head.2 ∙ without_spaces-run (kind_of b) head.0 head.1 s)
+    let head = with_byte-head (byte_kind b) b (runs rest) in
+    (head.0, without_spaces head.1, ap without_spaces head.2 ∙ without_spaces-run (byte_kind b) head.0 head.1 s)
 
 pub words_of-nil : words_of [] ≡ []
 unfolding words_of runs without_spaces
@@ -119,17 +119,17 @@ words_of-nil = refl
 -- ---- numbers
 
 -- a digit's value
-pub kind_of-digit : (b : ℕ) → kind_of b ≡ Digit → (48 ≤ b) × (b < 58)
-kind_of-digit b h = (grind (arith, nat_tests), grind (arith, nat_tests))
+pub byte_kind-digit : (b : ℕ) → byte_kind b ≡ Digit → (48 ≤ b) × (b < 58)
+byte_kind-digit b h = (grind (arith, nat_tests), grind (arith, nat_tests))
 
-pub kind_of-space : (b : ℕ) → kind_of b ≡ Space → b ≡ 32
-kind_of-space b h = grind (arith, nat_tests)
+pub byte_kind-space : (b : ℕ) → byte_kind b ≡ Space → b ≡ 32
+byte_kind-space b h = grind (arith, nat_tests)
 
 pub digit_value-digit : (b : ℕ) → 48 ≤ b → b < 58 → digit_value b ≡ b - 48
 digit_value-digit b l h = grind (arith, nat_tests)
 
-pub kind_of-from_digit_value : (b : ℕ) → digit_value b < 10 → kind_of b ≡ Digit
-kind_of-from_digit_value b h = grind (arith, nat_tests)
+pub byte_kind-from_digit_value : (b : ℕ) → digit_value b < 10 → byte_kind b ≡ Digit
+byte_kind-from_digit_value b h = grind (arith, nat_tests)
 
 pub digits_value_after-le : (n : ℕ) (ds : List ℕ) → n ≤ digits_value_after 10 n ds
 digits_value_after-le n [] = omega arith
@@ -149,9 +149,9 @@ pub within_limit-some : (n m : ℕ) → within_limit n ≡ Some m → (n ≡ m) 
 within_limit-some n m h = (grind (arith, nat_tests), grind (arith, nat_tests))
 
 -- where a number has gone above the limit, the whole is above it
-pub number_above : (n : ℕ) (ds : List ℕ) (i : ℕ) → i < length ds → All (λ b. kind_of b ≡ Digit) ds → digits_value_after 10 n (drop i ds) ≡ digits_value 10 ds → within_limit (n * 10 + (get_or ds i 0 - 48)) ≡ None → within_limit (digits_value 10 ds) ≡ None
+pub number_above : (n : ℕ) (ds : List ℕ) (i : ℕ) → i < length ds → All (λ b. byte_kind b ≡ Digit) ds → digits_value_after 10 n (drop i ds) ≡ digits_value 10 ds → within_limit (n * 10 + (get_or ds i 0 - 48)) ≡ None → within_limit (digits_value 10 ds) ≡ None
 number_above n ds i h digits goes above =
-    let d = kind_of-digit (get_or ds i 0) (digits i 0 h) in
+    let d = byte_kind-digit (get_or ds i 0) (digits i 0 h) in
     let v = digit_value-digit (get_or ds i 0) d.0 d.1 in
     let grown = digits_value_after-le (n * 10 + digit_value (get_or ds i 0)) (drop (i + 1) ds) in
     let past = within_limit-none _ above in
@@ -169,7 +169,7 @@ words_of-after_run k o text (b ∷ bs) rest h s =
     ap words_of s.joined ∙ words_of-run k b bs rest o (AreOf-from_All k (b ∷ bs) s.alike) s.longest
 
 -- what begins neither with a space nor with a digit
-sum_of-other : (k : ByteKind) (bytes : List ℕ) (more : List Run) → (k ≡ Space → ⊥) → (k ≡ Digit → ⊥) → some_sum_of (run k bytes ∷ more) ≡ None
+sum_of-other : (k : ByteKind) (bytes : List ℕ) (more : List ByteRun) → (k ≡ Space → ⊥) → (k ≡ Digit → ⊥) → some_sum_of (run k bytes ∷ more) ≡ None
 unfolding some_sum_of sum_of
 sum_of-other Space bytes more s d = absurd (s refl)
 sum_of-other Digit bytes more s d = absurd (d refl)
@@ -180,10 +180,10 @@ unfolding some_sum_of
 sum_of-no_digit [] s d = rw words_of-nil refl
 sum_of-no_digit (b ∷ rest) s d =
     let head = words_of-head b rest s in
-    ap some_sum_of head.2 ∙ sum_of-other (kind_of b) head.0 head.1 s d
+    ap some_sum_of head.2 ∙ sum_of-other (byte_kind b) head.0 head.1 s d
 
 -- digits before what begins neither with a space nor with a unit
-sum_of-digits : (digits : List ℕ) (k : ByteKind) (bytes : List ℕ) (more : List Run) → (k ≡ Space → ⊥) → (k ≡ Other → ⊥) → some_sum_of (run Digit digits ∷ run k bytes ∷ more) ≡ None
+sum_of-digits : (digits : List ℕ) (k : ByteKind) (bytes : List ℕ) (more : List ByteRun) → (k ≡ Space → ⊥) → (k ≡ Other → ⊥) → some_sum_of (run Digit digits ∷ run k bytes ∷ more) ≡ None
 unfolding some_sum_of sum_of
 sum_of-digits digits Space bytes more s o = absurd (s refl)
 sum_of-digits digits Digit bytes more s o = refl
@@ -194,10 +194,10 @@ unfolding some_sum_of sum_of
 sum_of-no_unit digits [] s o = rw words_of-nil refl
 sum_of-no_unit digits (b ∷ rest) s o =
     let head = words_of-head b rest s in
-    ap (λ rs. some_sum_of (run Digit digits ∷ rs)) head.2 ∙ sum_of-digits digits (kind_of b) head.0 head.1 s o
+    ap (λ rs. some_sum_of (run Digit digits ∷ rs)) head.2 ∙ sum_of-digits digits (byte_kind b) head.0 head.1 s o
 
 -- a number and a name before a rest
-pub sum_of-pair : (digits name : List ℕ) (rs : List Run) → some_sum_of (run Digit digits ∷ run Other name ∷ rs) ≡ option_and_then (λ size. option_map (λ n. digits_value 10 digits * size + n) (sum_of rs)) (unit_size name)
+pub sum_of-pair : (digits name : List ℕ) (rs : List ByteRun) → some_sum_of (run Digit digits ∷ run Other name ∷ rs) ≡ option_and_then (λ size. option_map (λ n. digits_value 10 digits * size + n) (sum_of rs)) (unit_size name)
 unfolding some_sum_of sum_of
 sum_of-pair digits name rs = refl
 
@@ -205,7 +205,7 @@ pub sum_of-nil : sum_of [] ≡ Some 0
 unfolding sum_of
 sum_of-nil = refl
 
-pub some_sum_of-cons : (r : Run) (rs : List Run) → some_sum_of (r ∷ rs) ≡ sum_of (r ∷ rs)
+pub some_sum_of-cons : (r : ByteRun) (rs : List ByteRun) → some_sum_of (r ∷ rs) ≡ sum_of (r ∷ rs)
 unfolding some_sum_of
 some_sum_of-cons r rs = refl
 
@@ -214,7 +214,7 @@ pub words_of-tight : (text : List ℕ) → NotFirst Space text → words_of text
 words_of-tight [] s e = refl
 words_of-tight (b ∷ rest) s e = let head = words_of-head b rest s in absurd (nil≢cons (sym e ∙ head.2))
   where
-    nil≢cons : {r : Run} {rs : List Run} → ◌≡◌ {A = List Run} [] (r ∷ rs) → ⊥
+    nil≢cons : {r : ByteRun} {rs : List ByteRun} → ◌≡◌ {A = List ByteRun} [] (r ∷ rs) → ⊥
     nil≢cons h = cc
 
 -- no digits: no duration
@@ -311,7 +311,7 @@ more_items m n left (Some k) e = ap (option_map (λ k. m + k)) e ∙ ap Some (om
 pub some_sum_of-sum_of : (text : List ℕ) → (words_of text ≡ [] → text ≡ []) → 0 < length text → some_sum_of (words_of text) ≡ sum_of (words_of text)
 some_sum_of-sum_of text tight h = by_words (words_of text) (λ e. omega (arith, ap length (tight e)))
   where
-    by_words : (rs : List Run) → (rs ≡ [] → ⊥) → some_sum_of rs ≡ sum_of rs
+    by_words : (rs : List ByteRun) → (rs ≡ [] → ⊥) → some_sum_of rs ≡ sum_of rs
     by_words [] n = absurd (n refl)
     by_words (r ∷ rs) n = some_sum_of-cons r rs
 

@@ -17,8 +17,8 @@ unfolding duration_units
 unit_size name = lookup (λ unit. bytes_eq unit name) duration_units
 
 -- what a byte belongs to
-abbrev pub kind_of : ℕ → ByteKind
-kind_of byte = if byte == 32 then Space else (if is_ascii_digit byte then Digit else Other)
+abbrev pub byte_kind : ℕ → ByteKind
+byte_kind byte = if byte == 32 then Space else (if is_ascii_digit byte then Digit else Other)
 
 -- whether two bytes belong to one run
 abbrev pub same_kind : ByteKind → ByteKind → Bool
@@ -28,33 +28,33 @@ same_kind Other Other = true
 same_kind a b = false
 
 -- bytes of one kind in a row
-pub data Run : Type 0 where
-  run : (kind : ByteKind) (bytes : List ℕ) → Run
+pub data ByteRun : Type 0 where
+  run : (kind : ByteKind) (bytes : List ℕ) → ByteRun
 
 -- runs, with one byte more of this kind before them
-abbrev pub with_byte : ByteKind → ℕ → List Run → List Run
+abbrev pub with_byte : ByteKind → ℕ → List ByteRun → List ByteRun
 with_byte of byte [] = run of (byte ∷ []) ∷ []
 with_byte of byte (run kind bytes ∷ rest) =
     if same_kind of kind then run of (byte ∷ bytes) ∷ rest
     else run of (byte ∷ []) ∷ (run kind bytes ∷ rest)
 
 -- a text cut into runs that are as long as can be
-unfoldable pub runs : List ℕ → List Run
+unfoldable pub runs : List ℕ → List ByteRun
 runs [] = []
-runs (byte ∷ rest) = with_byte (kind_of byte) byte (runs rest)
+runs (byte ∷ rest) = with_byte (byte_kind byte) byte (runs rest)
 
 -- the runs but those of spaces
-unfoldable pub without_spaces : List Run → List Run
+unfoldable pub without_spaces : List ByteRun → List ByteRun
 without_spaces [] = []
 without_spaces (run Space bytes ∷ rest) = without_spaces rest
 without_spaces (run kind bytes ∷ rest) = run kind bytes ∷ without_spaces rest
 
 -- the runs of a text but those of spaces
-unfoldable pub words_of : List ℕ → List Run
+unfoldable pub words_of : List ℕ → List ByteRun
 words_of text = without_spaces (runs text)
 
 -- the sum of numbers and units in turn
-unfoldable pub sum_of : List Run → Option ℕ
+unfoldable pub sum_of : List ByteRun → Option ℕ
 sum_of [] = Some 0
 sum_of (run Digit digits ∷ run Other name ∷ rest) =
     option_and_then
@@ -63,7 +63,7 @@ sum_of (run Digit digits ∷ run Other name ∷ rest) =
 sum_of other = None
 
 -- the same, where there is a number and a unit
-unfoldable pub some_sum_of : List Run → Option ℕ
+unfoldable pub some_sum_of : List ByteRun → Option ℕ
 some_sum_of [] = None
 some_sum_of (r ∷ rest) = sum_of (r ∷ rest)
 

@@ -5,7 +5,7 @@ use Rattle.nextest_texts.specs.declared.duration.ByteKind.{ByteKind}
 use Rattle.nextest_texts.specs.declared.duration.DurationError.{DurationError}
 use Rattle.nextest_texts.specs.declared.duration.DurationError.TheVariants.{Malformed}
 use Rattle.nextest_texts.specs.Duration.{longest_duration}
-use Rattle.nextest_texts.specs.DurationFunction.{kind_of, words_of, sum_of, some_sum_of}
+use Rattle.nextest_texts.specs.DurationFunction.{byte_kind, words_of, sum_of, some_sum_of}
 
 -- the nanoseconds, unless they are more than the longest duration
 abbrev pub within_limit : ℕ → Option ℕ
@@ -13,12 +13,12 @@ within_limit n = if nat_le n longest_duration then Some n else None
 
 -- The first byte, if there is one, is of another kind.
 abbrev pub NotFirst : ByteKind → List ℕ → Type 0
-NotFirst kind text = IfSome (slice_get text 0) (λ byte. kind_of byte ≢ kind)
+NotFirst kind text = IfSome (slice_get text 0) (λ byte. byte_kind byte ≢ kind)
 
 -- The text is the front and the rest, and the front is all that it begins with of this kind.
 pub record SplitsRun (text : List ℕ) (kind : ByteKind) (front rest : List ℕ) : Type 0 where
   pub joined : text ≡ front ++ rest
-  pub alike : All (λ byte. kind_of byte ≡ kind) front
+  pub alike : All (λ byte. byte_kind byte ≡ kind) front
   pub longest : NotFirst kind rest
 
 -- The text is an item of so many nanoseconds, and then the rest, which does not begin with a space.

@@ -4,8 +4,8 @@ ghost use Rattle.std.specs.Prelude.{◌≡◌, ◌≤◌, ◌<◌, ◌+◌, ◌*
 ghost use Rattle.std.specs.Map.{lookup};
 ghost use Rattle.std.specs.Str.{bytes_eq};
 ghost use Rattle.std.specs.Str.Parse.{digits_value};
-ghost use Rattle.nextest_tree.specs.Leaf.{names_in};
-ghost use Rattle.nextest_texts.specs.DurationFunction.{duration_of, duration_result, kind_of, unit_size};
+ghost use Rattle.nextest_tree.specs.Leaf.{name_pairs};
+ghost use Rattle.nextest_texts.specs.DurationFunction.{duration_of, duration_result, byte_kind, unit_size};
 ghost use Rattle.nextest_texts.specs.Duration.{IsDuration, longest_duration};
 ghost use Rattle.nextest_texts.specs.DurationSteps.{within_limit, ReadsItem, ReadsItems, SplitsRun};
 
@@ -65,8 +65,8 @@ enum ByteKind {
     Other,
 }
 
-fn kind_of(byte: u8) -> ByteKind
-    ensures { result ≡ kind_of byte }
+fn byte_kind(byte: u8) -> ByteKind
+    ensures { result ≡ byte_kind byte }
 {
     match byte {
         b' ' => ByteKind::Space,
@@ -81,14 +81,14 @@ fn split_run(text: &[u8], kind: ByteKind) -> (&[u8], &[u8])
 {
     let end = text
         .iter()
-        .position(|byte| kind_of(*byte) != kind)
+        .position(|byte| byte_kind(*byte) != kind)
         .unwrap_or(text.len());
     text.split_at(end)
 }
 
 // The size of the unit of this name among these, in nanoseconds.
 fn size_among(units: &[(&str, u128)], name: &[u8]) -> Option<u128>
-    ensures { result ≡ lookup (λ unit. bytes_eq unit name.now) (names_in units.now) }
+    ensures { result ≡ lookup (λ unit. bytes_eq unit name.now) (name_pairs units.now) }
 {
     for (unit, size) in units {
         if unit.as_bytes() == name {
@@ -116,7 +116,7 @@ fn within_limit(nanoseconds: u128) -> Option<u128>
 
 // The number that the digits write, unless it is above the longest duration.
 fn number_of(digits: &[u8]) -> Option<u128>
-    requires { All (λ byte. kind_of byte ≡ ByteKind.Digit) digits.now }
+    requires { All (λ byte. byte_kind byte ≡ ByteKind.Digit) digits.now }
     ensures { result ≡ within_limit (digits_value 10 digits.now) }
 {
     let mut number = 0;
@@ -128,7 +128,7 @@ fn number_of(digits: &[u8]) -> Option<u128>
 
 // As many units of this size as the digits write, unless that is above the longest duration.
 fn amount_of(digits: &[u8], size: u128) -> Option<u128>
-    requires digits { All (λ byte. kind_of byte ≡ ByteKind.Digit) digits.now }
+    requires digits { All (λ byte. byte_kind byte ≡ ByteKind.Digit) digits.now }
     requires size { 0 < size }
     ensures { result ≡ within_limit (digits_value 10 digits.now * size) }
 {

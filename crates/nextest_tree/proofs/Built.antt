@@ -9,7 +9,7 @@ use Rattle.std.specs.BTreeMap.{insert_entry}
 use Rattle.std.specs.String.{string_cmp}
 use Rattle.toml.specs.View.{members_view}
 use Rattle.toml.specs.declared.value.Value.{Value}
-use Rattle.nextest_tree.specs.Node.{Node, Entries, no_entries, entry, put, IsBefore, IsSorted, NodesAreSorted, EntriesAreSorted}
+use Rattle.nextest_tree.specs.Node.{Node, Entries, no_entries, entry, put, PrecedesKeys, IsSorted, NodesAreSorted, EntriesAreSorted}
 use Rattle.nextest_tree.specs.View.{tree_view, nodes_of, entries_view}
 use Rattle.nextest_tree.specs.declared.tree.Tree.{Tree}
 use Rattle.nextest_tree.proofs.Trees.{members-insert_entry}
@@ -33,7 +33,7 @@ put_sorted k n (entry l m es) h hs = by_ordering (slice_cmp nat_cmp k l) _ _ _ (
 pub insert_sorted : (es : List (String Global × Tree)) (k : String Global) (t : Tree) → IsSorted (tree_view t) → ValuesAreSorted (entries_view es) → ValuesAreSorted (entries_view (insert_entry string_cmp es k t))
 insert_sorted es k t h hs = let P : Entries → Type 0 = ValuesAreSorted in subst P (sym (members-insert_entry es k t)) (put_sorted (string_bytes k) (tree_view t) (entries_view es) h hs)
 
-all_before : (k : String Global) (vs : List (String Global × Value)) → AllByRecursion (λ y. string_cmp k y ≡ Less) (keys_of vs) → IsBefore (string_bytes k) (from_members (members_view vs))
+all_before : (k : String Global) (vs : List (String Global × Value)) → AllByRecursion (λ y. string_cmp k y ≡ Less) (keys_of vs) → PrecedesKeys (string_bytes k) (from_members (members_view vs))
 all_before k [] h = tt
 all_before k (v ∷ vs) h = (h.0, all_before k vs h.1)
 

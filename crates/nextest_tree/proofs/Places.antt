@@ -5,7 +5,7 @@ use Rattle.std.specs.Cmp.Lexicographic.{slice_cmp}
 use Rattle.std.specs.Fmt.{decimal}
 use Rattle.nextest_tree.specs.declared.key.Key.{Key}
 use Rattle.nextest_tree.specs.Key.{key_text}
-use Rattle.nextest_tree.specs.Node.{Node, table, array, text, int, bool, opaque, Nodes, no_nodes, node, Entries, no_entries, entry, get, keys, IsBefore, IsSorted, NodesAreSorted, EntriesAreSorted}
+use Rattle.nextest_tree.specs.Node.{Node, table, array, text, int, bool, opaque, Nodes, no_nodes, node, Entries, no_entries, entry, get, keys, PrecedesKeys, IsSorted, NodesAreSorted, EntriesAreSorted}
 use Rattle.nextest_tree.specs.Schema.{FaultCause, unknown_field, Fault, below, at, Others, noted, refused, Schema, any, leaf, fields, map_of, items_of, Fields, no_more, field, names_of, is_one_of, others, others_faults, faults, fields_faults, field_faults, each_item, each_entry}
 use Rattle.nextest_tree.specs.Place.{Step, other_key, in_field, all_fields, at_key, the_key, the_value, at_position, all_items, Place, IsFirstStep, refused_by_bytes, refused_before_field, refused_before_all, by_field_order, field_before_all, by_bytes, key_before_value, by_position, item_before_all, here, later, SitedCause, StandsBeforeAll, Ascends, path_after, path_from, fault_at_place, cause_here, below_step, field_causes, other_causes, item_causes, entry_causes, sited_causes, fields_causes, HasOrderedFaults}
 
@@ -190,7 +190,7 @@ items-before-all g i (node n ns) xs =
     (items-before-all g (i + 1) ns xs)
 
 -- entries
-before-entries : (p : Place) (k : List ℕ) (test : List ℕ → Option FaultCause) (g : Node → List SitedCause) (es : Entries) → IsBefore k es → StandsBeforeAll (at_key k ∷ p) (entry_causes test g es)
+before-entries : (p : Place) (k : List ℕ) (test : List ℕ → Option FaultCause) (g : Node → List SitedCause) (es : Entries) → PrecedesKeys k es → StandsBeforeAll (at_key k ∷ p) (entry_causes test g es)
 before-entries p k test g no_entries h = tt
 before-entries p k test g (entry l n es) h = before-append (at_key k ∷ p) (below_step (at_key l) _) (entry_causes test g es) (before-step p (at_key k) (at_key l) _ (by_bytes h.0)) (before-entries p k test g es h.1)
 
@@ -215,7 +215,7 @@ after-by : (b : Bool) (k l : List ℕ) (ls : List (List ℕ)) → slice_cmp nat_
 after-by true k l ls h hs = (h, hs)
 after-by false k l ls h hs = hs
 
-after-filter : (p : List ℕ → Bool) (k : List ℕ) (es : Entries) → IsBefore k es → AllAfter k (filter p (keys es))
+after-filter : (p : List ℕ → Bool) (k : List ℕ) (es : Entries) → PrecedesKeys k es → AllAfter k (filter p (keys es))
 after-filter p k no_entries h = tt
 after-filter p k (entry l n es) h = after-by (p l) k l (filter p (keys es)) h.0 (after-filter p k es h.1)
 

@@ -1,14 +1,12 @@
 -- Trees beside the nodes that they stand for.
 use Rattle.std.proofs.Common.{◌≡◌, ℕ, List, [], ◌∷◌, ◌++◌, map, String, Global, Ordering, Less, Equal, Greater, nat_cmp, string_bytes, refl, ap, ◌∙◌, Option, Some, None, option_map, Bor, cond, is_eq}
-use Rattle.std.proofs.lemmas.Cmp.{nat_list_cmp_total}
 use Rattle.std.specs.Cmp.Lexicographic.{slice_cmp}
 use Rattle.std.specs.List.{AllByRecursion}
-use Rattle.std.specs.List.Sorted.{IsStrictlySortedBy}
 use Rattle.std.specs.Map.{keys_of, lookup}
-use Rattle.std.specs.Ordering.{match_ordering, ordering_reverse}
+use Rattle.std.specs.Ordering.{match_ordering}
 use Rattle.std.specs.BTreeMap.{insert_entry, is_at}
 use Rattle.std.specs.String.{string_cmp}
-use Rattle.nextest_tree.specs.Node.{Node, Entries, get, put, keys}
+use Rattle.nextest_tree.specs.Node.{Node, get, put, keys}
 use Rattle.nextest_tree.specs.View.{tree_view, entries_view}
 use Rattle.nextest_tree.specs.declared.tree.Tree.{Tree}
 

@@ -53,8 +53,8 @@ unfoldable pub a_bool : Schema
 a_bool = value bool_at
 
 -- the names of a slice and what they stand for, as plain lists
-abbrev pub names_in : {X : Type 0} → List (Bor (List ℕ) × X) → List (List ℕ × X)
-names_in names = map (λ p. (p.0.now, p.1)) names
+abbrev pub name_pairs : {X : Type 0} → List (Bor (List ℕ) × X) → List (List ℕ × X)
+name_pairs names = map (λ p. (p.0.now, p.1)) names
 
 -- what one of these names stands for; a refusal says what was expected
 abbrev pub name_at : {X : Type 0} → List (List ℕ × X) → List ℕ → Node → Result X FaultCause

@@ -72,9 +72,9 @@ member_of k (table es) = get k es
 member_of k _ = None
 
 -- the key comes, by its bytes, before all keys of the entries
-abbrev pub IsBefore : List ℕ → Entries → Type 0
-IsBefore k no_entries = Unit {0}
-IsBefore k (entry l n es) = (slice_cmp nat_cmp k l ≡ Less) × IsBefore k es
+abbrev pub PrecedesKeys : List ℕ → Entries → Type 0
+PrecedesKeys k no_entries = Unit {0}
+PrecedesKeys k (entry l n es) = (slice_cmp nat_cmp k l ≡ Less) × PrecedesKeys k es
 
 -- in each table of the node the keys ascend by their bytes
 abbrev mutual
@@ -91,4 +91,4 @@ abbrev mutual
   -- the keys of these entries ascend, and so it is in the node at each key
   pub EntriesAreSorted : Entries → Type 0
   EntriesAreSorted no_entries = Unit {0}
-  EntriesAreSorted (entry k n es) = IsBefore k es × IsSorted n × EntriesAreSorted es
+  EntriesAreSorted (entry k n es) = PrecedesKeys k es × IsSorted n × EntriesAreSorted es

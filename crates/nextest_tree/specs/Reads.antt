@@ -1,5 +1,5 @@
 -- What a reader answers, and where it leaves the walk.
-use Rattle.std.specs.Prelude.{◌≡◌, ℕ, List, [], ◌∷◌, Bool, false, ◌||◌, Option, Some, None, Result, Ok, Err, string_bytes, ◌+◌}
+use Rattle.std.specs.Prelude.{◌≡◌, ℕ, List, [], ◌∷◌, Bool, false, ◌||◌, Option, Some, None, Result, Ok, Err, string_bytes}
 use Rattle.std.specs.BTreeSet.{contains_text}
 use Rattle.nextest_tree.specs.declared.key.Key.{Key}
 use Rattle.nextest_tree.specs.declared.walk.Walk.{Walk}
@@ -8,7 +8,7 @@ use Rattle.nextest_tree.specs.declared.fault.ElementCause.{ElementCause}
 use Rattle.nextest_tree.specs.declared.fault.ElementCause.TheVariants as causes
 use Rattle.nextest_tree.specs.Key.{key_text}
 use Rattle.nextest_tree.specs.Node.{Node, array, Nodes, no_nodes, node, table, Entries, no_entries, entry, get}
-use Rattle.nextest_tree.specs.Schema.{FaultCause, wrong_kind, missing, bad_value, out_of_range, unknown_field, Fault, is_one_of, below, names_of, Others, refused, others_faults, others_unknown, Schema, Fields, no_more, field, faults, unknown, field_faults, field_unknown}
+use Rattle.nextest_tree.specs.Schema.{FaultCause, wrong_kind, missing, bad_value, out_of_range, unknown_field, Fault, is_one_of, below, Schema, Fields, no_more, field, faults, unknown, field_faults, field_unknown}
 
 -- a walk: the path where it stands, and which paths it has noted
 pub record ReadState : Type 0 where

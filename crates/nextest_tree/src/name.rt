@@ -1,7 +1,7 @@
 //! The reader of every value that is one of a list of names.
 ghost use Rattle.std.specs.Prelude.{◌≡◌, IfOk, IfErr, Ok};
 ghost use Rattle.nextest_tree.specs.View.{tree_view};
-ghost use Rattle.nextest_tree.specs.Leaf.{value, name_at, names_in};
+ghost use Rattle.nextest_tree.specs.Leaf.{value, name_at, name_pairs};
 ghost use Rattle.nextest_tree.specs.Reads.{Fails, walk_view, reading};
 
 use crate::fault::{ElementCause, ElementFault};
@@ -19,9 +19,9 @@ pub fn read_one_of<T: Copy>(
     expected: &'static str,
 ) -> Result<T, ElementFault>
     ensures value { IfOk result
-        (λ x. name_at (names_in names.now) expected.now (tree_view tree.now) ≡ Ok x) }
+        (λ x. name_at (name_pairs names.now) expected.now (tree_view tree.now) ≡ Ok x) }
     ensures fault { IfErr result (λ e. Fails e
-        (reading (value (name_at (names_in names.now) expected.now))
+        (reading (value (name_at (name_pairs names.now) expected.now))
         (tree_view tree.now) (walk_view walk.now))) }
 {
     let Tree::Text(text) = tree else {

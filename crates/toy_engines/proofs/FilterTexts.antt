@@ -9,7 +9,7 @@ use Rattle.std.proofs.lemmas.List.Splits.{slice_split_none, slice_split_at}
 use Rattle.std.proofs.lemmas.Str.Pattern.{IsSplitOnceResult, split_parts}
 use Rattle.toy_engines.specs.Texts.{after_prefix}
 use Rattle.toy_engines.specs.FilterValues.{Term, Filter}
-use Rattle.toy_engines.specs.FilterTexts.{atom_in, term_in, plain, once_more, more_nots, SoFar, joined, unless_broken, continued, pieces, begun, filter_in_pieces, filter_in}
+use Rattle.toy_engines.specs.FilterTexts.{atom_in, term_in, plain, once_more, more_nots, SoFar, joined_piece, unless_broken, continued, pieces, begun, filter_in_pieces, filter_in}
 use Rattle.toy_engines.proofs.PartsOfTexts.{after_is, after_own}
 
 -- No more `not`s change nothing.
@@ -84,12 +84,12 @@ first_some text piece rest t e some =
     let next = first_piece rest in
     ap filter_in_pieces (e ∙ ap (λ more. piece ∷ more) next.2) ∙ ap (unless_broken piece (λ t. continued (begun t) (next.0 ∷ next.1))) some ∙ ap (continued (begun t)) (sym next.2)
 
-pub more_none : (s : SoFar) (text piece rest : List ℕ) → pieces text ≡ piece ∷ pieces rest → joined s piece ≡ None → continued s (pieces text) ≡ Err piece
+pub more_none : (s : SoFar) (text piece rest : List ℕ) → pieces text ≡ piece ∷ pieces rest → joined_piece s piece ≡ None → continued s (pieces text) ≡ Err piece
 more_none s text piece rest e none =
     let next = first_piece rest in
     ap (continued s) (e ∙ ap (λ more. piece ∷ more) next.2) ∙ ap (unless_broken piece (λ more. continued more (next.0 ∷ next.1))) none
 
-pub more_some : (s more : SoFar) (text piece rest : List ℕ) → pieces text ≡ piece ∷ pieces rest → joined s piece ≡ Some more → continued s (pieces text) ≡ continued more (pieces rest)
+pub more_some : (s more : SoFar) (text piece rest : List ℕ) → pieces text ≡ piece ∷ pieces rest → joined_piece s piece ≡ Some more → continued s (pieces text) ≡ continued more (pieces rest)
 more_some s more text piece rest e some =
     let next = first_piece rest in
     ap (continued s) (e ∙ ap (λ more. piece ∷ more) next.2) ∙ ap (unless_broken piece (λ more. continued more (next.0 ∷ next.1))) some ∙ ap (continued more) (sym next.2)

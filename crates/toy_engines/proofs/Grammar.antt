@@ -8,7 +8,7 @@ use Rattle.std.proofs.lemmas.List.Splits.{join_with_byte-slice_split}
 use Rattle.std.proofs.lemmas.List.Folds.{list_all-append}
 use Rattle.toy_engines.specs.Texts.{after_prefix}
 use Rattle.toy_engines.specs.FilterValues.{Atom, Always, Never, AsTheDefault, NameHas, BinaryIs, Term, Filter}
-use Rattle.toy_engines.specs.FilterTexts.{is_name, spelled_atom, spelled_term, spelled_terms, spelled, is_atom, is_filled, are_written, is_written, name_after, atom_in, plain, once_more, term_in, SoFar, filter_so_far, also, or_else, joined_by, joined, unless_broken, ended, continued, pieces, begun, filter_in_pieces, filter_in}
+use Rattle.toy_engines.specs.FilterTexts.{is_name, spelled_atom, spelled_term, spelled_terms, spelled, is_atom, is_filled, are_written, is_written, name_after, atom_in, plain, once_more, term_in, SoFar, filter_so_far, also, or_else, joined_by, joined_piece, unless_broken, ended, continued, pieces, begun, filter_in_pieces, filter_in}
 use Rattle.toy_engines.proofs.PartsOfTexts.{after_is}
 
 abbrev close : List ℕ
@@ -183,7 +183,7 @@ ended_known s [] filter is got =
     rw (sym same) (sym (append-nil (spelled (filter_so_far s))), both _ _ (filled_end s.complete s.last) (so_far_written s is))
 ended_known s (c ∷ piece) filter is got = absurd (cc)
 
-more_known : (next : List ℕ) (pieces : List (List ℕ)) (s : SoFar) (piece : List ℕ) (filter : Filter) (found : Option SoFar) → joined s piece ≡ found → IsRead s
+more_known : (next : List ℕ) (pieces : List (List ℕ)) (s : SoFar) (piece : List ℕ) (filter : Filter) (found : Option SoFar) → joined_piece s piece ≡ found → IsRead s
     → ((more : SoFar) → IsRead more → continued more (next ∷ pieces) ≡ Ok filter → ReadIs more (join_with_byte 41 (next ∷ pieces)) filter)
     → unless_broken piece (λ more. continued more (next ∷ pieces)) found ≡ Ok filter
     → ReadIs s (piece ++ (41 ∷ join_with_byte 41 (next ∷ pieces))) filter

@@ -62,8 +62,8 @@ abbrev pub is_written : Filter → Bool
 is_written filter = is_filled filter && list_all are_written filter
 
 -- A text spells a filter that can be written.
-abbrev pub Spells : List ℕ → Filter → Type 0
-Spells text filter = (spelled filter ≡ text) × (is_written filter ≡ true)
+abbrev pub SpellsFilter : List ℕ → Filter → Type 0
+SpellsFilter text filter = (spelled filter ≡ text) × (is_written filter ≡ true)
 
 -- Reading, by pieces that end before each `)`.
 
@@ -105,8 +105,8 @@ pub record SoFar : Type 0 where
   pub last : List Term
 
 -- What was read so far, of the lists in memory.
-abbrev pub so_far : read.Alternatives → SoFar
-so_far r = record { complete = lists_of r.complete.items; last = map term_of r.last.items }
+abbrev pub parts_so_far : read.Alternatives → SoFar
+parts_so_far r = record { complete = lists_of r.complete.items; last = map term_of r.last.items }
 
 abbrev pub filter_so_far : SoFar → Filter
 filter_so_far s = s.complete ++ s.last ∷ []
@@ -124,8 +124,8 @@ joined_by s (Some text) _ = option_map (also s) (term_in text)
 joined_by s None (Some text) = option_map (or_else s) (term_in text)
 joined_by s None None = None
 
-abbrev pub joined : SoFar → List ℕ → Option SoFar
-joined s piece =
+abbrev pub joined_piece : SoFar → List ℕ → Option SoFar
+joined_piece s piece =
     joined_by s (after_prefix (codes " and ") piece) (after_prefix (codes " or ") piece)
 
 -- What follows where a piece is read. Else the text breaks at this piece.
@@ -144,7 +144,7 @@ abbrev pub continued : SoFar → List (List ℕ) → Result Filter (List ℕ)
 continued s [] = Err []
 continued s (piece ∷ []) = ended s piece
 continued s (piece ∷ next ∷ pieces) =
-    unless_broken piece (λ more. continued more (next ∷ pieces)) (joined s piece)
+    unless_broken piece (λ more. continued more (next ∷ pieces)) (joined_piece s piece)
 
 -- A text, cut at each `)`.
 abbrev pub pieces : List ℕ → List (List ℕ)

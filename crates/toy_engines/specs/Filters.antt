@@ -19,8 +19,9 @@ abbrev pub value_beside : Subject → Filter → Filter → Option Bool
 value_beside s default filter = filter_value s (filter_value s (Some true) default) filter
 
 -- Whether a filter matches a test.
-abbrev pub filter_holds : Filter → engines.Test → Filter → Bool
-filter_holds filter test default = unwrap_or (value_beside (test_subject test) default filter) false
+abbrev pub filter_matches : Filter → engines.Test → Filter → Bool
+filter_matches filter test default =
+    unwrap_or (value_beside (test_subject test) default filter) false
 
 -- Whether a filter matches a binary, or none where that is unknown.
 abbrev pub filter_holds_binary : Filter → engines.Binary → Filter → Option Bool
@@ -43,12 +44,12 @@ abbrev pub is_default_atom : Atom → Bool
 is_default_atom AsTheDefault = true
 is_default_atom _ = false
 
-abbrev pub is_default : Term → Bool
-is_default t = is_default_atom t.atom
+abbrev pub is_default_term : Term → Bool
+is_default_term t = is_default_atom t.atom
 
 -- Whether a filter asks for the default filter.
 abbrev pub asks_default : Filter → Bool
-asks_default filter = list_any (λ terms. list_any is_default terms) filter
+asks_default filter = list_any (λ terms. list_any is_default_term terms) filter
 
 -- The messages of refusals.
 abbrev pub no_filter : (text piece : List ℕ) → List ℕ

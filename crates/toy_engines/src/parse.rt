@@ -3,7 +3,7 @@
 ghost use Rattle.std.specs.Prelude.{◌≡◌, ◌<◌, ◌∷◌, [], length, None, Some, Ok, IfOk, IfSome, MatchOption, option_map};
 ghost use Rattle.std.specs.List.{list_all};
 ghost use Rattle.toy_engines.specs.FilterValues.{Filter, atom_of, term_of};
-ghost use Rattle.toy_engines.specs.FilterTexts.{is_no_parenthesis, name_after, atom_in, term_in, so_far, joined, pieces, filter_in, reading_view, Spells};
+ghost use Rattle.toy_engines.specs.FilterTexts.{is_no_parenthesis, name_after, atom_in, term_in, parts_so_far, joined_piece, pieces, filter_in, reading_view, SpellsFilter};
 ghost use Rattle.toy_engines.specs.FilterTexts.{is_name as name_test};
 
 use crate::expr::{Leaf, Term};
@@ -93,7 +93,8 @@ fn read_joined(
     before: Alternatives,
     piece: &str,
 ) -> Result<Option<Alternatives>, AllocError>
-    ensures { IfOk result (λ more. option_map so_far more ≡ joined (so_far before) piece.now) }
+    ensures { IfOk result (λ more.
+        option_map parts_so_far more ≡ joined_piece (parts_so_far before) piece.now) }
 {
     let Alternatives {
         mut complete,
@@ -157,7 +158,7 @@ pub fn read_filter<'a>(alloc: Global, text: &'a str) -> Result<Reading<'a>, Allo
 
 /// Each filter that is read from a text is spelled by it.
 pub fn law_grammar(text: &str)
-    ensures { (filter : Filter) → filter_in text.now ≡ Ok filter → Spells text.now filter }
+    ensures { (filter : Filter) → filter_in text.now ≡ Ok filter → SpellsFilter text.now filter }
 {
     let _text = text;
 }

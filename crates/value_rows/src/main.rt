@@ -1,9 +1,9 @@
 //! Reads one value a line, and prints what comes of each.
 //!
 //! A line of standard input is the name of a reader, a space and a TOML value, as
-//! `duration "1h 30m"`. Empty lines and lines that begin with `#` say nothing. The readers of texts
-//! stand in `texts.rt`, as `duration`; those of settings, as `slow-timeout`, in `elements.rt`; those
-//! of scripts in `scripts.rt`.
+//! `duration "1h 30m"`. Empty lines and lines that begin with `#` say nothing. The readers of
+//! texts stand in `texts.rt`, as `duration`; those of settings, as `slow-timeout`, in
+//! `elements.rt`; those of scripts in `scripts.rt`.
 //!
 //! Each line is printed with ` => ` behind it and then the value, or `refused: ` and the cause. A
 //! line of another form is told on standard error, and the status is 2.

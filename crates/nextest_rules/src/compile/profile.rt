@@ -5,7 +5,7 @@ ghost use Rattle.nextest_engines.specs.declared.queries.FiltersetKind.TheVariant
 ghost use Rattle.nextest_sources.specs.Causes.{in_default_filter};
 ghost use Rattle.nextest_sources.specs.Errors.{compile_error_view};
 ghost use Rattle.nextest_sources.specs.Sources.{source_view};
-ghost use Rattle.nextest_tables.specs.View.{override_view, profile_view, script_rule_view};
+ghost use Rattle.nextest_tables.specs.View.{override_view, profile_view, script_rule_table_view};
 ghost use Rattle.nextest_rules.specs.CompileFaults.{default_filter_cause, fault_in, override_faults, script_rule_faults, profile_faults};
 ghost use Rattle.nextest_rules.specs.Meaning.{override_meaning, layer_profile_meaning, script_rule_meaning};
 ghost use Rattle.nextest_rules.specs.Rules.{filter_meaning, layer_profile, override_rules, script_rule};
@@ -102,13 +102,13 @@ fn compile_script_rules<F: Filters, S: Specs>(
         F.leaves S.holds_on in
         IfOk result (λ rules.
         map (script_rule_meaning F.meaning S.spec_meaning) (map view.script_rule_view rules.items)
-        ≡ map (script_rule engines) (map script_rule_view tables.items)) }
+        ≡ map (script_rule engines) (map script_rule_table_view tables.items)) }
     ensures errors { let engines = readings_view (F.read pcx.now.filters.now)
         (S.read_spec pcx.now.specs.now) F.match_all F.holds F.holds_binary
         F.leaves S.holds_on in
         OnOk result (map compile_error_view errors.new.items
         ≡ map compile_error_view errors.old.items
-        ++ script_rule_faults engines profile.now (map script_rule_view tables.items)) }
+        ++ script_rule_faults engines profile.now (map script_rule_table_view tables.items)) }
 {
     let mut rules = Vec::new(alloc);
     for (index, table) in tables.into_iter().enumerate() {

@@ -4,7 +4,7 @@ ghost use Rattle.nextest_engines.specs.Readings.{readings_view};
 ghost use Rattle.nextest_engines.specs.declared.queries.FiltersetKind.TheVariants.{OverrideFilter, DefaultFilter};
 ghost use Rattle.nextest_sources.specs.Errors.{compile_cause_view, compile_error_view, section_view};
 ghost use Rattle.nextest_sources.specs.Sources.{source_view};
-ghost use Rattle.nextest_tables.specs.View.{override_view, platform_view, script_rule_view};
+ghost use Rattle.nextest_tables.specs.View.{override_view, platform_view, script_rule_table_view};
 ghost use Rattle.nextest_rules.specs.CompileFaults as faults;
 ghost use Rattle.nextest_rules.specs.CompileFaults.{fault_in, override_cause, override_cause_at, override_faults, override_refusals, script_rule_cause, script_rule_cause_at, script_rule_faults, script_rule_refusals};
 ghost use Rattle.nextest_rules.specs.Meaning.{override_meaning, script_rule_meaning};
@@ -52,7 +52,7 @@ fn override_error(table: &OverrideTable, refusals: Refusals) -> Option<ConfigCom
 /// What is wrong with a script rule whose texts are refused so.
 fn script_rule_error(table: &ScriptRuleTable, refusals: Refusals) -> Option<ConfigCompileErrorKind>
     ensures { option_map compile_cause_view result
-        ≡ script_rule_cause_at (script_rule_view table.now) (refusals_view refusals) }
+        ≡ script_rule_cause_at (script_rule_table_view table.now) (refusals_view refusals) }
 {
     if !has_constraint(&table.platform, &table.filter) {
         return Some(ConfigCompileErrorKind::ConstraintsNotSpecified {
@@ -166,12 +166,12 @@ pub(crate) fn compile_script_rule<F: Filters, S: Specs>(
         F.leaves S.holds_on in
         IfOk result (λ made.
         script_rule_meaning F.meaning S.spec_meaning (view.script_rule_view made.0)
-        ≡ script_rule engines (script_rule_view table)) }
+        ≡ script_rule engines (script_rule_table_view table)) }
     ensures error { let engines = readings_view (F.read pcx.now.filters.now)
         (S.read_spec pcx.now.specs.now) F.match_all F.holds F.holds_binary
         F.leaves S.holds_on in
         IfOk result (λ made. option_map compile_cause_view made.1
-        ≡ script_rule_cause engines (script_rule_view table)) }
+        ≡ script_rule_cause engines (script_rule_table_view table)) }
 {
     let (platforms, mut refusals) = read_platforms(alloc, pcx.specs, &table.platform)?;
     let messages = &mut refusals.filters;

@@ -1,4 +1,3 @@
-use Rattle.std.proofs.Common.{[], ◌∷◌}
 use Rattle.nextest_documents.proofs.Shown.{laid_nodes}
 use Rattle.nextest_documents.proofs.Sorted.{laid_sorted}
 use Rattle.nextest_documents.proofs.merge.lay_over.Goals as goal

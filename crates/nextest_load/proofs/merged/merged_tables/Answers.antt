@@ -7,7 +7,7 @@ use Rattle.nextest_sources.specs.Endings.{error_view, Found}
 use Rattle.nextest_sources.specs.InputFaults.{fault_at_source}
 use Rattle.nextest_sources.specs.Sources.{source_view}
 use Rattle.nextest_sources.proofs.Ends.{exit}
-use Rattle.nextest_tables.specs.View.{by_name, file_view, profile_view}
+use Rattle.nextest_tables.specs.View.{by_name, file_table_view, profile_view}
 use Rattle.nextest_load.specs.Steps.{no_profiles}
 use Rattle.nextest_load.proofs.Merging.{parents_seen}
 use Rattle.nextest_load.proofs.Wholes.{has_defaults}
@@ -30,4 +30,4 @@ pub returns-clause-scripts : goal.returns-clause-scripts
 returns-clause-scripts c ss are spelled = c.in_ok-scripts.ensures ss are spelled
 
 pub returns-clause-defaults : goal.returns-clause-defaults
-returns-clause-defaults c complete = has_defaults (file_view c.args.table) _ c.in_ok-profiles.ensures complete
+returns-clause-defaults c complete = has_defaults (file_table_view c.args.table) _ c.in_ok-profiles.ensures complete

@@ -2,7 +2,7 @@ use Rattle.std.proofs.Common.{◌≡◌, List, [], ◌∷◌, ◌++◌, map, rev
 use Rattle.std.specs.List.{flat_map}
 use Rattle.nextest_engines.specs.Readings.{readings_view}
 use Rattle.nextest_rules.specs.KnownView.{features_view}
-use Rattle.nextest_sources.specs.Inputs.{Input, inputs_of, load_inputs_view, repository_of, texts_of, tool_input}
+use Rattle.nextest_sources.specs.Inputs.{Input, inputs_of, load_inputs_view, repository_of, source_texts_of, tool_input}
 use Rattle.nextest_sources.specs.InputsView.{input_view}
 use Rattle.nextest_sources.specs.Sources.{source_view}
 use Rattle.nextest_load.specs.Parts.{AreParts}
@@ -37,5 +37,5 @@ returns-clause-parts g c =
     let is : map input_view c.deref.result.now ≡ inputs_of files =
     ap (map input_view) c.deref.ensures.value ∙ c.in_ok-inputs.ensures ∙ ap (λ i. reverse (map tool_input files.tools) ++ i ∷ []) c.in_ok-repository.ensures
     in
-    let P : List Input → Type 0 = λ inputs. IfOk c.load_merged_inputs.result (AreParts g.F.Filters.meaning g.S.Specs.spec_meaning engines (flat_map texts_of inputs)) in
+    let P : List Input → Type 0 = λ inputs. IfOk c.load_merged_inputs.result (AreParts g.F.Filters.meaning g.S.Specs.spec_meaning engines (flat_map source_texts_of inputs)) in
     subst P is c.load_merged_inputs.ensures.parts

@@ -3,7 +3,7 @@ use Rattle.std.specs.List.{flat_map}
 use Rattle.nextest_engines.specs.Readings.{readings_view}
 use Rattle.nextest_rules.specs.KnownView.{features_view}
 use Rattle.nextest_sources.specs.Endings.{ending}
-use Rattle.nextest_sources.specs.Inputs.{texts_of}
+use Rattle.nextest_sources.specs.Inputs.{source_texts_of}
 use Rattle.nextest_sources.specs.InputsView.{input_view}
 use Rattle.nextest_sources.specs.Sources.{source_view}
 use Rattle.nextest_sources.proofs.Runs.{ran_exit, ran_first, ran_next}
@@ -23,12 +23,12 @@ returns-clause-ran g c =
     let engines = readings_view (g.F.Filters.read c.args.pcx.now.filters.now) (g.S.Specs.read_spec c.args.pcx.now.specs.now) g.F.Filters.match_all g.F.Filters.holds g.F.Filters.holds_binary g.F.Filters.leaves g.S.Specs.holds_on in
     let all = map input_view c.args.inputs.now in
     let told = g.W.ConfigWarnings.warnings c.load_inputs.new.warnings in
-    ran_next (input_steps engines (features_view c.args.features.now) [] all) (merged_steps (source_view c.args.repository.now) (flat_map texts_of all)) (g.W.ConfigWarnings.warnings c.args.warnings.now) told told (ending c.parts_of.result)
-    c.in_ok-loaded.ensures.ran (c.parts_of.ensures.ran (flat_map texts_of all) c.in_ok-loaded.ensures.loaded.merged told)
+    ran_next (input_steps engines (features_view c.args.features.now) [] all) (merged_steps (source_view c.args.repository.now) (flat_map source_texts_of all)) (g.W.ConfigWarnings.warnings c.args.warnings.now) told told (ending c.parts_of.result)
+    c.in_ok-loaded.ensures.ran (c.parts_of.ensures.ran (flat_map source_texts_of all) c.in_ok-loaded.ensures.loaded.merged told)
 
 pub returns-clause-parts : goal.returns-clause-parts
 returns-clause-parts g c =
     let engines = readings_view (g.F.Filters.read c.args.pcx.now.filters.now) (g.S.Specs.read_spec c.args.pcx.now.specs.now) g.F.Filters.match_all g.F.Filters.holds g.F.Filters.holds_binary g.F.Filters.leaves g.S.Specs.holds_on in
-    let ss = flat_map texts_of (map input_view c.args.inputs.now) in
+    let ss = flat_map source_texts_of (map input_view c.args.inputs.now) in
     parts_are g.F.Filters.meaning g.S.Specs.spec_meaning engines ss c.in_ok-loaded.loaded c.parts_of.result c.in_ok-loaded.ensures.loaded
     (c.parts_of.ensures.parts ss c.in_ok-loaded.ensures.loaded.merged c.in_ok-loaded.ensures.loaded.names) c.parts_of.ensures.layers

@@ -2,7 +2,7 @@ use Rattle.nextest_engines.specs.Readings.{readings_view}
 use Rattle.nextest_rules.specs.KnownView.{features_view}
 use Rattle.nextest_sources.specs.Sources.{source_view}
 use Rattle.nextest_sources.proofs.Runs.{ran_exit}
-use Rattle.nextest_tables.specs.View.{file_view}
+use Rattle.nextest_tables.specs.View.{file_table_view}
 use Rattle.nextest_tree.specs.View.{tree_view}
 use Rattle.nextest_load.proofs.Files.{own_ended, definitions_ended, rules_ended}
 use Rattle.nextest_load.proofs.source.load_file.Goals as goal
@@ -19,13 +19,13 @@ returns-in_err-check_definitions-clause-ran g c below was =
     let engines = readings_view (g.F.Filters.read c.args.pcx.now.filters.now) (g.S.Specs.read_spec c.args.pcx.now.specs.now) g.F.Filters.match_all g.F.Filters.holds g.F.Filters.holds_binary g.F.Filters.leaves g.S.Specs.holds_on in
     let e = c.in_err-check_definitions.field-0.0 in
     ran_exit _ _ _ _ e c.from_residual-in_err-check_definitions.ensures.1
-    (definitions_ended engines (features_view c.args.features.now) below (source_view c.args.source.now) (tree_view c.args.own.now) e (file_view c.in_ok-table.table) c.in_ok-table.ensures.value
+    (definitions_ended engines (features_view c.args.features.now) below (source_view c.args.source.now) (tree_view c.args.own.now) e (file_table_view c.in_ok-table.table) c.in_ok-table.ensures.value
     c.in_ok-table.ensures.ran c.in_err-check_definitions.ensures)
 
 pub returns-clause-ran : goal.returns-clause-ran
 returns-clause-ran g c below was =
     let engines = readings_view (g.F.Filters.read c.args.pcx.now.filters.now) (g.S.Specs.read_spec c.args.pcx.now.specs.now) g.F.Filters.match_all g.F.Filters.holds g.F.Filters.holds_binary g.F.Filters.leaves g.S.Specs.holds_on in
-    rules_ended engines (features_view c.args.features.now) below (source_view c.args.source.now) (tree_view c.args.own.now) (file_view c.in_ok-table.table) c.in_ok-table.ensures.value
+    rules_ended engines (features_view c.args.features.now) below (source_view c.args.source.now) (tree_view c.args.own.now) (file_table_view c.in_ok-table.table) c.in_ok-table.ensures.value
     c.in_ok-table.ensures.ran c.in_ok-check_definitions.ensures (c.check_rules.ensures.ran below was)
 
 pub returns-clause-known : goal.returns-clause-known

@@ -6,7 +6,7 @@ use Rattle.nextest_sources.specs.Endings.{Ran, Found, error_view, passed}
 use Rattle.nextest_sources.specs.InputFaults.{fault_at_source}
 use Rattle.nextest_sources.specs.Sources.{source_view}
 use Rattle.nextest_sources.specs.Steps.{check}
-use Rattle.nextest_tables.specs.View.{file_view}
+use Rattle.nextest_tables.specs.View.{file_table_view}
 use Rattle.nextest_tree.specs.Schema.{is_one_of}
 use Rattle.nextest_rules.specs.Known.{known_names}
 use Rattle.nextest_rules.specs.KnownView.{known_view}
@@ -19,7 +19,7 @@ use Rattle.nextest_rules.proofs.check.check_rules.Goals as goal
 pub returns-in_err-check_parents-clause-ran : goal.returns-in_err-check_parents-clause-ran
 returns-in_err-check_parents-clause-ran g c below was =
     let s = source_view c.args.source.now in
-    let f = file_view c.args.file in
+    let f = file_table_view c.args.file in
     let e = c.in_err-check_parents.field-0.0 in
     let old = g.W.ConfigWarnings.warnings c.args.warnings.now in
     let parents = parent_cause (is_one_of (known_names below).profiles) f.profiles in
@@ -35,7 +35,7 @@ returns-in_err-layer-clause-ran g c below was =
     let engines = readings_view (g.F.Filters.read c.args.pcx.now.filters.now) (g.S.Specs.read_spec c.args.pcx.now.specs.now)
     g.F.Filters.match_all g.F.Filters.holds g.F.Filters.holds_binary g.F.Filters.leaves g.S.Specs.holds_on in
     let s = source_view c.args.source.now in
-    let f = file_view c.args.file in
+    let f = file_table_view c.args.file in
     let e = c.in_err-layer.field-0.0 in
     let old = g.W.ConfigWarnings.warnings c.args.warnings.now in
     let parents = parent_cause (is_one_of (known_names below).profiles) f.profiles in
@@ -50,7 +50,7 @@ returns-in_err-check_names-clause-ran g c below was =
     let engines = readings_view (g.F.Filters.read c.args.pcx.now.filters.now) (g.S.Specs.read_spec c.args.pcx.now.specs.now)
     g.F.Filters.match_all g.F.Filters.holds g.F.Filters.holds_binary g.F.Filters.leaves g.S.Specs.holds_on in
     let s = source_view c.args.source.now in
-    let f = file_view c.args.file in
+    let f = file_table_view c.args.file in
     let e = c.in_err-check_names.field-0.0 in
     let old = g.W.ConfigWarnings.warnings c.args.warnings.now in
     let new = g.W.ConfigWarnings.warnings c.check_names.new.warnings in
@@ -69,7 +69,7 @@ returns-clause-ran g c below was =
     let engines = readings_view (g.F.Filters.read c.args.pcx.now.filters.now) (g.S.Specs.read_spec c.args.pcx.now.specs.now)
     g.F.Filters.match_all g.F.Filters.holds g.F.Filters.holds_binary g.F.Filters.leaves g.S.Specs.holds_on in
     let s = source_view c.args.source.now in
-    let f = file_view c.args.file in
+    let f = file_table_view c.args.file in
     let old = g.W.ConfigWarnings.warnings c.args.warnings.now in
     let new = g.W.ConfigWarnings.warnings c.check_names.new.warnings in
     let parents = parent_cause (is_one_of (known_names below).profiles) f.profiles in

@@ -3,7 +3,7 @@ use Rattle.nextest_sources.proofs.Runs.{ran_first, ran_next, ran_exit}
 use Rattle.nextest_sources.specs.Endings.{error_view, passed, ending}
 use Rattle.nextest_sources.specs.Sources.{source_view}
 use Rattle.nextest_sources.specs.Steps.{check}
-use Rattle.nextest_tables.specs.View.{file_view}
+use Rattle.nextest_tables.specs.View.{file_table_view}
 use Rattle.nextest_rules.specs.KnownView.{features_view}
 use Rattle.nextest_rules.specs.Steps.{deprecated_steps, reserved_steps, group_name_cause, key_cause, feature_cause, kind_cause, script_name_cause}
 use Rattle.nextest_rules.proofs.Composing.{ran_two, ran_three}
@@ -12,7 +12,7 @@ use Rattle.nextest_rules.proofs.definitions.check_definitions.Goals as goal
 pub returns-in_err-check_groups_and_keys : goal.returns-in_err-check_groups_and_keys
 returns-in_err-check_groups_and_keys g c =
     let s = source_view c.args.source.now in
-    let f = file_view c.args.file.now in
+    let f = file_table_view c.args.file.now in
     let e = c.in_err-check_groups_and_keys.field-0.0 in
     let old = g.W.ConfigWarnings.warnings c.args.warnings.now in
     ran_exit _ old old _ e c.from_residual.ensures.1
@@ -22,7 +22,7 @@ returns-in_err-check_groups_and_keys g c =
 pub returns-in_err-warn_of_old_key : goal.returns-in_err-warn_of_old_key
 returns-in_err-warn_of_old_key g c =
     let s = source_view c.args.source.now in
-    let f = file_view c.args.file.now in
+    let f = file_table_view c.args.file.now in
     let e = c.in_err-warn_of_old_key.field-0.0 in
     let old = g.W.ConfigWarnings.warnings c.args.warnings.now in
     let new = g.W.ConfigWarnings.warnings c.warn_of_old_key.new.warnings in
@@ -34,7 +34,7 @@ returns-in_err-warn_of_old_key g c =
 pub returns-in_err-check_scripts : goal.returns-in_err-check_scripts
 returns-in_err-check_scripts g c =
     let s = source_view c.args.source.now in
-    let f = file_view c.args.file.now in
+    let f = file_table_view c.args.file.now in
     let features = features_view c.args.features.now in
     let e = c.in_err-check_scripts.field-0.0 in
     let old = g.W.ConfigWarnings.warnings c.args.warnings.now in
@@ -49,7 +49,7 @@ returns-in_err-check_scripts g c =
 pub returns : goal.returns
 returns g c =
     let s = source_view c.args.source.now in
-    let f = file_view c.args.file.now in
+    let f = file_table_view c.args.file.now in
     let features = features_view c.args.features.now in
     let o = ending c.warn_of_reserved.result in
     let old = g.W.ConfigWarnings.warnings c.args.warnings.now in

@@ -3,7 +3,7 @@ use Rattle.std.proofs.lemmas.List.{length-map}
 use Rattle.toml.specs.View.{table_view}
 use Rattle.nextest_documents.specs.Text.{tree_of}
 use Rattle.nextest_script_order.specs.Lines.{first_lines}
-use Rattle.nextest_script_order.specs.Standing.{ids_view, path_view}
+use Rattle.nextest_script_order.specs.Standing.{ids_view, key_path_view}
 use Rattle.nextest_script_order.specs.Order.{placed_before}
 use Rattle.nextest_script_order.proofs.Sections.{early_told, late_told, some_of}
 use Rattle.nextest_script_order.proofs.Tables.{node_of}
@@ -13,17 +13,17 @@ use Rattle.nextest_script_order.proofs.order.+place_between.Goals as goal
 pub returns-then-len-lt2 : goal.returns-then-len-lt2
 returns-then-len-lt2 t c =
     let few : length (ids_view c.args.ids) < 2 = omega (arith, length-map c.args.ids.items (string_bytes {Z = Global})) in
-    rw (placed_few (path_view c.args.path.now) c.args.lines.now (ids_view c.args.ids) c.args.low c.args.high few c.requires.between) c.append.ensures
+    rw (placed_few (key_path_view c.args.path.now) c.args.lines.now (ids_view c.args.ids) c.args.low c.args.high few c.requires.between) c.append.ensures
 
 pub returns-in-None : goal.returns-in-None
 returns-in-None t c =
     let none = rw c.in-None.is at c.in_ok-middle.ensures in
-    rw (placed_tied (path_view c.args.path.now) c.args.lines.now (ids_view c.args.ids) c.args.low c.args.high c.requires.order none c.requires.between) c.append-in-None.ensures
+    rw (placed_tied (key_path_view c.args.path.now) c.args.lines.now (ids_view c.args.ids) c.args.low c.args.high c.requires.order none c.requires.between) c.append-in-None.ensures
 
 pub place_between-requires : goal.place_between-requires
 place_between-requires t c =
     let at = rw c.in-Some.is at c.in_ok-middle.ensures in
-    let path = path_view c.args.path.now in
+    let path = key_path_view c.args.path.now in
     let text = c.args.lines.now in
     let (document, is) = some_of (tree_of (first_lines c.in-Some.middle text)) at.is in
     let early = c.in_ok-early-in-Some.ensures.early ∙ early_told path text c.args.low c.args.high c.in-Some.middle (ids_view c.args.ids) (node_of (table_view c.in-Some.document)) document c.requires.between at is in
@@ -34,7 +34,7 @@ place_between-requires t c =
 pub place_between-requires-in-Some : goal.place_between-requires-in-Some
 place_between-requires-in-Some t c =
     let at = rw c.in-Some.is at c.in_ok-middle.ensures in
-    let path = path_view c.args.path.now in
+    let path = key_path_view c.args.path.now in
     let text = c.args.lines.now in
     let (document, is) = some_of (tree_of (first_lines c.in-Some.middle text)) at.is in
     let late = c.in_ok-early-in-Some.ensures.late ∙ late_told path text c.args.low c.args.high c.in-Some.middle (ids_view c.args.ids) (node_of (table_view c.in-Some.document)) document c.requires.between at is in
@@ -45,7 +45,7 @@ place_between-requires-in-Some t c =
 pub returns-in_ok-place_between-in-Some : goal.returns-in_ok-place_between-in-Some
 returns-in_ok-place_between-in-Some t c =
     let at = rw c.in-Some.is at c.in_ok-middle.ensures in
-    let path = path_view c.args.path.now in
+    let path = key_path_view c.args.path.now in
     let text = c.args.lines.now in
     let (document, is) = some_of (tree_of (first_lines c.in-Some.middle text)) at.is in
     let told = c.in_ok-early-in-Some.ensures in

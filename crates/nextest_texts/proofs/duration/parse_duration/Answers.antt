@@ -7,7 +7,7 @@ use Rattle.std.proofs.lemmas.Result.{err_from_is_err_and}
 use Rattle.nextest_texts.specs.DurationFunction.{duration_of, duration_result, some_sum_of, words_of}
 use Rattle.nextest_texts.proofs.DurationGrammar.{answers, grammar, duration_of-words, duration_of-zero, ok_or-within_limit}
 use Rattle.nextest_texts.proofs.duration.parse_duration.Goals as goal
-use Rattle.nextest_texts.proofs.duration.parse_duration.Goals.{After-from_residual, After-ok_or}
+use Rattle.nextest_texts.proofs.duration.parse_duration.Goals.{After-from_residual}
 
 pub returns-then-eq-clause-value : goal.returns-then-eq-clause-value
 returns-then-eq-clause-value c =

@@ -1,6 +1,6 @@
 use Rattle.std.proofs.Common.{◌∙◌, ap, sym, rules, option_map, map}
 use Rattle.toy_engines.specs.FilterValues.{term_of, lists_of}
-use Rattle.toy_engines.specs.FilterTexts.{so_far, continued, pieces, filter_in_pieces}
+use Rattle.toy_engines.specs.FilterTexts.{parts_so_far, continued, pieces, filter_in_pieces}
 use Rattle.toy_engines.proofs.FilterTexts.{first_none, first_some, more_none, more_some, begun_by}
 use Rattle.toy_engines.proofs.parse.read_filter.Goals as goal
 
@@ -24,15 +24,15 @@ loop-piece-init c =
 pub returns-in_default-3 : goal.returns-in_default-3
 returns-in_default-3 c =
     let l = c.loop-piece in
-    let none = sym c.in_ok-more.ensures ∙ ap (option_map so_far) c.in_default-3.is in
-    sym (l.invariant.means ∙ more_none (so_far l.read) l.rest.now c.in-Some-cut.piece.now c.in-Some-cut.behind.now c.in-Some-cut.ensures.parts none)
+    let none = sym c.in_ok-more.ensures ∙ ap (option_map parts_so_far) c.in_default-3.is in
+    sym (l.invariant.means ∙ more_none (parts_so_far l.read) l.rest.now c.in-Some-cut.piece.now c.in-Some-cut.behind.now c.in-Some-cut.ensures.parts none)
 
 pub loop-piece-preserved : goal.loop-piece-preserved
 loop-piece-preserved c =
     let l = c.loop-piece in
     let more = c.in-Some-3.more in
-    let some = sym c.in_ok-more.ensures ∙ ap (option_map so_far) c.in-Some-3.is in
+    let some = sym c.in_ok-more.ensures ∙ ap (option_map parts_so_far) c.in-Some-3.is in
     record {
       utf8 = search rules;
-      means = l.invariant.means ∙ more_some (so_far l.read) (so_far more) l.rest.now c.in-Some-cut.piece.now c.in-Some-cut.behind.now c.in-Some-cut.ensures.parts some;
+      means = l.invariant.means ∙ more_some (parts_so_far l.read) (parts_so_far more) l.rest.now c.in-Some-cut.piece.now c.in-Some-cut.behind.now c.in-Some-cut.ensures.parts some;
     }

@@ -1,7 +1,4 @@
-use Rattle.std.proofs.Common.{◌≡◌, ◌∙◌, ap, sym, Some}
-use Rattle.nextest_settings.specs.SettingsView.{value_at, origin_at}
-use Rattle.nextest_settings.specs.declared.setting.Setting.{Setting}
-use Rattle.nextest_config.specs.RowView.{row_value, row_source}
+use Rattle.std.proofs.Common.{◌∙◌, ap, sym, Some}
 use Rattle.nextest_config.proofs.Rows.{each_setting}
 use Rattle.nextest_config.proofs.run.row.row_of.Goals as goal
 

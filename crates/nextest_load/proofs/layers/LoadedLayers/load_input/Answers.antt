@@ -1,7 +1,7 @@
 use Rattle.std.proofs.Common.{◌≡◌, [], ◌∷◌, ap, ◌∙◌}
 use Rattle.nextest_engines.specs.Readings.{readings_view}
 use Rattle.nextest_rules.specs.KnownView.{features_view, known_view}
-use Rattle.nextest_sources.specs.Inputs.{SourceText, texts_of}
+use Rattle.nextest_sources.specs.Inputs.{SourceText, source_texts_of}
 use Rattle.nextest_sources.specs.InputsView.{input_view}
 use Rattle.nextest_sources.proofs.Runs.{ran_exit}
 use Rattle.nextest_load.proofs.Laying.{outcome_ended, source_ended, ran_out, loaded_more}
@@ -20,7 +20,7 @@ returns-in_err-loaded-clause-ran g c below was =
     let e = c.in_err-loaded.field-0.0 in
     let i = input_view c.args.input.now in
     let s : SourceText = record { source = i.source; text = c.in-Some.text.now } in
-    let one : texts_of i ≡ s ∷ [] = rw c.in-Some.is at c.in_ok-text.ensures.text in
+    let one : source_texts_of i ≡ s ∷ [] = rw c.in-Some.is at c.in_ok-text.ensures.text in
     ran_exit _ _ _ _ e c.from_residual-in_err-loaded.ensures.1
     (source_ended engines (features_view c.args.features.now) below i s c.in_ok-text.ensures.found one (c.in_err-loaded.ensures.ran below was.known))
 
@@ -29,7 +29,7 @@ returns-in_err-add-clause-ran g c below was =
     let engines = readings_view (g.F.Filters.read c.args.pcx.now.filters.now) (g.S.Specs.read_spec c.args.pcx.now.specs.now) g.F.Filters.match_all g.F.Filters.holds g.F.Filters.holds_binary g.F.Filters.leaves g.S.Specs.holds_on in
     let i = input_view c.args.input.now in
     let s : SourceText = record { source = i.source; text = c.in-Some.text.now } in
-    let one : texts_of i ≡ s ∷ [] = rw c.in-Some.is at c.in_ok-text.ensures.text in
+    let one : source_texts_of i ≡ s ∷ [] = rw c.in-Some.is at c.in_ok-text.ensures.text in
     ran_out _ _ c.from_residual-in_err-add.ensures.1
     (source_ended engines (features_view c.args.features.now) below i s c.in_ok-text.ensures.found one (c.in_ok-loaded.ensures.ran below was.known))
 
@@ -38,7 +38,7 @@ returns-clause-ran g c below was =
     let engines = readings_view (g.F.Filters.read c.args.pcx.now.filters.now) (g.S.Specs.read_spec c.args.pcx.now.specs.now) g.F.Filters.match_all g.F.Filters.holds g.F.Filters.holds_binary g.F.Filters.leaves g.S.Specs.holds_on in
     let i = input_view c.args.input.now in
     let s : SourceText = record { source = i.source; text = c.in-Some.text.now } in
-    let one : texts_of i ≡ s ∷ [] = rw c.in-Some.is at c.in_ok-text.ensures.text in
+    let one : source_texts_of i ≡ s ∷ [] = rw c.in-Some.is at c.in_ok-text.ensures.text in
     source_ended engines (features_view c.args.features.now) below i s c.in_ok-text.ensures.found one (c.in_ok-loaded.ensures.ran below was.known)
 
 pub returns-clause-loaded : goal.returns-clause-loaded
@@ -46,8 +46,8 @@ returns-clause-loaded g c below was =
     let engines = readings_view (g.F.Filters.read c.args.pcx.now.filters.now) (g.S.Specs.read_spec c.args.pcx.now.specs.now) g.F.Filters.match_all g.F.Filters.holds g.F.Filters.holds_binary g.F.Filters.leaves g.S.Specs.holds_on in
     let i = input_view c.args.input.now in
     let s : SourceText = record { source = i.source; text = c.in-Some.text.now } in
-    let one : texts_of i ≡ s ∷ [] = rw c.in-Some.is at c.in_ok-text.ensures.text in
-    loaded_more g.F.Filters.meaning g.S.Specs.spec_meaning engines below (texts_of i) s c.args.self.now _ c.in_ok-loaded.loaded.rules one was
+    let one : source_texts_of i ≡ s ∷ [] = rw c.in-Some.is at c.in_ok-text.ensures.text in
+    loaded_more g.F.Filters.meaning g.S.Specs.spec_meaning engines below (source_texts_of i) s c.args.self.now _ c.in_ok-loaded.loaded.rules one was
     (ap known_view c.in_ok-add.ensures.known ∙ c.in_ok-loaded.ensures.known below was.known)
     (c.in_ok-add.ensures.merged below s was.merged c.in_ok-loaded.ensures.tree c.in_ok-loaded.ensures.own)
     c.in_ok-add.ensures.layers c.in_ok-loaded.ensures.rules

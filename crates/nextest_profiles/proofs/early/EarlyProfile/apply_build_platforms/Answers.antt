@@ -1,10 +1,7 @@
-use Rattle.std.proofs.Common.{◌≡◌, refl, sym, ap, ◌∙◌, map, subst}
-use Rattle.nextest_rules.specs.Rules.{Compiled}
-use Rattle.nextest_settings.specs.Chains.{filter_of_nothing}
-use Rattle.nextest_settings.specs.FilterView.{filter_view}
-use Rattle.nextest_settings.specs.Platforms.{rule_on, default_filter_of}
+use Rattle.std.proofs.Common.{◌≡◌, refl, sym, ap, ◌∙◌, map}
+use Rattle.nextest_settings.specs.Platforms.{rule_on}
 use Rattle.nextest_settings.specs.View.{script_rule_ref_view, evaluated_script_rule_view}
-use Rattle.nextest_profiles.specs.Known.{KnowsScripts, named_use, evaluated_use}
+use Rattle.nextest_profiles.specs.Known.{named_use, evaluated_use}
 use Rattle.nextest_profiles.proofs.Closing.{fused}
 use Rattle.nextest_profiles.proofs.Answering.{answers_kept}
 use Rattle.nextest_profiles.proofs.early.EarlyProfile.apply_build_platforms.Goals as goal

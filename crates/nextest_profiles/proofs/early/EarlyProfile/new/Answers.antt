@@ -1,10 +1,10 @@
-use Rattle.std.proofs.Common.{◌≡◌, ◌∙◌, ap, refl, subst, sym, map}
+use Rattle.std.proofs.Common.{◌∙◌, ap, subst, sym, map}
 use Rattle.nextest_inheritance.specs.Parents.{parents_in, with_default, HasOneChain, IsChain}
 use Rattle.nextest_load.specs.Closed.{AnswersBinaries}
 use Rattle.nextest_load.specs.Config.{config_parents}
 use Rattle.nextest_rules.specs.Meaning as rules
 use Rattle.nextest_settings.specs.Chains.{overrides_of, script_rules_of, nearest_filter}
-use Rattle.nextest_settings.specs.View.{override_ref_view, script_rule_ref_view}
+use Rattle.nextest_settings.specs.View.{script_rule_ref_view}
 use Rattle.nextest_sources.specs.InputFaults.{Each}
 use Rattle.nextest_tables.specs.FileTexts.{names_in}
 use Rattle.nextest_inheritance.specs.View.{borrowed_view}

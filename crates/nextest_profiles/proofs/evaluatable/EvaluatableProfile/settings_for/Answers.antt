@@ -1,7 +1,6 @@
 use Rattle.std.proofs.Common.{◌≡◌, ◌∙◌, ◌++◌, ap, sym, subst, lit<, Some, option_map}
 use Rattle.nextest_engines.specs.Engines.{test_view}
 use Rattle.nextest_rules.specs.Accepted.{IfWritten}
-use Rattle.nextest_settings.specs.Profile.{EvaluatableModel}
 use Rattle.nextest_settings.specs.Queries.{test_query, setting_value, setting_origin, wrapping_rule, evaluated_for_test}
 use Rattle.nextest_rules.specs.Rules.{at_name}
 use Rattle.nextest_settings.specs.SettingsView.{value_at, origin_at, wrapper_at, wrapping_use_at}

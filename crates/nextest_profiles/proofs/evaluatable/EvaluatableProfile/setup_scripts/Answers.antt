@@ -1,7 +1,6 @@
 use Rattle.std.proofs.Common.{◌≡◌, ◌∙◌, ap, sym, subst, map}
 use Rattle.std.specs.Result.{IfOk}
 use Rattle.nextest_engines.specs.Engines.{test_view}
-use Rattle.nextest_load.specs.ConfigView.{scripts_view}
 use Rattle.nextest_settings.specs.Queries.{test_query, enabled_by, enabled_scripts}
 use Rattle.nextest_settings.specs.SetupView.{scripts_in, rules_in}
 use Rattle.nextest_settings.specs.View.{script_rule_of}

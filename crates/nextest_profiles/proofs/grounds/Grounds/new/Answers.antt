@@ -1,7 +1,6 @@
-use Rattle.std.proofs.Common.{◌≡◌, ◌∙◌, ap, refl, Some, option_map, map, string_bytes}
+use Rattle.std.proofs.Common.{◌≡◌, ◌∙◌, ap, refl, Some, map, string_bytes}
 use Rattle.nextest_inheritance.specs.Parents.{parents_in}
 use Rattle.nextest_settings.specs.Chains.{fields_of}
-use Rattle.nextest_settings.specs.ChainValues.{EndsComplete}
 use Rattle.nextest_settings.specs.Profile.{store_dir_of}
 use Rattle.nextest_settings.specs.View.{fields_ref_view}
 use Rattle.nextest_inheritance.specs.View.{borrowed_view}

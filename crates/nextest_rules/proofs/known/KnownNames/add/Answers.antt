@@ -3,7 +3,7 @@ use Rattle.std.specs.BTreeSet.{contains_text}
 use Rattle.std.proofs.lemmas.Result.{on_ok_weaker}
 use Rattle.nextest_elements.specs.TestGroup.{custom_group_text}
 use Rattle.nextest_tables.specs.FileTexts.{names_in, setup_ids_of}
-use Rattle.nextest_tables.specs.View.{file_view, profile_view}
+use Rattle.nextest_tables.specs.View.{file_table_view, profile_view}
 use Rattle.nextest_rules.specs.Known.{known_to, sets_of}
 use Rattle.nextest_rules.proofs.Knowing.{keys_named, set_more, two_more, same_sets}
 use Rattle.nextest_rules.proofs.known.KnownNames.add.Goals as goal
@@ -12,7 +12,7 @@ pub returns : goal.returns
 returns c below was =
     let old = c.args.self.now in
     let file = c.args.file.now in
-    let f = file_view file in
+    let f = file_table_view file in
     let groups = set_more (λ f. names_in f.groups) below f (contains_text old.groups) (contains_text c.add_names.new.names) _
     (ap (λ k. k.groups) was) c.in_ok-add_names.ensures (keys_named custom_group_text (λ g. Some g) file.test_groups.entries) in
     let setup = set_more setup_ids_of below f (contains_text old.setup_scripts) (contains_text c.add_names-3.new.names) _

@@ -21,7 +21,7 @@ pub enum TextFault {
 }
 
 impl From<AllocError> for TextFault {
-    ghost use Rattle.nextest_documents.specs.declared.text.TextFault.{TextFault};
+    ghost use Rattle.nextest_documents.specs.declared.document.TextFault.{TextFault};
 
     ghost from_gives = { λ _ e. e ≡ TextFault.Memory };
 
