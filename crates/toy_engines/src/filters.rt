@@ -4,7 +4,7 @@ ghost use Rattle.std.specs.List.{flat_map, list_any};
 ghost use Rattle.nextest_engines.specs.Engines.{IfFilterRefused};
 ghost use Rattle.toy_engines.specs.FilterValues.{Filter, match_all as nothing_asked, term_of, lists_of, filter_of, subject_of};
 ghost use Rattle.toy_engines.specs.Filters as messages;
-ghost use Rattle.toy_engines.specs.Filters.{filter_read, read_for, filter_matches, filter_holds_binary, filter_leaves, term_leaves, value_beside as value_beside_default, asks_default, is_default as asks_for_default};
+ghost use Rattle.toy_engines.specs.Filters.{filter_read, read_for, filter_matches, filter_holds_binary, filter_leaves, term_leaves, value_beside as value_beside_default, asks_default, is_default_term as asks_for_default};
 ghost use Rattle.toy_engines.specs.Decided.{default_filter_decides};
 
 use crate::expr::{Leaf, Subject, Term, ToyExpr};
