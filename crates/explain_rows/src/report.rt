@@ -47,13 +47,19 @@ fn add_line(report: &mut String, line: &str) -> Result<(), AllocError> {
     report.push_str("\n")
 }
 
+/// A text without its last newline. Its parts between newlines are its lines, whole: one that ends
+/// with a carriage return keeps it.
+fn body_of(text: &str) -> &str {
+    text.strip_suffix("\n").unwrap_or(text)
+}
+
 /// Adds all lines of a text below a heading, unless there are none.
 fn add_text(report: &mut String, heading: &str, text: &str) -> Result<(), AllocError> {
     if text.is_empty() {
         return Ok(());
     }
     report.push_str(heading)?;
-    for line in text.lines() {
+    for line in body_of(text).split('\n') {
         add_line(report, line)?;
     }
     if !text.ends_with("\n") {
@@ -69,10 +75,10 @@ fn add_lines_with(
     text: &str,
     words: &str,
 ) -> Result<(), AllocError> {
-    let count = text.lines().count();
+    let count = text.split('\n').count().saturating_sub(1);
     let heading = format!(in alloc; "stdout of {count} lines, among them\n")?;
     report.push_str(heading.as_str())?;
-    for line in text.lines() {
+    for line in body_of(text).split('\n') {
         if has_word(line, words) {
             add_line(report, line)?;
         }
@@ -83,7 +89,7 @@ fn add_lines_with(
 /// Adds the lines of a text that don't begin with two spaces.
 fn add_without_details(report: &mut String, text: &str) -> Result<(), AllocError> {
     report.push_str("stderr without details\n")?;
-    for line in text.lines() {
+    for line in body_of(text).split('\n') {
         if !line.starts_with("  ") {
             add_line(report, line)?;
         }

@@ -54,6 +54,6 @@ fn stress_index(tree: &Tree) -> Option<u32> {
 fn unique_id(alloc: Global, id: &str, stress_index: Option<u32>) -> Result<String, AllocError> {
     match ScriptId::new(alloc, id) {
         Ok(id) => id.unique_id(alloc, Uuid::from_u128(1), stress_index),
-        Err(error) => format!(in alloc; "refused: {}", error.0),
+        Err(error) => format!(in alloc; "refused: {error}"),
     }
 }

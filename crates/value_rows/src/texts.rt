@@ -12,7 +12,7 @@ pub fn text_answer(alloc: Global, reader: &str, text: &str) -> Option<Result<Str
         "duration" => duration_answer(alloc, text),
         "identifier" => identifier_answer(alloc, text),
         "tool-name" => shown(alloc, ToolName::new(alloc, text)),
-        "script-id" => shown(alloc, ScriptId::new(alloc, text).map_err(|error| error.0)),
+        "script-id" => shown(alloc, ScriptId::new(alloc, text)),
         "shell-words" => words_answer(alloc, text),
         "env-key" => key_answer(alloc, text),
         "document" => document_answer(alloc, text),
