@@ -120,14 +120,14 @@ uncons_at x xs p k layer above there seen [] e =
     let others : xs ≡ above = cc in
     inl (rw first there, rw others seen)
 uncons_at x xs p k layer above there seen (b ∷ below) e =
-    inr (record { below = below; layer = layer; above = above; splits = cc; there = there; seen = seen })
+    inr (record { below = below; layer = layer; above = above; splits = cc; there = there; unhidden = seen })
 
 uncons : (x : Node) (xs : List Node) (p : Path) (k : Kind) → IsShown (x ∷ xs) p k → ((node_at p x ≡ Some k) × AllByRecursion (λ a. Hides a p k → ⊥) xs) ⊎ IsShown xs p k
-uncons x xs p k s = uncons_at x xs p k s.layer s.above s.there s.seen s.below s.splits
+uncons x xs p k s = uncons_at x xs p k s.layer s.above s.there s.unhidden s.below s.splits
 
 cons : (x : Node) (xs : List Node) (p : Path) (k : Kind) → ((node_at p x ≡ Some k) × AllByRecursion (λ a. Hides a p k → ⊥) xs) ⊎ IsShown xs p k → IsShown (x ∷ xs) p k
-cons x xs p k (inl e) = record { below = []; layer = x; above = xs; splits = refl; there = e.0; seen = e.1 }
-cons x xs p k (inr s) = record { below = x ∷ s.below; layer = s.layer; above = s.above; splits = ap (λ t. x ∷ t) s.splits; there = s.there; seen = s.seen }
+cons x xs p k (inl e) = record { below = []; layer = x; above = xs; splits = refl; there = e.0; unhidden = e.1 }
+cons x xs p k (inr s) = record { below = x ∷ s.below; layer = s.layer; above = s.above; splits = ap (λ t. x ∷ t) s.splits; there = s.there; unhidden = s.unhidden }
 
 shown_to : (ds : List Node) (base : Node) (p : Path) (k : Kind) → node_at p (merged base ds) ≡ Some k
     → ((node_at p base ≡ Some k) × AllByRecursion (λ a. Hides a p k → ⊥) ds) ⊎ IsShown ds p k

@@ -46,7 +46,7 @@ pub record IsShown (layers : List Node) (p : Path) (k : Kind) : Type 0 where
   pub above : List Node
   pub splits : layers ≡ below ++ layer ∷ above
   pub there : node_at p layer ≡ Some k
-  pub seen : AllByRecursion (λ higher. ¬ Hides higher p k) above
+  pub unhidden : AllByRecursion (λ higher. ¬ Hides higher p k) above
 
 -- a tree's nodes are exactly those of a relation
 abbrev pub HasExactly : Node → (Path → Kind → Type 0) → Type 0

@@ -12,7 +12,8 @@ use Rattle.nextest_tree.specs.Schema.{FaultCause}
 use Rattle.nextest_tree.proofs.Reading.{leaf_read}
 use Rattle.nextest_texts.specs.Nanoseconds.{duration_at}
 use Rattle.std.proofs.Common.{Result, Ok}
-use Rattle.nextest_elements.specs.RetryPolicy.{backoff_at, count_at, is_below, IsFixedRetry, IsExponentialRetry, IsRetryTable, retry_table, policy_of}
+use Rattle.nextest_elements.specs.RetryPolicy.{backoff_at, count_at, is_below, IsFixedRetry, IsExponentialRetry, IsRetryTable}
+use Rattle.nextest_elements.specs.RetryFunction.{retry_table, policy_of}
 
 -- what is read at a key, or what stands for it
 pub leaf_defaulted : {X : Type 0} (read : Node → Result X FaultCause) (d : X) (o : Option Node) (x : X) → IsDefaulted d (λ n x. read n ≡ Ok x) o x → unwrap_or (leaf_at read o) d ≡ x

@@ -12,7 +12,7 @@ abbrev pub flaky_result_text : FlakyResult → List ℕ
 flaky_result_text results.Pass = codes "pass"
 flaky_result_text results.Fail = codes "fail"
 
--- its names
+-- the names of what becomes of a flaky test
 unfoldable pub flaky_result_names : List (List ℕ × FlakyResult)
 flaky_result_names = spellings flaky_result_text (results.Pass ∷ results.Fail ∷ [])
 

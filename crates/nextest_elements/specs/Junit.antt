@@ -19,7 +19,7 @@ abbrev pub report_skip_policy_text : ReportSkipPolicy → List ℕ
 report_skip_policy_text policies.None = codes "none"
 report_skip_policy_text policies.All = codes "all"
 
--- its names
+-- the names of the choices of skipped tests that a report lists
 unfoldable pub report_skip_policy_names : List (List ℕ × ReportSkipPolicy)
 report_skip_policy_names = spellings report_skip_policy_text (policies.None ∷ policies.All ∷ [])
 
@@ -31,7 +31,7 @@ report_skip_policy_expected = codes "`none`, `all`"
 abbrev pub report_skip_policy_at : Node → Result ReportSkipPolicy FaultCause
 report_skip_policy_at = name_at report_skip_policy_names report_skip_policy_expected
 
--- a name of such a choice
+-- one of the names of the choices of skipped tests
 unfoldable pub a_report_skip_policy : Schema
 a_report_skip_policy = value report_skip_policy_at
 
@@ -44,7 +44,7 @@ abbrev pub junit_flaky_fail_status_text : JunitFlakyFailStatus → List ℕ
 junit_flaky_fail_status_text statuses.Failure = codes "failure"
 junit_flaky_fail_status_text statuses.Success = codes "success"
 
--- its names
+-- the names of the marks of a flaky test that counts as failed
 unfoldable pub junit_flaky_fail_status_names : List (List ℕ × JunitFlakyFailStatus)
 junit_flaky_fail_status_names =
     spellings junit_flaky_fail_status_text (statuses.Failure ∷ statuses.Success ∷ [])
@@ -57,11 +57,11 @@ junit_flaky_fail_status_expected = codes "`failure`, `success`"
 abbrev pub junit_flaky_fail_status_at : Node → Result JunitFlakyFailStatus FaultCause
 junit_flaky_fail_status_at = name_at junit_flaky_fail_status_names junit_flaky_fail_status_expected
 
--- a name of such a mark
+-- one of the names of the marks of a flaky test
 unfoldable pub a_junit_flaky_fail_status : Schema
 a_junit_flaky_fail_status = value junit_flaky_fail_status_at
 
--- a report marks such a test as failed, where nothing else is said
+-- a report marks a flaky test that counts as failed as a failure, where nothing else is said
 abbrev pub usual_junit_flaky_fail_status : JunitFlakyFailStatus
 usual_junit_flaky_fail_status = statuses.Failure
 

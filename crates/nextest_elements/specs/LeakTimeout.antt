@@ -6,7 +6,7 @@ use Rattle.nextest_elements.specs.declared.leak_timeout.LeakTimeoutResult.{LeakT
 use Rattle.nextest_elements.specs.declared.leak_timeout.LeakTimeoutResult.TheVariants as results
 use Rattle.nextest_tree.specs.Key.{key_text}
 use Rattle.nextest_tree.specs.Node.{Node, table, Entries, get}
-use Rattle.nextest_tree.specs.Schema.{FaultCause, Schema, fields, noted, Fields, may, must, no_more}
+use Rattle.nextest_tree.specs.Schema.{FaultCause, Schema, fields, are_noted, Fields, may, must, no_more}
 use Rattle.nextest_tree.specs.Leaf.{value, Spells, name_at, leaf_at, leaf_or}
 use Rattle.nextest_texts.specs.Nanoseconds.{duration_at, a_duration}
 use Rattle.nextest_tree.specs.Spelling.{spellings}
@@ -49,7 +49,7 @@ leak_table es = option_map (λ period. record {
 
 -- a duration, or a table
 abbrev pub leak_timeout : Schema
-leak_timeout = fields noted a_duration leak_fields (λ es. None)
+leak_timeout = fields are_noted a_duration leak_fields (λ es. None)
 
 -- a leak of at most this duration is passed over
 abbrev pub leak_of : ℕ → LeakTimeout

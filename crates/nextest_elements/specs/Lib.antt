@@ -1,6 +1,7 @@
 pub mod Positive
 pub mod TestPriority
 pub mod RetryPolicy
+pub mod RetryFunction
 pub mod FlakyResult
 pub mod TestThreads
 pub mod ThreadsRequired

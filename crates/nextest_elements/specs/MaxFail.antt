@@ -5,7 +5,7 @@ use Rattle.nextest_elements.specs.declared.max_fail.MaxFail.{MaxFail}
 use Rattle.nextest_elements.specs.declared.max_fail.MaxFail.TheVariants as limits
 use Rattle.nextest_tree.specs.Key.{key_text}
 use Rattle.nextest_tree.specs.Node.{Node, table, int, bool, Entries, get}
-use Rattle.nextest_tree.specs.Schema.{FaultCause, Schema, any, fields, noted, Fields, may, must, no_more}
+use Rattle.nextest_tree.specs.Schema.{FaultCause, Schema, any, fields, are_noted, Fields, may, must, no_more}
 use Rattle.nextest_tree.specs.Leaf.{value, Spells, name_at, a_bool}
 use Rattle.nextest_tree.specs.Reads.{IsOptional}
 use Rattle.nextest_elements.specs.Positive.{positive_at}
@@ -38,7 +38,7 @@ max_fail_fields = must fail_keys.MaxFail a_limit (may fail_keys.Terminate any no
 
 -- a truth value, or a table
 unfoldable pub a_max_fail : Schema
-a_max_fail = fields noted a_bool max_fail_fields (λ es. None)
+a_max_fail = fields are_noted a_bool max_fail_fields (λ es. None)
 
 -- a table says what its `max-fail` says
 abbrev pub IsMaxFailTable : Entries → MaxFail → Type 0

@@ -1,14 +1,13 @@
 -- How often a test is tried again.
-use Rattle.std.specs.Prelude.{◌≡◌, ℕ, pos, negsuc, List, [], ◌∷◌, Bool, true, false, ◌&&◌, IsTrue, IsFalse, Option, Some, None, IsSome, option_map, option_and_then, Result, Ok, Err, unwrap_or, nat_lt, codes, if◌then◌else◌}
+use Rattle.std.specs.Prelude.{◌≡◌, ℕ, pos, negsuc, List, [], ◌∷◌, Bool, true, false, ◌&&◌, IsFalse, Option, Some, None, Result, Ok, Err, nat_lt, codes, if◌then◌else◌}
 use Rattle.nextest_tree.specs.declared.key.Key.TheVariants.{Backoff as backoff_key, Count as count_key, Delay, Jitter, MaxDelay}
 use Rattle.nextest_elements.specs.declared.retry_policy.Backoff.{Backoff}
 use Rattle.nextest_elements.specs.declared.retry_policy.Backoff.TheVariants as backoffs
-use Rattle.nextest_elements.specs.declared.retry_policy.RetryTable.{RetryTable}
 use Rattle.nextest_elements.specs.declared.retry_policy.RetryPolicy.{RetryPolicy}
 use Rattle.nextest_elements.specs.declared.retry_policy.RetryPolicy.TheVariants as policies
 use Rattle.nextest_tree.specs.Key.{key_text}
 use Rattle.nextest_tree.specs.Node.{Node, table, int, Entries, get}
-use Rattle.nextest_tree.specs.Schema.{FaultCause, wrong_kind, out_of_range, Schema, fields, noted, Fields, field, may, must, no_more}
+use Rattle.nextest_tree.specs.Schema.{FaultCause, wrong_kind, out_of_range, Schema, fields, are_noted, Fields, field, may, must, no_more}
 use Rattle.nextest_tree.specs.Leaf.{value, Spells, name_at, bool_at, a_bool, leaf_at}
 use Rattle.nextest_tree.specs.Reads.{IsOptional, IsRequired, IsDefaulted}
 use Rattle.nextest_texts.specs.Nanoseconds.{duration_at, a_duration}
@@ -35,7 +34,7 @@ backoff_expected = codes "`fixed`, `exponential`"
 abbrev pub backoff_at : Node → Result Backoff FaultCause
 backoff_at = name_at backoff_names backoff_expected
 
--- a name of such a way
+-- one of the names of the ways in which delays grow
 unfoldable pub a_backoff : Schema
 a_backoff = value backoff_at
 
@@ -77,7 +76,7 @@ retry_across es =
 
 -- a count, or a table
 abbrev pub retry : Schema
-retry = fields noted a_count retry_fields retry_across
+retry = fields are_noted a_count retry_fields retry_across
 
 -- A table of `fixed` says a count, and may say a delay and a jitter; its `max-delay` has no effect.
 pub record IsFixedRetry (es : Entries) (count delay : ℕ) (jitter : Bool) : Type 0 where
@@ -113,41 +112,3 @@ IsRetry n p = (count : ℕ) × (count_at n ≡ Ok count) × (p ≡ policies.Fixe
 abbrev pub count_of : RetryPolicy → ℕ
 count_of (policies.Fixed count delay jitter) = count
 count_of (policies.Exponential count delay jitter max_delay) = count
-
--- ---- the same as a function, by the fields as they are written: a law says that it gives what the
--- relation gives
-
--- The table has these fields; a delay is among them where delays grow.
-pub record HasRetryFields (es : Entries) (t : RetryTable) : Type 0 where
-  pub backoff : IsRequired (Spells backoff_at) (get (key_text backoff_key) es) t.backoff
-  pub count : IsRequired (Spells count_at) (get (key_text count_key) es) t.count
-  pub delay : IsOptional (Spells duration_at) (get (key_text Delay) es) t.delay
-  pub delay_there : IsTrue (is_exponential t.backoff) → IsSome t.delay
-  pub jitter : IsOptional (Spells bool_at) (get (key_text Jitter) es) t.jitter
-  pub max_delay : IsOptional (Spells duration_at) (get (key_text MaxDelay) es) t.max_delay
-
--- what the fields of a table say, where those are there that must be
-abbrev pub retry_table : Entries → Option RetryTable
-retry_table es = option_and_then (λ backoff. option_map (λ count. record {
-  backoff = backoff;
-  count = count;
-  delay = leaf_at duration_at (get (key_text Delay) es);
-  jitter = leaf_at bool_at (get (key_text Jitter) es);
-  max_delay = leaf_at duration_at (get (key_text MaxDelay) es);
-}) (leaf_at count_at (get (key_text count_key) es)))
-    (leaf_at backoff_at (get (key_text backoff_key) es))
-
--- the policy, unless delays grow and the delay is not there or `max-delay` is below it
-abbrev pub policy_of : RetryTable → Option RetryPolicy
-policy_of t = if is_exponential t.backoff then option_and_then growing t.delay else Some steady
-  where
-    jitter : Bool
-    jitter = unwrap_or t.jitter false
-
-    steady : RetryPolicy
-    steady = policies.Fixed t.count (unwrap_or t.delay 0) jitter
-
-    growing : ℕ → Option RetryPolicy
-    growing delay =
-        if is_below t.max_delay (Some delay) then None
-        else Some (policies.Exponential t.count delay jitter t.max_delay)

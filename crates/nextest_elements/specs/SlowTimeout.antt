@@ -6,7 +6,7 @@ use Rattle.nextest_elements.specs.declared.slow_timeout.SlowTimeoutResult.{SlowT
 use Rattle.nextest_elements.specs.declared.slow_timeout.SlowTimeoutResult.TheVariants as results
 use Rattle.nextest_tree.specs.Key.{key_text}
 use Rattle.nextest_tree.specs.Node.{Node, table, Entries, get}
-use Rattle.nextest_tree.specs.Schema.{FaultCause, Schema, fields, noted, Fields, may, must, no_more}
+use Rattle.nextest_tree.specs.Schema.{FaultCause, Schema, fields, are_noted, Fields, may, must, no_more}
 use Rattle.nextest_tree.specs.Leaf.{value, Spells, name_at, leaf_at, leaf_or}
 use Rattle.nextest_texts.specs.Nanoseconds.{duration_at, a_duration}
 use Rattle.nextest_elements.specs.Positive.{positive_at, a_positive}
@@ -61,7 +61,7 @@ slow_table es = option_map (λ period. record {
 
 -- a duration, or a table
 abbrev pub slow_timeout : Schema
-slow_timeout = fields noted a_duration slow_fields (λ es. None)
+slow_timeout = fields are_noted a_duration slow_fields (λ es. None)
 
 -- a test that takes longer than this is slow, and is never ended
 abbrev pub slow_of : ℕ → SlowTimeout

@@ -20,7 +20,7 @@ status_level_text levels.Pass = codes "pass"
 status_level_text levels.Skip = codes "skip"
 status_level_text levels.All = codes "all"
 
--- its names
+-- the names of the levels while tests run
 unfoldable pub status_level_names : List (List ℕ × StatusLevel)
 status_level_names = spellings status_level_text
     (levels.None ∷ levels.Fail ∷ levels.Retry ∷ levels.Slow ∷ levels.Leak ∷ levels.Pass
@@ -34,7 +34,7 @@ status_level_expected = codes "`none`, `fail`, `retry`, `slow`, `leak`, `pass`, 
 abbrev pub status_level_at : Node → Result StatusLevel FaultCause
 status_level_at = name_at status_level_names status_level_expected
 
--- a name of such a level
+-- one of the names of the levels while tests run
 unfoldable pub a_status_level : Schema
 a_status_level = value status_level_at
 
@@ -49,7 +49,7 @@ final_status_level_text final_levels.Leak = codes "leak"
 final_status_level_text final_levels.Pass = codes "pass"
 final_status_level_text final_levels.All = codes "all"
 
--- its names; retry stands for flaky too
+-- the names of the levels at the end of a run; `retry` stands for `flaky` too
 unfoldable pub final_status_level_names : List (List ℕ × FinalStatusLevel)
 final_status_level_names = spellings final_status_level_text
     (final_levels.None ∷ final_levels.Fail ∷ final_levels.Flaky ∷ final_levels.Slow
@@ -64,6 +64,6 @@ final_status_level_expected = codes "`none`, `fail`, `flaky`, `slow`, `skip`, `l
 abbrev pub final_status_level_at : Node → Result FinalStatusLevel FaultCause
 final_status_level_at = name_at final_status_level_names final_status_level_expected
 
--- a name of such a level
+-- one of the names of the levels at the end of a run
 unfoldable pub a_final_status_level : Schema
 a_final_status_level = value final_status_level_at

@@ -14,7 +14,7 @@ test_output_display_text displays.ImmediateFinal = codes "immediate-final"
 test_output_display_text displays.Final = codes "final"
 test_output_display_text displays.Never = codes "never"
 
--- its names
+-- the names of the times at which the output of a test is shown
 unfoldable pub test_output_display_names : List (List ℕ × TestOutputDisplay)
 test_output_display_names = spellings test_output_display_text
     (displays.Immediate ∷ displays.ImmediateFinal ∷ displays.Final ∷ displays.Never ∷ [])
@@ -27,6 +27,6 @@ test_output_display_expected = codes "`immediate`, `immediate-final`, `final`, `
 abbrev pub test_output_display_at : Node → Result TestOutputDisplay FaultCause
 test_output_display_at = name_at test_output_display_names test_output_display_expected
 
--- a name of such a time
+-- one of the names of the times at which output is shown
 unfoldable pub a_test_output_display : Schema
 a_test_output_display = value test_output_display_at

@@ -15,7 +15,7 @@ threads_required_text (required.Count n) = decimal n
 threads_required_text required.NumCpus = codes "num-cpus"
 threads_required_text required.NumTestThreads = codes "num-test-threads"
 
--- its names
+-- the names that stand for a number of threads
 unfoldable pub threads_required_names : List (List ℕ × ThreadsRequired)
 threads_required_names =
     spellings threads_required_text (required.NumCpus ∷ required.NumTestThreads ∷ [])
@@ -25,13 +25,13 @@ unfoldable pub threads_required_expected : List ℕ
 threads_required_expected = codes "a positive number, `num-cpus`, `num-test-threads`"
 
 -- so many threads, if they are a number
-abbrev pub counted : Result ℕ FaultCause → Result ThreadsRequired FaultCause
-counted (Ok n) = Ok (required.Count n)
-counted (Err c) = Err c
+abbrev pub count_required : Result ℕ FaultCause → Result ThreadsRequired FaultCause
+count_required (Ok n) = Ok (required.Count n)
+count_required (Err c) = Err c
 
 -- how many threads a test takes up, as a node spells it
 abbrev pub threads_required_at : Node → Result ThreadsRequired FaultCause
-threads_required_at (int z) = counted (positive_at (int z))
+threads_required_at (int z) = count_required (positive_at (int z))
 threads_required_at n = name_at threads_required_names threads_required_expected n
 
 -- a positive number, or one of the names

@@ -67,7 +67,7 @@ impl LeakTimeout {
     {
         LeakTimeout {
             period,
-            result: LeakTimeoutResult::Pass,
+            result: LeakTimeoutResult::default(),
         }
     }
 }
@@ -105,7 +105,7 @@ impl Record for LeakTimeout {
         let result = optional(alloc, members, Key::Result, walk)?;
         Ok(LeakTimeout {
             period,
-            result: result.unwrap_or(LeakTimeoutResult::Pass),
+            result: result.unwrap_or_default(),
         })
     }
 }

@@ -3,7 +3,8 @@ ghost use Rattle.std.specs.Prelude.{◌≡◌, Ok, option_map, IfOk};
 ghost use Rattle.nextest_tree.specs.Node as Node;
 ghost use Rattle.nextest_tree.specs.View.{entries_view};
 ghost use Rattle.nextest_tree.specs.Reads.{Gives, reading, walk_view};
-ghost use Rattle.nextest_elements.specs.RetryPolicy.{backoff_at, a_backoff, count_at, a_count, retry, retry_fields, HasRetryFields, policy_of, IsRetry};
+ghost use Rattle.nextest_elements.specs.RetryPolicy.{backoff_at, a_backoff, count_at, a_count, retry, retry_fields, IsRetry};
+ghost use Rattle.nextest_elements.specs.RetryFunction.{HasRetryFields, policy_of};
 ghost use Rattle.nextest_tree.specs.Leaf.{Spells};
 
 use nextest_texts::Nanoseconds;

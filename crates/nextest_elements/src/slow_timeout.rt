@@ -77,7 +77,7 @@ impl SlowTimeout {
             period,
             terminate_after: None,
             grace_period: USUAL_GRACE_PERIOD,
-            on_timeout: SlowTimeoutResult::Fail,
+            on_timeout: SlowTimeoutResult::default(),
         }
     }
 }
@@ -124,7 +124,7 @@ impl Record for SlowTimeout {
             period,
             terminate_after: terminate_after.map(|Positive(periods)| periods),
             grace_period: Nanoseconds::number(grace_period).unwrap_or(USUAL_GRACE_PERIOD),
-            on_timeout: on_timeout.unwrap_or(SlowTimeoutResult::Fail),
+            on_timeout: on_timeout.unwrap_or_default(),
         })
     }
 }

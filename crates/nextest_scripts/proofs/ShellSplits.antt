@@ -13,12 +13,12 @@ escapable_test c h = ne_eqb c 10 (λ e. let k : is_escapable 10 ≡ true = subst
 
 single_read : {t g r : List ℕ} → SingleQuoted t g r → (w : List ℕ) → words_from_single w t ≡ words_from (Some (w ++ g)) r
 unfolding words_from
-single_read SingleQuoted.closed w = rw append-nil refl
+single_read SingleQuoted.at_quote w = rw append-nil refl
 single_read (SingleQuoted.literal {c} n s) w = rw (ne_eqb c 39 n) (rw append_assoc at (single_read s (w ++ c ∷ [])))
 
 double_read : {t g r : List ℕ} → DoubleQuoted t g r → (w : List ℕ) → words_from_double w t ≡ words_from (Some (w ++ g)) r
 unfolding words_from
-double_read DoubleQuoted.closed w = rw append-nil refl
+double_read DoubleQuoted.at_quote w = rw append-nil refl
 double_read (DoubleQuoted.literal {c} n m s) w = rw (ne_eqb c 34 n, ne_eqb c 92 m) (rw append_assoc at (double_read s (w ++ c ∷ [])))
 double_read (DoubleQuoted.escaped {c} h s) w = rw (escapable_test c h, h) (rw append_assoc at (double_read s (w ++ c ∷ [])))
 double_read (DoubleQuoted.continued s) w = double_read s w
@@ -198,14 +198,14 @@ escape_step {c} rest read (other n) w ws e = step_in (Piece.escaped n) (read.som
 
 single_step : {c : ℕ} (rest : List ℕ) → IsRead rest → Is 39 c → (w : List ℕ) (ws : List (List ℕ)) → words_from_single w (c ∷ rest) ≡ Some ws → InQuotes SingleQuoted w (c ∷ rest) ws
 unfolding words_from
-single_step rest read it w ws e = record { gives = []; rest = rest; quoted = SingleQuoted.closed; after = rw append-nil (read.some w ws e) }
+single_step rest read it w ws e = record { gives = []; rest = rest; quoted = SingleQuoted.at_quote; after = rw append-nil (read.some w ws e) }
 single_step {c} rest read (other n) w ws e =
     let q = read.single (w ++ c ∷ []) ws (rw (ne_eqb c 39 n) at e) in
     record { gives = c ∷ q.gives; rest = q.rest; quoted = SingleQuoted.literal n q.quoted; after = rw append_assoc at q.after }
 
 double_step : {c : ℕ} (rest : List ℕ) → IsRead rest → Is 34 c → Is 92 c → (w : List ℕ) (ws : List (List ℕ)) → words_from_double w (c ∷ rest) ≡ Some ws → InQuotes DoubleQuoted w (c ∷ rest) ws
 unfolding words_from
-double_step rest read it b w ws e = record { gives = []; rest = rest; quoted = DoubleQuoted.closed; after = rw append-nil (read.some w ws e) }
+double_step rest read it b w ws e = record { gives = []; rest = rest; quoted = DoubleQuoted.at_quote; after = rw append-nil (read.some w ws e) }
 double_step rest read (other n) it w ws e = read.double_escape w ws e
 double_step {c} rest read (other n) (other m) w ws e =
     let q = read.double (w ++ c ∷ []) ws (rw (ne_eqb c 34 n, ne_eqb c 92 m) at e) in

@@ -8,7 +8,8 @@ use Rattle.std.specs.Map.{keys_of, lookup}
 use Rattle.std.specs.Str.{bytes_eq}
 use Rattle.std.specs.String.{string_cmp}
 use Rattle.nextest_tree.specs.Leaf.{IsText, a_text}
-use Rattle.nextest_tree.specs.Reads.{IsMap, ReadState, reading_entries, reading_entry}
+use Rattle.nextest_tree.specs.Reads.{IsMap, ReadState}
+use Rattle.nextest_tree.specs.ReadSteps.{reading_entries, reading_entry}
 use Rattle.nextest_tree.specs.Schema.{Fault}
 use Rattle.nextest_tree.specs.View.{entries_view, tree_view}
 use Rattle.nextest_tree.specs.declared.tree.Tree.{Tree}

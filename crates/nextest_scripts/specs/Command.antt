@@ -5,7 +5,7 @@ use Rattle.nextest_tree.specs.Key.{key_text}
 use Rattle.nextest_tree.specs.Leaf.{value, name_at, leaf_or}
 use Rattle.nextest_tree.specs.Node.{Node, table, Entries, get}
 use Rattle.nextest_tree.specs.Reads.{IsOptional}
-use Rattle.nextest_tree.specs.Schema.{FaultCause, Schema, Fields, no_more, may, must, closed}
+use Rattle.nextest_tree.specs.Schema.{FaultCause, Schema, Fields, no_more, may, must, closed_struct}
 use Rattle.nextest_scripts.specs.CommandLine.{a_command_line, IsCommandLine}
 use Rattle.nextest_scripts.specs.EnvMap.{an_env_map, env_view, IsEnvMap}
 use Rattle.nextest_scripts.specs.Paths.{joined_path}
@@ -45,7 +45,7 @@ command_fields =
 
 -- A command: a line, a list of texts, or a table, which refuses its other keys.
 unfoldable pub a_command : Schema
-a_command = closed a_command_line command_fields
+a_command = closed_struct a_command_line command_fields
 
 -- The program of a command, with its arguments.
 abbrev pub line_of : ScriptCommand → CommandLine

@@ -5,7 +5,7 @@ use Rattle.nextest_tree.specs.Key.{key_text}
 use Rattle.nextest_tree.specs.Leaf.{value, Spells, name_at, bool_at, a_bool, leaf_at, leaf_or}
 use Rattle.nextest_tree.specs.Node.{Node, table, Entries, get}
 use Rattle.nextest_tree.specs.Reads.{IsOptional}
-use Rattle.nextest_tree.specs.Schema.{FaultCause, Schema, fields, noted, struct, Fields, no_more, may, must}
+use Rattle.nextest_tree.specs.Schema.{FaultCause, Schema, fields, are_noted, struct, Fields, no_more, may, must}
 use Rattle.nextest_texts.specs.Nanoseconds.{duration_at, a_duration}
 use Rattle.nextest_elements.specs.LeakTimeout.{leak_timeout, IsLeakTimeout}
 use Rattle.nextest_elements.specs.Positive.{positive_at, a_positive}
@@ -29,7 +29,7 @@ setup_result_expected = codes "`fail`"
 abbrev pub setup_result_at : Node → Result SetupTimeoutResult FaultCause
 setup_result_at = name_at setup_result_names setup_result_expected
 
--- This name.
+-- The one name of what comes of a setup script that is ended.
 unfoldable pub a_setup_result : Schema
 a_setup_result = value setup_result_at
 
@@ -52,7 +52,7 @@ setup_timeout_table es = option_map (λ period. record {
 
 -- A duration, or a table.
 abbrev pub a_setup_timeout : Schema
-a_setup_timeout = fields noted a_duration setup_timeout_fields (λ es. None)
+a_setup_timeout = fields are_noted a_duration setup_timeout_fields (λ es. None)
 
 -- A setup script that takes longer than this is slow, and is never ended.
 abbrev pub setup_timeout_of : ℕ → SetupScriptSlowTimeout
@@ -73,20 +73,22 @@ abbrev pub setup_junit_fields : Fields
 setup_junit_fields =
     may keys.StoreSuccessOutput a_bool (may keys.StoreFailureOutput a_bool no_more)
 
+-- A report that keeps all outputs.
+abbrev pub full_setup_junit : SetupScriptJunitConfig
+full_setup_junit = record { store_success_output = true; store_failure_output = true }
+
 -- What the fields of a report's table say: outputs are kept where nothing else is said.
 abbrev pub setup_junit_table : Entries → SetupScriptJunitConfig
 setup_junit_table es = record {
-  store_success_output = leaf_or true bool_at (get (key_text keys.StoreSuccessOutput) es);
-  store_failure_output = leaf_or true bool_at (get (key_text keys.StoreFailureOutput) es);
+  store_success_output = leaf_or full_setup_junit.store_success_output bool_at
+      (get (key_text keys.StoreSuccessOutput) es);
+  store_failure_output = leaf_or full_setup_junit.store_failure_output bool_at
+      (get (key_text keys.StoreFailureOutput) es);
 }
 
 -- A table of these fields.
 abbrev pub a_setup_junit : Schema
 a_setup_junit = struct setup_junit_fields
-
--- A report that keeps all outputs.
-abbrev pub full_setup_junit : SetupScriptJunitConfig
-full_setup_junit = record { store_success_output = true; store_failure_output = true }
 
 -- What the table that stands at a key says of a report, which keeps all where there is none.
 abbrev pub setup_junit_at : Option Node → SetupScriptJunitConfig

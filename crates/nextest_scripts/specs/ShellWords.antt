@@ -39,7 +39,7 @@ is_special c = is_delimiter c || c == backslash || c == single_quote || c == dou
 -- The text behind a single quote: the characters up to the next single quote, as they stand, and
 -- then the rest.
 pub data SingleQuoted : (text gives rest : List ℕ) → Type 0 where
-  closed : {rest : List ℕ} → SingleQuoted (single_quote ∷ rest) [] rest
+  at_quote : {rest : List ℕ} → SingleQuoted (single_quote ∷ rest) [] rest
   literal : {c : ℕ} {text gives rest : List ℕ} → c ≢ single_quote → SingleQuoted text gives rest
       → SingleQuoted (c ∷ text) (c ∷ gives) rest
 
@@ -47,7 +47,7 @@ pub data SingleQuoted : (text gives rest : List ℕ) → Type 0 where
 -- backslash and a line feed that give nothing, or a backslash that stays with the character after
 -- it, up to the next double quote, and then the rest.
 pub data DoubleQuoted : (text gives rest : List ℕ) → Type 0 where
-  closed : {rest : List ℕ} → DoubleQuoted (double_quote ∷ rest) [] rest
+  at_quote : {rest : List ℕ} → DoubleQuoted (double_quote ∷ rest) [] rest
   literal : {c : ℕ} {text gives rest : List ℕ} → c ≢ double_quote → c ≢ backslash
       → DoubleQuoted text gives rest → DoubleQuoted (c ∷ text) (c ∷ gives) rest
   escaped : {c : ℕ} {text gives rest : List ℕ} → IsTrue (is_escapable c)

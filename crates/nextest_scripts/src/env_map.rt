@@ -4,7 +4,8 @@ ghost use Rattle.std.specs.Map.{lookup};
 ghost use Rattle.std.specs.Str.{bytes_eq};
 ghost use Rattle.nextest_tree.specs.Leaf.{IsText, a_text};
 ghost use Rattle.nextest_tree.specs.Node as Node;
-ghost use Rattle.nextest_tree.specs.Reads.{Fails, Gives, IsMap, reading, reading_entries, reading_entry, test_outcome, walk_view};
+ghost use Rattle.nextest_tree.specs.Reads.{Fails, Gives, IsMap, reading, test_outcome, walk_view};
+ghost use Rattle.nextest_tree.specs.ReadSteps.{reading_entries, reading_entry};
 ghost use Rattle.nextest_tree.specs.View.{entries_view, tree_view};
 ghost use Rattle.nextest_scripts.specs.EnvMap.{IsEnvMap, an_env_map, env_key_cause, env_view};
 
@@ -61,7 +62,7 @@ fn check_key(alloc: Global, key: &str, walk: &Walk) -> Result<(), ElementFault>
 }
 
 /// Reads a variable: its key, and then its text.
-#[tactic(auto, unfolding(nextest_tree::specs::Reads::reading_entry))]
+#[tactic(auto, unfolding(nextest_tree::specs::ReadSteps::reading_entry))]
 fn read_variable(
     alloc: Global,
     key: &str,

@@ -76,9 +76,10 @@ impl Record for SetupScriptJunitConfig {
     ) -> Result<Self, ElementFault> {
         let store_success_output = optional(alloc, members, Key::StoreSuccessOutput, walk)?;
         let store_failure_output = optional(alloc, members, Key::StoreFailureOutput, walk)?;
+        let full = SetupScriptJunitConfig::default();
         Ok(SetupScriptJunitConfig {
-            store_success_output: store_success_output.unwrap_or(true),
-            store_failure_output: store_failure_output.unwrap_or(true),
+            store_success_output: store_success_output.unwrap_or(full.store_success_output),
+            store_failure_output: store_failure_output.unwrap_or(full.store_failure_output),
         })
     }
 }

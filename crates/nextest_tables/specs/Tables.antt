@@ -3,7 +3,7 @@
 use Rattle.std.specs.Prelude.{None}
 use Rattle.nextest_tree.specs.declared.key.Key.TheVariants as keys
 use Rattle.nextest_tree.specs.Leaf.{a_text, any_key}
-use Rattle.nextest_tree.specs.Schema.{Schema, any, fields, noted, items_of, Fields, no_more, joined, may, must, struct, list_of, map_of}
+use Rattle.nextest_tree.specs.Schema.{Schema, any, fields, are_noted, items_of, Fields, no_more, append_fields, may, must, struct, list_of, map_of}
 use Rattle.nextest_texts.specs.IdentifierReader.{identifier_cause, an_identifier}
 use Rattle.nextest_texts.specs.Nanoseconds.{a_duration}
 use Rattle.nextest_elements.specs.Bench.{bench, bench_override}
@@ -28,7 +28,7 @@ platform_fields = may keys.Host a_text (may keys.Target a_text no_more)
 
 -- the platforms of a rule: a text is the target's spec, a table has both
 unfoldable pub a_platform : Schema
-a_platform = fields noted a_text platform_fields (λ es. None)
+a_platform = fields are_noted a_text platform_fields (λ es. None)
 
 -- which tests an override is for, their priority, and its default filter
 abbrev pub override_head_fields : Fields
@@ -62,7 +62,9 @@ override_output_fields =
 
 -- the fields of an override
 unfoldable pub override_fields : Fields
-override_fields = joined override_head_fields (joined override_run_fields override_output_fields)
+override_fields =
+    append_fields override_head_fields
+    (append_fields override_run_fields override_output_fields)
 
 -- an override
 unfoldable pub an_override : Schema
@@ -132,10 +134,10 @@ profile_rest_fields =
 -- the fields of a profile
 unfoldable pub profile_fields : Fields
 profile_fields =
-    joined profile_head_fields
-    (joined profile_run_fields
-    (joined profile_output_fields
-    (joined profile_end_fields
+    append_fields profile_head_fields
+    (append_fields profile_run_fields
+    (append_fields profile_output_fields
+    (append_fields profile_end_fields
     profile_rest_fields)))
 
 -- a profile

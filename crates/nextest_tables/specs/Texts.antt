@@ -23,7 +23,8 @@ use Rattle.nextest_elements.specs.FlakyResult.{flaky_result_at}
 use Rattle.nextest_elements.specs.Junit.{report_skip_policy_at, junit_flaky_fail_status_at}
 use Rattle.nextest_elements.specs.LeakTimeout.{leak_table, leak_of}
 use Rattle.nextest_elements.specs.MaxFail.{limit_at}
-use Rattle.nextest_elements.specs.RetryPolicy.{count_at, retry_table, policy_of}
+use Rattle.nextest_elements.specs.RetryPolicy.{count_at}
+use Rattle.nextest_elements.specs.RetryFunction.{retry_table, policy_of}
 use Rattle.nextest_elements.specs.SlowTimeout.{slow_table, slow_of}
 use Rattle.nextest_elements.specs.StatusLevel.{status_level_at, final_status_level_at}
 use Rattle.nextest_elements.specs.TestGroup.{test_group_at, group_table}

@@ -5,8 +5,8 @@ use Rattle.std.specs.Str.Parse.{IsNumeral, digits_value}
 -- ---- units
 
 -- the names, each with this size
-abbrev pub sized : ℕ → List (List ℕ) → List (List ℕ × ℕ)
-sized size names = map (λ name. (name, size)) names
+abbrev pub units_of_size : ℕ → List (List ℕ) → List (List ℕ × ℕ)
+units_of_size size names = map (λ name. (name, size)) names
 
 -- a second in nanoseconds
 abbrev pub second : ℕ
@@ -15,19 +15,20 @@ second = 10 ^ 9
 -- the names of the units, each with its size in nanoseconds; the bytes 194, 181 and 115 are `µs`
 unfoldable pub duration_units : List (List ℕ × ℕ)
 duration_units =
-    sized 1 (codes "ns" ∷ codes "nsec" ∷ codes "nanos" ∷ [])
-    ++ sized (10 ^ 3) (codes "us" ∷ codes "usec" ∷ (194 ∷ 181 ∷ 115 ∷ []) ∷ [])
-    ++ sized (10 ^ 6) (codes "ms" ∷ codes "msec" ∷ codes "millis" ∷ [])
-    ++ sized second (codes "s" ∷ codes "sec" ∷ codes "secs" ∷ codes "second" ∷ codes "seconds" ∷ [])
-    ++ sized (60 * second)
+    units_of_size 1 (codes "ns" ∷ codes "nsec" ∷ codes "nanos" ∷ [])
+    ++ units_of_size (10 ^ 3) (codes "us" ∷ codes "usec" ∷ (194 ∷ 181 ∷ 115 ∷ []) ∷ [])
+    ++ units_of_size (10 ^ 6) (codes "ms" ∷ codes "msec" ∷ codes "millis" ∷ [])
+    ++ units_of_size second
+    (codes "s" ∷ codes "sec" ∷ codes "secs" ∷ codes "second" ∷ codes "seconds" ∷ [])
+    ++ units_of_size (60 * second)
     (codes "m" ∷ codes "min" ∷ codes "mins" ∷ codes "minute" ∷ codes "minutes" ∷ [])
-    ++ sized (3600 * second)
+    ++ units_of_size (3600 * second)
     (codes "h" ∷ codes "hr" ∷ codes "hrs" ∷ codes "hour" ∷ codes "hours" ∷ [])
-    ++ sized (86400 * second) (codes "d" ∷ codes "day" ∷ codes "days" ∷ [])
-    ++ sized (604800 * second)
+    ++ units_of_size (86400 * second) (codes "d" ∷ codes "day" ∷ codes "days" ∷ [])
+    ++ units_of_size (604800 * second)
     (codes "w" ∷ codes "wk" ∷ codes "wks" ∷ codes "week" ∷ codes "weeks" ∷ [])
-    ++ sized (2630016 * second) (codes "M" ∷ codes "month" ∷ codes "months" ∷ [])
-    ++ sized (31557600 * second)
+    ++ units_of_size (2630016 * second) (codes "M" ∷ codes "month" ∷ codes "months" ∷ [])
+    ++ units_of_size (31557600 * second)
     (codes "y" ∷ codes "yr" ∷ codes "yrs" ∷ codes "year" ∷ codes "years" ∷ [])
 
 -- The unit of this name has this size.

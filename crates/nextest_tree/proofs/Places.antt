@@ -6,7 +6,7 @@ use Rattle.std.specs.Fmt.{decimal}
 use Rattle.nextest_tree.specs.declared.key.Key.{Key}
 use Rattle.nextest_tree.specs.Key.{key_text}
 use Rattle.nextest_tree.specs.Node.{Node, table, array, text, int, bool, opaque, Nodes, no_nodes, node, Entries, no_entries, entry, get, keys, PrecedesKeys, IsSorted, NodesAreSorted, EntriesAreSorted}
-use Rattle.nextest_tree.specs.Schema.{FaultCause, unknown_field, Fault, below, at, Others, noted, refused, Schema, any, leaf, fields, map_of, items_of, Fields, no_more, field, names_of, is_one_of, others, others_faults, faults, fields_faults, field_faults, each_item, each_entry}
+use Rattle.nextest_tree.specs.Schema.{FaultCause, unknown_field, Fault, below, at, Others, are_noted, are_refused, Schema, any, leaf, fields, map_of, items_of, Fields, no_more, field, names_of, is_one_of, others, others_faults, faults, fields_faults, field_faults, each_item, each_entry}
 use Rattle.nextest_tree.specs.Place.{Step, other_key, in_field, all_fields, at_key, the_key, the_value, at_position, all_items, Place, IsFirstStep, refused_by_bytes, refused_before_field, refused_before_all, by_field_order, field_before_all, by_bytes, key_before_value, by_position, item_before_all, here, later, SitedCause, StandsBeforeAll, Ascends, path_after, path_from, fault_at_place, cause_here, below_step, field_causes, other_causes, item_causes, entry_causes, sited_causes, fields_causes, HasOrderedFaults}
 
 -- ---- each fault is a cause at its place
@@ -29,13 +29,13 @@ both e f = rw (e, f) refl
 render-both : (p : List ℕ) (xs ys : List Fault) (us vs : List SitedCause) → xs ≡ map (fault_at_place p) us → ys ≡ map (fault_at_place p) vs → xs ++ ys ≡ map (fault_at_place p) (us ++ vs)
 render-both p xs ys us vs e f = both e f ∙ sym (map-append (fault_at_place p) us vs)
 
-render-others : (p : List ℕ) (ks : List (List ℕ)) → map (λ k. let f : Fault = record { path = below p k; cause = unknown_field } in f) ks ≡ map (fault_at_place p) (other_causes refused ks)
+render-others : (p : List ℕ) (ks : List (List ℕ)) → map (λ k. let f : Fault = record { path = below p k; cause = unknown_field } in f) ks ≡ map (fault_at_place p) (other_causes are_refused ks)
 render-others p [] = refl
 render-others p (k ∷ ks) = ap (λ r. let f : Fault = record { path = below p k; cause = unknown_field } in f ∷ r) (render-others p ks)
 
 others-at : (how : Others) (names : List Key) (p : List ℕ) (es : Entries) → others_faults how names p es ≡ map (fault_at_place p) (other_causes how (others names es))
-others-at noted names p es = refl
-others-at refused names p es = render-others p (others names es)
+others-at are_noted names p es = refl
+others-at are_refused names p es = render-others p (others names es)
 
 field-at : (k : Key) (must : Bool) (f : List ℕ → Node → List Fault) (g : Node → List SitedCause) (p : List ℕ) (o : Option Node) → ((q : List ℕ) (n : Node) → f q n ≡ map (fault_at_place q) (g n)) → field_faults k must f p o ≡ map (fault_at_place p) (field_causes k must g o)
 unfolding field_faults field_causes
@@ -219,28 +219,28 @@ after-filter : (p : List ℕ → Bool) (k : List ℕ) (es : Entries) → Precede
 after-filter p k no_entries h = tt
 after-filter p k (entry l n es) h = after-by (p l) k l (filter p (keys es)) h.0 (after-filter p k es h.1)
 
-before-keys : (p : Place) (k : List ℕ) (ks : List (List ℕ)) → AllAfter k ks → StandsBeforeAll (other_key k ∷ p) (other_causes refused ks)
+before-keys : (p : Place) (k : List ℕ) (ks : List (List ℕ)) → AllAfter k ks → StandsBeforeAll (other_key k ∷ p) (other_causes are_refused ks)
 before-keys p k [] h = tt
 before-keys p k (l ∷ ks) h = (here (refused_by_bytes h.0), before-keys p k ks h.1)
 
-keys-by : (b : Bool) (k : List ℕ) (ks : List (List ℕ)) → AllAfter k ks → Ascends (other_causes refused ks) → Ascends (other_causes refused (cond b (k ∷ ks) ks))
+keys-by : (b : Bool) (k : List ℕ) (ks : List (List ℕ)) → AllAfter k ks → Ascends (other_causes are_refused ks) → Ascends (other_causes are_refused (cond b (k ∷ ks) ks))
 keys-by true k ks h a = (before-keys [] k ks h, a)
 keys-by false k ks h a = a
 
-keys-ascend : (p : List ℕ → Bool) (es : Entries) → EntriesAreSorted es → Ascends (other_causes refused (filter p (keys es)))
+keys-ascend : (p : List ℕ → Bool) (es : Entries) → EntriesAreSorted es → Ascends (other_causes are_refused (filter p (keys es)))
 keys-ascend p no_entries h = tt
 keys-ascend p (entry k n es) h = keys-by (p k) k (filter p (keys es)) (after-filter p k es h.0) (keys-ascend p es h.2)
 
 others-ascend : (how : Others) (names : List Key) (es : Entries) → EntriesAreSorted es → Ascends (other_causes how (others names es))
-others-ascend noted names es h = tt
-others-ascend refused names es h = keys-ascend (λ k. not (is_one_of (map key_text names) k)) es h
+others-ascend are_noted names es h = tt
+others-ascend are_refused names es h = keys-ascend (λ k. not (is_one_of (map key_text names) k)) es h
 
 others-before : (how : Others) (ks : List (List ℕ)) (fs : Fields) (es : Entries) (xs : List SitedCause) → AllStandBefore (other_causes how ks) (fields_causes 0 fs es ++ below_step all_fields xs)
-others-before noted ks fs es xs = tt
-others-before refused [] fs es xs = tt
-others-before refused (k ∷ ks) fs es xs = (
+others-before are_noted ks fs es xs = tt
+others-before are_refused [] fs es xs = tt
+others-before are_refused (k ∷ ks) fs es xs = (
   before-append (other_key k ∷ []) (fields_causes 0 fs es) (below_step all_fields xs) (key-before-fields k [] 0 fs es) (before-step [] (other_key k) all_fields xs refused_before_all),
-  others-before refused ks fs es xs,
+  others-before are_refused ks fs es xs,
 )
 
 mutual

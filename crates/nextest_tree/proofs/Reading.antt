@@ -17,9 +17,9 @@ use Rattle.nextest_tree.specs.Node.{no_entries, entry, Node, Entries, table, arr
 use Rattle.std.specs.Fmt.{decimal}
 use Rattle.nextest_tree.specs.Key.{key_text}
 use Rattle.nextest_tree.specs.Leaf.{leaf_at, leaf_or}
-use Rattle.nextest_tree.specs.Schema.{at as at_path, FaultCause, fields, Fault, missing, unknown_field, first, is_one_of, Schema, Fields, no_more, field, below, others, noted, refused, others_faults, names_of, faults, unknown, fields_faults, fields_unknown, any, joined, field_faults, field_unknown, items_of, list_of, each_item, map_of, each_entry, struct, closed}
-use Rattle.nextest_tree.specs.Reads.{ReadState, noting, inside, back_at, outcome, reading, reading_field, reading_fields, reading_entry, reading_entries, test_outcome, IsList, IsOptional, IsDefaulted, ◌>>=◌}
-use Rattle.nextest_tree.specs.ReadSteps.{noting_others, refusing_others, reading_below, reading_items, reading_closed}
+use Rattle.nextest_tree.specs.Schema.{at as at_path, FaultCause, fields, Fault, missing, unknown_field, first, is_one_of, Schema, Fields, no_more, field, below, others, are_noted, are_refused, others_faults, names_of, faults, unknown, fields_faults, fields_unknown, any, append_fields, field_faults, field_unknown, items_of, list_of, each_item, map_of, each_entry, struct, closed_struct}
+use Rattle.nextest_tree.specs.Reads.{ReadState, noting, inside, back_at, outcome, reading, reading_field, reading_fields, test_outcome, IsList, IsOptional, IsDefaulted, ◌>>=◌}
+use Rattle.nextest_tree.specs.ReadSteps.{noting_others, refusing_others, reading_below, reading_items, reading_closed, reading_entry, reading_entries}
 
 either : (a b c : Bool) → ((a || b) || c) ≡ (a || (b || c))
 either true b c = refl
@@ -52,18 +52,18 @@ reading_fields_law (field k must s fs) es at =
     outcome_then (field_faults k (must es) (faults s) at.path (get (key_text k) es)) (fields_faults fs at.path es) us (fields_unknown fs at.path es) at (reading_fields fs es) (reading_fields_law fs es (noting us at))
 
 -- a table: its fields, and then its other keys
-pub reading_table : (fs : Fields) (es : Entries) (at : ReadState) → reading (struct fs) (table es) at ≡ (reading_fields fs es at >>= λ mid. Ok (noting_others noted (names_of fs) es mid))
+pub reading_table : (fs : Fields) (es : Entries) (at : ReadState) → reading (struct fs) (table es) at ≡ (reading_fields fs es at >>= λ mid. Ok (noting_others are_noted (names_of fs) es mid))
 unfolding reading
 reading_table fs es at =
-    sym (ap (λ r. r >>= λ mid. Ok (noting_others noted (names_of fs) es mid)) (reading_fields_law fs es at)
-    ∙ outcome_then (fields_faults fs at.path es) [] (fields_unknown fs at.path es) (map (below at.path) (others (names_of fs) es)) at (λ mid. Ok (noting_others noted (names_of fs) es mid)) refl)
+    sym (ap (λ r. r >>= λ mid. Ok (noting_others are_noted (names_of fs) es mid)) (reading_fields_law fs es at)
+    ∙ outcome_then (fields_faults fs at.path es) [] (fields_unknown fs at.path es) (map (below at.path) (others (names_of fs) es)) at (λ mid. Ok (noting_others are_noted (names_of fs) es mid)) refl)
 
 -- a table that refuses its other keys: these, and then its fields
-pub closed_table : (other : Schema) (fs : Fields) (es : Entries) (at : ReadState) → reading (closed other fs) (table es) at ≡ reading_closed fs es at
+pub closed_table : (other : Schema) (fs : Fields) (es : Entries) (at : ReadState) → reading (closed_struct other fs) (table es) at ≡ reading_closed fs es at
 unfolding reading refusing_others reading_closed
 closed_table other fs es at =
     let start = noting [] at in
-    let xs = others_faults refused (names_of fs) at.path es in
+    let xs = others_faults are_refused (names_of fs) at.path es in
     let nothing_more : reading_fields fs es start ≡ outcome (fields_faults fs at.path es ++ []) (fields_unknown fs at.path es ++ []) start =
     reading_fields_law fs es start ∙ rw (append-nil (fields_faults fs at.path es), append-nil (fields_unknown fs at.path es)) refl in
     sym (outcome_then xs (fields_faults fs at.path es ++ []) [] (fields_unknown fs at.path es ++ []) at (reading_fields fs es) nothing_more)
@@ -77,7 +77,7 @@ first_by : (ks : List (List ℕ)) (at : ReadState) → outcome (map (λ k. let f
 first_by [] at = ap (λ s. Ok s) (noting_none at)
 first_by (k ∷ ks) at = refl
 
-pub refusing_first : (names : List Key) (es : Entries) (at : ReadState) → refusing_others refused names es at ≡ by_first (first (others names es)) at
+pub refusing_first : (names : List Key) (es : Entries) (at : ReadState) → refusing_others are_refused names es at ≡ by_first (first (others names es)) at
 unfolding refusing_others
 refusing_first names es at = first_by (others names es) at
 
@@ -185,7 +185,7 @@ optional_by P f (Some n) (Some x) h = h
 optional_by P f None (Some x) h = absurd h
 optional_by P f (Some n) None h = absurd h
 
-pub reading_across : (other : Schema) (fs : Fields) (across : Entries → Option FaultCause) (es : Entries) (at : ReadState) → reading (fields noted other fs across) (table es) at ≡ (reading (struct fs) (table es) at >>= test_outcome (across es))
+pub reading_across : (other : Schema) (fs : Fields) (across : Entries → Option FaultCause) (es : Entries) (at : ReadState) → reading (fields are_noted other fs across) (table es) at ≡ (reading (struct fs) (table es) at >>= test_outcome (across es))
 unfolding reading
 reading_across other fs across es at = across_after (fields_faults fs at.path es) (unknown (struct fs) at.path (table es)) at (across es)
 
@@ -224,10 +224,10 @@ then_same (Ok x) f g h = h x
 then_same (Err e) f g h = refl
 
 -- two groups of fields
-pub reading_joined : (fs gs : Fields) (es : Entries) (at : ReadState) → reading_fields (joined fs gs) es at ≡ (reading_fields fs es at >>= reading_fields gs es)
+pub reading_joined : (fs gs : Fields) (es : Entries) (at : ReadState) → reading_fields (append_fields fs gs) es at ≡ (reading_fields fs es at >>= reading_fields gs es)
 reading_joined no_more gs es at = refl
 reading_joined (field k must s fs) gs es at =
-    then_same (reading_field k (must es) s es at) (reading_fields (joined fs gs) es) (λ mid. reading_fields fs es mid >>= reading_fields gs es) (reading_joined fs gs es)
+    then_same (reading_field k (must es) s es at) (reading_fields (append_fields fs gs) es) (λ mid. reading_fields fs es mid >>= reading_fields gs es) (reading_joined fs gs es)
     ∙ sym (then_twice (reading_field k (must es) s es at) (reading_fields fs es) (reading_fields gs es))
 
 pub reading_any : (n : Node) (at : ReadState) → reading any n at ≡ Ok at

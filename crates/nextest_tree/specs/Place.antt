@@ -7,7 +7,7 @@ use Rattle.std.specs.Fmt.{decimal}
 use Rattle.nextest_tree.specs.declared.key.Key.{Key}
 use Rattle.nextest_tree.specs.Key.{key_text}
 use Rattle.nextest_tree.specs.Node.{Node, table, array, Nodes, no_nodes, node, Entries, no_entries, entry, get, IsSorted}
-use Rattle.nextest_tree.specs.Schema.{FaultCause, wrong_kind, missing, unknown_field, Fault, below, Others, noted, refused, Schema, any, leaf, fields, map_of, items_of, Fields, no_more, field, names_of, others, faults}
+use Rattle.nextest_tree.specs.Schema.{FaultCause, wrong_kind, missing, unknown_field, Fault, below, Others, are_noted, are_refused, Schema, any, leaf, fields, map_of, items_of, Fields, no_more, field, names_of, others, faults}
 
 -- one step of a place
 pub data Step : Type 0 where
@@ -100,8 +100,9 @@ field_causes k must f (Some n) = below_step (at_key (key_text k)) (f n)
 
 -- the causes of the keys that a table refuses
 abbrev pub other_causes : Others → List (List ℕ) → List SitedCause
-other_causes noted ks = []
-other_causes refused ks = map (λ k. record { place = other_key k ∷ []; cause = unknown_field }) ks
+other_causes are_noted ks = []
+other_causes are_refused ks =
+    map (λ k. record { place = other_key k ∷ []; cause = unknown_field }) ks
 
 -- the causes in the items of an array, each at its position from i on
 abbrev pub item_causes : (Node → List SitedCause) → ℕ → Nodes → List SitedCause

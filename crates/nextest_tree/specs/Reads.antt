@@ -68,18 +68,6 @@ abbrev pub test_outcome : Option FaultCause → ReadState → Result ReadState F
 test_outcome None at = Ok at
 test_outcome (Some c) at = Err (record { path = at.path; cause = c })
 
--- reading one entry of a map: its key, and then its value
-unfoldable pub reading_entry : (List ℕ → Option FaultCause)
-    → Schema → List ℕ → Node → ReadState → Result ReadState Fault
-reading_entry test s k n at =
-    (test_outcome (test k) (inside k at) >>= reading s n) >>= λ mid. Ok (back_at at.path mid)
-
--- reading the entries of a map, each in turn
-abbrev pub reading_entries :
-    (List ℕ → Option FaultCause) → Schema → Entries → ReadState → Result ReadState Fault
-reading_entries test s no_entries at = Ok at
-reading_entries test s (entry k n es) at = reading_entry test s k n at >>= reading_entries test s es
-
 -- the fault of a cause at a path; want of memory is none
 abbrev pub fault_at : List ℕ → ElementCause → Option Fault
 fault_at p causes.WrongKind = Some (record { path = p; cause = wrong_kind })

@@ -35,8 +35,8 @@ below (c ∷ p) k = (c ∷ p) ++ codes "." ++ k
 
 -- what a table does with a key that is not among its fields
 pub data Others : Type 0 where
-  noted : Others
-  refused : Others
+  are_noted : Others
+  are_refused : Others
 
 mutual
   -- what may stand at a place, and below it
@@ -70,9 +70,9 @@ names_of no_more = []
 names_of (field k must s fs) = k ∷ names_of fs
 
 -- some fields, and then others
-abbrev pub joined : Fields → Fields → Fields
-joined no_more gs = gs
-joined (field k must s fs) gs = field k must s (joined fs gs)
+abbrev pub append_fields : Fields → Fields → Fields
+append_fields no_more gs = gs
+append_fields (field k must s fs) gs = field k must s (append_fields fs gs)
 
 -- the keys of a table that are not among the names
 abbrev pub others : List Key → Entries → List (List ℕ)
@@ -109,15 +109,15 @@ field_unknown k f p (Some n) = f (below p (key_text k)) n
 -- the faults of the keys that are not among the names: none where a table notes them, else one for
 -- each
 abbrev pub others_faults : Others → List Key → List ℕ → Entries → List Fault
-others_faults noted names p es = []
-others_faults refused names p es =
+others_faults are_noted names p es = []
+others_faults are_refused names p es =
     map (λ k. record { path = below p k; cause = unknown_field }) (others names es)
 
 -- the unknown paths of a table's own keys: those that are not among the names, where a table notes
 -- them
 abbrev pub others_unknown : Others → List Key → List ℕ → Entries → List (List ℕ)
-others_unknown noted names p es = map (below p) (others names es)
-others_unknown refused names p es = []
+others_unknown are_noted names p es = map (below p) (others names es)
+others_unknown are_refused names p es = []
 
 abbrev mutual
   -- all faults of a node at a path, in the order of places: refused keys, then each field in turn,
@@ -173,7 +173,7 @@ not_array _ = Some wrong_kind
 
 -- a table of fields that notes its other keys
 abbrev pub struct : Fields → Schema
-struct fs = fields noted (leaf not_table) fs (λ es. None)
+struct fs = fields are_noted (leaf not_table) fs (λ es. None)
 
 -- a list
 abbrev pub list_of : Schema → Schema
@@ -188,5 +188,5 @@ abbrev pub must : Key → Schema → Fields → Fields
 must k s fs = field k (λ es. true) s fs
 
 -- a table of fields that refuses its other keys; what is no table has the other schema
-abbrev pub closed : Schema → Fields → Schema
-closed other fs = fields refused other fs (λ es. None)
+abbrev pub closed_struct : Schema → Fields → Schema
+closed_struct other fs = fields are_refused other fs (λ es. None)

@@ -3,7 +3,8 @@ ghost use Rattle.std.specs.Prelude.{◌≡◌, IfOk};
 ghost use Rattle.nextest_tree.specs.Node as Node;
 ghost use Rattle.nextest_tree.specs.View.{tree_view, entries_view};
 ghost use Rattle.nextest_tree.specs.Schema.{map_of};
-ghost use Rattle.nextest_tree.specs.Reads.{IsMap, InTable, Gives, walk_view, reading, reading_entry, reading_entries};
+ghost use Rattle.nextest_tree.specs.Reads.{IsMap, InTable, Gives, walk_view, reading};
+ghost use Rattle.nextest_tree.specs.ReadSteps.{reading_entry, reading_entries};
 
 use crate::element::{Element, Name};
 use crate::fault::{ElementCause, ElementFault};
@@ -12,7 +13,7 @@ use crate::walk::Walk;
 use std::alloc::Global;
 use std::collections::BTreeMap;
 
-#[tactic(auto, unfolding(crate::specs::Reads::reading_entry))]
+#[tactic(auto, unfolding(crate::specs::ReadSteps::reading_entry))]
 fn read_entry<K: Name, T: Element>(
     alloc: Global,
     key: &str,

@@ -4,7 +4,7 @@ ghost use Rattle.std.specs.Option.{option_copied};
 ghost use Rattle.nextest_tree.specs.Node as Node;
 ghost use Rattle.nextest_tree.specs.Key.{key_text};
 ghost use Rattle.nextest_tree.specs.View.{tree_view, entries_view};
-ghost use Rattle.nextest_tree.specs.Schema.{Schema, struct, closed, noted, refused, first, others, is_one_of};
+ghost use Rattle.nextest_tree.specs.Schema.{Schema, struct, closed_struct, are_noted, are_refused, first, others, is_one_of};
 ghost use Rattle.nextest_tree.specs.Reads.{InTable, Gives, Fails, fault_view, walk_view, reading};
 ghost use Rattle.nextest_tree.specs.ReadSteps.{noting_others, refusing_others};
 
@@ -29,7 +29,7 @@ pub fn read_closed_record<T: Record>(
     ensures value { IfOk result (T.is_record (entries_view members.now.entries)) }
     ensures reads { let es = entries_view members.now.entries in (other : Schema)
         → Gives result walk.new
-        (reading (closed other T.fields) (Node.table es) (walk_view walk.old)) }
+        (reading (closed_struct other T.fields) (Node.table es) (walk_view walk.old)) }
 {
     refuse_others(alloc, members, T::keys(), walk)?;
     let value = T::read_fields(alloc, members, walk)?;
@@ -87,7 +87,7 @@ fn refuse_others(
     walk: &mut Walk,
 ) -> Result<(), ElementFault>
     ensures { Gives result walk.new
-        (refusing_others refused names.now (entries_view members.now.entries)
+        (refusing_others are_refused names.now (entries_view members.now.entries)
         (walk_view walk.old)) }
 {
     match first_other(members, names) {
@@ -107,7 +107,7 @@ fn note_others(
     walk: &mut Walk,
 ) -> Result<(), ElementFault>
     ensures ok { OnOk result (walk_view walk.new
-        ≡ noting_others noted names.now (entries_view members.now.entries)
+        ≡ noting_others are_noted names.now (entries_view members.now.entries)
         (walk_view walk.old)) }
     ensures err { IfErr result (λ e. fault_view e ≡ None) }
 {

@@ -30,7 +30,7 @@ fn push_key(path: &mut String, key: &str) -> Result<(), AllocError>
 }
 
 // The path of what stands at a key.
-fn joined(alloc: Global, path: &str, key: &str) -> Result<String, AllocError>
+fn join_key(alloc: Global, path: &str, key: &str) -> Result<String, AllocError>
     ensures { IfOk result (λ text. string_bytes text ≡ below path.now key.now) }
 {
     let mut text = String::from_str(alloc, path)?;
@@ -93,7 +93,7 @@ impl Walk {
             ≡ noting (below (walk_view self.old).path key.now ∷ []) (walk_view self.old)) }
         ensures err { IfErr result (λ e. fault_view e ≡ None) }
     {
-        let Ok(path) = joined(alloc, self.path.as_str(), key) else {
+        let Ok(path) = join_key(alloc, self.path.as_str(), key) else {
             return Err(ElementFault::memory(alloc));
         };
         let Ok(_) = self.unknown.insert(path) else {

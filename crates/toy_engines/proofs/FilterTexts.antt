@@ -9,7 +9,7 @@ use Rattle.std.proofs.lemmas.List.Splits.{slice_split_none, slice_split_at}
 use Rattle.std.proofs.lemmas.Str.Pattern.{IsSplitOnceResult, split_parts}
 use Rattle.toy_engines.specs.Texts.{after_prefix}
 use Rattle.toy_engines.specs.FilterValues.{Term, Filter}
-use Rattle.toy_engines.specs.FilterTexts.{atom_in, term_in, plain, once_more, more_nots, SoFar, joined_piece, unless_broken, continued, pieces, begun, filter_in_pieces, filter_in}
+use Rattle.toy_engines.specs.FilterTexts.{atom_in, term_in, plain, once_more, more_nots, SoFar, joined_piece, unless_broken, filter_after, pieces, one_term_so_far, filter_in_pieces, filter_in}
 use Rattle.toy_engines.proofs.PartsOfTexts.{after_is, after_own}
 
 -- No more `not`s change nothing.
@@ -70,26 +70,26 @@ first_piece (c ∷ text) = at (c == 41) (first_piece text)
     at false first = (c ∷ first.0, first.1, ap (onto_first c) first.2)
 
 -- What was read with the first term, by its parts.
-pub begun_by : (complete : Filter) (last : List Term) (t : Term) → complete ≡ [] → last ≡ t ∷ [] → begun t ≡ record { complete = complete; last = last }
+pub begun_by : (complete : Filter) (last : List Term) (t : Term) → complete ≡ [] → last ≡ t ∷ [] → one_term_so_far t ≡ record { complete = complete; last = last }
 begun_by complete last t none one = cc
 
 -- The first term, and what the further pieces add to it.
 pub first_none : (text piece rest : List ℕ) → pieces text ≡ piece ∷ pieces rest → term_in piece ≡ None → filter_in text ≡ Err piece
 first_none text piece rest e none =
     let next = first_piece rest in
-    ap filter_in_pieces (e ∙ ap (λ more. piece ∷ more) next.2) ∙ ap (unless_broken piece (λ t. continued (begun t) (next.0 ∷ next.1))) none
+    ap filter_in_pieces (e ∙ ap (λ more. piece ∷ more) next.2) ∙ ap (unless_broken piece (λ t. filter_after (one_term_so_far t) (next.0 ∷ next.1))) none
 
-pub first_some : (text piece rest : List ℕ) (t : Term) → pieces text ≡ piece ∷ pieces rest → term_in piece ≡ Some t → filter_in text ≡ continued (begun t) (pieces rest)
+pub first_some : (text piece rest : List ℕ) (t : Term) → pieces text ≡ piece ∷ pieces rest → term_in piece ≡ Some t → filter_in text ≡ filter_after (one_term_so_far t) (pieces rest)
 first_some text piece rest t e some =
     let next = first_piece rest in
-    ap filter_in_pieces (e ∙ ap (λ more. piece ∷ more) next.2) ∙ ap (unless_broken piece (λ t. continued (begun t) (next.0 ∷ next.1))) some ∙ ap (continued (begun t)) (sym next.2)
+    ap filter_in_pieces (e ∙ ap (λ more. piece ∷ more) next.2) ∙ ap (unless_broken piece (λ t. filter_after (one_term_so_far t) (next.0 ∷ next.1))) some ∙ ap (filter_after (one_term_so_far t)) (sym next.2)
 
-pub more_none : (s : SoFar) (text piece rest : List ℕ) → pieces text ≡ piece ∷ pieces rest → joined_piece s piece ≡ None → continued s (pieces text) ≡ Err piece
+pub more_none : (s : SoFar) (text piece rest : List ℕ) → pieces text ≡ piece ∷ pieces rest → joined_piece s piece ≡ None → filter_after s (pieces text) ≡ Err piece
 more_none s text piece rest e none =
     let next = first_piece rest in
-    ap (continued s) (e ∙ ap (λ more. piece ∷ more) next.2) ∙ ap (unless_broken piece (λ more. continued more (next.0 ∷ next.1))) none
+    ap (filter_after s) (e ∙ ap (λ more. piece ∷ more) next.2) ∙ ap (unless_broken piece (λ more. filter_after more (next.0 ∷ next.1))) none
 
-pub more_some : (s more : SoFar) (text piece rest : List ℕ) → pieces text ≡ piece ∷ pieces rest → joined_piece s piece ≡ Some more → continued s (pieces text) ≡ continued more (pieces rest)
+pub more_some : (s more : SoFar) (text piece rest : List ℕ) → pieces text ≡ piece ∷ pieces rest → joined_piece s piece ≡ Some more → filter_after s (pieces text) ≡ filter_after more (pieces rest)
 more_some s more text piece rest e some =
     let next = first_piece rest in
-    ap (continued s) (e ∙ ap (λ more. piece ∷ more) next.2) ∙ ap (unless_broken piece (λ more. continued more (next.0 ∷ next.1))) some ∙ ap (continued more) (sym next.2)
+    ap (filter_after s) (e ∙ ap (λ more. piece ∷ more) next.2) ∙ ap (unless_broken piece (λ more. filter_after more (next.0 ∷ next.1))) some ∙ ap (filter_after more) (sym next.2)

@@ -8,7 +8,7 @@ use Rattle.std.proofs.lemmas.List.Splits.{join_with_byte-slice_split}
 use Rattle.std.proofs.lemmas.List.Folds.{list_all-append}
 use Rattle.toy_engines.specs.Texts.{after_prefix}
 use Rattle.toy_engines.specs.FilterValues.{Atom, Always, Never, AsTheDefault, NameHas, BinaryIs, Term, Filter}
-use Rattle.toy_engines.specs.FilterTexts.{is_name, spelled_atom, spelled_term, spelled_terms, spelled, is_atom, is_filled, are_written, is_written, name_after, atom_in, plain, once_more, term_in, SoFar, filter_so_far, also, or_else, joined_by, joined_piece, unless_broken, ended, continued, pieces, begun, filter_in_pieces, filter_in}
+use Rattle.toy_engines.specs.FilterTexts.{is_name, atom_text, term_text, terms_text, filter_text, is_atom, is_filled, are_written, is_written, name_after, atom_in, plain, once_more, term_in, SoFar, filter_so_far, also, or_else, joined_by, joined_piece, unless_broken, filter_at_end, filter_after, pieces, one_term_so_far, filter_in_pieces, filter_in}
 use Rattle.toy_engines.proofs.PartsOfTexts.{after_is}
 
 abbrev close : List ℕ
@@ -27,7 +27,7 @@ name_found prefix piece name (Some found) e got = name_kept prefix piece name fo
 
 -- An atom is spelled by its piece and the `)` behind it.
 abbrev AtomIs : List ℕ → Atom → Type 0
-AtomIs piece atom = (spelled_atom atom ≡ piece ++ close) × (is_atom atom ≡ true)
+AtomIs piece atom = (atom_text atom ≡ piece ++ close) × (is_atom atom ≡ true)
 
 atom_named : (piece : List ℕ) (atom : Atom) (part id : Option (List ℕ)) → name_after (codes "test(") piece ≡ part → name_after (codes "binary_id(") piece ≡ id
     → option_or (option_map NameHas part) (option_map BinaryIs id) ≡ Some atom → AtomIs piece atom
@@ -55,7 +55,7 @@ atom_if piece atom false false false x y z got = atom_named piece atom _ _ refl 
 
 -- A term is spelled by its piece and the `)` behind it.
 abbrev TermIs : List ℕ → Term → Type 0
-TermIs piece t = (spelled_term t ≡ piece ++ close) × (is_atom t.atom ≡ true)
+TermIs piece t = (term_text t ≡ piece ++ close) × (is_atom t.atom ≡ true)
 
 plain_known : (piece : List ℕ) (t : Term) (found : Option Atom) → atom_in piece ≡ found → option_map plain found ≡ Some t → TermIs piece t
 plain_known piece t None e got = absurd (cc)
@@ -63,7 +63,7 @@ plain_known piece t (Some atom) e got =
     let same : plain atom ≡ t = cc in rw (sym same) (atom_if piece atom _ _ _ refl refl refl e)
 
 nots_known : (piece : List ℕ) (t : Term) (found : Option Term) → ((u : Term) → found ≡ Some u → TermIs piece u) → option_map once_more found ≡ Some t
-    → (spelled_term t ≡ codes "not " ++ (piece ++ close)) × (is_atom t.atom ≡ true)
+    → (term_text t ≡ codes "not " ++ (piece ++ close)) × (is_atom t.atom ≡ true)
 nots_known piece t None known got = absurd (cc)
 nots_known piece t (Some u) known got =
     let same : once_more u ≡ t = cc in let it = known u refl in rw (sym same) (ap (λ l. codes "not " ++ l) it.0, it.1)
@@ -98,15 +98,15 @@ join_one h between (y ∷ xs) x filled =
     ∙ sym (append_assoc (h y) (flat_map (λ z. between ++ h z) xs) (between ++ h x))
 
 -- What stands behind the last list changes the last list alone.
-last_more : (complete : Filter) (last more : List Term) (behind : List ℕ) → spelled_terms more ≡ spelled_terms last ++ behind
-    → spelled (complete ++ more ∷ []) ≡ spelled (complete ++ last ∷ []) ++ behind
-last_more [] last more behind e = append-nil (spelled_terms more) ∙ e ∙ ap (λ l. l ++ behind) (sym (append-nil (spelled_terms last)))
+last_more : (complete : Filter) (last more : List Term) (behind : List ℕ) → terms_text more ≡ terms_text last ++ behind
+    → filter_text (complete ++ more ∷ []) ≡ filter_text (complete ++ last ∷ []) ++ behind
+last_more [] last more behind e = append-nil (terms_text more) ∙ e ∙ ap (λ l. l ++ behind) (sym (append-nil (terms_text last)))
 last_more (terms ∷ complete) last more behind e =
-    join_one spelled_terms (codes " or ") (terms ∷ complete) more refl
-    ∙ ap (λ l. spelled (terms ∷ complete) ++ (codes " or " ++ l)) e
-    ∙ ap (λ l. spelled (terms ∷ complete) ++ l) (sym (append_assoc (codes " or ") (spelled_terms last) behind))
-    ∙ sym (append_assoc (spelled (terms ∷ complete)) (codes " or " ++ spelled_terms last) behind)
-    ∙ ap (λ l. l ++ behind) (sym (join_one spelled_terms (codes " or ") (terms ∷ complete) last refl))
+    join_one terms_text (codes " or ") (terms ∷ complete) more refl
+    ∙ ap (λ l. filter_text (terms ∷ complete) ++ (codes " or " ++ l)) e
+    ∙ ap (λ l. filter_text (terms ∷ complete) ++ l) (sym (append_assoc (codes " or ") (terms_text last) behind))
+    ∙ sym (append_assoc (filter_text (terms ∷ complete)) (codes " or " ++ terms_text last) behind)
+    ∙ ap (λ l. l ++ behind) (sym (join_one terms_text (codes " or ") (terms ∷ complete) last refl))
 
 -- What was read so far can be written.
 record IsRead (s : SoFar) : Type 0 where
@@ -126,7 +126,7 @@ so_far_written : (s : SoFar) → IsRead s → list_all are_written (filter_so_fa
 so_far_written s is = list_all-append are_written s.complete (s.last ∷ []) ∙ both _ _ is.complete (both _ true (both _ _ is.filled is.last) refl)
 
 abbrev JoinIs : SoFar → List ℕ → SoFar → Type 0
-JoinIs s piece more = (spelled (filter_so_far more) ≡ spelled (filter_so_far s) ++ (piece ++ close)) × IsRead more
+JoinIs s piece more = (filter_text (filter_so_far more) ≡ filter_text (filter_so_far s) ++ (piece ++ close)) × IsRead more
 
 also_known : (s : SoFar) (piece text : List ℕ) (more : SoFar) (found : Option Term) → term_in text ≡ found → IsRead s → piece ≡ codes " and " ++ text
     → option_map (also s) found ≡ Some more → JoinIs s piece more
@@ -136,9 +136,9 @@ also_known s piece text more (Some t) x is e got =
     let it = term_known text t x in
     rw (sym same) (
       last_more s.complete s.last (s.last ++ t ∷ []) (piece ++ close) (
-          join_one spelled_term (codes " and ") s.last t is.filled
-          ∙ ap (λ l. spelled_terms s.last ++ (codes " and " ++ l)) it.0
-          ∙ ap (λ l. spelled_terms s.last ++ (l ++ close)) (sym e)),
+          join_one term_text (codes " and ") s.last t is.filled
+          ∙ ap (λ l. terms_text s.last ++ (codes " and " ++ l)) it.0
+          ∙ ap (λ l. terms_text s.last ++ (l ++ close)) (sym e)),
       record {
         complete = is.complete;
         filled = filled_more s.last (t ∷ []) is.filled;
@@ -153,9 +153,9 @@ or_known s piece text more (Some t) x is e got =
     let same : or_else s t ≡ more = cc in
     let it = term_known text t x in
     rw (sym same) (
-      join_one spelled_terms (codes " or ") (filter_so_far s) (t ∷ []) (filled_end s.complete s.last)
-          ∙ ap (λ l. spelled (filter_so_far s) ++ (codes " or " ++ l)) (append-nil (spelled_term t) ∙ it.0)
-          ∙ ap (λ l. spelled (filter_so_far s) ++ (l ++ close)) (sym e),
+      join_one terms_text (codes " or ") (filter_so_far s) (t ∷ []) (filled_end s.complete s.last)
+          ∙ ap (λ l. filter_text (filter_so_far s) ++ (codes " or " ++ l)) (append-nil (term_text t) ∙ it.0)
+          ∙ ap (λ l. filter_text (filter_so_far s) ++ (l ++ close)) (sym e),
       record { complete = so_far_written s is; filled = refl; last = both _ true it.1 refl },
     )
   where
@@ -171,55 +171,55 @@ joined_known s piece more None None x y is got = absurd (cc)
 
 -- What further pieces make is spelled by them.
 abbrev ReadIs : SoFar → List ℕ → Filter → Type 0
-ReadIs s text filter = (spelled filter ≡ spelled (filter_so_far s) ++ text) × (is_written filter ≡ true)
+ReadIs s text filter = (filter_text filter ≡ filter_text (filter_so_far s) ++ text) × (is_written filter ≡ true)
 
 filled_end : (complete : Filter) (last : List Term) → is_filled (complete ++ last ∷ []) ≡ true
 filled_end [] last = refl
 filled_end (terms ∷ complete) last = refl
 
-ended_known : (s : SoFar) (piece : List ℕ) (filter : Filter) → IsRead s → ended s piece ≡ Ok filter → ReadIs s piece filter
+ended_known : (s : SoFar) (piece : List ℕ) (filter : Filter) → IsRead s → filter_at_end s piece ≡ Ok filter → ReadIs s piece filter
 ended_known s [] filter is got =
     let same : filter_so_far s ≡ filter = cc in
-    rw (sym same) (sym (append-nil (spelled (filter_so_far s))), both _ _ (filled_end s.complete s.last) (so_far_written s is))
+    rw (sym same) (sym (append-nil (filter_text (filter_so_far s))), both _ _ (filled_end s.complete s.last) (so_far_written s is))
 ended_known s (c ∷ piece) filter is got = absurd (cc)
 
 more_known : (next : List ℕ) (pieces : List (List ℕ)) (s : SoFar) (piece : List ℕ) (filter : Filter) (found : Option SoFar) → joined_piece s piece ≡ found → IsRead s
-    → ((more : SoFar) → IsRead more → continued more (next ∷ pieces) ≡ Ok filter → ReadIs more (join_with_byte 41 (next ∷ pieces)) filter)
-    → unless_broken piece (λ more. continued more (next ∷ pieces)) found ≡ Ok filter
+    → ((more : SoFar) → IsRead more → filter_after more (next ∷ pieces) ≡ Ok filter → ReadIs more (join_with_byte 41 (next ∷ pieces)) filter)
+    → unless_broken piece (λ more. filter_after more (next ∷ pieces)) found ≡ Ok filter
     → ReadIs s (piece ++ (41 ∷ join_with_byte 41 (next ∷ pieces))) filter
 more_known next pieces s piece filter None x is known got = absurd (cc)
 more_known next pieces s piece filter (Some more) x is known got =
     let join = joined_known s piece more _ _ refl refl is x in
     let it = known more join.1 got in (
       it.0 ∙ ap (λ l. l ++ join_with_byte 41 (next ∷ pieces)) join.0
-          ∙ append_assoc (spelled (filter_so_far s)) (piece ++ close) (join_with_byte 41 (next ∷ pieces))
-          ∙ ap (λ l. spelled (filter_so_far s) ++ l) (append_assoc piece close (join_with_byte 41 (next ∷ pieces))),
+          ∙ append_assoc (filter_text (filter_so_far s)) (piece ++ close) (join_with_byte 41 (next ∷ pieces))
+          ∙ ap (λ l. filter_text (filter_so_far s) ++ l) (append_assoc piece close (join_with_byte 41 (next ∷ pieces))),
       it.1,
     )
 
-continued_known : (pieces : List (List ℕ)) (s : SoFar) (filter : Filter) → IsRead s → continued s pieces ≡ Ok filter → ReadIs s (join_with_byte 41 pieces) filter
+continued_known : (pieces : List (List ℕ)) (s : SoFar) (filter : Filter) → IsRead s → filter_after s pieces ≡ Ok filter → ReadIs s (join_with_byte 41 pieces) filter
 continued_known [] s filter is got = absurd (cc)
 continued_known (piece ∷ []) s filter is got = ended_known s piece filter is got
 continued_known (piece ∷ next ∷ pieces) s filter is got = more_known next pieces s piece filter _ refl is (λ more read. continued_known (next ∷ pieces) more filter read) got
 
 first_known : (piece next : List ℕ) (pieces : List (List ℕ)) (filter : Filter) (found : Option Term) → term_in piece ≡ found
-    → unless_broken piece (λ t. continued (begun t) (next ∷ pieces)) found ≡ Ok filter
-    → (spelled filter ≡ piece ++ (41 ∷ join_with_byte 41 (next ∷ pieces))) × (is_written filter ≡ true)
+    → unless_broken piece (λ t. filter_after (one_term_so_far t) (next ∷ pieces)) found ≡ Ok filter
+    → (filter_text filter ≡ piece ++ (41 ∷ join_with_byte 41 (next ∷ pieces))) × (is_written filter ≡ true)
 first_known piece next pieces filter None x got = absurd (cc)
 first_known piece next pieces filter (Some t) x got =
     let term = term_known piece t x in
-    let it = continued_known (next ∷ pieces) (begun t) filter (record { complete = refl; filled = refl; last = both _ true term.1 refl }) got in (
-      it.0 ∙ ap (λ l. l ++ join_with_byte 41 (next ∷ pieces)) (append-nil (spelled_term t ++ []) ∙ append-nil (spelled_term t) ∙ term.0)
+    let it = continued_known (next ∷ pieces) (one_term_so_far t) filter (record { complete = refl; filled = refl; last = both _ true term.1 refl }) got in (
+      it.0 ∙ ap (λ l. l ++ join_with_byte 41 (next ∷ pieces)) (append-nil (term_text t ++ []) ∙ append-nil (term_text t) ∙ term.0)
           ∙ append_assoc piece close (join_with_byte 41 (next ∷ pieces)),
       it.1,
     )
 
-pieces_known : (pieces : List (List ℕ)) (filter : Filter) → filter_in_pieces pieces ≡ Ok filter → (spelled filter ≡ join_with_byte 41 pieces) × (is_written filter ≡ true)
+pieces_known : (pieces : List (List ℕ)) (filter : Filter) → filter_in_pieces pieces ≡ Ok filter → (filter_text filter ≡ join_with_byte 41 pieces) × (is_written filter ≡ true)
 pieces_known [] filter got = absurd (cc)
 pieces_known (piece ∷ []) filter got = absurd (cc)
 pieces_known (piece ∷ next ∷ pieces) filter got = first_known piece next pieces filter _ refl got
 
 -- A filter that a text writes is spelled by it.
-pub spells_what_is_read : (text : List ℕ) (filter : Filter) → filter_in text ≡ Ok filter → (spelled filter ≡ text) × (is_written filter ≡ true)
+pub spells_what_is_read : (text : List ℕ) (filter : Filter) → filter_in text ≡ Ok filter → (filter_text filter ≡ text) × (is_written filter ≡ true)
 spells_what_is_read text filter got =
     let it = pieces_known (pieces text) filter got in (it.0 ∙ join_with_byte-slice_split 41 text, it.1)

@@ -19,12 +19,12 @@ is_name name = not (length name == 0) && list_all is_no_parenthesis name
 -- The grammar.
 
 -- How an atom is written.
-abbrev pub spelled_atom : Atom → List ℕ
-spelled_atom Always = codes "all()"
-spelled_atom Never = codes "none()"
-spelled_atom AsTheDefault = codes "default()"
-spelled_atom (NameHas part) = codes "test(" ++ part ++ codes ")"
-spelled_atom (BinaryIs id) = codes "binary_id(" ++ id ++ codes ")"
+abbrev pub atom_text : Atom → List ℕ
+atom_text Always = codes "all()"
+atom_text Never = codes "none()"
+atom_text AsTheDefault = codes "default()"
+atom_text (NameHas part) = codes "test(" ++ part ++ codes ")"
+atom_text (BinaryIs id) = codes "binary_id(" ++ id ++ codes ")"
 
 -- A text behind a number of `not`s.
 abbrev pub behind_nots : ℕ → List ℕ → List ℕ
@@ -32,15 +32,15 @@ behind_nots zero text = text
 behind_nots (suc n) text = codes "not " ++ behind_nots n text
 
 -- How a term is written.
-abbrev pub spelled_term : Term → List ℕ
-spelled_term t = behind_nots t.negations (spelled_atom t.atom)
+abbrev pub term_text : Term → List ℕ
+term_text t = behind_nots t.negations (atom_text t.atom)
 
 -- Terms are written with ` and ` between them, and the lists of a filter with ` or ` between them.
-abbrev pub spelled_terms : List Term → List ℕ
-spelled_terms terms = join_by spelled_term (codes " and ") terms
+abbrev pub terms_text : List Term → List ℕ
+terms_text terms = join_by term_text (codes " and ") terms
 
-abbrev pub spelled : Filter → List ℕ
-spelled filter = join_by spelled_terms (codes " or ") filter
+abbrev pub filter_text : Filter → List ℕ
+filter_text filter = join_by terms_text (codes " or ") filter
 
 -- Whether the names in an atom are names.
 abbrev pub is_atom : Atom → Bool
@@ -63,7 +63,7 @@ is_written filter = is_filled filter && list_all are_written filter
 
 -- A text spells a filter that can be written.
 abbrev pub SpellsFilter : List ℕ → Filter → Type 0
-SpellsFilter text filter = (spelled filter ≡ text) × (is_written filter ≡ true)
+SpellsFilter text filter = (filter_text filter ≡ text) × (is_written filter ≡ true)
 
 -- Reading, by pieces that end before each `)`.
 
@@ -134,32 +134,32 @@ abbrev pub unless_broken : {X : Type 0} → List ℕ → (X → Result Filter (L
 unless_broken piece next None = Err piece
 unless_broken piece next (Some x) = next x
 
--- What is complete where nothing stands behind the last `)`.
-abbrev pub ended : SoFar → List ℕ → Result Filter (List ℕ)
-ended s [] = Ok (filter_so_far s)
-ended s (c ∷ piece) = Err (c ∷ piece)
+-- The filter so far, where nothing stands behind the last `)`; else what stands there.
+abbrev pub filter_at_end : SoFar → List ℕ → Result Filter (List ℕ)
+filter_at_end s [] = Ok (filter_so_far s)
+filter_at_end s (c ∷ piece) = Err (c ∷ piece)
 
--- What further pieces add, or the piece at which they break.
-abbrev pub continued : SoFar → List (List ℕ) → Result Filter (List ℕ)
-continued s [] = Err []
-continued s (piece ∷ []) = ended s piece
-continued s (piece ∷ next ∷ pieces) =
-    unless_broken piece (λ more. continued more (next ∷ pieces)) (joined_piece s piece)
+-- The filter with what further pieces add, or the piece at which they break.
+abbrev pub filter_after : SoFar → List (List ℕ) → Result Filter (List ℕ)
+filter_after s [] = Err []
+filter_after s (piece ∷ []) = filter_at_end s piece
+filter_after s (piece ∷ next ∷ pieces) =
+    unless_broken piece (λ more. filter_after more (next ∷ pieces)) (joined_piece s piece)
 
 -- A text, cut at each `)`.
 abbrev pub pieces : List ℕ → List (List ℕ)
 pieces text = slice_split (λ c. c == 41) text
 
 -- What was read with the first term.
-abbrev pub begun : Term → SoFar
-begun t = record { complete = []; last = t ∷ [] }
+abbrev pub one_term_so_far : Term → SoFar
+one_term_so_far t = record { complete = []; last = t ∷ [] }
 
 -- The filter that the pieces of a text write, or the piece at which they break.
 abbrev pub filter_in_pieces : List (List ℕ) → Result Filter (List ℕ)
 filter_in_pieces [] = Err []
 filter_in_pieces (piece ∷ []) = Err piece
 filter_in_pieces (piece ∷ next ∷ more) =
-    unless_broken piece (λ t. continued (begun t) (next ∷ more)) (term_in piece)
+    unless_broken piece (λ t. filter_after (one_term_so_far t) (next ∷ more)) (term_in piece)
 
 -- The filter that a text writes, or the piece at which the text breaks.
 abbrev pub filter_in : List ℕ → Result Filter (List ℕ)

@@ -4,7 +4,7 @@ use Rattle.nextest_engines.specs.Engines as engines
 use Rattle.nextest_engines.specs.declared.queries.FiltersetKind.{FiltersetKind}
 use Rattle.nextest_engines.specs.declared.queries.FiltersetKind.TheVariants.{DefaultFilter}
 use Rattle.toy_engines.specs.FilterValues.{Atom, AsTheDefault, NameHas, Term, Filter, Subject, filter_value}
-use Rattle.toy_engines.specs.FilterTexts.{filter_in, spelled_atom}
+use Rattle.toy_engines.specs.FilterTexts.{filter_in, atom_text}
 
 -- A filter is asked about a test by the test's name and the id of its binary.
 abbrev pub test_subject : engines.Test → Subject
@@ -29,7 +29,7 @@ filter_holds_binary filter binary default = value_beside (binary_subject binary)
 
 -- An atom that only a test can answer, as it is written.
 abbrev pub atom_leaves : Atom → List (List ℕ)
-atom_leaves (NameHas part) = spelled_atom (NameHas part) ∷ []
+atom_leaves (NameHas part) = atom_text (NameHas part) ∷ []
 atom_leaves _ = []
 
 -- The parts of a term, and of a filter, that only a test can answer, from left to right.

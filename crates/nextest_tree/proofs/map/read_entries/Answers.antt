@@ -2,7 +2,8 @@ use Rattle.std.proofs.Common.{◌≡◌, [], ◌∷◌, ◌++◌, String, Global
 use Rattle.std.specs.List.Sorted.{IsStrictlySortedBy}
 use Rattle.std.specs.Map.{keys_of}
 use Rattle.std.specs.String.{string_cmp}
-use Rattle.nextest_tree.specs.Reads.{walk_view, reading_entries, IsMap}
+use Rattle.nextest_tree.specs.Reads.{walk_view, IsMap}
+use Rattle.nextest_tree.specs.ReadSteps.{reading_entries}
 use Rattle.nextest_tree.specs.View.{tree_view, entries_view}
 use Rattle.nextest_tree.specs.declared.tree.Tree.{Tree}
 use Rattle.nextest_tree.proofs.Reading.{entries_step}

@@ -1,5 +1,6 @@
 use Rattle.std.proofs.Common.{◌≡◌, List, ◌++◌, String, Global}
-use Rattle.nextest_tree.specs.Reads.{walk_view, reading_entries, IsMap}
+use Rattle.nextest_tree.specs.Reads.{walk_view, IsMap}
+use Rattle.nextest_tree.specs.ReadSteps.{reading_entries}
 use Rattle.nextest_tree.specs.View.{entries_view}
 use Rattle.nextest_tree.specs.declared.tree.Tree.{Tree}
 use Rattle.nextest_tree.proofs.map.read_entries.Given as goal

@@ -1,6 +1,6 @@
 use Rattle.std.proofs.Common.{◌∙◌, ap, sym, rules, option_map, map}
 use Rattle.toy_engines.specs.FilterValues.{term_of, lists_of}
-use Rattle.toy_engines.specs.FilterTexts.{parts_so_far, continued, pieces, filter_in_pieces}
+use Rattle.toy_engines.specs.FilterTexts.{parts_so_far, filter_after, pieces, filter_in_pieces}
 use Rattle.toy_engines.proofs.FilterTexts.{first_none, first_some, more_none, more_some, begun_by}
 use Rattle.toy_engines.proofs.parse.read_filter.Goals as goal
 
@@ -18,7 +18,7 @@ loop-piece-init c =
     let parts = begun_by _ _ (term_of c.in-Some-2.term) (ap lists_of c.new.ensures.items) (ap (map term_of) c.in_ok-vec.ensures.items) in
     record {
       utf8 = search rules;
-      means = first_some c.args.text.now c.in-Some.piece.now rest (term_of c.in-Some-2.term) c.in-Some.ensures.parts read ∙ ap (λ s. continued s (pieces rest)) parts;
+      means = first_some c.args.text.now c.in-Some.piece.now rest (term_of c.in-Some-2.term) c.in-Some.ensures.parts read ∙ ap (λ s. filter_after s (pieces rest)) parts;
     }
 
 pub returns-in_default-3 : goal.returns-in_default-3
