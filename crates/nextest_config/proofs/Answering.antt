@@ -9,7 +9,7 @@ use Rattle.nextest_settings.specs.Profile.{Configured, EarlyModel, EvaluatableMo
 use Rattle.nextest_tables.specs.FileTexts.{names_in, IsIn}
 use Rattle.nextest_tree.specs.Schema.{is_one_of}
 use Rattle.nextest_config.specs.Answers.{Question, IsAskedProfile, AreRowsIn, Answers}
-use Rattle.nextest_config.specs.Headline.{Row, no_memory}
+use Rattle.nextest_config.specs.Headline.{Row, out_of_memory}
 use Rattle.nextest_config.specs.ProfileError.{IsNotFound}
 use Rattle.nextest_config.specs.RunView.{refusal_view, profile_fault, answer_view}
 use Rattle.nextest_config.specs.declared.profile_error.ProfileError.{ProfileError}
@@ -24,7 +24,7 @@ if_ok P Q R (Err e) h p q = tt
 
 module _ {M K P : Type 0} (meets : K → P → Option Bool) (matches : M → Test → M → Bool) (configured : Configured M K) (question : Question P) where
   -- memory ran out
-  pub no_rows : (old new numbers : List ℕ) → new ≡ old ++ numbers → Answers meets matches configured question (Err no_memory) old new
+  pub no_rows : (old new numbers : List ℕ) → new ≡ old ++ numbers → Answers meets matches configured question (Err out_of_memory) old new
   no_rows old new numbers is = record { accepted = tt; absence = tt; unasked = tt; rows = (numbers, is, tt) }
 
   -- the profile is not given

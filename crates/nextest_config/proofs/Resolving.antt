@@ -9,19 +9,19 @@ use Rattle.nextest_settings.specs.Profile.{Configured, profile_of, profile_on}
 use Rattle.nextest_settings.specs.Settings.{settings, is_set}
 use Rattle.nextest_tables.specs.FileTexts.{ScriptUse}
 use Rattle.nextest_settings.proofs.Few.{all_rise}
-use Rattle.nextest_sources.specs.Endings.{Ending, passed, refused, no_memory as out_of_memory, malformed, WentThrough}
+use Rattle.nextest_sources.specs.Endings.{Ending, passed, refused, no_memory, malformed, WentThrough}
 use Rattle.nextest_sources.specs.Inputs.{sources_in}
 use Rattle.nextest_sources.specs.Steps.{warnings_before}
 use Rattle.nextest_sources.specs.Warnings.{Warning}
 use Rattle.nextest_tables.specs.FileTexts.{names_in, IsIn}
 use Rattle.nextest_config.specs.Answers.{Question, AreAskedRows, Answers}
-use Rattle.nextest_config.specs.Headline.{Request, Row, Refusal, bad_config, no_profile, no_memory, RulesHold, steps_for, AreRows, query_in, Resolves}
+use Rattle.nextest_config.specs.Headline.{Request, Row, Refusal, bad_config, no_profile, out_of_memory, RulesHold, steps_for, AreRows, query_in, Resolves}
 use Rattle.nextest_config.specs.RunView.{TellsEnding, run_view}
 
 module _ {M K P : Type 0} (engines : Readings M K P) (request : Request P) (wold wnew : List Warning) where
   -- a load that is refused
   pub load_refused : (numbers : List ℕ) (refusal : Refusal) (o : Ending) → WentThrough (steps_for engines request) wold wnew o
-      → (o ≡ out_of_memory) ⊎ (¬ RulesHold engines request) → (o ≡ passed → ⊥) → TellsEnding o refusal
+      → (o ≡ no_memory) ⊎ (¬ RulesHold engines request) → (o ≡ passed → ⊥) → TellsEnding o refusal
       → Resolves engines request (run_view (Err refusal) wold wnew numbers numbers)
   load_refused numbers refusal passed went verdict unpassed tells = absurd (unpassed refl)
   load_refused numbers refusal (refused fault) went verdict unpassed tells =
@@ -36,9 +36,9 @@ module _ {M K P : Type 0} (engines : Readings M K P) (request : Request P) (wold
         rows = ([], sym (append-nil numbers), tt);
       })
     where
-      other : refused fault ≡ out_of_memory → ⊥
+      other : refused fault ≡ no_memory → ⊥
       other same = cc
-  load_refused numbers refusal out_of_memory went verdict unpassed tells =
+  load_refused numbers refusal no_memory went verdict unpassed tells =
       let P : Refusal → Type 0 = λ r. Resolves engines request (run_view (Err r) wold wnew numbers numbers) in
       subst P (sym tells) (record {
         acceptance = tt;
@@ -103,7 +103,7 @@ module _ {M K P : Type 0} (engines : Readings M K P) (request : Request P) (wold
       warnings = went.1;
       rows = (answers.rows.0, answers.rows.1, tt);
     }
-    load_accepted nold nnew (Err no_memory) answers = record {
+    load_accepted nold nnew (Err out_of_memory) answers = record {
       acceptance = tt;
       refusal = tt;
       absence = tt;

@@ -7,7 +7,7 @@ use Rattle.nextest_sources.specs.Errors.{cause_view}
 use Rattle.nextest_sources.specs.Sources.{Source}
 use Rattle.nextest_sources.specs.declared.error.ConfigParseErrorKind.{ConfigParseErrorKind}
 use Rattle.nextest_sources.specs.declared.error.ConfigParseErrorKind.TheVariants as kinds
-use Rattle.nextest_config.specs.Headline.{bad_config, no_memory}
+use Rattle.nextest_config.specs.Headline.{bad_config, out_of_memory}
 use Rattle.nextest_config.specs.RunView.{TellsEnding, fault_of_ending}
 
 at_cause : (source : Source) (cause : Option LoadCause) → TellsEnding (ending_at source cause) (bad_config (fault_of_ending (ending_at source cause)))
@@ -22,7 +22,7 @@ with_source None kind is = cc
 
 -- a refusal without a source is want of memory
 pub without_source : (source : Option Source) (kind : ConfigParseErrorKind) → is_some source ≡ false → is_some source ≡ not (is_memory kind)
-    → TellsEnding (ending_with source kind) no_memory
+    → TellsEnding (ending_with source kind) out_of_memory
 without_source (Some source) kind is placed = cc
 without_source None (kinds.DuplicateToolConfigFile tool first) is placed = cc
 without_source None (kinds.ReadError outcome) is placed = cc

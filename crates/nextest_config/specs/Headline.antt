@@ -48,7 +48,7 @@ pub record Row : Type 0 where
 pub data Refusal : Type 0 where
   bad_config : Option LoadFault → Refusal
   no_profile : (name : Name) → (profiles : List Name) → Refusal
-  no_memory : Refusal
+  out_of_memory : Refusal
 
 -- What a run did: its answer, and the warnings and the evaluations before and after it.
 pub record Run : Type 0 where
@@ -62,26 +62,26 @@ pub record Run : Type 0 where
 abbrev pub IfBadConfig : Result (List Row) Refusal → (Option LoadFault → Type 0) → Type 0
 IfBadConfig (Err (bad_config fault)) P = P fault
 IfBadConfig (Err (no_profile name profiles)) P = Unit {0}
-IfBadConfig (Err no_memory) P = Unit {0}
+IfBadConfig (Err out_of_memory) P = Unit {0}
 IfBadConfig (Ok rows) P = Unit {0}
 
 -- a fact of the name and of all names of profiles, where there is no profile of the name
 abbrev pub IfNoProfile : Result (List Row) Refusal → (Name → List Name → Type 0) → Type 0
 IfNoProfile (Err (no_profile name profiles)) P = P name profiles
 IfNoProfile (Err (bad_config fault)) P = Unit {0}
-IfNoProfile (Err no_memory) P = Unit {0}
+IfNoProfile (Err out_of_memory) P = Unit {0}
 IfNoProfile (Ok rows) P = Unit {0}
 
 -- a fact of a refusal for another cause than want of memory
 abbrev pub IfRefused : Result (List Row) Refusal → Type 0 → Type 0
 IfRefused (Err (bad_config fault)) P = P
 IfRefused (Err (no_profile name profiles)) P = P
-IfRefused (Err no_memory) P = Unit {0}
+IfRefused (Err out_of_memory) P = Unit {0}
 IfRefused (Ok rows) P = Unit {0}
 
 -- a list was followed by another one, or, where memory ran out, by a beginning of it
 abbrev pub IsFollowed : {X : Type 0} → Result (List Row) Refusal → List X → List X → List X → Type 0
-IsFollowed (Err no_memory) old new more = IsFollowedInPart old new more
+IsFollowed (Err out_of_memory) old new more = IsFollowedInPart old new more
 IsFollowed _ old new more = new ≡ old ++ more
 
 -- every written rule holds of the files that are asked about

@@ -7,10 +7,10 @@ use Rattle.nextest_engines.specs.declared.queries.BuildPlatforms.{BuildPlatforms
 use Rattle.nextest_engines.specs.declared.queries.TestQuery.{TestQuery}
 use Rattle.nextest_rules.specs.KnownView.{features_view}
 use Rattle.nextest_sources.specs.Causes.{LoadFault}
-use Rattle.nextest_sources.specs.Endings.{Ending, passed, refused, no_memory as out_of_memory, malformed, error_view}
+use Rattle.nextest_sources.specs.Endings.{Ending, passed, refused, no_memory, malformed, error_view}
 use Rattle.nextest_sources.specs.Inputs.{load_inputs_view}
 use Rattle.nextest_sources.specs.Warnings.{Warning}
-use Rattle.nextest_config.specs.Headline.{Request, Row, Refusal, bad_config, no_profile, no_memory, Run}
+use Rattle.nextest_config.specs.Headline.{Request, Row, Refusal, bad_config, no_profile, out_of_memory, Run}
 use Rattle.nextest_config.specs.Answers.{Question}
 use Rattle.nextest_config.specs.RowView.{row_view}
 use Rattle.nextest_config.specs.declared.profile_error.ProfileError.{ProfileError}
@@ -47,7 +47,7 @@ question_view profile platforms mode tests = record {
 abbrev pub fault_of_ending : Ending → Option LoadFault
 fault_of_ending passed = None
 fault_of_ending (refused fault) = Some fault
-fault_of_ending out_of_memory = None
+fault_of_ending no_memory = None
 fault_of_ending malformed = None
 
 -- why no rows are answered
@@ -55,13 +55,13 @@ abbrev pub refusal_view : ResolveFault → Refusal
 refusal_view (Config error) = bad_config (fault_of_ending (error_view error))
 refusal_view (NoProfile missing) =
     no_profile (string_bytes missing.name) (map string_bytes missing.known.items)
-refusal_view Memory = no_memory
+refusal_view Memory = out_of_memory
 
 -- a refusal tells how a load ended
 abbrev pub TellsEnding : Ending → Refusal → Type 0
 TellsEnding passed refusal = Unit {0}
 TellsEnding (refused fault) refusal = refusal ≡ bad_config (Some fault)
-TellsEnding out_of_memory refusal = refusal ≡ no_memory
+TellsEnding no_memory refusal = refusal ≡ out_of_memory
 TellsEnding malformed refusal = Unit {0}
 
 -- the fault of a run whose profile is not given

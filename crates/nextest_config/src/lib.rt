@@ -5,19 +5,26 @@
 //! it.
 //!
 //! ```text
-//! let paths = ConfigPaths { workspace_root, shared: FileInput { path, outcome } };
-//! let selection = ConfigFileSelection::new(None);
-//! let pcx = ParseContext { filters: &filters, specs: &specs };
-//! let mut warnings = DefaultConfigWarnings::new(alloc);
-//! let config = NextestConfig::from_sources_with_paths(
-//!     alloc, &paths, &pcx, selection, &tools, &features, &mut warnings)?;
-//! let early = config.profile(alloc, "ci")?;
-//! let Ok(profile) = early.apply_build_platforms(alloc, &platforms) else { return no_memory() };
-//! let settings = profile.settings_for(NextestRunMode::Test, &test, &mut tally);
-//! let retries = settings.retries();
+//! fn retries_of<F: Filters, S: Specs>(
+//!     alloc: Global, workspace_root: String, path: &str, text: String, profile: &str,
+//!     pcx: &ParseContext<'_, F, S>, platforms: &BuildPlatforms<S::Platform>,
+//!     test: TestQuery<'_>, tally: &mut F::Tally,
+//! ) -> Result<Option<RetryPolicy>, ResolveFault> {
+//!     let path = ConfigPath::new(alloc, path)?;
+//!     let shared = FileInput { path, outcome: ReadOutcome::Text(text) };
+//!     let paths = ConfigPaths { workspace_root, shared };
+//!     let (selection, features) = (ConfigFileSelection::new(None), BTreeSet::new(alloc));
+//!     let inputs = Inputs { paths: &paths, selection, tools: &[], features: &features };
+//!     let (mode, mut warnings) = (NextestRunMode::Test, DefaultConfigWarnings::new(alloc));
+//!     let rows = resolve(
+//!         alloc, &inputs, pcx, profile, platforms, mode, &[test], &mut warnings, tally)?;
+//!     Ok(rows.first().map(|row| row.retries.0))
+//! }
 //! ```
 //!
-//! [`run::resolve`] does all of it in one call, and answers rows of values with their sources.
+//! `Inputs`, `resolve` and `ResolveFault` are those of [`run`]; a row has each value beside its
+//! source. [`NextestConfig`] does the same step by step: it is loaded, gives a profile, and that, on
+//! the platforms of a build, the settings of each test.
 #![tactic(auto)]
 
 mod config;
@@ -55,6 +62,12 @@ pub use nextest_settings::{
     PrecomputedGroupMembership, Setting, SettingSource, SetupScript, SetupScriptIter, SetupScripts,
     TestSettings, TrackSource,
 };
+pub use nextest_tables::{OverrideOutputs, OverrideRuns, OverrideSettings};
+
+// What a load makes, of which profiles are made.
+pub use nextest_load::{LoadedConfig, MergedProfile};
+pub use nextest_rules::{CompiledProfile, LayerRules};
+pub use nextest_tables::{ProfileEnds, ProfileFields, ProfileOutputs, ProfileRuns};
 
 // Values and scripts.
 pub use nextest_elements::{

@@ -55,7 +55,7 @@ impl Failure {
 
     /// What standard error is told of it: one line, and where a configuration is refused details
     /// behind it, on lines that begin with two spaces.
-    pub fn text(&self, alloc: Global) -> Result<String, AllocError> {
+    pub fn render(&self, alloc: Global) -> Result<String, AllocError> {
         match self {
             Failure::Usage => format!(in alloc; "{USAGE}\n"),
             Failure::Refused(ResolveFault::Config(error)) => format!(in alloc; "error: {error}\n"),

@@ -33,15 +33,15 @@ pub fn explain<R: FileReader, O: Write, E: Write>(
     ensures quiet { (result ≡ 0) ⊎ (result ≡ 6) ⊎ (O.contents out.new ≡ O.contents out.old) }
 {
     let mut warnings = DefaultConfigWarnings::new(alloc);
-    let lines = lines(alloc, words, files, &mut warnings);
-    let Ok(warned) = warning_text(alloc, &warnings) else {
+    let answer = run(alloc, words, files, &mut warnings);
+    let Ok(warning_lines) = warning_text(alloc, &warnings) else {
         return refuse_for_memory(err);
     };
-    if err.write_all(warned.as_bytes()).is_err() {
+    if err.write_all(warning_lines.as_bytes()).is_err() {
         return 6;
     }
-    match lines {
-        Ok(lines) => ended(out.write_all(lines.as_bytes()), 0),
+    match answer {
+        Ok(lines) => status_of_write(out.write_all(lines.as_bytes()), 0),
         Err(failure) => refuse(alloc, &failure, err),
     }
 }
@@ -52,21 +52,21 @@ pub fn refuse_for_memory<E: Write>(err: &mut E) -> u8
     ensures message { (result ≡ 6)
         ⊎ Appends (E.contents err.old) (E.contents err.new) OUT_OF_MEMORY.now }
 {
-    ended(err.write_all(OUT_OF_MEMORY.as_bytes()), 5)
+    status_of_write(err.write_all(OUT_OF_MEMORY.as_bytes()), 5)
 }
 
 /// Tells of a failure, and answers the exit status.
 fn refuse<E: Write>(alloc: Global, failure: &Failure, err: &mut E) -> u8
     ensures { IsRefusalStatus result ⊎ (result ≡ 6) }
 {
-    match failure.text(alloc) {
-        Ok(text) => ended(err.write_all(text.as_bytes()), failure.status()),
+    match failure.render(alloc) {
+        Ok(text) => status_of_write(err.write_all(text.as_bytes()), failure.status()),
         Err(_) => refuse_for_memory(err),
     }
 }
 
 /// The status, unless the last write failed.
-fn ended(written: io::Result<()>, status: u8) -> u8
+fn status_of_write(written: io::Result<()>, status: u8) -> u8
     ensures status { (result ≡ status) ⊎ (result ≡ 6) }
     ensures failed { (result ≡ 6) ⊎ IsOk written }
 {
@@ -88,18 +88,18 @@ fn warning_text(alloc: Global, warnings: &DefaultConfigWarnings) -> Result<Strin
 }
 
 /// The lines of the test that words ask about.
-fn lines<R: FileReader>(
+fn run<R: FileReader>(
     alloc: Global,
     words: &[String],
     files: &R,
     warnings: &mut DefaultConfigWarnings,
 ) -> Result<String, Failure> {
     let command = Command::parse(alloc, words)?;
-    lines_of(alloc, &command, files, warnings)
+    run_command(alloc, &command, files, warnings)
 }
 
 /// The lines of the test that a command asks about.
-fn lines_of<R: FileReader>(
+fn run_command<R: FileReader>(
     alloc: Global,
     command: &Command<'_>,
     files: &R,

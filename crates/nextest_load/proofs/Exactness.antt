@@ -26,7 +26,7 @@ use Rattle.nextest_tables.specs.Written.{Name}
 use Rattle.nextest_tables.specs.Tables.{a_file}
 use Rattle.nextest_tree.specs.Node.{Node, IsSorted}
 use Rattle.nextest_tree.specs.Schema.{Fault, first, faults, is_one_of}
-use Rattle.nextest_load.specs.Exact.{Checks, own, merged, IsExact}
+use Rattle.nextest_load.specs.Exact.{Checks, at_own_tree, at_merged_tree, IsExact}
 use Rattle.nextest_load.specs.Laws.{IsLeastFault, TellCycles}
 use Rattle.nextest_load.specs.Steps.{document_cause, element_cause, unknown_steps, own_steps, profiles_in, no_profiles, file_steps, source_steps, one_input_steps, input_steps, tool_steps, merged_steps, load_steps}
 use Rattle.nextest_load.specs.Trees.{own_tree, own_file, merged_tree}
@@ -183,9 +183,9 @@ module _ (files : LoadInputs) where
         let ruled = rule_steps engines (profiles_in lower) (sets_of (known_to lower (own_file s))) s.source (own_file s) in
         checked s.source (document_cause (tree_of s.text)) (file_steps engines features lower s.source n) (apart s.source _ (apart_document (tree_of s.text)))
         (both (own_steps s.source n) (defined ++ ruled)
-        (checked s.source (element_cause n) (unknown_steps s.source n) (finds_elements s.source n (own s is_one) (own_sorted s)) (warned (unknown_keys s.source) _))
+        (checked s.source (element_cause n) (unknown_steps s.source n) (finds_elements s.source n (at_own_tree s is_one) (own_sorted s)) (warned (unknown_keys s.source) _))
         (both defined ruled (definitions features s.source (own_file s))
-        (rules (profiles_in lower) (sets_of (known_to lower (own_file s))) s.source n (own s is_one) (own_sorted s))))
+        (rules (profiles_in lower) (sets_of (known_to lower (own_file s))) s.source n (at_own_tree s is_one) (own_sorted s))))
 
     -- what stands in all of these is a source of the load
     abbrev AreSources : List SourceText → Type 0
@@ -215,8 +215,8 @@ module _ (files : LoadInputs) where
     of_merged =
         let n = merged_tree (sources_in files) in
         let sorted = whole_sorted (sources_in files) in
-        checked (repository_of files) (element_cause n) _ (finds_elements (repository_of files) n merged sorted)
-        (checked (repository_of files) (parent_cause no_profiles (file_text n).profiles) [] (finds_parents no_profiles (repository_of files) n merged sorted) no_step)
+        checked (repository_of files) (element_cause n) _ (finds_elements (repository_of files) n at_merged_tree sorted)
+        (checked (repository_of files) (parent_cause no_profiles (file_text n).profiles) [] (finds_parents no_profiles (repository_of files) n at_merged_tree sorted) no_step)
 
     of_load : AreExact (load_steps engines features files)
     of_load =

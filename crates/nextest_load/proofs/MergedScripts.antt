@@ -73,9 +73,9 @@ pub record HaveScriptIds (file : FileText) (scripts : ScriptTables) : Type 0 whe
 -- so have the scripts of sources
 pub have_ids : (ss : List SourceText) (scripts : ScriptTables) → AreScriptsOf ss scripts → HaveScriptIds (merged_file ss) scripts
 have_ids ss scripts are =
-    let new = spelled_names _ _ are.file.new_setup are.spelled.new_setup in
-    let old = spelled_names _ _ are.file.old_setup are.spelled.old_setup in
-    let wrappers = spelled_names _ _ are.file.wrapper are.spelled.wrapper in
+    let new = spelled_names _ _ are.file.new_setup are.in_merged_tree.new_setup in
+    let old = spelled_names _ _ are.file.old_setup are.in_merged_tree.old_setup in
+    let wrappers = spelled_names _ _ are.file.wrapper are.in_merged_tree.wrapper in
     let file = merged_file ss in record {
       setup = same_names _ _ (λ id.
           sym (named_at scripts.setup id) ∙ ap is_some (are.setup id) ∙ some_of_either (at_name id are.file.new_setup) (at_name id are.file.old_setup)

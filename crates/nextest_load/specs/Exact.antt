@@ -13,18 +13,19 @@ use Rattle.nextest_load.specs.Trees.{own_tree, merged_tree}
 -- A load checks a tree at a source: the file of a source over the defaults, or the merged tree, at
 -- the repository's source.
 pub data Checks (files : LoadInputs) : Source → Node → Type 0 where
-  own : (s : SourceText) → Contains (sources_in files) s → Checks files s.source (own_tree s)
-  merged : Checks files (repository_of files) (merged_tree (sources_in files))
+  at_own_tree : (s : SourceText) → Contains (sources_in files) s
+      → Checks files s.source (own_tree s)
+  at_merged_tree : Checks files (repository_of files) (merged_tree (sources_in files))
 
 -- a fact of a tree that a load checks at a source
 abbrev pub OfChecked : LoadInputs → Source → (Node → Type 0) → Type 0
 OfChecked files source P = (n : Node) × Checks files source n × P n
 
 -- A fault of a load is exact, where it is of a tree.
-pub record IsExact (files : LoadInputs) (told : LoadFault) : Type 0 where
+pub record IsExact (files : LoadInputs) (fault : LoadFault) : Type 0 where
   -- an element is the least fault of its tree
-  pub elements : (fault : Fault) → told.cause ≡ bad_element fault
-      → OfChecked files told.source (λ n. IsLeastFault n fault)
+  pub elements : (element : Fault) → fault.cause ≡ bad_element element
+      → OfChecked files fault.source (λ n. IsLeastFault n element)
   -- faults of parents name exactly the cycles of their tree
-  pub parents : (faults : List ParentFault) → told.cause ≡ bad_parents faults
-      → OfChecked files told.source (λ n. TellCycles (file_text n) faults)
+  pub parents : (faults : List ParentFault) → fault.cause ≡ bad_parents faults
+      → OfChecked files fault.source (λ n. TellCycles (file_text n) faults)

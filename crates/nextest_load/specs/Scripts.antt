@@ -67,7 +67,7 @@ AllDefinedBefore sections (id ∷ ids) =
 pub record AreScriptsOf (ss : List SourceText) (scripts : ScriptTables) : Type 0 where
   -- what the tables of the merged tree spell
   pub file : FileScripts
-  pub spelled : AreFileScripts (merged_tree ss) file
+  pub in_merged_tree : AreFileScripts (merged_tree ss) file
   -- a setup script is that under `scripts.setup`, or else that under the old key `script`
   pub setup : (id : Name) → at_name id scripts.setup
       ≡ option_or (at_name id file.new_setup) (at_name id file.old_setup)

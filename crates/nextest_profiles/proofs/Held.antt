@@ -2,7 +2,7 @@
 use Rattle.std.proofs.Common.{◌≡◌, map}
 use Rattle.nextest_settings.specs.FilterView.{filter_view}
 use Rattle.nextest_settings.specs.Profile.{ProfileGrounds, EvaluatableModel}
-use Rattle.nextest_settings.specs.View.{evaluated_override_view, evaluated_script_rule_view, evaluated_override_meaning, evaluated_script_rule_meaning, override_of, script_rule_of}
+use Rattle.nextest_settings.specs.View.{evaluated_override_view, evaluated_script_rule_view, evaluated_override_meaning, evaluated_script_rule_meaning, held_override_meaning, held_script_rule_meaning}
 use Rattle.nextest_settings.specs.declared.evaluated.EvaluatedRules.{EvaluatedRules}
 use Rattle.nextest_profiles.specs.Meaning.{choice_meaning, profile_meaning}
 use Rattle.nextest_profiles.proofs.Closing.{fused}
@@ -21,8 +21,8 @@ module _ {F S E T N P M : Type 0} (f : E → M) (grounds : ProfileGrounds) (rule
   abbrev pub held_meaning : EvaluatableModel M
   held_meaning = record {
     grounds = grounds;
-    overrides = map (override_of f) rules.overrides.items;
-    script_rules = map (script_rule_of f) rules.script_rules.items;
+    overrides = map (held_override_meaning f) rules.overrides.items;
+    script_rules = map (held_script_rule_meaning f) rules.script_rules.items;
     default_filter = choice_meaning f (filter_view rules.default_filter);
   }
 

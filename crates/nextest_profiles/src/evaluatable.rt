@@ -8,11 +8,11 @@ ghost use Rattle.nextest_settings.specs.GroupView.{membership_group};
 ghost use Rattle.nextest_settings.specs.Queries.{test_query, binary_query, setting_value, setting_origin, wrapping_rule, evaluated_for_test, list_wrapper_of, evaluated_for_list, enabled_scripts, group_of, AnswerForBinaries};
 ghost use Rattle.nextest_settings.specs.ListView.{list_wrapper_at};
 ghost use Rattle.nextest_settings.specs.SettingsView.{value_at, origin_at, wrapper_at, wrapping_use_at};
-ghost use Rattle.nextest_settings.specs.SetupView.{scripts_in, rules_in};
+ghost use Rattle.nextest_settings.specs.SetupView.{setup_scripts_view, setup_scripts_rules_view};
 ghost use Rattle.nextest_settings.specs.declared.setting.Setting.{Setting};
 ghost use Rattle.nextest_settings.specs.Settings.{slow_timeout_in, global_timeout_in};
 ghost use Rattle.nextest_settings.specs.Values.{nearest};
-ghost use Rattle.nextest_settings.specs.View.{evaluated_override_view, evaluated_script_rule_view, script_rule_of};
+ghost use Rattle.nextest_settings.specs.View.{evaluated_override_view, evaluated_script_rule_view, held_script_rule_meaning};
 ghost use Rattle.nextest_profiles.specs.Junit.{IsReportWhereSet};
 ghost use Rattle.nextest_profiles.specs.Known.{KnowsScripts, evaluated_use};
 ghost use Rattle.nextest_profiles.specs.Meaning.{profile_meaning};
@@ -57,7 +57,7 @@ impl<'cfg, F: Filters, S: Specs> Model for EvaluatableProfile<'cfg, F, S> {
     } };
 
     ghost use Rattle.nextest_settings.specs.Queries.{AnswerForBinaries};
-    ghost use Rattle.nextest_settings.specs.View.{script_rule_of};
+    ghost use Rattle.nextest_settings.specs.View.{held_script_rule_meaning};
     ghost use Rattle.nextest_profiles.specs.Known.{KnowsScripts, evaluated_use};
 
     /// The scripts that rules name are there, and each filter beside a list wrapper answers for
@@ -65,7 +65,7 @@ impl<'cfg, F: Filters, S: Specs> Model for EvaluatableProfile<'cfg, F, S> {
     ghost invariant = { λ p. KnowsScripts p.grounds.scripts
         (map evaluated_use p.rules.script_rules.items)
         × AnswerForBinaries F.holds_binary
-        (map (script_rule_of F.meaning) p.rules.script_rules.items) };
+        (map (held_script_rule_meaning F.meaning) p.rules.script_rules.items) };
 }
 
 impl<'cfg, F: Filters, S: Specs> EvaluatableProfile<'cfg, F, S> {
@@ -77,7 +77,7 @@ impl<'cfg, F: Filters, S: Specs> EvaluatableProfile<'cfg, F, S> {
         requires known { KnowsScripts grounds.scripts
             (map evaluated_use rules.script_rules.items) }
         requires answers { AnswerForBinaries F.holds_binary
-            (map (script_rule_of F.meaning) rules.script_rules.items) }
+            (map (held_script_rule_meaning F.meaning) rules.script_rules.items) }
         ensures { result ≡ record {
           grounds = grounds.entry;
           overrides = map evaluated_override_view rules.entry.overrides.items;
@@ -336,9 +336,9 @@ impl<'cfg, F: Filters, S: Specs> EvaluatableProfile<'cfg, F, S> {
         ensures scripts { let profile = profile_meaning F.meaning self.now in
             let tests = map (λ query. test_query F.holds profile.default_filter.filter
             (test_view query)) queries.now in
-            IfOk result (λ found. scripts_in found ≡ enabled_scripts tests profile) }
+            IfOk result (λ found. setup_scripts_view found ≡ enabled_scripts tests profile) }
         ensures rules { let profile = profile_meaning F.meaning self.now in
-            IfOk result (λ found. rules_in F.meaning found ≡ profile.script_rules) }
+            IfOk result (λ found. setup_scripts_rules_view F.meaning found ≡ profile.script_rules) }
         ensures tally { (added : List ℕ)
             × (F.Tally.numbers tally.new ≡ F.Tally.numbers tally.old ++ added) }
     {

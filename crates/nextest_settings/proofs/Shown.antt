@@ -12,7 +12,7 @@ use Rattle.nextest_settings.specs.Platforms.{EvaluatedRule}
 use Rattle.nextest_settings.specs.Queries.{deciding_override, wrapping_rule, written_value, value_by, written_origin, origin_by, by_override, by_script, fallback_origin}
 use Rattle.nextest_settings.specs.Settings.{settings, sets, index_of}
 use Rattle.nextest_settings.specs.SettingsView.{slot_at, written_at, value_at, fallback_view, written_origin_at, origin_at}
-use Rattle.nextest_settings.specs.View.{override_of, script_rule_ref_view}
+use Rattle.nextest_settings.specs.View.{held_override_meaning, script_rule_ref_view}
 use Rattle.nextest_settings.specs.declared.setting.Setting.{Setting}
 use Rattle.nextest_settings.specs.declared.setting.Setting.TheVariants as at
 use Rattle.nextest_settings.specs.declared.test_settings.TestSettings.{TestSettings}
@@ -59,11 +59,11 @@ slot_is f slots w shown s = sym (slot-map f slots s) ∙ ap (λ l. slot_at l s) 
 module _ {F S Src E T N P M : Type 0} (meaning : E → M) (t : TestSettings F S Src E T N P) (query : QueryContext M) (overrides : List (Override M)) (script_rules : List (EvaluatedRule M ScriptUse))
     (shown : slots_view meaning t.winners.slots ≡ winners_of query t.mode overrides settings)
     (wrapped : option_map (λ w. (script_rule_ref_view w.rule).writes) t.run_wrapper ≡ option_map (λ r. r.writes) (wrapping_rule query script_rules)) where
-  slot-shown : (s : Setting) → option_map (override_of meaning) (slot_at t.winners.slots s) ≡ deciding_override query t.mode overrides s
-  slot-shown s = slot_is (override_of meaning) t.winners.slots (λ s. deciding_override query t.mode overrides s) shown s
+  slot-shown : (s : Setting) → option_map (held_override_meaning meaning) (slot_at t.winners.slots s) ≡ deciding_override query t.mode overrides s
+  slot-shown s = slot_is (held_override_meaning meaning) t.winners.slots (λ s. deciding_override query t.mode overrides s) shown s
 
-  by_slot : {C : Type 0} (s : Setting) (h : Override M → Option C) → option_and_then (λ x. h (override_of meaning x)) (slot_at t.winners.slots s) ≡ option_and_then h (deciding_override query t.mode overrides s)
-  by_slot s h = sym (option_and_then-map (override_of meaning) h (slot_at t.winners.slots s)) ∙ ap (option_and_then h) (slot-shown s)
+  by_slot : {C : Type 0} (s : Setting) (h : Override M → Option C) → option_and_then (λ x. h (held_override_meaning meaning x)) (slot_at t.winners.slots s) ≡ option_and_then h (deciding_override query t.mode overrides s)
+  by_slot s h = sym (option_and_then-map (held_override_meaning meaning) h (slot_at t.winners.slots s)) ∙ ap (option_and_then h) (slot-shown s)
 
   by_wrapper : {C : Type 0} (h : ScriptUse → Option C) → option_and_then (λ w. h (script_rule_ref_view w.rule).writes) t.run_wrapper ≡ option_and_then (λ r. h r.writes) (wrapping_rule query script_rules)
   by_wrapper h =
@@ -92,8 +92,8 @@ module _ {F S Src E T N P M : Type 0} (meaning : E → M) (t : TestSettings F S 
       ∙ ap (λ group. option_or (written_value query t.mode overrides script_rules s) (fallback_view t.values group t.mode s)) global
       ∙ ap (λ o. option_or (written_value query t.mode overrides script_rules s) o) (fallback_view_is_fallback fields t.values values t.mode s)
 
-  of_slot : (s : Setting) → option_map (λ x. by_override (override_of meaning x).writes.id) (slot_at t.winners.slots s) ≡ option_map (λ r. by_override r.writes.id) (deciding_override query t.mode overrides s)
-  of_slot s = sym (option_map-map (override_of meaning) (λ r. by_override r.writes.id) (slot_at t.winners.slots s)) ∙ ap (option_map (λ r. by_override r.writes.id)) (slot-shown s)
+  of_slot : (s : Setting) → option_map (λ x. by_override (held_override_meaning meaning x).writes.id) (slot_at t.winners.slots s) ≡ option_map (λ r. by_override r.writes.id) (deciding_override query t.mode overrides s)
+  of_slot s = sym (option_map-map (held_override_meaning meaning) (λ r. by_override r.writes.id) (slot_at t.winners.slots s)) ∙ ap (option_map (λ r. by_override r.writes.id)) (slot-shown s)
 
   of_wrapper : option_map (λ w. by_script) t.run_wrapper ≡ option_map (λ r. by_script) (wrapping_rule query script_rules)
   of_wrapper =

@@ -5,7 +5,7 @@ use Rattle.nextest_scripts.specs.ScriptTexts.{SetupScriptText, setup_script_view
 use Rattle.nextest_tables.specs.FileTexts.{ScriptUse}
 use Rattle.nextest_tables.specs.Written.{Name}
 use Rattle.nextest_settings.specs.Platforms.{EvaluatedRule}
-use Rattle.nextest_settings.specs.View.{script_rule_of}
+use Rattle.nextest_settings.specs.View.{held_script_rule_meaning}
 use Rattle.nextest_settings.specs.declared.setup_scripts.NamedSetupScript.{NamedSetupScript}
 use Rattle.nextest_settings.specs.declared.setup_scripts.NumberedRule.{NumberedRule}
 use Rattle.nextest_settings.specs.declared.setup_scripts.SetupScript.{SetupScript}
@@ -13,35 +13,35 @@ use Rattle.nextest_settings.specs.declared.setup_scripts.SetupScripts.{SetupScri
 use Rattle.nextest_settings.specs.declared.setup_scripts.SetupScriptIter.{SetupScriptIter}
 
 -- a rule, by what its filter means
-abbrev pub numbered_rule_of : {F S E T N P M : Type 0} → (E → M) → NumberedRule F S E T N P
+abbrev pub numbered_rule_view : {F S E T N P M : Type 0} → (E → M) → NumberedRule F S E T N P
     → EvaluatedRule M ScriptUse
-numbered_rule_of meaning r = script_rule_of meaning r.rule
+numbered_rule_view meaning r = held_script_rule_meaning meaning r.rule
 
 -- a setup script by its id
 abbrev pub named_setup_script_view : NamedSetupScript → Name × SetupScriptText
 named_setup_script_view s = (script_text s.id.now, setup_script_view s.config.now)
 
 -- the id of a setup script
-abbrev pub id_of : {F S E T N P : Type 0} → SetupScript F S E T N P → Name
-id_of s = script_text s.script.id.now
+abbrev pub script_id_view : {F S E T N P : Type 0} → SetupScript F S E T N P → Name
+script_id_view s = script_text s.script.id.now
 
 -- the rules among which those stand that name a setup script
-abbrev pub rules_of : {F S E T N P M : Type 0} → (E → M) → SetupScript F S E T N P
+abbrev pub setup_rules_view : {F S E T N P M : Type 0} → (E → M) → SetupScript F S E T N P
     → List (EvaluatedRule M ScriptUse)
-rules_of meaning s = map (numbered_rule_of meaning) s.rules.now
+setup_rules_view meaning s = map (numbered_rule_view meaning) s.rules.now
 
 -- the rules among which those stand that name setup scripts
-abbrev pub rules_in : {F S E T N P M : Type 0} → (E → M) → SetupScripts F S E T N P
+abbrev pub setup_scripts_rules_view : {F S E T N P M : Type 0} → (E → M) → SetupScripts F S E T N P
     → List (EvaluatedRule M ScriptUse)
-rules_in meaning s = map (numbered_rule_of meaning) s.rules.items
+setup_scripts_rules_view meaning s = map (numbered_rule_view meaning) s.rules.items
 
 -- setup scripts, in their order
-abbrev pub scripts_in : {F S E T N P : Type 0} → SetupScripts F S E T N P
+abbrev pub setup_scripts_view : {F S E T N P : Type 0} → SetupScripts F S E T N P
     → List (Name × SetupScriptText)
-scripts_in s = map named_setup_script_view s.scripts.items
+setup_scripts_view s = map named_setup_script_view s.scripts.items
 
 -- the setup scripts that an iterator has left, each with the rules
-abbrev pub scripts_left : {F S E T N P : Type 0} → SetupScriptIter F S E T N P
+abbrev pub scripts_left_view : {F S E T N P : Type 0} → SetupScriptIter F S E T N P
     → List (SetupScript F S E T N P)
-scripts_left i =
+scripts_left_view i =
     map (λ script. record { script = script; rules = i.rules }) (drop i.index i.scripts.now)

@@ -71,14 +71,15 @@ abbrev pub evaluated_script_rule_meaning : {E M : Type 0} → (E → M) → Eval
 evaluated_script_rule_meaning f r = evaluated_meaning f (λ u. u) r
 
 -- an override that code holds, by what its filters mean
-abbrev pub override_of : {F S E T N P M : Type 0} → (E → M)
+abbrev pub held_override_meaning : {F S E T N P M : Type 0} → (E → M)
     → EvaluatedRule' (CompiledOverride F S E T N P) → EvaluatedRule M (OverrideUse M)
-override_of meaning r = evaluated_override_meaning meaning (evaluated_override_view r)
+held_override_meaning meaning r = evaluated_override_meaning meaning (evaluated_override_view r)
 
 -- a script rule that code holds, by what its filter means
-abbrev pub script_rule_of : {F S E T N P M : Type 0} → (E → M)
+abbrev pub held_script_rule_meaning : {F S E T N P M : Type 0} → (E → M)
     → EvaluatedRule' (CompiledProfileScripts F S E T N P) → EvaluatedRule M ScriptUse
-script_rule_of meaning r = evaluated_script_rule_meaning meaning (evaluated_script_rule_view r)
+held_script_rule_meaning meaning r =
+    evaluated_script_rule_meaning meaning (evaluated_script_rule_view r)
 
 -- each run wrapper that script rules name is a wrapper script of a configuration
 abbrev pub KnowsRunWrappers : {F S E T N P : Type 0} → ScriptTables

@@ -6,7 +6,7 @@ ghost use Rattle.nextest_settings.specs.Deciding.{asked_from, filter_holds};
 ghost use Rattle.nextest_settings.specs.Pass.{slots_view, slots_with_rule, is_open, is_overridable, after_rule, asked_one, winners_of, wanted_settings};
 ghost use Rattle.nextest_settings.specs.Queries.{test_query};
 ghost use Rattle.nextest_settings.specs.Settings.{is_set, settings};
-ghost use Rattle.nextest_settings.specs.View.{override_of};
+ghost use Rattle.nextest_settings.specs.View.{held_override_meaning};
 ghost use Rattle.nextest_tables.specs.View.{settings_view};
 
 use crate::platforms::EvaluatedOverride;
@@ -107,11 +107,12 @@ fn consider<'cfg, F: Filters, S: Specs>(
     ensures slots { let query = test_query F.holds (F.meaning cx.now.default_filter.now)
         (test_view query.now) in
         slots_view F.meaning slots.new
-        ≡ after_rule query mode (override_of F.meaning rule.now) (slots_view F.meaning slots.old) }
+        ≡ after_rule query mode (held_override_meaning F.meaning rule.now)
+        (slots_view F.meaning slots.old) }
     ensures tally { let query = test_query F.holds (F.meaning cx.now.default_filter.now)
         (test_view query.now) in
         F.Tally.numbers tally.new ≡ F.Tally.numbers tally.old
-        ++ asked_one query mode (override_of F.meaning rule.now) number
+        ++ asked_one query mode (held_override_meaning F.meaning rule.now) number
         (slots_view F.meaning slots.old) }
 {
     let written = rule.rule.settings();
@@ -136,12 +137,12 @@ pub(crate) fn winners<'cfg, F: Filters, S: Specs>(
     ensures winners { let query = test_query F.holds (F.meaning cx.now.default_filter.now)
         (test_view query.now) in
         slots_view F.meaning result
-        ≡ winners_of query mode (map (override_of F.meaning) overrides.now) settings }
+        ≡ winners_of query mode (map (held_override_meaning F.meaning) overrides.now) settings }
     ensures tally { let query = test_query F.holds (F.meaning cx.now.default_filter.now)
         (test_view query.now) in
         F.Tally.numbers tally.new ≡ F.Tally.numbers tally.old
         ++ asked_from (wanted_settings mode) 0 query []
-        (map (override_of F.meaning) overrides.now) }
+        (map (held_override_meaning F.meaning) overrides.now) }
 {
     let mut slots = [None; SETTING_COUNT];
     for (number, rule) in overrides.iter().enumerate() {

@@ -6,8 +6,8 @@ ghost use Rattle.nextest_load.specs.ConfigView.{scripts_view};
 ghost use Rattle.nextest_scripts.specs.ScriptId.{script_text};
 ghost use Rattle.nextest_scripts.specs.ScriptTexts.{setup_script_view};
 ghost use Rattle.nextest_settings.specs.Queries.{test_query, is_enabled_for, enabled_by};
-ghost use Rattle.nextest_settings.specs.SetupView.{numbered_rule_of, named_setup_script_view, id_of, rules_of, rules_in, scripts_in, scripts_left};
-ghost use Rattle.nextest_settings.specs.View.{script_rule_of};
+ghost use Rattle.nextest_settings.specs.SetupView.{numbered_rule_view, named_setup_script_view, script_id_view, setup_rules_view, setup_scripts_rules_view, setup_scripts_view, scripts_left_view};
+ghost use Rattle.nextest_settings.specs.View.{held_script_rule_meaning};
 ghost use Rattle.nextest_tree.specs.Schema.{is_one_of};
 
 use crate::evaluated::EvaluatedRules;
@@ -54,7 +54,7 @@ fn is_enabled<F: Filters, S: Specs>(
 ) -> bool
     ensures answer { let query = test_query F.holds (F.meaning cx.now.default_filter.now)
         (test_view query.now) in
-        result ≡ is_enabled_for query (map (numbered_rule_of F.meaning) rules.now)
+        result ≡ is_enabled_for query (map (numbered_rule_view F.meaning) rules.now)
         (script_text id.now) }
     ensures tally { (added : List ℕ)
         × (F.Tally.numbers tally.new ≡ F.Tally.numbers tally.old ++ added) }
@@ -77,7 +77,7 @@ fn is_enabled_by_some<F: Filters, S: Specs>(
     tally: &mut F::Tally,
 ) -> bool
     ensures answer { result
-        ≡ list_any (λ query. is_enabled_for query (map (numbered_rule_of F.meaning) rules.now)
+        ≡ list_any (λ query. is_enabled_for query (map (numbered_rule_view F.meaning) rules.now)
         (script_text id.now)) (map (λ query. test_query F.holds
         (F.meaning cx.now.default_filter.now) (test_view query)) queries.now) }
     ensures tally { (added : List ℕ)
@@ -101,7 +101,7 @@ pub struct SetupScript<'s, 'cfg, F: Filters, S: Specs> {
 impl<'cfg, F: Filters, S: Specs> SetupScript<'_, 'cfg, F, S> {
     /// The script's id.
     pub fn id(&self) -> &'cfg ScriptId
-        ensures { script_text result.now ≡ id_of self.now }
+        ensures { script_text result.now ≡ script_id_view self.now }
     {
         self.script.id
     }
@@ -122,7 +122,8 @@ impl<'cfg, F: Filters, S: Specs> SetupScript<'_, 'cfg, F, S> {
     ) -> bool
         ensures answer { let query = test_query F.holds (F.meaning cx.now.default_filter.now)
             (test_view query.now) in
-            result ≡ is_enabled_for query (rules_of F.meaning self.now) (id_of self.now) }
+            result ≡ is_enabled_for query (setup_rules_view F.meaning self.now)
+            (script_id_view self.now) }
         ensures tally { (added : List ℕ)
             × (F.Tally.numbers tally.new ≡ F.Tally.numbers tally.old ++ added) }
     {
@@ -140,10 +141,10 @@ pub struct SetupScripts<'cfg, F: Filters, S: Specs> {
 impl<'cfg, F: Filters, S: Specs> SetupScripts<'cfg, F, S> {
     /// The scripts, in the order in which they run.
     pub fn iter(&self) -> SetupScriptIter<'_, 'cfg, F, S>
-        ensures scripts { map (λ s. named_setup_script_view s.script) (scripts_left result)
-            ≡ scripts_in self.now }
-        ensures rules { map (numbered_rule_of F.meaning) result.rules.now
-            ≡ rules_in F.meaning self.now }
+        ensures scripts { map (λ s. named_setup_script_view s.script) (scripts_left_view result)
+            ≡ setup_scripts_view self.now }
+        ensures rules { map (numbered_rule_view F.meaning) result.rules.now
+            ≡ setup_scripts_rules_view F.meaning self.now }
     {
         SetupScriptIter {
             scripts: &self.scripts,
@@ -154,14 +155,14 @@ impl<'cfg, F: Filters, S: Specs> SetupScripts<'cfg, F, S> {
 
     /// How many scripts are enabled.
     pub fn len(&self) -> usize
-        ensures { result ≡ length (scripts_in self.now) }
+        ensures { result ≡ length (setup_scripts_view self.now) }
     {
         self.scripts.len()
     }
 
     /// Whether no script is enabled.
     pub fn is_empty(&self) -> bool
-        ensures { IsTrue result ↔ (scripts_in self.now ≡ []) }
+        ensures { IsTrue result ↔ (setup_scripts_view self.now ≡ []) }
     {
         self.scripts.is_empty()
     }
@@ -177,13 +178,13 @@ pub struct SetupScriptIter<'s, 'cfg, F: Filters, S: Specs> {
 
 impl<'s, 'cfg, F: Filters, S: Specs> Iterator for SetupScriptIter<'s, 'cfg, F, S> {
     ghost use Rattle.std.specs.Iterator.{YieldsFirst, item_count};
-    ghost use Rattle.nextest_settings.specs.SetupView.{scripts_left};
+    ghost use Rattle.nextest_settings.specs.SetupView.{scripts_left_view};
 
     type Item = SetupScript<'s, 'cfg, F, S>;
 
-    ghost next_gives = { YieldsFirst scripts_left };
+    ghost next_gives = { YieldsFirst scripts_left_view };
 
-    ghost remaining = { item_count scripts_left };
+    ghost remaining = { item_count scripts_left_view };
 
     fn next(&mut self) -> Option<SetupScript<'s, 'cfg, F, S>> {
         let script = *self.scripts.get(self.index)?;
@@ -202,8 +203,8 @@ fn numbered_rules<'cfg, F: Filters, S: Specs>(
     first: usize,
 ) -> Result<Vec<NumberedRule<'cfg, F, S>>, AllocError>
     requires { first + length rules.now < 2 ^ 64 }
-    ensures { IfOk result (λ found. map (numbered_rule_of F.meaning) found.items
-        ≡ map (script_rule_of F.meaning) rules.now) }
+    ensures { IfOk result (λ found. map (numbered_rule_view F.meaning) found.items
+        ≡ map (held_script_rule_meaning F.meaning) rules.now) }
 {
     let mut found = Vec::with_capacity(alloc, rules.len())?;
     for (index, rule) in rules.iter().enumerate() {
@@ -227,7 +228,7 @@ fn enabled_scripts<'cfg, F: Filters, S: Specs>(
     ensures scripts { IfOk result (λ found. map named_setup_script_view found.items
         ≡ enabled_by (map (λ query. test_query F.holds (F.meaning cx.now.default_filter.now)
         (test_view query)) queries.now)
-        (map (numbered_rule_of F.meaning) rules.now) (scripts_view scripts.now).setup) }
+        (map (numbered_rule_view F.meaning) rules.now) (scripts_view scripts.now).setup) }
     ensures tally { (added : List ℕ)
         × (F.Tally.numbers tally.new ≡ F.Tally.numbers tally.old ++ added) }
 {
@@ -250,13 +251,13 @@ impl<'cfg, F: Filters, S: Specs> EvaluatedRules<'cfg, F, S> {
         queries: &[TestQuery<'_>],
         tally: &mut F::Tally,
     ) -> Result<SetupScripts<'cfg, F, S>, AllocError>
-        ensures scripts { IfOk result (λ found. scripts_in found
+        ensures scripts { IfOk result (λ found. setup_scripts_view found
             ≡ enabled_by (map (λ query. test_query F.holds
             (F.meaning self.now.default_filter.expr.now) (test_view query)) queries.now)
-            (map (script_rule_of F.meaning) self.now.script_rules.items)
+            (map (held_script_rule_meaning F.meaning) self.now.script_rules.items)
             (scripts_view scripts.now).setup) }
-        ensures rules { IfOk result (λ found. rules_in F.meaning found
-            ≡ map (script_rule_of F.meaning) self.now.script_rules.items) }
+        ensures rules { IfOk result (λ found. setup_scripts_rules_view F.meaning found
+            ≡ map (held_script_rule_meaning F.meaning) self.now.script_rules.items) }
         ensures tally { (added : List ℕ)
             × (F.Tally.numbers tally.new ≡ F.Tally.numbers tally.old ++ added) }
     {

@@ -12,7 +12,7 @@ ghost use Rattle.nextest_settings.specs.Queries.{test_query, value_by, origin_by
 ghost use Rattle.nextest_settings.specs.Settings.{index_of};
 ghost use Rattle.nextest_settings.specs.SettingsView.{slot_at, value_at, origin_at, wrapping_use_at, wrapper_at};
 ghost use Rattle.nextest_settings.specs.SourceView.{MarksOrigin, MarksScriptRule};
-ghost use Rattle.nextest_settings.specs.View.{override_ref_view, override_of, script_rule_of, KnowsRunWrappers};
+ghost use Rattle.nextest_settings.specs.View.{override_ref_view, held_override_meaning, held_script_rule_meaning, KnowsRunWrappers};
 ghost use Rattle.nextest_settings.specs.declared.setting.Setting.{Setting};
 ghost use Rattle.nextest_sources.specs.InputFaults.{Each};
 ghost use Rattle.nextest_tables.specs.FileTexts.{names_in, IsIn};
@@ -70,25 +70,26 @@ impl<'cfg, F: Filters, S: Specs> EvaluatedRules<'cfg, F, S> {
             → let query = test_query F.holds (F.meaning self.now.default_filter.expr.now)
             (test_view query.now) in
             (s : Setting) → value_at result s ≡ value_by query mode
-            (map (override_of F.meaning) self.now.overrides.items)
-            (map (script_rule_of F.meaning) self.now.script_rules.items) fields s }
+            (map (held_override_meaning F.meaning) self.now.overrides.items)
+            (map (held_script_rule_meaning F.meaning) self.now.script_rules.items) fields s }
         ensures origins { let query = test_query F.holds
             (F.meaning self.now.default_filter.expr.now) (test_view query.now) in
             (s : Setting) → origin_at result s ≡ origin_by query mode
-            (map (override_of F.meaning) self.now.overrides.items)
-            (map (script_rule_of F.meaning) self.now.script_rules.items) s }
+            (map (held_override_meaning F.meaning) self.now.overrides.items)
+            (map (held_script_rule_meaning F.meaning) self.now.script_rules.items) s }
         ensures rule { let query = test_query F.holds
             (F.meaning self.now.default_filter.expr.now) (test_view query.now) in
             wrapping_use_at result ≡ option_map (λ r. r.writes)
-            (wrapping_rule query (map (script_rule_of F.meaning) self.now.script_rules.items)) }
+            (wrapping_rule query
+            (map (held_script_rule_meaning F.meaning) self.now.script_rules.items)) }
         ensures wrapper { option_map Some (wrapper_at result)
             ≡ option_map (λ id. at_name id (scripts_view scripts.now).wrapper)
             (value_at result Setting.RunWrapper) }
         ensures tally { let query = test_query F.holds (F.meaning self.now.default_filter.expr.now)
             (test_view query.now) in
             F.Tally.numbers tally.new ≡ F.Tally.numbers tally.old ++ evaluated_by query mode
-            (map (override_of F.meaning) self.now.overrides.items)
-            (map (script_rule_of F.meaning) self.now.script_rules.items) }
+            (map (held_override_meaning F.meaning) self.now.overrides.items)
+            (map (held_script_rule_meaning F.meaning) self.now.script_rules.items) }
     {
         let cx = EvalContext {
             default_filter: self.default_filter.expr,

@@ -79,8 +79,8 @@ impl ReportValues<'_> {
             None => StoredValues {
                 success_output: false,
                 failure_output: false,
-                skipped: ReportSkipPolicy::None,
-                flaky_fail_status: JunitFlakyFailStatus::Failure,
+                skipped: ReportSkipPolicy::default(),
+                flaky_fail_status: JunitFlakyFailStatus::default(),
             },
         }
     }

@@ -8,7 +8,7 @@ ghost use Rattle.nextest_scripts.specs.ScriptTexts.{wrapper_script_view};
 ghost use Rattle.nextest_settings.specs.Deciding.{asked_from, filter_holds, rule_holds, winner};
 ghost use Rattle.nextest_settings.specs.Pass.{asked_alone};
 ghost use Rattle.nextest_settings.specs.Queries.{test_query, binary_query, HasBinaryAnswers, AnswerForBinaries, wrapping_rule, list_wrapper_by, listed_by};
-ghost use Rattle.nextest_settings.specs.View.{script_rule_of, script_rule_ref_view, KnowsRunWrappers, KnowsListWrappers};
+ghost use Rattle.nextest_settings.specs.View.{held_script_rule_meaning, script_rule_ref_view, KnowsRunWrappers, KnowsListWrappers};
 ghost use Rattle.nextest_tables.specs.FileTexts.{names_in, IsIn};
 
 use crate::pass::matches_test;
@@ -55,11 +55,11 @@ pub(crate) fn holds_for_test<F: Filters, S: Specs>(
 ) -> bool
     ensures answer { let query = test_query F.holds (F.meaning cx.now.default_filter.now)
         (test_view query.now) in
-        result ≡ (rule_holds query (script_rule_of F.meaning rule.now) && is_wanted) }
+        result ≡ (rule_holds query (held_script_rule_meaning F.meaning rule.now) && is_wanted) }
     ensures tally { let query = test_query F.holds (F.meaning cx.now.default_filter.now)
         (test_view query.now) in
         F.Tally.numbers tally.new ≡ F.Tally.numbers tally.old
-        ++ asked_alone query is_wanted (script_rule_of F.meaning rule.now) number }
+        ++ asked_alone query is_wanted (held_script_rule_meaning F.meaning rule.now) number }
 {
     rule.is_on(query.binary_query.platform)
         && is_wanted
@@ -77,14 +77,14 @@ fn holds_for_binary<F: Filters, S: Specs>(
     tally: &mut F::Tally,
 ) -> bool
     requires { IsTrue is_wanted
-        → HasBinaryAnswers F.holds_binary (script_rule_of F.meaning rule.now).filter }
+        → HasBinaryAnswers F.holds_binary (held_script_rule_meaning F.meaning rule.now).filter }
     ensures answer { let query = binary_query F.holds_binary (F.meaning cx.now.default_filter.now)
         (binary_view query.now) in
-        result ≡ (rule_holds query (script_rule_of F.meaning rule.now) && is_wanted) }
+        result ≡ (rule_holds query (held_script_rule_meaning F.meaning rule.now) && is_wanted) }
     ensures tally { let query = binary_query F.holds_binary (F.meaning cx.now.default_filter.now)
         (binary_view query.now) in
         F.Tally.numbers tally.new ≡ F.Tally.numbers tally.old
-        ++ asked_alone query is_wanted (script_rule_of F.meaning rule.now) number }
+        ++ asked_alone query is_wanted (held_script_rule_meaning F.meaning rule.now) number }
 {
     rule.is_on(query.platform)
         && is_wanted
@@ -103,13 +103,14 @@ pub(crate) fn run_wrapper_rule<'cfg, F: Filters, S: Specs>(
     requires { first + length rules.now < 2 ^ 64 }
     ensures rule { let query = test_query F.holds (F.meaning cx.now.default_filter.now)
         (test_view query.now) in
-        option_map (script_rule_of F.meaning) result
-        ≡ winner query (λ w. is_some w.run_wrapper) (map (script_rule_of F.meaning) rules.now) }
+        option_map (held_script_rule_meaning F.meaning) result
+        ≡ winner query (λ w. is_some w.run_wrapper)
+        (map (held_script_rule_meaning F.meaning) rules.now) }
     ensures tally { let query = test_query F.holds (F.meaning cx.now.default_filter.now)
         (test_view query.now) in
         F.Tally.numbers tally.new ≡ F.Tally.numbers tally.old
         ++ asked_from ((λ w. is_some w.run_wrapper) ∷ []) first query []
-        (map (script_rule_of F.meaning) rules.now) }
+        (map (held_script_rule_meaning F.meaning) rules.now) }
     ensures member { IfSome result (λ r. (n : ℕ) × (slice_get rules.now n ≡ Some r)) }
     ensures named { IfSome result (λ r. IsSome (script_rule_ref_view r.rule).writes.run_wrapper) }
 {
@@ -133,16 +134,17 @@ pub(crate) fn list_wrapper_rule<'cfg, F: Filters, S: Specs>(
 ) -> Option<EvaluatedScriptRule<'cfg, F, S>>
     requires room { first + length rules.now < 2 ^ 64 }
     requires answers { AnswerForBinaries F.holds_binary
-        (map (script_rule_of F.meaning) rules.now) }
+        (map (held_script_rule_meaning F.meaning) rules.now) }
     ensures rule { let query = binary_query F.holds_binary (F.meaning cx.now.default_filter.now)
         (binary_view query.now) in
-        option_map (script_rule_of F.meaning) result
-        ≡ winner query (λ w. is_some w.list_wrapper) (map (script_rule_of F.meaning) rules.now) }
+        option_map (held_script_rule_meaning F.meaning) result
+        ≡ winner query (λ w. is_some w.list_wrapper)
+        (map (held_script_rule_meaning F.meaning) rules.now) }
     ensures tally { let query = binary_query F.holds_binary (F.meaning cx.now.default_filter.now)
         (binary_view query.now) in
         F.Tally.numbers tally.new ≡ F.Tally.numbers tally.old
         ++ asked_from ((λ w. is_some w.list_wrapper) ∷ []) first query []
-        (map (script_rule_of F.meaning) rules.now) }
+        (map (held_script_rule_meaning F.meaning) rules.now) }
     ensures member { IfSome result (λ r. (n : ℕ) × (slice_get rules.now n ≡ Some r)) }
     ensures named { IfSome result (λ r. IsSome (script_rule_ref_view r.rule).writes.list_wrapper) }
 {
@@ -193,7 +195,7 @@ pub(crate) fn run_wrapper<'cfg, F: Filters, S: Specs>(
         (test_view query.now) in
         option_map (λ w. (script_rule_ref_view w.rule).writes) result
         ≡ option_map (λ r. r.writes)
-        (wrapping_rule query (map (script_rule_of F.meaning) rules.now)) }
+        (wrapping_rule query (map (held_script_rule_meaning F.meaning) rules.now)) }
     ensures script { option_map (λ w. Some (wrapper_script_view w.script.now)) result
         ≡ option_map (λ id. at_name id (scripts_view scripts.now).wrapper)
         (option_and_then (λ w. (script_rule_ref_view w.rule).writes.run_wrapper) result) }
@@ -201,7 +203,7 @@ pub(crate) fn run_wrapper<'cfg, F: Filters, S: Specs>(
         (test_view query.now) in
         F.Tally.numbers tally.new ≡ F.Tally.numbers tally.old
         ++ asked_from ((λ w. is_some w.run_wrapper) ∷ []) first query []
-        (map (script_rule_of F.meaning) rules.now) }
+        (map (held_script_rule_meaning F.meaning) rules.now) }
 {
     match run_wrapper_rule(rules, first, query, cx, tally) {
         Some(found) => Some(RunWrapper {
@@ -225,16 +227,16 @@ pub(crate) fn list_wrapper<'cfg, F: Filters, S: Specs>(
     requires room { first + length rules.now < 2 ^ 64 }
     requires known { KnowsListWrappers (scripts_view scripts.now) rules.now }
     requires answers { AnswerForBinaries F.holds_binary
-        (map (script_rule_of F.meaning) rules.now) }
+        (map (held_script_rule_meaning F.meaning) rules.now) }
     ensures script { let query = binary_query F.holds_binary (F.meaning cx.now.default_filter.now)
         (binary_view query.now) in
         option_map (λ script. Some (wrapper_script_view script.now)) result
         ≡ option_map (λ id. at_name id (scripts_view scripts.now).wrapper)
-        (list_wrapper_by query (map (script_rule_of F.meaning) rules.now)) }
+        (list_wrapper_by query (map (held_script_rule_meaning F.meaning) rules.now)) }
     ensures tally { let query = binary_query F.holds_binary (F.meaning cx.now.default_filter.now)
         (binary_view query.now) in
         F.Tally.numbers tally.new ≡ F.Tally.numbers tally.old
-        ++ listed_by query first (map (script_rule_of F.meaning) rules.now) }
+        ++ listed_by query first (map (held_script_rule_meaning F.meaning) rules.now) }
 {
     match list_wrapper_rule(rules, first, query, cx, tally) {
         Some(found) => Some(wrapper_at(scripts, found.rule.list_wrapper().unwrap())),

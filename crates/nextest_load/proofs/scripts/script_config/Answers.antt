@@ -36,7 +36,7 @@ returns c ss are spelled =
     let wrapper_scripts = c.args.scripts.wrapper.entries in
     record {
       file = file;
-      spelled = spelled;
+      in_merged_tree = spelled;
       setup = λ id. placed_seen setup_script_view (map (string_bytes {Z = Global}) c.deref.result.now) new_scripts old_scripts c.in_ok-setup.setup.entries id
           (c.in_ok-setup.ensures.scripts (each_named setup_script_view _ new_scripts old_scripts c.in_ok-setup.setup.entries named) id);
       wrapper = λ id. lone_seen wrapper_script_view (map (string_bytes {Z = Global}) c.deref-2.result.now) wrapper_scripts c.new.result.entries c.in_ok-wrapper.wrapper.entries c.new.ensures.empty id

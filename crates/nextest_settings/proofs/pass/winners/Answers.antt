@@ -3,7 +3,7 @@ use Rattle.nextest_engines.specs.Engines.{test_view}
 use Rattle.nextest_settings.specs.Pass.{slots_view, is_open, is_overridable}
 use Rattle.nextest_settings.specs.Queries.{test_query}
 use Rattle.nextest_settings.specs.Settings.{settings}
-use Rattle.nextest_settings.specs.View.{override_of}
+use Rattle.nextest_settings.specs.View.{held_override_meaning}
 use Rattle.nextest_settings.proofs.Considered.{open_view}
 use Rattle.nextest_settings.proofs.Closed.{stopped-slots, stopped-tally}
 use Rattle.nextest_settings.proofs.Turns.{turn-slots, turn-tally}
@@ -17,8 +17,8 @@ loop-number-preserved g c =
     let h = c.loop-number.invariant in
     let slots = slots_view F.meaning c.loop-number.slots in
     record {
-      slots = turn-slots query c.args.mode (override_of F.meaning) c.args.overrides.now c.loop-number.number c.index-overrides-number.result c.loop-number-test.true c.index-overrides-number.is slots h.slots _ c.consider.ensures.slots;
-      tally = turn-tally query c.args.mode (override_of F.meaning) c.args.overrides.now c.loop-number.number c.index-overrides-number.result c.loop-number-test.true c.index-overrides-number.is slots h.slots (numbers c.loop-number.tally) _ _ h.tally c.consider.ensures.tally;
+      slots = turn-slots query c.args.mode (held_override_meaning F.meaning) c.args.overrides.now c.loop-number.number c.index-overrides-number.result c.loop-number-test.true c.index-overrides-number.is slots h.slots _ c.consider.ensures.slots;
+      tally = turn-tally query c.args.mode (held_override_meaning F.meaning) c.args.overrides.now c.loop-number.number c.index-overrides-number.result c.loop-number-test.true c.index-overrides-number.is slots h.slots (numbers c.loop-number.tally) _ _ h.tally c.consider.ensures.tally;
     }
 
 pub returns-then-not-any_open-clause-winners : goal.returns-then-not-any_open-clause-winners
@@ -26,8 +26,8 @@ returns-then-not-any_open-clause-winners g c =
     let F = g.F.Filters in
     let query = test_query F.holds (F.meaning c.args.cx.now.default_filter.now) (test_view c.args.query.now) in
     let slots = slots_view F.meaning c.loop-number.slots in
-    let none_open : is_open is_overridable slots settings ≡ false = open_view (override_of F.meaning) is_overridable c.loop-number.slots settings ∙ sym c.any_open.ensures ∙ c.if-not-any_open.true in
-    stopped-slots query c.args.mode (override_of F.meaning) c.args.overrides.now c.loop-number.number slots c.loop-number.invariant.slots none_open
+    let none_open : is_open is_overridable slots settings ≡ false = open_view (held_override_meaning F.meaning) is_overridable c.loop-number.slots settings ∙ sym c.any_open.ensures ∙ c.if-not-any_open.true in
+    stopped-slots query c.args.mode (held_override_meaning F.meaning) c.args.overrides.now c.loop-number.number slots c.loop-number.invariant.slots none_open
 
 pub returns-then-not-any_open-clause-tally : goal.returns-then-not-any_open-clause-tally
 returns-then-not-any_open-clause-tally g c =
@@ -35,5 +35,5 @@ returns-then-not-any_open-clause-tally g c =
     let query = test_query F.holds (F.meaning c.args.cx.now.default_filter.now) (test_view c.args.query.now) in
     let slots = slots_view F.meaning c.loop-number.slots in
     let numbers = g.F.Tally.Tally.numbers in
-    let none_open : is_open is_overridable slots settings ≡ false = open_view (override_of F.meaning) is_overridable c.loop-number.slots settings ∙ sym c.any_open.ensures ∙ c.if-not-any_open.true in
-    stopped-tally query c.args.mode (override_of F.meaning) c.args.overrides.now c.loop-number.number slots c.loop-number.invariant.slots none_open (numbers c.loop-number.tally) _ c.loop-number.invariant.tally
+    let none_open : is_open is_overridable slots settings ≡ false = open_view (held_override_meaning F.meaning) is_overridable c.loop-number.slots settings ∙ sym c.any_open.ensures ∙ c.if-not-any_open.true in
+    stopped-tally query c.args.mode (held_override_meaning F.meaning) c.args.overrides.now c.loop-number.number slots c.loop-number.invariant.slots none_open (numbers c.loop-number.tally) _ c.loop-number.invariant.tally

@@ -4,14 +4,14 @@ use Rattle.nextest_settings.specs.Deciding.{asked_from}
 use Rattle.nextest_settings.specs.Pass.{slots_view, winners_of, wanted_settings}
 use Rattle.nextest_settings.specs.Queries.{test_query}
 use Rattle.nextest_settings.specs.Settings.{settings}
-use Rattle.nextest_settings.specs.View.{override_of}
+use Rattle.nextest_settings.specs.View.{held_override_meaning}
 use Rattle.nextest_settings.proofs.pass.winners.Given as goal
 
 abbrev pub invariant-loop-number : goal.invariant-loop-number
 invariant-loop-number g l =
     let F = g.F.Filters in
     let query = test_query F.holds (F.meaning l.cx.default_filter.now) (test_view l.query) in
-    let all = map (override_of F.meaning) l.overrides in
+    let all = map (held_override_meaning F.meaning) l.overrides in
     let numbers = g.F.Tally.Tally.numbers in
     record {
       slots : slots_view F.meaning l.slots ≡ winners_of query l.mode (take l.number all) settings;

@@ -3,7 +3,7 @@ use Rattle.std.specs.List.{list_any}
 use Rattle.nextest_engines.specs.Engines.{test_view}
 use Rattle.nextest_scripts.specs.ScriptId.{script_text}
 use Rattle.nextest_settings.specs.Queries.{test_query, is_enabled_for}
-use Rattle.nextest_settings.specs.SetupView.{numbered_rule_of}
+use Rattle.nextest_settings.specs.SetupView.{numbered_rule_view}
 use Rattle.nextest_settings.proofs.setup_scripts.is_enabled_by_some.Given as goal
 
 abbrev pub invariant-loop-query : goal.invariant-loop-query
@@ -11,7 +11,7 @@ invariant-loop-query g l =
     let F = g.F.Filters in
     let numbers = g.F.Tally.Tally.numbers in
     record {
-      answer : list_any (λ query. is_enabled_for query (map (numbered_rule_of F.meaning) l.rules) (script_text l.id)) (map (λ query. test_query F.holds (F.meaning l.cx.default_filter.now) (test_view query)) (drop l.query-index l.queries))
-          ≡ list_any (λ query. is_enabled_for query (map (numbered_rule_of F.meaning) l.rules) (script_text l.id)) (map (λ query. test_query F.holds (F.meaning l.cx.default_filter.now) (test_view query)) l.queries);
+      answer : list_any (λ query. is_enabled_for query (map (numbered_rule_view F.meaning) l.rules) (script_text l.id)) (map (λ query. test_query F.holds (F.meaning l.cx.default_filter.now) (test_view query)) (drop l.query-index l.queries))
+          ≡ list_any (λ query. is_enabled_for query (map (numbered_rule_view F.meaning) l.rules) (script_text l.id)) (map (λ query. test_query F.holds (F.meaning l.cx.default_filter.now) (test_view query)) l.queries);
       tally : (added : List ℕ) × (numbers l.tally ≡ numbers l.fn.tally ++ added);
     }

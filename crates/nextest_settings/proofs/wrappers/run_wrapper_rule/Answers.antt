@@ -3,7 +3,7 @@ use Rattle.nextest_engines.specs.Engines.{test_view}
 use Rattle.nextest_scripts.specs.ScriptId.{script_text}
 use Rattle.nextest_tables.specs.FileTexts.{ScriptUse}
 use Rattle.nextest_settings.specs.Queries.{test_query}
-use Rattle.nextest_settings.specs.View.{script_rule_of}
+use Rattle.nextest_settings.specs.View.{held_script_rule_meaning}
 use Rattle.nextest_settings.proofs.Alone.{passed-rule, passed-tally, found-rule, found-tally}
 use Rattle.nextest_settings.proofs.Named.{some_of}
 use Rattle.nextest_settings.proofs.wrappers.run_wrapper_rule.Goals as goal
@@ -18,7 +18,7 @@ returns-then-holds_for_test-clause-rule g c =
     let x = c.index-rules-index.result in
     let wanted = c.is_some-is_wanted.ensures ∙ some_of (λ id. script_text id.now) c.run_wrapper.result _ c.run_wrapper.ensures in
     let answer = rw wanted at c.holds_for_test.ensures.answer in
-    found-rule query wants c.args.first (script_rule_of F.meaning) c.args.rules.now c.loop-index.index x c.loop-index-test.true c.index-rules-index.is c.loop-index.invariant.rule (sym answer ∙ c.if-holds_for_test.true)
+    found-rule query wants c.args.first (held_script_rule_meaning F.meaning) c.args.rules.now c.loop-index.index x c.loop-index-test.true c.index-rules-index.is c.loop-index.invariant.rule (sym answer ∙ c.if-holds_for_test.true)
 
 pub returns-then-holds_for_test-clause-tally : goal.returns-then-holds_for_test-clause-tally
 returns-then-holds_for_test-clause-tally g c =
@@ -29,7 +29,7 @@ returns-then-holds_for_test-clause-tally g c =
     let wanted = c.is_some-is_wanted.ensures ∙ some_of (λ id. script_text id.now) c.run_wrapper.result _ c.run_wrapper.ensures in
     let answer = rw wanted at c.holds_for_test.ensures.answer in
     let counted = rw wanted at c.holds_for_test.ensures.tally in
-    found-tally query wants c.args.first (script_rule_of F.meaning) c.args.rules.now c.loop-index.index x c.loop-index-test.true c.index-rules-index.is c.loop-index.invariant.rule (numbers c.loop-index.tally) _ _ (sym answer ∙ c.if-holds_for_test.true) c.loop-index.invariant.tally counted
+    found-tally query wants c.args.first (held_script_rule_meaning F.meaning) c.args.rules.now c.loop-index.index x c.loop-index-test.true c.index-rules-index.is c.loop-index.invariant.rule (numbers c.loop-index.tally) _ _ (sym answer ∙ c.if-holds_for_test.true) c.loop-index.invariant.tally counted
 
 pub loop-index-preserved : goal.loop-index-preserved
 loop-index-preserved g c =
@@ -41,6 +41,6 @@ loop-index-preserved g c =
     let answer = rw wanted at c.holds_for_test.ensures.answer in
     let counted = rw wanted at c.holds_for_test.ensures.tally in
     record {
-      rule = passed-rule query wants c.args.first (script_rule_of F.meaning) c.args.rules.now c.loop-index.index x c.loop-index-test.true c.index-rules-index.is c.loop-index.invariant.rule (sym answer ∙ c.if-holds_for_test.false);
-      tally = passed-tally query wants c.args.first (script_rule_of F.meaning) c.args.rules.now c.loop-index.index x c.loop-index-test.true c.index-rules-index.is c.loop-index.invariant.rule (numbers c.loop-index.tally) _ _ c.loop-index.invariant.tally counted;
+      rule = passed-rule query wants c.args.first (held_script_rule_meaning F.meaning) c.args.rules.now c.loop-index.index x c.loop-index-test.true c.index-rules-index.is c.loop-index.invariant.rule (sym answer ∙ c.if-holds_for_test.false);
+      tally = passed-tally query wants c.args.first (held_script_rule_meaning F.meaning) c.args.rules.now c.loop-index.index x c.loop-index-test.true c.index-rules-index.is c.loop-index.invariant.rule (numbers c.loop-index.tally) _ _ c.loop-index.invariant.tally counted;
     }

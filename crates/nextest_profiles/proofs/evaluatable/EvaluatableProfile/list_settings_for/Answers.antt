@@ -5,7 +5,7 @@ use Rattle.nextest_rules.specs.Accepted.{IfWritten}
 use Rattle.nextest_rules.specs.Rules.{at_name}
 use Rattle.nextest_settings.specs.ListView.{list_wrapper_at}
 use Rattle.nextest_settings.specs.Queries.{binary_query, list_wrapper_by, listed_by, list_wrapper_of, evaluated_for_list}
-use Rattle.nextest_settings.specs.View.{KnowsListWrappers, override_of, script_rule_of}
+use Rattle.nextest_settings.specs.View.{KnowsListWrappers, held_override_meaning, held_script_rule_meaning}
 use Rattle.nextest_tables.specs.FileTexts.{names_in, IsIn}
 use Rattle.nextest_profiles.specs.Known.{evaluated_use}
 use Rattle.nextest_profiles.specs.Meaning.{profile_meaning}
@@ -28,8 +28,8 @@ returns g c =
     let binary = binary_view c.args.query.now in
     record {
       wrapper = subst (λ p. option_map Some (list_wrapper_at c.list_settings_for.result) ≡ option_map (λ id. at_name id p.grounds.scripts.wrapper) (list_wrapper_of (binary_query g.F.Filters.holds_binary p.default_filter.filter binary) p)) (sym same)
-          (subst (λ scripts. option_map Some (list_wrapper_at c.list_settings_for.result) ≡ option_map (λ id. at_name id scripts.wrapper) (list_wrapper_by (binary_query g.F.Filters.holds_binary (meaning c.self.inside.rules.default_filter.expr.now) binary) (map (script_rule_of meaning) c.self.inside.rules.script_rules.items))) c.scripts.ensures c.list_settings_for.ensures.wrapper);
+          (subst (λ scripts. option_map Some (list_wrapper_at c.list_settings_for.result) ≡ option_map (λ id. at_name id scripts.wrapper) (list_wrapper_by (binary_query g.F.Filters.holds_binary (meaning c.self.inside.rules.default_filter.expr.now) binary) (map (held_script_rule_meaning meaning) c.self.inside.rules.script_rules.items))) c.scripts.ensures c.list_settings_for.ensures.wrapper);
       tally = subst (λ p. g.F.Tally.Tally.numbers c.list_settings_for.new.tally ≡ g.F.Tally.Tally.numbers c.args.tally.now ++ evaluated_for_list (binary_query g.F.Filters.holds_binary p.default_filter.filter binary) p) (sym same)
-          (subst (λ count. g.F.Tally.Tally.numbers c.list_settings_for.new.tally ≡ g.F.Tally.Tally.numbers c.args.tally.now ++ listed_by (binary_query g.F.Filters.holds_binary (meaning c.self.inside.rules.default_filter.expr.now) binary) count (map (script_rule_of meaning) c.self.inside.rules.script_rules.items))
-          (sym (length-map c.self.inside.rules.overrides.items (override_of meaning))) c.list_settings_for.ensures.tally);
+          (subst (λ count. g.F.Tally.Tally.numbers c.list_settings_for.new.tally ≡ g.F.Tally.Tally.numbers c.args.tally.now ++ listed_by (binary_query g.F.Filters.holds_binary (meaning c.self.inside.rules.default_filter.expr.now) binary) count (map (held_script_rule_meaning meaning) c.self.inside.rules.script_rules.items))
+          (sym (length-map c.self.inside.rules.overrides.items (held_override_meaning meaning))) c.list_settings_for.ensures.tally);
     }
