@@ -1,11 +1,12 @@
 //! The groups of tests, as filters look them up.
 use crate::loaded::{config_of, profile_for};
-use crate::queries::{built_for, test_of};
-use crate::toys::{LINUX, MACOS, cross_build};
+use crate::queries::test_of;
+use crate::toys::LINUX;
 use nextest_config::{
-    BuildPlatform, GroupLookup, NameMatcher, PrecomputedGroupMembership, TestQuery,
+    BinaryQuery, BuildPlatform, BuildPlatforms, GroupLookup, NameMatcher,
+    PrecomputedGroupMembership, TestQuery,
 };
-use std::alloc::Global;
+use std::alloc::{AllocError, Global};
 use std::test::Fail;
 use toy_engines::filters::ToyTally;
 
@@ -45,6 +46,33 @@ filter = "test(m)"
 test-group = "serial"
 "#;
 
+/// The query for a test of this name, of a binary that is built for a platform.
+fn built_for(name: &str, platform: BuildPlatform) -> TestQuery<'_> {
+    let test = test_of(name);
+    TestQuery {
+        binary_query: BinaryQuery {
+            platform,
+            ..test.binary_query
+        },
+        test_name: test.test_name,
+    }
+}
+
+/// A host with another target.
+fn platforms_of(
+    alloc: Global,
+    host: &str,
+    target: &str,
+) -> Result<BuildPlatforms<String>, AllocError> {
+    Ok(BuildPlatforms {
+        host: String::from_str(alloc, host)?,
+        target: Some(String::from_str(alloc, target)?),
+    })
+}
+
+/// A target beside the usual host.
+const MACOS: &str = "aarch64-apple-darwin";
+
 /// The groups of tests by the workspace's own file, on a host with another target.
 fn memberships_of(
     alloc: Global,
@@ -52,7 +80,7 @@ fn memberships_of(
     tests: &[TestQuery<'_>],
 ) -> Result<PrecomputedGroupMembership, Fail> {
     let config = config_of(alloc, text)?;
-    let platforms = cross_build(alloc, LINUX, MACOS)?;
+    let platforms = platforms_of(alloc, LINUX, MACOS)?;
     let profile = profile_for(alloc, &config, "default", &platforms)?;
     let mut tally = ToyTally::new();
     Ok(profile.precompute_group_memberships(alloc, tests, &mut tally)?)

@@ -20,7 +20,6 @@ static PROFILES: &str = r#"
 "" = {}
 "/x" = {}
 ci.junit = { path = "j.xml", report-name = "name" }
-abs.junit.path = "/r.xml"
 child = { inherits = "ci", junit.store-success-output = true }
 plain.inherits = "default"
 "#;
@@ -73,11 +72,10 @@ fn stores_and_parents(rt: HostRuntime) -> Result<(), Fail> {
 }
 
 /// Names of profiles, and the paths of their reports.
-static REPORTS: [(&str, Option<&str>); 4] = [
+static REPORTS: [(&str, Option<&str>); 3] = [
     ("default", None),
     ("ci", Some("/w/target/nextest/ci/j.xml")),
     ("child", Some("/w/target/nextest/child/j.xml")),
-    ("abs", Some("/r.xml")),
 ];
 
 /// The report of a profile.

@@ -19,15 +19,3 @@ pub fn test_of(test_name: &str) -> TestQuery<'_> {
         test_name,
     }
 }
-
-/// The query for a test of this name, of a binary that is built for a platform.
-pub fn built_for(name: &str, platform: BuildPlatform) -> TestQuery<'_> {
-    let test = test_of(name);
-    TestQuery {
-        binary_query: BinaryQuery {
-            platform,
-            ..test.binary_query
-        },
-        test_name: test.test_name,
-    }
-}

@@ -1,12 +1,11 @@
 //! The whole run: which override a row names, and that no tests have no rows.
 use crate::files::{missing_file, tool_file, workspace_paths};
-use crate::queries::{built_for, test_of};
-use crate::toys::{ENGINES, LINUX, MACOS, all_features, cross_build, host_build};
+use crate::queries::test_of;
+use crate::toys::{ENGINES, LINUX, all_features, host_build};
 use nextest_config::run::{Inputs, PlainSource, TestRow, resolve};
 use nextest_config::{
-    BuildPlatform, BuildPlatforms, ConfigExperimental, ConfigFileSelection, ConfigPaths,
-    ConfigSource, DEFAULT_PROFILE, DefaultConfigWarnings, NextestRunMode, TestQuery,
-    ThreadsRequired, ToolConfigFile,
+    ConfigExperimental, ConfigFileSelection, ConfigPaths, ConfigSource, DefaultConfigWarnings,
+    NextestRunMode, TestQuery, ThreadsRequired, ToolConfigFile,
 };
 use std::alloc::{AllocError, Global};
 use std::collections::BTreeSet;
@@ -30,14 +29,14 @@ fn workspace_of(alloc: Global, text: &str) -> Result<Workspace, AllocError> {
     })
 }
 
-/// The rows of tests in the default profile, on the platforms of a build.
+/// The rows of tests in a profile.
 fn rows_of(
     alloc: Global,
     workspace: &Workspace,
-    platforms: &BuildPlatforms<String>,
+    profile: &str,
     tests: &[TestQuery<'_>],
 ) -> Result<Vec<TestRow>, Fail> {
-    let profile = DEFAULT_PROFILE;
+    let platforms = host_build(alloc, LINUX)?;
     let inputs = Inputs {
         paths: &workspace.paths,
         selection: ConfigFileSelection::new(None),
@@ -49,7 +48,7 @@ fn rows_of(
     let mut tally = ToyTally::new();
     let sink = &mut warnings;
     let rows = resolve(
-        alloc, &inputs, &ENGINES, profile, platforms, mode, tests, sink, &mut tally,
+        alloc, &inputs, &ENGINES, profile, &platforms, mode, tests, sink, &mut tally,
     );
     Ok(rows?)
 }
@@ -83,8 +82,7 @@ slow-timeout = { period = "30s", on-timeout = "pass" }
 /// How many rows no tests have.
 fn rows_of_none(alloc: Global, text: &str) -> Result<usize, Fail> {
     let workspace = workspace_of(alloc, text)?;
-    let platforms = host_build(alloc, LINUX)?;
-    Ok(rows_of(alloc, &workspace, &platforms, &[])?.len())
+    Ok(rows_of(alloc, &workspace, "default", &[])?.len())
 }
 
 #[test]
@@ -122,44 +120,16 @@ fn has_threads(row: &TestRow, position: usize) -> bool {
         && override_file(&row.threads_required.1, position).is_some_and(is_own_file)
 }
 
-/// Whether a row takes this many retries from the workspace's own override of this position.
-fn has_own_retries(row: &TestRow, count: u32, position: usize) -> bool {
-    row.retries.0.count() == count
-        && override_file(&row.retries.1, position).is_some_and(is_own_file)
-}
-
-/// The rows of the test `test`, built for a platform, on the usual host with another target.
-fn rows_across(alloc: Global, text: &str, built: BuildPlatform) -> Result<Vec<TestRow>, Fail> {
+/// Whether the only row of a test takes eight threads from the override of this position.
+fn takes_threads(alloc: Global, text: &str, test: &str, position: usize) -> Result<bool, Fail> {
     let workspace = workspace_of(alloc, text)?;
-    let platforms = cross_build(alloc, LINUX, MACOS)?;
-    rows_of(alloc, &workspace, &platforms, &[built_for("test", built)])
-}
-
-/// Whether the only row of the test `test`, built for a platform, takes eight threads from the
-/// second override, and this many retries from the override of this position.
-fn is_decided(
-    alloc: Global,
-    text: &str,
-    built: BuildPlatform,
-    retries: u32,
-    position: usize,
-) -> Result<bool, Fail> {
-    let rows = rows_across(alloc, text, built)?;
-    let [row] = rows.as_slice() else {
-        return Ok(false);
-    };
-    Ok(has_threads(row, 1) && has_own_retries(row, retries, position))
+    let rows = rows_of(alloc, &workspace, "default", &[test_of(test)])?;
+    Ok(rows.len() == 1 && rows.iter().all(|row| has_threads(row, position)))
 }
 
 #[test]
 fn an_override_is_named_by_its_position(rt: HostRuntime) -> Result<(), Fail> {
-    assert!(rt; is_decided(rt.alloc(), SIX, BuildPlatform::Target, 20, 0)?);
-    Ok(())
-}
-
-#[test]
-fn an_override_of_another_platform_is_passed(rt: HostRuntime) -> Result<(), Fail> {
-    assert!(rt; is_decided(rt.alloc(), SIX, BuildPlatform::Host, 3, 1)?);
+    assert!(rt; takes_threads(rt.alloc(), SIX, "test", 1)?);
     Ok(())
 }
 
@@ -187,8 +157,7 @@ fn has_retries(row: &TestRow) -> bool {
 /// Whether the only row of a test takes five retries from the tool's first override.
 fn takes_retries(alloc: Global, text: &str, test: &str) -> Result<bool, Fail> {
     let workspace = workspace_of_tool(alloc, text)?;
-    let platforms = host_build(alloc, LINUX)?;
-    let rows = rows_of(alloc, &workspace, &platforms, &[test_of(test)])?;
+    let rows = rows_of(alloc, &workspace, "default", &[test_of(test)])?;
     Ok(rows.len() == 1 && rows.iter().all(has_retries))
 }
 

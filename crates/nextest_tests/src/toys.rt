@@ -24,21 +24,6 @@ pub fn host_build(alloc: Global, host: &str) -> Result<BuildPlatforms<String>, A
     })
 }
 
-/// A target beside the usual host.
-pub const MACOS: &str = "aarch64-apple-darwin";
-
-/// A build for another target than its host.
-pub fn cross_build(
-    alloc: Global,
-    host: &str,
-    target: &str,
-) -> Result<BuildPlatforms<String>, AllocError> {
-    Ok(BuildPlatforms {
-        host: String::from_str(alloc, host)?,
-        target: Some(String::from_str(alloc, target)?),
-    })
-}
-
 /// All features.
 pub fn all_features(alloc: Global) -> Result<BTreeSet<ConfigExperimental>, AllocError> {
     let mut features = BTreeSet::new(alloc);
