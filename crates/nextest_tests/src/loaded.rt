@@ -2,9 +2,8 @@
 use crate::files::{tool_file, workspace_paths};
 use crate::toys::{Config, ENGINES, all_features, host_build};
 use nextest_config::{
-    BuildPlatforms, ConfigFileSelection, ConfigParseError, ConfigPaths, ConfigWarnings,
-    DefaultConfigWarnings, EarlyProfile, EvaluatableProfile, Filters, NextestConfig, ParseContext,
-    Specs, ToolConfigFile,
+    BuildPlatforms, ConfigParseError, ConfigPaths, ConfigWarnings, DefaultConfigWarnings,
+    EarlyProfile, EvaluatableProfile, Filters, NextestConfig, ParseContext, Specs, ToolConfigFile,
 };
 use std::alloc::{AllocError, Global};
 use std::test::Fail;
@@ -24,8 +23,11 @@ pub fn load_files<F: Filters, S: Specs, W: ConfigWarnings>(
     sink: &mut W,
 ) -> Result<NextestConfig<F, S>, ConfigParseError> {
     let features = all_features(alloc)?;
-    let selection = ConfigFileSelection::new(None);
-    NextestConfig::from_sources_with_paths(alloc, paths, engines, selection, tools, &features, sink)
+    let root = paths.workspace_root.as_str();
+    let shared = &paths.shared;
+    NextestConfig::from_sources_with_warnings(
+        alloc, root, shared, engines, None, tools, &features, sink,
+    )
 }
 
 /// Loads files with all features, and drops the warnings.

@@ -1,12 +1,11 @@
 //! The groups of tests, as filters look them up.
 use crate::loaded::{config_of, profile_for};
 use crate::queries::test_of;
-use crate::toys::LINUX;
+use crate::toys::{LINUX, MACOS, target_build};
 use nextest_config::{
-    BinaryQuery, BuildPlatform, BuildPlatforms, GroupLookup, NameMatcher,
-    PrecomputedGroupMembership, TestQuery,
+    BinaryQuery, BuildPlatform, GroupLookup, NameMatcher, PrecomputedGroupMembership, TestQuery,
 };
-use std::alloc::{AllocError, Global};
+use std::alloc::Global;
 use std::test::Fail;
 use toy_engines::filters::ToyTally;
 
@@ -58,21 +57,6 @@ fn built_for(name: &str, platform: BuildPlatform) -> TestQuery<'_> {
     }
 }
 
-/// A host with another target.
-fn platforms_of(
-    alloc: Global,
-    host: &str,
-    target: &str,
-) -> Result<BuildPlatforms<String>, AllocError> {
-    Ok(BuildPlatforms {
-        host: String::from_str(alloc, host)?,
-        target: Some(String::from_str(alloc, target)?),
-    })
-}
-
-/// A target beside the usual host.
-const MACOS: &str = "aarch64-apple-darwin";
-
 /// The groups of tests by the workspace's own file, on a host with another target.
 fn memberships_of(
     alloc: Global,
@@ -80,7 +64,7 @@ fn memberships_of(
     tests: &[TestQuery<'_>],
 ) -> Result<PrecomputedGroupMembership, Fail> {
     let config = config_of(alloc, text)?;
-    let platforms = platforms_of(alloc, LINUX, MACOS)?;
+    let platforms = target_build(alloc, LINUX, MACOS)?;
     let profile = profile_for(alloc, &config, "default", &platforms)?;
     let mut tally = ToyTally::new();
     Ok(profile.precompute_group_memberships(alloc, tests, &mut tally)?)
@@ -105,6 +89,18 @@ fn a_later_test_in_no_group_removes_nothing(rt: HostRuntime) -> Result<(), Fail>
     let shown = format!(in rt.alloc(); "{members:?}")?;
     assert!(rt;
         shown.as_str() == "PrecomputedGroupMembership { num_assignments: 1 }",
+        "{shown}"
+    );
+    Ok(())
+}
+
+#[test]
+fn each_test_of_a_binary_is_counted(rt: HostRuntime) -> Result<(), Fail> {
+    let tests = [test_of("m"), test_of("m2")];
+    let members = memberships_of(rt.alloc(), SERIAL, &tests)?;
+    let shown = format!(in rt.alloc(); "{members:?}")?;
+    assert!(rt;
+        shown.as_str() == "PrecomputedGroupMembership { num_assignments: 2 }",
         "{shown}"
     );
     Ok(())

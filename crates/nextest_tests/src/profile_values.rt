@@ -9,7 +9,7 @@ use nextest_config::{
     KnownGroups, MaxFail, NextestConfig, NextestRunMode, ReportSkipPolicy, SettingSource,
     StatusLevel, TestGroup, TestOutputDisplay, TestSettings, TestThreads, ThreadsRequired,
 };
-use std::alloc::Global;
+use std::alloc::{AllocError, Global};
 use std::test::Fail;
 use toy_engines::filters::{ToyFilters, ToyTally};
 use toy_engines::platforms::ToySpecs;
@@ -22,6 +22,7 @@ static PROFILES: &str = r#"
 ci.junit = { path = "j.xml", report-name = "name" }
 child = { inherits = "ci", junit.store-success-output = true }
 plain.inherits = "default"
+abs.junit.path = "/r.xml"
 "#;
 
 /// Names of profiles, where they store, and what they inherit from.
@@ -72,10 +73,11 @@ fn stores_and_parents(rt: HostRuntime) -> Result<(), Fail> {
 }
 
 /// Names of profiles, and the paths of their reports.
-static REPORTS: [(&str, Option<&str>); 3] = [
+static REPORTS: [(&str, Option<&str>); 4] = [
     ("default", None),
     ("ci", Some("/w/target/nextest/ci/j.xml")),
     ("child", Some("/w/target/nextest/child/j.xml")),
+    ("abs", Some("/r.xml")),
 ];
 
 /// The report of a profile.
@@ -196,6 +198,59 @@ fn are_places(alloc: Global, config: &Config, rows: &[(&str, &str, &str)]) -> Re
 fn places_of_default_filters(rt: HostRuntime) -> Result<(), Fail> {
     let config = config_of(rt.alloc(), FILTERS)?;
     assert!(rt; are_places(rt.alloc(), &config, &PLACES)?);
+    Ok(())
+}
+
+/// A child, its parent, which has a default filter, and the parent of this one.
+static GENERATIONS: &str = r#"
+[scripts.setup.prepare]
+command = "echo prepare"
+[scripts.wrapper.grandparent-wrapper]
+command = "grandparent-wrapper"
+[scripts.wrapper.parent-wrapper]
+command = "parent-wrapper"
+[[profile.default.overrides]]
+filter = "all()"
+retries = 3
+slow-timeout = "10s"
+[profile.grandparent]
+[[profile.grandparent.overrides]]
+filter = "test(parent)"
+retries = 13
+slow-timeout = "30s"
+[[profile.grandparent.scripts]]
+filter = "all()"
+run-wrapper = "grandparent-wrapper"
+[profile.parent]
+inherits = "grandparent"
+default-filter = "test(parent)"
+[[profile.parent.overrides]]
+filter = "test(parent)"
+retries = 8
+slow-timeout = "40s"
+[[profile.parent.scripts]]
+filter = "all()"
+setup = ["prepare"]
+[[profile.parent.scripts]]
+filter = "test(parent)"
+run-wrapper = "parent-wrapper"
+[profile.child]
+inherits = "parent"
+[[profile.child.overrides]]
+filter = "test(child)"
+retries = 5
+"#;
+
+/// A profile of a chain, a host, and where its default filter stands.
+static INHERITED: [(&str, &str, &str); 2] = [
+    ("child", LINUX, "profile.parent.default-filter"),
+    ("grandparent", LINUX, "profile.default.default-filter"),
+];
+
+#[test]
+fn a_default_filter_of_a_parent(rt: HostRuntime) -> Result<(), Fail> {
+    let config = config_of(rt.alloc(), GENERATIONS)?;
+    assert!(rt; are_places(rt.alloc(), &config, &INHERITED)?);
     Ok(())
 }
 
@@ -350,6 +405,44 @@ fn values_with_sources(rt: HostRuntime) -> Result<(), Fail> {
     let settings = profile.settings_with_source_for(NextestRunMode::Test, &test, &mut tally);
     assert!(rt; has_override_times(&settings) && has_override_group(&settings));
     assert!(rt; has_profile_values(&settings));
+    Ok(())
+}
+
+/// Two overrides of one profile, of which the second alone holds for the test `t`.
+static SECOND: &str = r#"
+[[profile.ci.overrides]]
+filter = "test(z)"
+retries = 4
+[[profile.ci.overrides]]
+filter = "test(t)"
+retries = 5
+"#;
+
+/// Whether a source is the second override of the profile `ci`, by a copy of its id.
+fn is_second(source: &SettingSource<'_, ToyFilters, ToySpecs>) -> Result<bool, AllocError> {
+    match source {
+        SettingSource::Override(rule) => {
+            let id = rule.id().clone()?;
+            Ok(id.index == 1 && id.profile_name.as_str() == "ci" && id == *rule.id())
+        }
+        _ => Ok(false),
+    }
+}
+
+/// Whether the retries of a test come from the second override of the profile `ci`.
+fn is_tried_by_second(alloc: Global, config: &Config, test: &str) -> Result<bool, Fail> {
+    let profile = profile_on(alloc, config, "ci", LINUX)?;
+    let mut tally = ToyTally::new();
+    let query = test_of(test);
+    let settings = profile.settings_with_source_for(NextestRunMode::Test, &query, &mut tally);
+    let (_, source) = settings.retries_with_source();
+    Ok(is_second(&source)?)
+}
+
+#[test]
+fn a_copy_of_an_id(rt: HostRuntime) -> Result<(), Fail> {
+    let config = config_of(rt.alloc(), SECOND)?;
+    assert!(rt; is_tried_by_second(rt.alloc(), &config, "t")?);
     Ok(())
 }
 

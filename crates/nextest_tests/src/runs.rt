@@ -1,7 +1,8 @@
-//! The whole run: which override a row names, and that no tests have no rows.
+//! The whole run: which override a row names, that each test has its row, and that no tests have
+//! no rows.
 use crate::files::{missing_file, tool_file, workspace_paths};
 use crate::queries::test_of;
-use crate::toys::{ENGINES, LINUX, all_features, host_build};
+use crate::toys::{ENGINES, LINUX, MACOS, all_features, target_build};
 use nextest_config::run::{Inputs, PlainSource, TestRow, resolve};
 use nextest_config::{
     ConfigExperimental, ConfigFileSelection, ConfigPaths, ConfigSource, DefaultConfigWarnings,
@@ -29,14 +30,14 @@ fn workspace_of(alloc: Global, text: &str) -> Result<Workspace, AllocError> {
     })
 }
 
-/// The rows of tests in a profile.
+/// The rows of tests in a profile, on the usual host with another target.
 fn rows_of(
     alloc: Global,
     workspace: &Workspace,
     profile: &str,
     tests: &[TestQuery<'_>],
 ) -> Result<Vec<TestRow>, Fail> {
-    let platforms = host_build(alloc, LINUX)?;
+    let platforms = target_build(alloc, LINUX, MACOS)?;
     let inputs = Inputs {
         paths: &workspace.paths,
         selection: ConfigFileSelection::new(None),
@@ -53,30 +54,43 @@ fn rows_of(
     Ok(rows?)
 }
 
-/// Six overrides, of which the first two name the test `test`.
+/// Six overrides, of which the first two name the test `test`; only the second sets its threads.
 static SIX: &str = r#"
 [[profile.default.overrides]]
-platform = "aarch64-apple-darwin"
+platform = 'aarch64-apple-darwin'
 filter = "test(test)"
-retries = 20
+retries = { backoff = "exponential", count = 20, delay = "1s", max-delay = "20s" }
+slow-timeout = { period = "120s", terminate-after = 1, grace-period = "0s" }
+success-output = "immediate-final"
+junit = { store-success-output = true }
 [[profile.default.overrides]]
 filter = "test(test)"
 threads-required = 8
 retries = 3
+slow-timeout = "60s"
+leak-timeout = "300ms"
+test-group = "my-group"
+failure-output = "final"
+junit = { store-failure-output = false, report-skipped = "none" }
 [[profile.default.overrides]]
 platform = { host = "cfg(unix)" }
 filter = "test(override3)"
-threads-required = 5
+retries = 5
 [[profile.default.overrides]]
-platform = { host = "aarch64-apple-darwin" }
-threads-required = 10
+platform = { host = 'aarch64-apple-darwin' }
+retries = 10
 [[profile.default.overrides]]
-platform = { host = 'cfg(target_os = "linux")', target = "aarch64-apple-darwin" }
+platform = { host = 'cfg(target_os = "linux")', target = 'aarch64-apple-darwin' }
 filter = "test(override5)"
-threads-required = 9
+retries = 8
 [[profile.default.overrides]]
 filter = "test(timeout_success)"
 slow-timeout = { period = "30s", on-timeout = "pass" }
+[profile.default.junit]
+path = "my-path.xml"
+report-skipped = "all"
+[test-groups.my-group]
+max-threads = 20
 "#;
 
 /// How many rows no tests have.
@@ -133,6 +147,39 @@ fn an_override_is_named_by_its_position(rt: HostRuntime) -> Result<(), Fail> {
     Ok(())
 }
 
+/// How often the tests `test` and `no_match` are tried again.
+static RETRIED: [u32; 2] = [20, 0];
+
+/// Whether there is a row for each number, in order, that tries its test again so often.
+fn are_retried(rows: &[TestRow], counts: &[u32]) -> bool {
+    for (row, count) in rows.iter().zip(counts) {
+        if row.retries.0.count() != *count {
+            return false;
+        }
+    }
+    rows.len() == counts.len()
+}
+
+/// Whether the rows of two tests, in their order, try them again so often.
+fn retry_both(
+    alloc: Global,
+    text: &str,
+    tests: (&str, &str),
+    counts: &[u32],
+) -> Result<bool, Fail> {
+    let workspace = workspace_of(alloc, text)?;
+    let tests = [test_of(tests.0), test_of(tests.1)];
+    let rows = rows_of(alloc, &workspace, "default", &tests)?;
+    Ok(are_retried(&rows, counts))
+}
+
+#[test]
+fn each_test_has_its_row(rt: HostRuntime) -> Result<(), Fail> {
+    let tests = ("test", "no_match");
+    assert!(rt; retry_both(rt.alloc(), SIX, tests, &RETRIED)?);
+    Ok(())
+}
+
 /// A file of a tool whose override holds for all tests.
 static TOOL: &str = r#"
 [[profile.default.overrides]]
@@ -140,12 +187,18 @@ filter = "all()"
 retries = 5
 "#;
 
-/// A workspace without a file of its own, with a file of the tool `my-tool`.
-fn workspace_of_tool(alloc: Global, text: &str) -> Result<Workspace, Fail> {
-    let mut workspace = workspace_of(alloc, "")?;
-    workspace.paths.shared = missing_file(alloc, "/w/.config/nextest.toml")?;
-    let file = tool_file(alloc, "my-tool", "/t.toml", text)?;
+/// A workspace whose own file has a text, over a file of the tool `my-tool`.
+fn workspace_over(alloc: Global, text: &str, tool: &str) -> Result<Workspace, Fail> {
+    let mut workspace = workspace_of(alloc, text)?;
+    let file = tool_file(alloc, "my-tool", "/t.toml", tool)?;
     workspace.tools.push(file)?;
+    Ok(workspace)
+}
+
+/// A workspace without a file of its own, with a file of the tool `my-tool`.
+fn workspace_of_tool(alloc: Global, tool: &str) -> Result<Workspace, Fail> {
+    let mut workspace = workspace_over(alloc, "", tool)?;
+    workspace.paths.shared = missing_file(alloc, "/w/.config/nextest.toml")?;
     Ok(workspace)
 }
 
@@ -155,14 +208,28 @@ fn has_retries(row: &TestRow) -> bool {
 }
 
 /// Whether the only row of a test takes five retries from the tool's first override.
-fn takes_retries(alloc: Global, text: &str, test: &str) -> Result<bool, Fail> {
-    let workspace = workspace_of_tool(alloc, text)?;
-    let rows = rows_of(alloc, &workspace, "default", &[test_of(test)])?;
+fn takes_retries(alloc: Global, workspace: &Workspace, test: &str) -> Result<bool, Fail> {
+    let rows = rows_of(alloc, workspace, "default", &[test_of(test)])?;
     Ok(rows.len() == 1 && rows.iter().all(has_retries))
 }
 
 #[test]
 fn an_override_of_a_tool_alone_is_named(rt: HostRuntime) -> Result<(), Fail> {
-    assert!(rt; takes_retries(rt.alloc(), TOOL, "t")?);
+    let workspace = workspace_of_tool(rt.alloc(), TOOL)?;
+    assert!(rt; takes_retries(rt.alloc(), &workspace, "t")?);
+    Ok(())
+}
+
+/// A file whose only override holds for other tests.
+static OTHER: &str = r#"
+[[profile.default.overrides]]
+filter = "test(z)"
+retries = 4
+"#;
+
+#[test]
+fn an_override_is_not_named_by_its_number_in_the_chain(rt: HostRuntime) -> Result<(), Fail> {
+    let workspace = workspace_over(rt.alloc(), OTHER, TOOL)?;
+    assert!(rt; takes_retries(rt.alloc(), &workspace, "t")?);
     Ok(())
 }

@@ -16,11 +16,26 @@ pub const ENGINES: ParseContext<'static, ToyFilters, ToySpecs> = ParseContext {
 /// The usual host.
 pub const LINUX: &str = "x86_64-unknown-linux-gnu";
 
+/// A target beside the usual host.
+pub const MACOS: &str = "aarch64-apple-darwin";
+
 /// A build for its host.
 pub fn host_build(alloc: Global, host: &str) -> Result<BuildPlatforms<String>, AllocError> {
     Ok(BuildPlatforms {
         host: String::from_str(alloc, host)?,
         target: None,
+    })
+}
+
+/// A build on a host for another target.
+pub fn target_build(
+    alloc: Global,
+    host: &str,
+    target: &str,
+) -> Result<BuildPlatforms<String>, AllocError> {
+    Ok(BuildPlatforms {
+        host: String::from_str(alloc, host)?,
+        target: Some(String::from_str(alloc, target)?),
     })
 }
 
