@@ -171,7 +171,7 @@ pub record AreRows {M K P : Type 0} (engines : Readings M K P) (request : Reques
   pub rising : (test : Test) → Rising (HasFilterAt (filters_of profile)) 0
       (numbers_for engines.matches_test profile request.mode test)
 
--- For every list of sources, a configuration is answered exactly where every written rule holds;
+-- For every list of sources, load answers a configuration exactly where every written rule holds;
 -- then no query of any profile, platforms, mode and test meets an undefined script, group, parent
 -- or a cycle, and each setting is the value at the first rule, in order of chain, file and index,
 -- whose platforms and filter hold and which sets it, else the nearest profile's value or the stated

@@ -11,7 +11,7 @@ type Ids = &'static [&'static str];
 
 /// The text of a tool's file, that of the workspace's own file, the ids of setup scripts and those
 /// of wrappers.
-static ORDERS: [(&str, &str, Ids, Ids); 4] = [
+static ORDERS: [(&str, &str, Ids, Ids); 9] = [
     (
         "[script.\"@tool:t:x\"]\ncommand = 'x'",
         "[scripts.setup.y]\ncommand = 'x'",
@@ -35,6 +35,36 @@ static ORDERS: [(&str, &str, Ids, Ids); 4] = [
         "[scripts.wrapper.a]\ncommand = 'x'",
         &[],
         &["@tool:t:z", "a"],
+    ),
+    (
+        "",
+        "[scripts.setup.b]\ncommand = 'x'\n[scripts.setup.a]\ncommand = 'x'",
+        &["b", "a"],
+        &[],
+    ),
+    (
+        "",
+        "scripts.setup = { b = { command = 'x' }, a = { command = 'x' } }",
+        &["a", "b"],
+        &[],
+    ),
+    (
+        "",
+        "[script.b]\ncommand = 'x'\n[script.a]\ncommand = 'x'",
+        &["b", "a"],
+        &[],
+    ),
+    (
+        "[script.\"@tool:t:z\"]\ncommand = 'x'",
+        "[script.a]\ncommand = 'x'",
+        &["@tool:t:z", "a"],
+        &[],
+    ),
+    (
+        "",
+        "scripts = { setup = { b.command = 'x', a.command = 'x' }, wrapper = { z.command = 'x', y.command = 'x' } }",
+        &["a", "b"],
+        &["y", "z"],
     ),
 ];
 
