@@ -13,10 +13,12 @@ mod Joined
 mod Keeping
 mod Kept
 mod Longer
+mod Placing
 mod Sections
 mod Sorted
 mod Stands
 mod Tables
+mod Taken
 mod Texts
 mod Values
 mod Words

@@ -1,9 +1,11 @@
 -- Some lines in the middle of a text.
-use Rattle.std.proofs.Common.{◌≡◌, ℕ, zero, suc, ◌+◌, ◌-◌, ◌<◌, ◌≤◌, Bool, true, false, not, ◌||◌, ◌==◌, filter, List, [], ◌∷◌, ◌++◌, length, take, drop, Option, Some, None, is_some, refl, sym, ap, ◌∙◌, subst, inl, inr, arith, append_assoc, eqb-true}
+use Rattle.std.proofs.Common.{◌≡◌, ℕ, zero, suc, ◌+◌, ◌-◌, ◌<◌, ◌≤◌, Bool, true, false, not, ◌||◌, ◌==◌, filter, List, [], ◌∷◌, ◌++◌, length, take, drop, Option, Some, None, is_some, option_map, IfSome, BTreeMap, String, Global, refl, sym, ap, ◌∙◌, subst, inl, inr, arith, append_assoc, eqb-true}
 use Rattle.std.proofs.lemmas.Bool.{cases_Bool, false≢true}
 use Rattle.std.proofs.lemmas.List.{length-append}
 use Rattle.std.specs.List.{AllByRecursion}
 use Rattle.toml.proofs.OnLiterals.{toml_on_literals}
+use Rattle.toml.specs.View.{table_view}
+use Rattle.toml.specs.declared.value.Value.{Value}
 use Rattle.toml_parser.specs.Lexical.{first}
 use Rattle.nextest_tree.specs.Node.{Node}
 use Rattle.nextest_documents.specs.Shown.{Path}
@@ -16,6 +18,7 @@ use Rattle.nextest_script_order.proofs.Filters.{all_both, all_map}
 use Rattle.nextest_script_order.proofs.Fronts.{front_is, more_left}
 use Rattle.nextest_script_order.proofs.Keeping.{all_lines}
 use Rattle.nextest_script_order.proofs.Chunks.{chunk_has}
+use Rattle.nextest_script_order.proofs.Tables.{node_of}
 
 none_of : (n : ℕ) → first_lines n [] ≡ []
 none_of zero = refl
@@ -203,3 +206,13 @@ module _ (path : Path) (text : List ℕ) (low high middle : ℕ) (ids : List (Li
   late_told =
       filter_same_on (λ id. not (has_id path chunk id)) (λ id. not (has_id path document id)) ids
       (all_map (λ id. has_id path chunk id ≡ has_id path document id) (λ id. not (has_id path chunk id) ≡ not (has_id path document id)) (λ id e. ap not e) ids each_told)
+
+-- what lines tell that were read alone, where they are a document
+module _ (text : List ℕ) (low header : ℕ) where
+  abbrev pub TellsAlone : Node → Type 0
+  TellsAlone document = (high : ℕ) → header < high → high ≤ line_count text → IsDocument text high → TellsBetween text low high header document
+
+  pub alone_tells : (found : Option (BTreeMap (String Global) Value)) → ((document : Node) → tree_of (first_lines (header - low) (after_lines low text)) ≡ Some document → TellsAlone document)
+      → option_map (λ t. node_of (table_view t)) found ≡ tree_of (first_lines (header - low) (after_lines low text)) → IfSome found (λ t. TellsAlone (node_of (table_view t)))
+  alone_tells None tells h = search
+  alone_tells (Some t) tells h = tells (node_of (table_view t)) (sym h)

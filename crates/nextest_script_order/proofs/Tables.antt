@@ -67,3 +67,7 @@ pub at_end : (path : List Key) (i : ℕ) (id : List ℕ) (es : List Entry) → l
 at_end path i id es h =
     let over : drop i path ≡ [] = drop_all i path h in
     rw over (some_map view _ ∙ ap is_some (view-lookup id es) ∙ sym (key_there id (members_view es)))
+
+-- a path that is over
+pub path_over : (path : List Key) (i : ℕ) → length path ≤ i → drop i path ≡ []
+path_over path i h = drop_all i path h

@@ -1,11 +1,11 @@
 -- What the search for the places of ids knows of two numbers of lines.
-use Rattle.std.specs.Prelude.{◌≡◌, ℕ, suc, ◌<◌, true, false, List, None, is_some}
+use Rattle.std.specs.Prelude.{◌≡◌, ℕ, suc, ◌<◌, ◌≤◌, true, false, List, ◌++◌, None, is_some}
 use Rattle.std.specs.List.{AllByRecursion}
 use Rattle.nextest_tree.specs.Node.{Node}
 use Rattle.nextest_documents.specs.Shown.{Path}
 use Rattle.nextest_documents.specs.Text.{tree_of}
-use Rattle.nextest_script_order.specs.Lines.{first_lines}
-use Rattle.nextest_script_order.specs.Order.{appears_at, appears_before}
+use Rattle.nextest_script_order.specs.Lines.{first_lines, line_count}
+use Rattle.nextest_script_order.specs.Order.{appears_at, appears_before, placed_before}
 use Rattle.nextest_script_order.specs.Standing.{has_id}
 
 -- Each of the ids appears for the first time after `low` lines, and at `high` lines it is there.
@@ -31,3 +31,13 @@ pub record TellsBetween (text : List ℕ) (low high n : ℕ) (document : Node) :
   pub is : IsDocument text n
   pub tells : (path : Path) (id : List ℕ) → appears_at path text id low ≡ false
       → appears_at path text id high ≡ true → has_id path document id ≡ appears_at path text id n
+
+-- Ids are to follow an order. Those that appear by `low` lines follow it by now in what is ordered,
+-- and those that are left appear later: their order behind it is that of all ids behind the order.
+pub record IsPlacedUpTo (path : Path) (text : List ℕ) (ids order : List (List ℕ)) (low : ℕ)
+    (left ordered : List (List ℕ)) : Type 0 where
+  pub within : low ≤ line_count text
+  pub front : IsDocument text low
+  pub later : AppearBetween path text low (line_count text) left
+  pub same : order ++ placed_before path text ids (suc (line_count text))
+      ≡ ordered ++ placed_before path text left (suc (line_count text))

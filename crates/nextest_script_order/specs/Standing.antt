@@ -1,5 +1,6 @@
 -- Which ids stand in a text: the keys of the table at a path of the document that the text is.
 use Rattle.std.specs.Prelude.{◌≡◌, ⊤, ℕ, Bool, false, List, [], ◌∷◌, ◌++◌, map, String, string_bytes, Vec, is_some}
+use Rattle.std.specs.BTreeSet.{BTreeSet}
 use Rattle.std.specs.List.{list_any, AllByRecursion}
 use Rattle.std.specs.Option.{option_map_or}
 use Rattle.std.specs.Ordering.{nat_cmp}
@@ -20,6 +21,10 @@ key_path_view = map key_text
 -- What contracts see of a list of ids.
 abbrev pub ids_view : Vec (String Global) Global → List (List ℕ)
 ids_view ids = map string_bytes ids.items
+
+-- What contracts see of a set of ids.
+abbrev pub set_view : BTreeSet (String Global) → List (List ℕ)
+set_view set = map string_bytes set.keys
 
 -- An id is among others if one of them has its bytes.
 abbrev pub is_among : List (List ℕ) → List ℕ → Bool

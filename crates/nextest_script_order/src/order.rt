@@ -1,5 +1,5 @@
 //! The order of the ids of a text, found by reading parts of it.
-ghost use Rattle.std.specs.Prelude.{◌≡◌, ◌<◌, ◌≤◌, ◌+◌, ◌++◌, IfOk, IfSome, MatchOption, OnOk, Some, option_map};
+ghost use Rattle.std.specs.Prelude.{◌≡◌, ℕ, ◌<◌, ◌≤◌, ◌+◌, ◌++◌, IfOk, IfSome, MatchOption, OnOk, Some, option_map};
 ghost use Rattle.nextest_tree.specs.Node as Node;
 ghost use Rattle.nextest_tree.specs.View.{tree_view};
 ghost use Rattle.nextest_documents.specs.Text.{tree_of};
@@ -7,13 +7,14 @@ ghost use Rattle.nextest_documents.specs.Value.{from_members};
 ghost use Rattle.toml.specs.View.{table_view};
 ghost use Rattle.nextest_script_order.specs.Lines.{line_count};
 ghost use Rattle.nextest_script_order.specs.Order.{IsOrder, order_of, placed_before};
-ghost use Rattle.nextest_script_order.specs.Search.{AppearBetween, IsDocument, NoDocumentBetween, TellsBetween};
-ghost use Rattle.nextest_script_order.specs.Standing.{ids_view, key_path_view};
+ghost use Rattle.nextest_script_order.specs.Search.{AppearBetween, IsDocument, IsPlacedUpTo, NoDocumentBetween, TellsBetween};
+ghost use Rattle.nextest_script_order.specs.Standing.{IdsAscend, ids_view, key_path_view, set_view};
 
-use crate::ids::{ids_of, split};
+use crate::ids::{ids_of, list_of, set_of, split, take_defined};
 use crate::lines::{Lines, is_header};
 use nextest_tree::{Key, Tree};
 use std::alloc::{AllocError, Global};
+use std::collections::BTreeSet;
 
 /// The ids that a text defines at a path, in the order in which it defines them. `document` is the
 /// text's own tree.
@@ -38,9 +39,70 @@ pub fn ids_in_order(
         return Ok(ids);
     }
     let lines = Lines::of(alloc, text)?;
+    let mut left = set_of(alloc, ids)?;
     let mut order = Vec::new(alloc);
-    place_between(alloc, &lines, path, 0, lines.count(), ids, &mut order)?;
+    let low = place_sections(alloc, &lines, path, &mut left, &mut order)?;
+    let ids = list_of(alloc, left)?;
+    place_between(alloc, &lines, path, low, lines.count(), ids, &mut order)?;
     Ok(order)
+}
+
+/// Takes ids out of a set and appends them by place, section by section: the lines from a header up
+/// to the next. A section is read once, and none where fewer than two ids are left. The ids that
+/// stay appear after the number of lines that it returns.
+fn place_sections(
+    alloc: Global,
+    lines: &Lines,
+    path: &[Key],
+    ids: &mut BTreeSet<String>,
+    order: &mut Vec<String>,
+) -> Result<usize, AllocError>
+    requires whole { IsDocument lines.now (line_count lines.now) }
+    requires later { let high = line_count lines.now in
+        AppearBetween (key_path_view path.now) lines.now 0 high (set_view ids.old) }
+    ensures { IfOk result (λ low.
+        IsPlacedUpTo (key_path_view path.now) lines.now (set_view ids.old) (ids_view order.old)
+        low (set_view ids.new) (ids_view order.new)) }
+{
+    let mut low = 0;
+    for count in 1..lines.count() {
+        if ids.len() > 1 && lines.is_header(count) {
+            low = place_section(alloc, lines, path, low, count, ids, order)?;
+        }
+    }
+    Ok(low)
+}
+
+/// Takes those ids out of a set that the lines from `low` up to a header define first, and appends
+/// them by place. Where these lines alone are no document, all ids stay. The ids that stay appear
+/// after the number of lines that it returns.
+fn place_section(
+    alloc: Global,
+    lines: &Lines,
+    path: &[Key],
+    low: usize,
+    header: usize,
+    ids: &mut BTreeSet<String>,
+    order: &mut Vec<String>,
+) -> Result<usize, AllocError>
+    requires order { low < header }
+    requires within { header < line_count lines.now }
+    requires front { IsDocument lines.now low }
+    requires whole { IsDocument lines.now (line_count lines.now) }
+    requires ascends { IdsAscend (set_view ids.old) }
+    requires later { let high = line_count lines.now in
+        AppearBetween (key_path_view path.now) lines.now low high (set_view ids.old) }
+    ensures upto { IfOk result (λ next. next ≤ header) }
+    ensures placed { IfOk result (λ next.
+        IsPlacedUpTo (key_path_view path.now) lines.now (set_view ids.old) (ids_view order.old)
+        next (set_view ids.new) (ids_view order.new)) }
+{
+    let Some(document) = section_alone(alloc, lines, low, header)? else {
+        return Ok(low);
+    };
+    let early = take_defined(alloc, ids, &document, path)?;
+    place_between(alloc, lines, path, low, header, early, order)?;
+    Ok(header)
 }
 
 /// Appends ids by place, where each appears first after `low` lines and is there at `high` lines,
@@ -99,8 +161,7 @@ fn document_between(
     }
 }
 
-/// The lines from `low` up to a header near their front, read alone: where they begin with a header
-/// themselves, what they define does not hang on the lines before them.
+/// The lines from `low` up to a header near their front, read alone.
 fn section_between(
     alloc: Global,
     lines: &Lines,
@@ -118,14 +179,33 @@ fn section_between(
     let Some(middle) = header_between(lines, low, high) else {
         return Ok(None);
     };
-    let section = lines.between(low, middle);
-    if low > 0 && !is_header(section) {
-        return Ok(None);
-    }
-    match document_of(alloc, section)? {
+    match section_alone(alloc, lines, low, middle)? {
         Some(document) => Ok(Some((middle, document))),
         None => Ok(None),
     }
+}
+
+/// The document that the lines from `low` up to a header are, read alone. Where they begin with a
+/// header themselves, what they define does not hang on the lines before them.
+fn section_alone(
+    alloc: Global,
+    lines: &Lines,
+    low: usize,
+    header: usize,
+) -> Result<Option<toml::Table>, AllocError>
+    requires order { low < header }
+    requires within { header < line_count lines.now }
+    requires front { IsDocument lines.now low }
+    ensures { IfOk result (λ found. IfSome found (λ document.
+        let n = Node.table (from_members (table_view document)) in
+        (high : ℕ) → header < high → high ≤ line_count lines.now → IsDocument lines.now high
+        → TellsBetween lines.now low high header n)) }
+{
+    let section = lines.between(low, header);
+    if low > 0 && !is_header(section) {
+        return Ok(None);
+    }
+    document_of(alloc, section)
 }
 
 /// A number of lines between two, near the first, after which a line begins like a header. A part
