@@ -1,21 +1,18 @@
-//! An engine whose tally counts, asked through its bound.
+//! An engine whose tally counts.
 ghost use Rattle.std.specs.Prelude.{◌≡◌, ◌==◌, ◌++◌, ◌∷◌, [], List, ℕ, Bool, true, Option, None, Some, Result, Ok, Err, option_map, string_bytes, length, refl, if◌then◌else◌};
 ghost use Rattle.std.proofs.Common.{rules};
 ghost use Rattle.std.specs.Option.{option_map_or};
 ghost use Rattle.std.specs.Str.{bytes_eq};
 
-use crate::queries::test_of;
 use nextest_engines::history::RuleHistory;
 use nextest_engines::{
     BinaryQuery, EvalContext, FilterFault, Filters, FiltersetKind, SpecFault, Specs, Tally,
     TestQuery,
 };
 use std::alloc::{AllocError, Global};
-use std::test::Fail;
 
 /// Filters by name: a text matches the tests of that name and the binaries of that id, and the
-/// empty
-/// text all.
+/// empty text all.
 pub struct Names;
 
 /// A name, or none where all match.
@@ -184,41 +181,4 @@ impl Specs for Anywhere {
         let _platform = platform;
         Some(true)
     }
-}
-
-/// The answers of two rules to one test, in order.
-fn ask_both<F: Filters>(
-    alloc: Global,
-    filters: &F,
-    texts: [&str; 2],
-    query: &TestQuery<'_>,
-    tally: &mut F::Tally,
-) -> Result<(bool, bool), FilterFault> {
-    let all = filters.all();
-    let cx = EvalContext {
-        default_filter: &all,
-    };
-    let first = filters.parse(alloc, texts[0], FiltersetKind::OverrideFilter)?;
-    let second = filters.parse(alloc, texts[1], FiltersetKind::OverrideFilter)?;
-    let first = F::matches_test(&first, 3, query, &cx, tally);
-    let second = F::matches_test(&second, 5, query, &cx, tally);
-    Ok((first, second))
-}
-
-/// Whether the rules 3 and 5 were evaluated once each, the latter by another number than its own.
-fn are_both_counted(counts: &Counts) -> bool {
-    for (rule, times) in counts.times.iter().enumerate() {
-        if *times != usize::from(rule == 3 || rule == 5) {
-            return false;
-        }
-    }
-    !counts.is_numbered
-}
-
-#[test]
-fn a_tally_can_count(rt: HostRuntime) -> Result<(), Fail> {
-    let mut tally = Counted::new();
-    let answers = ask_both(rt.alloc(), &Names, ["3", "4"], &test_of("3"), &mut tally)?;
-    assert!(rt; answers == (true, false) && are_both_counted(&tally.counts));
-    Ok(())
 }

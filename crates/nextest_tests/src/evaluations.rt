@@ -1,9 +1,7 @@
 //! How often filters are evaluated: a configuration of twenty overrides and five script rules, by
-//! an
-//! engine that counts.
+//! an engine that counts.
 use crate::engines::{Anywhere, Counted, Counts, Names, RULES};
-use crate::files::workspace_paths;
-use crate::loaded::load_files;
+use crate::loads::load_text;
 use crate::queries::{binary_of, test_of};
 use crate::texts::add_number;
 use nextest_config::{
@@ -50,13 +48,12 @@ type CountedProfile<'cfg> = EvaluatableProfile<'cfg, Names, Anywhere>;
 /// Loads the rules.
 fn load_rules(alloc: Global) -> Result<CountedConfig, Fail> {
     let text = text_of_rules(alloc, "[scripts.wrapper.w]\ncommand = 'x'\n")?;
-    let paths = workspace_paths(alloc, text.as_str())?;
     let engines = ParseContext {
         filters: &Names,
         specs: &Anywhere,
     };
     let mut warnings = DefaultConfigWarnings::new(alloc);
-    Ok(load_files(alloc, &engines, &paths, &[], &mut warnings)?)
+    Ok(load_text(alloc, &engines, text.as_str(), &mut warnings)?)
 }
 
 /// A profile of the rules, on any platform.

@@ -1,11 +1,20 @@
 //! A sink that has no memory for more than so many warnings.
-use crate::files::workspace_paths;
-use crate::loaded::load_files;
-use crate::toys::{Config, ENGINES};
-use nextest_config::{ConfigParseError, ConfigSource, ConfigWarnings, DefaultConfigWarnings};
+use crate::loads::load_text;
+use nextest_config::{
+    ConfigParseError, ConfigSource, ConfigWarnings, DefaultConfigWarnings, NextestConfig,
+    ParseContext,
+};
 use std::alloc::{AllocError, Global};
 use std::collections::BTreeSet;
 use std::test::Fail;
+use toy_engines::filters::ToyFilters;
+use toy_engines::platforms::ToySpecs;
+
+/// The engines that a load asks.
+const ENGINES: ParseContext<'static, ToyFilters, ToySpecs> = ParseContext {
+    filters: &ToyFilters,
+    specs: &ToySpecs,
+};
 
 /// Keeps so many warnings, and then has no memory.
 #[derive(Drop)]
@@ -72,7 +81,10 @@ filter = "all()"
 "#;
 
 /// Whether a load ends as room for so many warnings lets it.
-fn ends_so(loaded: &Result<Config, ConfigParseError>, room: usize) -> bool {
+fn ends_so(
+    loaded: &Result<NextestConfig<ToyFilters, ToySpecs>, ConfigParseError>,
+    room: usize,
+) -> bool {
     match loaded {
         Ok(_) => room >= 4,
         Err(error) => room < 4 && error.kind().number() == 16 && error.config_file().is_none(),
@@ -80,20 +92,19 @@ fn ends_so(loaded: &Result<Config, ConfigParseError>, room: usize) -> bool {
 }
 
 /// Whether with room for so many warnings these are kept, and the load ends so.
-fn keeps_room(alloc: Global, room: usize) -> Result<bool, Fail> {
-    let paths = workspace_paths(alloc, WARNED)?;
+fn keeps_room(alloc: Global, room: usize) -> bool {
     let mut sink = Scarce {
         kept: DefaultConfigWarnings::new(alloc),
         room,
     };
-    let loaded = load_files(alloc, &ENGINES, &paths, &[], &mut sink);
-    Ok(sink.kept.warnings().len() == room.min(4) && ends_so(&loaded, room))
+    let loaded = load_text(alloc, &ENGINES, WARNED, &mut sink);
+    sink.kept.warnings().len() == room.min(4) && ends_so(&loaded, room)
 }
 
 #[test]
 fn warnings_without_memory(rt: HostRuntime) -> Result<(), Fail> {
     for room in 0..6 {
-        assert!(rt; keeps_room(rt.alloc(), room)?, "with room for {room}");
+        assert!(rt; keeps_room(rt.alloc(), room), "with room for {room}");
     }
     Ok(())
 }

@@ -1,0 +1,50 @@
+//! Loads of a file in memory, with all features.
+use nextest_config::{
+    ConfigExperimental, ConfigParseError, ConfigPath, ConfigPaths, ConfigWarnings, FileInput,
+    Filters, NextestConfig, ParseContext, ReadOutcome, Specs,
+};
+use std::alloc::{AllocError, Global};
+use std::collections::BTreeSet;
+
+/// The paths of a workspace whose own file has this text.
+fn workspace_paths(alloc: Global, text: &str) -> Result<ConfigPaths, AllocError> {
+    let shared = FileInput {
+        path: ConfigPath::new(alloc, "/w/.config/nextest.toml")?,
+        outcome: ReadOutcome::Text(String::from_str(alloc, text)?),
+    };
+    Ok(ConfigPaths {
+        workspace_root: String::from_str(alloc, "/w")?,
+        shared,
+    })
+}
+
+/// All features.
+fn all_features(alloc: Global) -> Result<BTreeSet<ConfigExperimental>, AllocError> {
+    let mut features = BTreeSet::new(alloc);
+    features.insert(ConfigExperimental::SetupScripts)?;
+    features.insert(ConfigExperimental::WrapperScripts)?;
+    Ok(features)
+}
+
+/// Loads a workspace whose own file has this text, by engines, and tells warnings to a sink.
+pub fn load_text<F: Filters, S: Specs, W: ConfigWarnings>(
+    alloc: Global,
+    engines: &ParseContext<'_, F, S>,
+    text: &str,
+    sink: &mut W,
+) -> Result<NextestConfig<F, S>, ConfigParseError> {
+    let paths = workspace_paths(alloc, text)?;
+    let features = all_features(alloc)?;
+    let root = paths.workspace_root.as_str();
+    let shared = &paths.shared;
+    NextestConfig::from_sources_with_warnings(
+        alloc,
+        root,
+        shared,
+        engines,
+        None,
+        &[],
+        &features,
+        sink,
+    )
+}

@@ -1,0 +1,53 @@
+//! Prints what profiles say, and what they give to tests, by the front door and the toy engines.
+//!
+//! The cases come on standard input. Empty lines and lines that begin with `#` say nothing. Each
+//! other line is one of these:
+//!
+//! | Line | What it says |
+//! |---|---|
+//! | `case NAME` | a case begins, without files, for the host `x86_64-unknown-linux-gnu` |
+//! | `file` | the workspace has a file of its own; the lines below it that begin with two spaces are its text |
+//! | `tool NAME` | the same, below it, for a file of this tool, at `/NAME.toml` |
+//! | `host TRIPLE`, `target TRIPLE` | the build is for this host, and for this target |
+//! | `test NAME` | a test of the binary `b`, which is built for the target |
+//! | `host-test NAME` | a test of the binary `b`, which is built for the host |
+//! | `binary ID` | a binary whose tests are listed |
+//! | `group NAME` | a group that tests may be members of |
+//! | `show WORD ..` | only lines that begin with one of these words are printed |
+//! | `profile NAME` | the case is run for this profile |
+//!
+//! For each run it prints the names of the case and of the profile, and then a line for each thing
+//! that is asked, behind two spaces. A line that is none of these is told on standard error, and
+//! the status is 2.
+#![tactic(auto)]
+
+mod case;
+mod lines;
+mod profile;
+mod report;
+mod rows;
+mod tests;
+
+use case::read_cases;
+use report::report_of;
+use std::io;
+use std::process::ExitCode;
+
+fn main(rt: HostRuntime) -> io::Result<ExitCode> {
+    let alloc = rt.alloc();
+    let text = io::read_to_string(alloc, rt.stdin())?;
+    let cases = match read_cases(alloc, text.as_str()) {
+        Ok(cases) => cases,
+        Err(error) => {
+            eprintln!(rt; "error: {error}")?;
+            return Ok(ExitCode::from(2));
+        }
+    };
+    for case in &cases {
+        for profile in &case.profiles {
+            let report = report_of(alloc, case, profile)?;
+            print!(rt; "{report}")?;
+        }
+    }
+    Ok(ExitCode::SUCCESS)
+}

@@ -1,0 +1,102 @@
+//! The report of a run: the load of a case's files, and what a profile of them says.
+use crate::case::Case;
+use crate::lines::Lines;
+use crate::profile::{Config, Profile, add_early, add_profile};
+use crate::rows::add_rows;
+use crate::tests::{add_binary, add_groups, add_setup_scripts, add_test};
+use nextest_config::{
+    BuildPlatforms, ConfigExperimental, ConfigParseError, NextestConfig, ParseContext,
+};
+use std::alloc::{AllocError, Global};
+use std::collections::BTreeSet;
+use toy_engines::filters::ToyFilters;
+use toy_engines::platforms::ToySpecs;
+
+/// The engines that a load asks.
+pub const ENGINES: ParseContext<'static, ToyFilters, ToySpecs> = ParseContext {
+    filters: &ToyFilters,
+    specs: &ToySpecs,
+};
+
+/// All features.
+pub fn all_features(alloc: Global) -> Result<BTreeSet<ConfigExperimental>, AllocError> {
+    let mut features = BTreeSet::new(alloc);
+    features.insert(ConfigExperimental::SetupScripts)?;
+    features.insert(ConfigExperimental::WrapperScripts)?;
+    Ok(features)
+}
+
+/// The platforms of a case's build.
+fn platforms_of(alloc: Global, case: &Case<'_>) -> Result<BuildPlatforms<String>, AllocError> {
+    Ok(BuildPlatforms {
+        host: String::from_str(alloc, case.host)?,
+        target: match case.target {
+            Some(target) => Some(String::from_str(alloc, target)?),
+            None => None,
+        },
+    })
+}
+
+/// Loads the files of a case.
+fn load(
+    alloc: Global,
+    case: &Case<'_>,
+    features: &BTreeSet<ConfigExperimental>,
+) -> Result<Config, ConfigParseError> {
+    let root = case.paths.workspace_root.as_str();
+    let shared = &case.paths.shared;
+    NextestConfig::from_sources(alloc, root, shared, &ENGINES, None, &case.tools, features)
+}
+
+/// The names of a case and of a profile, and what is asked of it.
+pub fn report_of(alloc: Global, case: &Case<'_>, profile: &str) -> Result<String, AllocError> {
+    let features = all_features(alloc)?;
+    let platforms = platforms_of(alloc, case)?;
+    let mut lines = Lines::new(alloc, case.shown);
+    match load(alloc, case, &features) {
+        Ok(config) => add_config(alloc, &mut lines, case, &config, profile, &platforms)?,
+        Err(error) => lines.add(alloc, "refused", &error)?,
+    }
+    add_rows(alloc, &mut lines, case, &features, profile, &platforms)?;
+    let name = case.name;
+    format!(in alloc; "case {name}\nprofile {profile}\n{}", lines.as_str())
+}
+
+/// Adds what a configuration kept, and what a profile of it says.
+fn add_config(
+    alloc: Global,
+    lines: &mut Lines<'_>,
+    case: &Case<'_>,
+    config: &Config,
+    name: &str,
+    platforms: &BuildPlatforms<String>,
+) -> Result<(), AllocError> {
+    lines.add(alloc, "warnings", &config.warnings().lines(alloc)?)?;
+    let early = match config.profile(alloc, name) {
+        Ok(early) => early,
+        Err(error) => return lines.add(alloc, "refused", &error),
+    };
+    add_early(alloc, lines, &early)?;
+    let Ok(profile) = early.apply_build_platforms(alloc, platforms) else {
+        return Err(AllocError);
+    };
+    add_evaluatable(alloc, lines, case, &profile)
+}
+
+/// Adds what a profile says on the platforms of a build, of itself and of what is asked.
+fn add_evaluatable(
+    alloc: Global,
+    lines: &mut Lines<'_>,
+    case: &Case<'_>,
+    profile: &Profile<'_>,
+) -> Result<(), AllocError> {
+    add_profile(alloc, lines, profile)?;
+    for test in &case.tests {
+        add_test(alloc, lines, profile, test)?;
+    }
+    for binary in &case.binaries {
+        add_binary(alloc, lines, profile, binary)?;
+    }
+    add_setup_scripts(alloc, lines, profile, &case.tests)?;
+    add_groups(alloc, lines, profile, &case.tests, &case.groups)
+}

@@ -1,0 +1,92 @@
+//! The rows of a whole run, from the texts of files on.
+use crate::case::Case;
+use crate::lines::{Lines, override_text};
+use crate::report::ENGINES;
+use nextest_config::run::{Inputs, PlainSource, ResolveFault, TestRow, resolve};
+use nextest_config::{
+    BuildPlatforms, ConfigExperimental, ConfigFileSelection, DefaultConfigWarnings, NextestRunMode,
+};
+use std::alloc::{AllocError, Global};
+use std::collections::BTreeSet;
+use toy_engines::filters::ToyTally;
+
+/// Adds how many rows the tests of a case have, and what some settings of each are.
+pub fn add_rows(
+    alloc: Global,
+    lines: &mut Lines<'_>,
+    case: &Case<'_>,
+    features: &BTreeSet<ConfigExperimental>,
+    profile: &str,
+    platforms: &BuildPlatforms<String>,
+) -> Result<(), AllocError> {
+    match rows_of(alloc, case, features, profile, platforms) {
+        Ok(rows) => {
+            lines.add(alloc, "rows", &rows.len())?;
+            for row in &rows {
+                add_row(alloc, lines, row)?;
+            }
+            Ok(())
+        }
+        Err(fault) => lines.add(alloc, "no-rows", &fault),
+    }
+}
+
+/// Adds two settings of a row with their sources.
+fn add_row(alloc: Global, lines: &mut Lines<'_>, row: &TestRow) -> Result<(), AllocError> {
+    let (threads, source) = &row.threads_required;
+    lines.add(
+        alloc,
+        "row-threads",
+        &(*threads, source_text(alloc, source)?),
+    )?;
+    let (retries, source) = &row.retries;
+    lines.add(
+        alloc,
+        "row-retries",
+        &(*retries, source_text(alloc, source)?),
+    )
+}
+
+/// What decides a setting of a row.
+fn source_text(alloc: Global, source: &PlainSource) -> Result<String, AllocError> {
+    match source {
+        PlainSource::Default => String::from_str(alloc, "default"),
+        PlainSource::Profile => String::from_str(alloc, "profile"),
+        PlainSource::Script => String::from_str(alloc, "script"),
+        PlainSource::Override {
+            source,
+            profile,
+            index,
+        } => override_text(alloc, source, profile.as_str(), *index),
+    }
+}
+
+/// The rows of a case's tests in a profile.
+fn rows_of(
+    alloc: Global,
+    case: &Case<'_>,
+    features: &BTreeSet<ConfigExperimental>,
+    profile: &str,
+    platforms: &BuildPlatforms<String>,
+) -> Result<Vec<TestRow>, ResolveFault> {
+    let inputs = Inputs {
+        paths: &case.paths,
+        selection: ConfigFileSelection::new(None),
+        tools: &case.tools,
+        features,
+    };
+    let mode = NextestRunMode::Test;
+    let mut sink = DefaultConfigWarnings::new(alloc);
+    let mut tally = ToyTally::new();
+    resolve(
+        alloc,
+        &inputs,
+        &ENGINES,
+        profile,
+        platforms,
+        mode,
+        &case.tests,
+        &mut sink,
+        &mut tally,
+    )
+}
