@@ -26,15 +26,14 @@ fn all_features(alloc: Global) -> Result<BTreeSet<ConfigExperimental>, AllocErro
     Ok(features)
 }
 
-/// Loads a workspace whose own file has this text, by engines, and tells warnings to a sink.
-pub fn load_text<F: Filters, S: Specs, W: ConfigWarnings>(
+/// Loads the files of a workspace by engines, and tells warnings to a sink.
+fn load_paths<F: Filters, S: Specs, W: ConfigWarnings>(
     alloc: Global,
     engines: &ParseContext<'_, F, S>,
-    text: &str,
+    paths: &ConfigPaths,
+    features: &BTreeSet<ConfigExperimental>,
     sink: &mut W,
 ) -> Result<NextestConfig<F, S>, ConfigParseError> {
-    let paths = workspace_paths(alloc, text)?;
-    let features = all_features(alloc)?;
     let root = paths.workspace_root.as_str();
     let shared = &paths.shared;
     NextestConfig::from_sources_with_warnings(
@@ -44,7 +43,19 @@ pub fn load_text<F: Filters, S: Specs, W: ConfigWarnings>(
         engines,
         None,
         &[],
-        &features,
+        features,
         sink,
     )
+}
+
+/// Loads a workspace whose own file has this text, by engines, and tells warnings to a sink.
+pub fn load_text<F: Filters, S: Specs, W: ConfigWarnings>(
+    alloc: Global,
+    engines: &ParseContext<'_, F, S>,
+    text: &str,
+    sink: &mut W,
+) -> Result<NextestConfig<F, S>, ConfigParseError> {
+    let paths = workspace_paths(alloc, text)?;
+    let features = all_features(alloc)?;
+    load_paths(alloc, engines, &paths, &features, sink)
 }

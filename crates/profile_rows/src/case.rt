@@ -89,6 +89,16 @@ fn tool_file<'a>(alloc: Global, name: &'a str) -> Result<ToolConfigFile, CaseErr
     })
 }
 
+/// Adds a line to the text of a file, and says whether there is such a file.
+fn add_line(file: &mut FileInput, line: &str) -> Result<bool, AllocError> {
+    let ReadOutcome::Text(text) = &mut file.outcome else {
+        return Ok(false);
+    };
+    text.push_str(line)?;
+    text.push_str("\n")?;
+    Ok(true)
+}
+
 impl<'a> Case<'a> {
     /// A case without files, on the usual host.
     fn new(alloc: Global, name: &'a str) -> Result<Case<'a>, AllocError> {
@@ -132,16 +142,16 @@ impl<'a> Case<'a> {
 
     /// Takes a line of the text of the last file.
     fn add_text(&mut self, line: &'a str) -> Result<(), CaseError<'a>> {
-        let file = match self.tools.last_mut() {
-            Some(tool) => &mut tool.config_file,
-            None => &mut self.paths.shared,
+        let text = line.strip_prefix("  ").ok_or(CaseError::Line(line))?;
+        let is_file = match self.tools.last_mut() {
+            Some(tool) => add_line(&mut tool.config_file, text)?,
+            None => add_line(&mut self.paths.shared, text)?,
         };
-        let ReadOutcome::Text(text) = &mut file.outcome else {
-            return Err(CaseError::Line(line));
-        };
-        text.push_str(line.strip_prefix("  ").ok_or(CaseError::Line(line))?)?;
-        text.push_str("\n")?;
-        Ok(())
+        if is_file {
+            Ok(())
+        } else {
+            Err(CaseError::Line(line))
+        }
     }
 }
 

@@ -62,10 +62,10 @@ fn source_text(alloc: Global, source: &PlainSource) -> Result<String, AllocError
 }
 
 /// The rows of a case's tests in a profile.
-fn rows_of(
+fn rows_of<'a>(
     alloc: Global,
-    case: &Case<'_>,
-    features: &BTreeSet<ConfigExperimental>,
+    case: &'a Case<'_>,
+    features: &'a BTreeSet<ConfigExperimental>,
     profile: &str,
     platforms: &BuildPlatforms<String>,
 ) -> Result<Vec<TestRow>, ResolveFault> {
