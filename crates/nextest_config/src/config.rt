@@ -138,9 +138,7 @@ impl<F: Filters, S: Specs> NextestConfig<F, S> {
         tools: &[ToolConfigFile],
         experimental: &BTreeSet<ConfigExperimental>,
     ) -> Result<Self, ConfigParseError>
-        ensures loads { let engines = readings_view (F.read pcx.now.filters.now)
-            (S.read_spec pcx.now.specs.now) F.match_all F.holds F.holds_binary F.leaves
-            S.holds_on in
+        ensures loads { let engines = readings_view F.Filters S.Specs pcx.now in
             (all : List Warning) × IsLoad (loaded_by F.meaning S.spec_meaning) engines
             (features_view experimental.now)
             (load_inputs_view shared.now config_file.entry tools.now) [] all result
@@ -173,9 +171,7 @@ impl<F: Filters, S: Specs> NextestConfig<F, S> {
         experimental: &BTreeSet<ConfigExperimental>,
         warnings: &mut W,
     ) -> Result<Self, ConfigParseError>
-        ensures loads { let engines = readings_view (F.read pcx.now.filters.now)
-            (S.read_spec pcx.now.specs.now) F.match_all F.holds F.holds_binary F.leaves
-            S.holds_on in
+        ensures loads { let engines = readings_view F.Filters S.Specs pcx.now in
             IsLoad (loaded_by F.meaning S.spec_meaning) engines (features_view experimental.now)
             (load_inputs_view shared.now config_file.entry tools.now)
             (W.warnings warnings.old) (W.warnings warnings.new) result }
@@ -206,9 +202,7 @@ impl<F: Filters, S: Specs> NextestConfig<F, S> {
         experimental: &BTreeSet<ConfigExperimental>,
         warnings: &mut W,
     ) -> Result<Self, ConfigParseError>
-        ensures loads { let engines = readings_view (F.read pcx.now.filters.now)
-            (S.read_spec pcx.now.specs.now) F.match_all F.holds F.holds_binary F.leaves
-            S.holds_on in
+        ensures loads { let engines = readings_view F.Filters S.Specs pcx.now in
             IsLoad (loaded_by F.meaning S.spec_meaning) engines (features_view experimental.now)
             (load_inputs_view shared.now selection.entry.config_file tools.now)
             (W.warnings warnings.old) (W.warnings warnings.new) result }
@@ -238,9 +232,7 @@ impl<F: Filters, S: Specs> NextestConfig<F, S> {
         experimental: &BTreeSet<ConfigExperimental>,
         warnings: &mut W,
     ) -> Result<Self, ConfigParseError>
-        ensures loads { let engines = readings_view (F.read pcx.now.filters.now)
-            (S.read_spec pcx.now.specs.now) F.match_all F.holds F.holds_binary F.leaves
-            S.holds_on in
+        ensures loads { let engines = readings_view F.Filters S.Specs pcx.now in
             IsLoad (loaded_by F.meaning S.spec_meaning) engines (features_view experimental.now)
             (load_inputs_view paths.now.shared selection.entry.config_file tools.now)
             (W.warnings warnings.old) (W.warnings warnings.new) result }

@@ -45,9 +45,7 @@ pub fn resolve<F: Filters, S: Specs, W: ConfigWarnings>(
     warnings: &mut W,
     tally: &mut F::Tally,
 ) -> Result<Vec<TestRow>, ResolveFault>
-    ensures resolves { Resolves
-        (readings_view (F.read pcx.now.filters.now) (S.read_spec pcx.now.specs.now) F.match_all
-        F.holds F.holds_binary F.leaves S.holds_on)
+    ensures resolves { Resolves (readings_view F.Filters S.Specs pcx.now)
         (request_view inputs.now profile.now platforms.now mode tests.now)
         (run_view (answer_view result) (W.warnings warnings.old) (W.warnings warnings.new)
         (F.Tally.numbers tally.old) (F.Tally.numbers tally.new)) }

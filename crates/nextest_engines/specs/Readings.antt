@@ -1,6 +1,9 @@
 -- What engines make of texts: all that a statement about a configuration knows of them.
 use Rattle.std.specs.Prelude.{ℕ, List, Bool, Option, Result}
 use Rattle.nextest_engines.specs.Engines.{Test, Binary}
+use Rattle.nextest_engines.specs.declared.filters.Filters as filters
+use Rattle.nextest_engines.specs.declared.parse_context.ParseContext.{ParseContext}
+use Rattle.nextest_engines.specs.declared.platforms.Specs as platforms
 use Rattle.nextest_engines.specs.declared.queries.FiltersetKind.{FiltersetKind}
 
 -- a text, as its bytes
@@ -25,16 +28,15 @@ pub record Readings (M K P : Type 0) : Type 0 where
   -- whether a platform meets a spec, or none where that is unknown
   pub meets : K → P → Option Bool
 
--- the readings of two engines, of which contracts know these members
-abbrev pub readings_view : {M K P : Type 0} → (FiltersetKind → Text → Result M Text)
-    → (Text → Result K Text) → M → (M → Test → M → Bool) → (M → Binary → M → Option Bool)
-    → (M → List Text) → (K → P → Option Bool) → Readings M K P
-readings_view read read_spec match_all holds holds_binary leaves holds_on = record {
-  read_filter = read;
-  read_spec = read_spec;
-  match_all = match_all;
-  matches_test = holds;
-  matches_binary = holds_binary;
-  leaves = leaves;
-  meets = holds_on;
+-- what the engines of a context make of texts, by the ghost members of their types
+abbrev pub readings_view : {F Expr Tally S Spec P : Type 0} → (f : filters.Ghosts F Expr Tally)
+    → (s : platforms.Ghosts S Spec P) → ParseContext F S → Readings f.Meaning s.SpecMeaning P
+readings_view f s pcx = record {
+  read_filter = f.read pcx.filters.now;
+  read_spec = s.read_spec pcx.specs.now;
+  match_all = f.match_all;
+  matches_test = f.holds;
+  matches_binary = f.holds_binary;
+  leaves = f.leaves;
+  meets = s.holds_on;
 }

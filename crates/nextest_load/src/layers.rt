@@ -107,16 +107,12 @@ impl<F: Filters, S: Specs> LoadedLayers<F, S> {
         input: &SourceInput<'_>,
         warnings: &mut W,
     ) -> Result<(), ConfigParseError>
-        ensures ran { let engines = readings_view (F.read pcx.now.filters.now)
-            (S.read_spec pcx.now.specs.now) F.match_all F.holds F.holds_binary F.leaves
-            S.holds_on in
+        ensures ran { let engines = readings_view F.Filters S.Specs pcx.now in
             (below : List SourceText) → HasLoaded F.meaning S.spec_meaning engines below self.old
             → Ran (one_input_steps engines (features_view features.now) below
             (input_view input.now))
             (W.warnings warnings.old) (W.warnings warnings.new) (ending result) }
-        ensures loaded { let engines = readings_view (F.read pcx.now.filters.now)
-            (S.read_spec pcx.now.specs.now) F.match_all F.holds F.holds_binary F.leaves
-            S.holds_on in
+        ensures loaded { let engines = readings_view F.Filters S.Specs pcx.now in
             (below : List SourceText) → HasLoaded F.meaning S.spec_meaning engines below self.old
             → OnOk result (HasLoaded F.meaning S.spec_meaning engines
             (below ++ source_texts_of (input_view input.now)) self.new) }
@@ -142,14 +138,10 @@ pub(crate) fn load_inputs<F: Filters, S: Specs, W: ConfigWarnings>(
     inputs: &[SourceInput<'_>],
     warnings: &mut W,
 ) -> Result<LoadedLayers<F, S>, ConfigParseError>
-    ensures ran { let engines = readings_view (F.read pcx.now.filters.now)
-        (S.read_spec pcx.now.specs.now) F.match_all F.holds F.holds_binary F.leaves
-        S.holds_on in
+    ensures ran { let engines = readings_view F.Filters S.Specs pcx.now in
         Ran (input_steps engines (features_view features.now) [] (map input_view inputs.now))
         (W.warnings warnings.old) (W.warnings warnings.new) (ending result) }
-    ensures loaded { let engines = readings_view (F.read pcx.now.filters.now)
-        (S.read_spec pcx.now.specs.now) F.match_all F.holds F.holds_binary F.leaves
-        S.holds_on in
+    ensures loaded { let engines = readings_view F.Filters S.Specs pcx.now in
         IfOk result (HasLoaded F.meaning S.spec_meaning engines
         (flat_map source_texts_of (map input_view inputs.now))) }
 {

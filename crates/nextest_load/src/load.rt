@@ -31,9 +31,7 @@ impl<F: Filters, S: Specs> LoadedConfig<F, S> {
         experimental: &BTreeSet<ConfigExperimental>,
         warnings: &mut W,
     ) -> Result<LoadedConfig<F, S>, ConfigParseError>
-        ensures loads { let engines = readings_view (F.read pcx.now.filters.now)
-            (S.read_spec pcx.now.specs.now) F.match_all F.holds F.holds_binary F.leaves
-            S.holds_on in
+        ensures loads { let engines = readings_view F.Filters S.Specs pcx.now in
             IsLoad (loaded_meaning F.meaning S.spec_meaning) engines
             (features_view experimental.now)
             (load_inputs_view shared.now selection.entry.config_file tools.now)

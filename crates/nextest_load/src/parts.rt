@@ -82,16 +82,12 @@ fn load_merged_inputs<F: Filters, S: Specs, W: ConfigWarnings>(
     inputs: &[SourceInput<'_>],
     warnings: &mut W,
 ) -> Result<ConfigParts<F, S>, ConfigParseError>
-    ensures ran { let engines = readings_view (F.read pcx.now.filters.now)
-        (S.read_spec pcx.now.specs.now) F.match_all F.holds F.holds_binary F.leaves
-        S.holds_on in
+    ensures ran { let engines = readings_view F.Filters S.Specs pcx.now in
         let all = map input_view inputs.now in
         Ran (input_steps engines (features_view features.now) [] all
         ++ merged_steps (source_view repository.now) (flat_map source_texts_of all))
         (W.warnings warnings.old) (W.warnings warnings.new) (ending result) }
-    ensures parts { let engines = readings_view (F.read pcx.now.filters.now)
-        (S.read_spec pcx.now.specs.now) F.match_all F.holds F.holds_binary F.leaves
-        S.holds_on in
+    ensures parts { let engines = readings_view F.Filters S.Specs pcx.now in
         IfOk result (AreParts F.meaning S.spec_meaning engines
         (flat_map source_texts_of (map input_view inputs.now))) }
 {
@@ -109,16 +105,12 @@ fn load_files<F: Filters, S: Specs, W: ConfigWarnings>(
     features: &BTreeSet<ConfigExperimental>,
     warnings: &mut W,
 ) -> Result<ConfigParts<F, S>, ConfigParseError>
-    ensures ran { let engines = readings_view (F.read pcx.now.filters.now)
-        (S.read_spec pcx.now.specs.now) F.match_all F.holds F.holds_binary F.leaves
-        S.holds_on in
+    ensures ran { let engines = readings_view F.Filters S.Specs pcx.now in
         let files = load_inputs_view shared.now selection.entry.config_file tools.now in
         Ran (input_steps engines (features_view features.now) [] (inputs_of files)
         ++ merged_steps (repository_of files) (sources_in files))
         (W.warnings warnings.old) (W.warnings warnings.new) (ending result) }
-    ensures parts { let engines = readings_view (F.read pcx.now.filters.now)
-        (S.read_spec pcx.now.specs.now) F.match_all F.holds F.holds_binary F.leaves
-        S.holds_on in
+    ensures parts { let engines = readings_view F.Filters S.Specs pcx.now in
         let files = load_inputs_view shared.now selection.entry.config_file tools.now in
         IfOk result (AreParts F.meaning S.spec_meaning engines (sources_in files)) }
 {
@@ -138,15 +130,11 @@ pub(crate) fn load_parts<F: Filters, S: Specs, W: ConfigWarnings>(
     features: &BTreeSet<ConfigExperimental>,
     warnings: &mut W,
 ) -> Result<ConfigParts<F, S>, ConfigParseError>
-    ensures ran { let engines = readings_view (F.read pcx.now.filters.now)
-        (S.read_spec pcx.now.specs.now) F.match_all F.holds F.holds_binary F.leaves
-        S.holds_on in
+    ensures ran { let engines = readings_view F.Filters S.Specs pcx.now in
         let files = load_inputs_view shared.now selection.entry.config_file tools.now in
         Ran (load_steps engines (features_view features.now) files)
         (W.warnings warnings.old) (W.warnings warnings.new) (ending result) }
-    ensures parts { let engines = readings_view (F.read pcx.now.filters.now)
-        (S.read_spec pcx.now.specs.now) F.match_all F.holds F.holds_binary F.leaves
-        S.holds_on in
+    ensures parts { let engines = readings_view F.Filters S.Specs pcx.now in
         let files = load_inputs_view shared.now selection.entry.config_file tools.now in
         IfOk result (AreParts F.meaning S.spec_meaning engines (sources_in files)) }
 {

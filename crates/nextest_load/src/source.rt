@@ -160,16 +160,12 @@ fn load_file<F: Filters, S: Specs, W: ConfigWarnings>(
     own: &Tree,
     warnings: &mut W,
 ) -> Result<LayerRules<F, S>, ConfigParseError>
-    ensures ran { let engines = readings_view (F.read pcx.now.filters.now)
-        (S.read_spec pcx.now.specs.now) F.match_all F.holds F.holds_binary F.leaves
-        S.holds_on in
+    ensures ran { let engines = readings_view F.Filters S.Specs pcx.now in
         (below : List FileText) → known_view known.old ≡ sets_of (known_names below)
         → Ran (file_steps engines (features_view features.now) below (source_view source.now)
         (tree_view own.now))
         (W.warnings warnings.old) (W.warnings warnings.new) (ending result) }
-    ensures rules { let engines = readings_view (F.read pcx.now.filters.now)
-        (S.read_spec pcx.now.specs.now) F.match_all F.holds F.holds_binary F.leaves
-        S.holds_on in
+    ensures rules { let engines = readings_view F.Filters S.Specs pcx.now in
         IfOk result
         (λ rules. layer_meaning F.meaning S.spec_meaning (layer_view rules)
         ≡ layer_of engines (source_view source.now) (file_text (tree_view own.now)).profiles) }
@@ -199,18 +195,14 @@ pub(crate) fn load_source<F: Filters, S: Specs, W: ConfigWarnings>(
     file: &SourceFile<'_>,
     warnings: &mut W,
 ) -> Result<LoadedSource<F, S>, ConfigParseError>
-    ensures ran { let engines = readings_view (F.read pcx.now.filters.now)
-        (S.read_spec pcx.now.specs.now) F.match_all F.holds F.holds_binary F.leaves
-        S.holds_on in
+    ensures ran { let engines = readings_view F.Filters S.Specs pcx.now in
         (below : List SourceText)
         → known_view known.old ≡ sets_of (known_names (map own_file below))
         → Ran (source_steps engines (features_view features.now) below (source_text_view file.now))
         (W.warnings warnings.old) (W.warnings warnings.new) (ending result) }
     ensures tree { IfOk result (λ l. tree_view l.trees.tree ≡ tree_in (source_text_view file.now)) }
     ensures own { IfOk result (λ l. tree_view l.trees.own ≡ own_tree (source_text_view file.now)) }
-    ensures rules { let engines = readings_view (F.read pcx.now.filters.now)
-        (S.read_spec pcx.now.specs.now) F.match_all F.holds F.holds_binary F.leaves
-        S.holds_on in
+    ensures rules { let engines = readings_view F.Filters S.Specs pcx.now in
         IfOk result
         (λ l. layer_meaning F.meaning S.spec_meaning (layer_view l.rules)
         ≡ source_layer engines (source_text_view file.now)) }

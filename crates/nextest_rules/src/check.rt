@@ -73,17 +73,13 @@ pub fn check_rules<F: Filters, S: Specs, W: ConfigWarnings>(
     file: FileTable,
     warnings: &mut W,
 ) -> Result<LayerRules<F, S>, ConfigParseError>
-    ensures ran { let engines = readings_view (F.read pcx.now.filters.now)
-        (S.read_spec pcx.now.specs.now) F.match_all F.holds F.holds_binary
-        F.leaves S.holds_on in
+    ensures ran { let engines = readings_view F.Filters S.Specs pcx.now in
         (below : List FileText) → known_view known.old ≡ sets_of (known_names below)
         → Ran (rule_steps engines (is_one_of (known_names below).profiles)
         (sets_of (known_to below (file_table_view file))) (source_view source.now)
         (file_table_view file))
         (W.warnings warnings.old) (W.warnings warnings.new) (ending result) }
-    ensures rules { let engines = readings_view (F.read pcx.now.filters.now)
-        (S.read_spec pcx.now.specs.now) F.match_all F.holds F.holds_binary
-        F.leaves S.holds_on in
+    ensures rules { let engines = readings_view F.Filters S.Specs pcx.now in
         IfOk result
         (λ layer. layer_meaning F.meaning S.spec_meaning (layer_view layer)
         ≡ layer_of engines (source_view source.now) (file_table_view file).profiles) }

@@ -36,16 +36,12 @@ fn compile_profiles<F: Filters, S: Specs>(
     source: &ConfigSource,
     tables: BTreeMap<String, ProfileTable>,
 ) -> Result<(Profiles<F, S>, Vec<ConfigCompileError>), AllocError>
-    ensures profiles { let engines = readings_view (F.read pcx.now.filters.now)
-        (S.read_spec pcx.now.specs.now) F.match_all F.holds F.holds_binary
-        F.leaves S.holds_on in
+    ensures profiles { let engines = readings_view F.Filters S.Specs pcx.now in
         IfOk result (λ made.
         profiles_view F.meaning S.spec_meaning made.0.entries
         ≡ (layer_of engines (source_view source.now)
         (by_name profile_view tables.entries)).profiles) }
-    ensures faults { let engines = readings_view (F.read pcx.now.filters.now)
-        (S.read_spec pcx.now.specs.now) F.match_all F.holds F.holds_binary
-        F.leaves S.holds_on in
+    ensures faults { let engines = readings_view F.Filters S.Specs pcx.now in
         IfOk result (λ made. map compile_error_view made.1.items
         ≡ compile_faults engines (by_name profile_view tables.entries)) }
 {
@@ -68,14 +64,10 @@ pub(crate) fn compile_layer<F: Filters, S: Specs>(
     source: &ConfigSource,
     tables: BTreeMap<String, ProfileTable>,
 ) -> Result<LayerRules<F, S>, ConfigParseError>
-    ensures found { let engines = readings_view (F.read pcx.now.filters.now)
-        (S.read_spec pcx.now.specs.now) F.match_all F.holds F.holds_binary
-        F.leaves S.holds_on in
+    ensures found { let engines = readings_view F.Filters S.Specs pcx.now in
         Found (fault_at_source (source_view source.now)
         (compile_cause engines (by_name profile_view tables.entries))) (ending result) }
-    ensures rules { let engines = readings_view (F.read pcx.now.filters.now)
-        (S.read_spec pcx.now.specs.now) F.match_all F.holds F.holds_binary
-        F.leaves S.holds_on in
+    ensures rules { let engines = readings_view F.Filters S.Specs pcx.now in
         IfOk result (λ layer.
         layer_meaning F.meaning S.spec_meaning (layer_view layer)
         ≡ layer_of engines (source_view source.now) (by_name profile_view tables.entries)) }

@@ -25,9 +25,7 @@ pub fn law_accepted_definitions()
 /// The rules of a source, whose profiles stand by name, have no fault over lower files exactly
 /// where they are accepted.
 pub fn law_accepted_rules<F: Filters, S: Specs>(_pcx: &ParseContext<'_, F, S>)
-    ensures { let engines = readings_view (F.read _pcx.now.filters.now)
-        (S.read_spec _pcx.now.specs.now) F.match_all F.holds F.holds_binary
-        F.leaves S.holds_on in
+    ensures { let engines = readings_view F.Filters S.Specs _pcx.now in
         (lower : NameSet) (known : KnownNames) (source : Source) (file : FileText)
         → IsStrictlySortedBy (slice_cmp nat_cmp) (names_in file.profiles)
         → (first_fault (rule_steps engines lower (sets_of known) source file) ≡ None)

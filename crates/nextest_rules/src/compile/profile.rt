@@ -28,14 +28,10 @@ fn compile_default_filter<F: Filters, S: Specs>(
     text: &Option<String>,
     errors: &mut Vec<ConfigCompileError>,
 ) -> Result<Option<F::Expr>, AllocError>
-    ensures meaning { let engines = readings_view (F.read pcx.now.filters.now)
-        (S.read_spec pcx.now.specs.now) F.match_all F.holds F.holds_binary
-        F.leaves S.holds_on in
+    ensures meaning { let engines = readings_view F.Filters S.Specs pcx.now in
         IfOk result (λ expr. option_map F.meaning expr
         ≡ filter_meaning engines DefaultFilter (option_map string_bytes text.now)) }
-    ensures errors { let engines = readings_view (F.read pcx.now.filters.now)
-        (S.read_spec pcx.now.specs.now) F.match_all F.holds F.holds_binary
-        F.leaves S.holds_on in
+    ensures errors { let engines = readings_view F.Filters S.Specs pcx.now in
         OnOk result (map compile_error_view errors.new.items
         ≡ map compile_error_view errors.old.items ++ fault_in profile.now in_default_filter
         (default_filter_cause engines (option_map string_bytes text.now))) }
@@ -63,16 +59,12 @@ fn compile_overrides<F: Filters, S: Specs>(
     tables: Vec<OverrideTable>,
     errors: &mut Vec<ConfigCompileError>,
 ) -> Result<Vec<CompiledOverride<F, S>>, AllocError>
-    ensures rules { let engines = readings_view (F.read pcx.now.filters.now)
-        (S.read_spec pcx.now.specs.now) F.match_all F.holds F.holds_binary
-        F.leaves S.holds_on in
+    ensures rules { let engines = readings_view F.Filters S.Specs pcx.now in
         IfOk result (λ rules.
         map (override_meaning F.meaning S.spec_meaning) (map override_rule_view rules.items)
         ≡ override_rules engines (source_view source.now) profile.now
         (map override_view tables.items)) }
-    ensures errors { let engines = readings_view (F.read pcx.now.filters.now)
-        (S.read_spec pcx.now.specs.now) F.match_all F.holds F.holds_binary
-        F.leaves S.holds_on in
+    ensures errors { let engines = readings_view F.Filters S.Specs pcx.now in
         OnOk result (map compile_error_view errors.new.items
         ≡ map compile_error_view errors.old.items
         ++ override_faults engines profile.now (map override_view tables.items)) }
@@ -97,15 +89,11 @@ fn compile_script_rules<F: Filters, S: Specs>(
     tables: Vec<ScriptRuleTable>,
     errors: &mut Vec<ConfigCompileError>,
 ) -> Result<Vec<CompiledProfileScripts<F, S>>, AllocError>
-    ensures rules { let engines = readings_view (F.read pcx.now.filters.now)
-        (S.read_spec pcx.now.specs.now) F.match_all F.holds F.holds_binary
-        F.leaves S.holds_on in
+    ensures rules { let engines = readings_view F.Filters S.Specs pcx.now in
         IfOk result (λ rules.
         map (script_rule_meaning F.meaning S.spec_meaning) (map view.script_rule_view rules.items)
         ≡ map (script_rule engines) (map script_rule_table_view tables.items)) }
-    ensures errors { let engines = readings_view (F.read pcx.now.filters.now)
-        (S.read_spec pcx.now.specs.now) F.match_all F.holds F.holds_binary
-        F.leaves S.holds_on in
+    ensures errors { let engines = readings_view F.Filters S.Specs pcx.now in
         OnOk result (map compile_error_view errors.new.items
         ≡ map compile_error_view errors.old.items
         ++ script_rule_faults engines profile.now (map script_rule_table_view tables.items)) }
@@ -130,15 +118,11 @@ pub(crate) fn compile_profile<F: Filters, S: Specs>(
     table: ProfileTable,
     errors: &mut Vec<ConfigCompileError>,
 ) -> Result<CompiledProfile<F, S>, AllocError>
-    ensures profile { let engines = readings_view (F.read pcx.now.filters.now)
-        (S.read_spec pcx.now.specs.now) F.match_all F.holds F.holds_binary
-        F.leaves S.holds_on in
+    ensures profile { let engines = readings_view F.Filters S.Specs pcx.now in
         IfOk result (λ profile.
         layer_profile_meaning F.meaning S.spec_meaning (layer_profile_view profile)
         ≡ layer_profile engines (source_view source.now) name.now (profile_view table)) }
-    ensures errors { let engines = readings_view (F.read pcx.now.filters.now)
-        (S.read_spec pcx.now.specs.now) F.match_all F.holds F.holds_binary
-        F.leaves S.holds_on in
+    ensures errors { let engines = readings_view F.Filters S.Specs pcx.now in
         OnOk result (map compile_error_view errors.new.items
         ≡ map compile_error_view errors.old.items
         ++ profile_faults engines name.now (profile_view table)) }

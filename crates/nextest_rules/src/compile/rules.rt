@@ -77,29 +77,19 @@ fn read_override<F: Filters, S: Specs>(
     pcx: &ParseContext<'_, F, S>,
     table: &OverrideTable,
 ) -> Result<ReadOverride<F, S>, AllocError>
-    ensures host { let engines = readings_view (F.read pcx.now.filters.now)
-        (S.read_spec pcx.now.specs.now) F.match_all F.holds F.holds_binary
-        F.leaves S.holds_on in
+    ensures host { let engines = readings_view F.Filters S.Specs pcx.now in
         IfOk result (λ read. option_map S.spec_meaning read.platforms.host
         ≡ spec_meaning engines (override_view table.now).platform.host) }
-    ensures target { let engines = readings_view (F.read pcx.now.filters.now)
-        (S.read_spec pcx.now.specs.now) F.match_all F.holds F.holds_binary
-        F.leaves S.holds_on in
+    ensures target { let engines = readings_view F.Filters S.Specs pcx.now in
         IfOk result (λ read. option_map S.spec_meaning read.platforms.target
         ≡ spec_meaning engines (override_view table.now).platform.target) }
-    ensures filter { let engines = readings_view (F.read pcx.now.filters.now)
-        (S.read_spec pcx.now.specs.now) F.match_all F.holds F.holds_binary
-        F.leaves S.holds_on in
+    ensures filter { let engines = readings_view F.Filters S.Specs pcx.now in
         IfOk result (λ read. option_map F.meaning read.filter
         ≡ filter_meaning engines OverrideFilter (override_view table.now).filter) }
-    ensures default_filter { let engines = readings_view (F.read pcx.now.filters.now)
-        (S.read_spec pcx.now.specs.now) F.match_all F.holds F.holds_binary
-        F.leaves S.holds_on in
+    ensures default_filter { let engines = readings_view F.Filters S.Specs pcx.now in
         IfOk result (λ read. option_map F.meaning read.default_filter
         ≡ filter_meaning engines DefaultFilter (override_view table.now).default_filter) }
-    ensures refusals { let engines = readings_view (F.read pcx.now.filters.now)
-        (S.read_spec pcx.now.specs.now) F.match_all F.holds F.holds_binary
-        F.leaves S.holds_on in
+    ensures refusals { let engines = readings_view F.Filters S.Specs pcx.now in
         IfOk result (λ read. refusals_view read.refusals
         ≡ override_refusals engines (override_view table.now)) }
 {
@@ -124,15 +114,11 @@ pub(crate) fn compile_override<F: Filters, S: Specs>(
     id: OverrideId,
     table: OverrideTable,
 ) -> Result<(CompiledOverride<F, S>, Option<ConfigCompileErrorKind>), AllocError>
-    ensures rule { let engines = readings_view (F.read pcx.now.filters.now)
-        (S.read_spec pcx.now.specs.now) F.match_all F.holds F.holds_binary
-        F.leaves S.holds_on in
+    ensures rule { let engines = readings_view F.Filters S.Specs pcx.now in
         IfOk result (λ made.
         override_meaning F.meaning S.spec_meaning (override_rule_view made.0)
         ≡ override_rule engines (id_view id) (override_view table)) }
-    ensures error { let engines = readings_view (F.read pcx.now.filters.now)
-        (S.read_spec pcx.now.specs.now) F.match_all F.holds F.holds_binary
-        F.leaves S.holds_on in
+    ensures error { let engines = readings_view F.Filters S.Specs pcx.now in
         IfOk result (λ made. option_map compile_cause_view made.1
         ≡ override_cause engines (override_view table)) }
 {
@@ -161,15 +147,11 @@ pub(crate) fn compile_script_rule<F: Filters, S: Specs>(
     pcx: &ParseContext<'_, F, S>,
     table: ScriptRuleTable,
 ) -> Result<(CompiledProfileScripts<F, S>, Option<ConfigCompileErrorKind>), AllocError>
-    ensures rule { let engines = readings_view (F.read pcx.now.filters.now)
-        (S.read_spec pcx.now.specs.now) F.match_all F.holds F.holds_binary
-        F.leaves S.holds_on in
+    ensures rule { let engines = readings_view F.Filters S.Specs pcx.now in
         IfOk result (λ made.
         script_rule_meaning F.meaning S.spec_meaning (view.script_rule_view made.0)
         ≡ script_rule engines (script_rule_table_view table)) }
-    ensures error { let engines = readings_view (F.read pcx.now.filters.now)
-        (S.read_spec pcx.now.specs.now) F.match_all F.holds F.holds_binary
-        F.leaves S.holds_on in
+    ensures error { let engines = readings_view F.Filters S.Specs pcx.now in
         IfOk result (λ made. option_map compile_cause_view made.1
         ≡ script_rule_cause engines (script_rule_table_view table)) }
 {

@@ -14,7 +14,7 @@ returns-in-Ok g c =
     let F = g.F.Filters in
     let S = g.S.Specs in
     let W = g.W.ConfigWarnings in
-    let engines = readings_view (F.read c.args.pcx.now.filters.now) (S.read_spec c.args.pcx.now.specs.now) F.match_all F.holds F.holds_binary F.leaves S.holds_on in
+    let engines = readings_view F S c.args.pcx.now in
     let request = request_view c.args.inputs.now c.args.profile.now c.args.platforms.now c.args.mode c.args.tests.now in
     let load = subst (λ r. IsLoad (loaded_by F.meaning S.spec_meaning) engines request.features request.files (W.warnings c.args.warnings.now) (W.warnings c.from_sources_with_paths-loaded.new.warnings) r) c.in-Ok.is c.from_sources_with_paths-loaded.ensures.loads in
     record {
@@ -27,7 +27,7 @@ returns-in-Err g c =
     let F = g.F.Filters in
     let S = g.S.Specs in
     let W = g.W.ConfigWarnings in
-    let engines = readings_view (F.read c.args.pcx.now.filters.now) (S.read_spec c.args.pcx.now.specs.now) F.match_all F.holds F.holds_binary F.leaves S.holds_on in
+    let engines = readings_view F S c.args.pcx.now in
     let request = request_view c.args.inputs.now c.args.profile.now c.args.platforms.now c.args.mode c.args.tests.now in
     let load = subst (λ r. IsLoad (loaded_by F.meaning S.spec_meaning) engines request.features request.files (W.warnings c.args.warnings.now) (W.warnings c.from_sources_with_paths-loaded.new.warnings) r) c.in-Err.is c.from_sources_with_paths-loaded.ensures.loads in
     record {

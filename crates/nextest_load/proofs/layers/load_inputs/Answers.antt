@@ -14,7 +14,7 @@ loop-input-init g c =
 
 pub returns-in_err-load_input-clause-ran : goal.returns-in_err-load_input-clause-ran
 returns-in_err-load_input-clause-ran g c =
-    let engines = readings_view (g.F.Filters.read c.args.pcx.now.filters.now) (g.S.Specs.read_spec c.args.pcx.now.specs.now) g.F.Filters.match_all g.F.Filters.holds g.F.Filters.holds_binary g.F.Filters.leaves g.S.Specs.holds_on in
+    let engines = readings_view g.F.Filters g.S.Specs c.args.pcx.now in
     let inputs = c.args.inputs.now in
     let i = c.loop-input.input-index in
     let input = c.input-item.result in
@@ -26,7 +26,7 @@ returns-in_err-load_input-clause-ran g c =
 
 pub loop-input-preserved : goal.loop-input-preserved
 loop-input-preserved g c =
-    let engines = readings_view (g.F.Filters.read c.args.pcx.now.filters.now) (g.S.Specs.read_spec c.args.pcx.now.specs.now) g.F.Filters.match_all g.F.Filters.holds g.F.Filters.holds_binary g.F.Filters.leaves g.S.Specs.holds_on in
+    let engines = readings_view g.F.Filters g.S.Specs c.args.pcx.now in
     let inputs = c.args.inputs.now in
     let i = c.loop-input.input-index in
     let input = c.input-item.result in
@@ -38,12 +38,12 @@ loop-input-preserved g c =
 
 pub returns-clause-ran : goal.returns-clause-ran
 returns-clause-ran g c =
-    let engines = readings_view (g.F.Filters.read c.args.pcx.now.filters.now) (g.S.Specs.read_spec c.args.pcx.now.specs.now) g.F.Filters.match_all g.F.Filters.holds g.F.Filters.holds_binary g.F.Filters.leaves g.S.Specs.holds_on in
+    let engines = readings_view g.F.Filters g.S.Specs c.args.pcx.now in
     runs_end g.F.Filters.meaning g.S.Specs.spec_meaning engines (features_view c.args.features.now) c.args.inputs.now (drop_of_length-le c.args.inputs.now c.loop-input-test.false) c.loop-input.invariant
 
 pub returns-clause-loaded : goal.returns-clause-loaded
 returns-clause-loaded g c =
-    let engines = readings_view (g.F.Filters.read c.args.pcx.now.filters.now) (g.S.Specs.read_spec c.args.pcx.now.specs.now) g.F.Filters.match_all g.F.Filters.holds g.F.Filters.holds_binary g.F.Filters.leaves g.S.Specs.holds_on in
+    let engines = readings_view g.F.Filters g.S.Specs c.args.pcx.now in
     let inputs = c.args.inputs.now in
     let i = c.loop-input.input-index in
     let all : take i inputs ≡ inputs = sym (append-nil (take i inputs)) ∙ ap (λ is. take i inputs ++ is) (sym (drop_of_length-le inputs c.loop-input-test.false)) ∙ take-append-drop i inputs in

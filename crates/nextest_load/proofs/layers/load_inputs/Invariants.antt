@@ -8,5 +8,5 @@ abbrev pub invariant-loop-input : goal.invariant-loop-input
 invariant-loop-input g l =
     let F = g.F.Filters in
     let S = g.S.Specs in
-    let engines = readings_view (F.read l.pcx.filters.now) (S.read_spec l.pcx.specs.now) F.match_all F.holds F.holds_binary F.leaves S.holds_on in
+    let engines = readings_view F S l.pcx in
     HaveRun F.meaning S.spec_meaning engines (features_view l.features) l.inputs l.input-index (g.W.ConfigWarnings.warnings l.fn.warnings) (g.W.ConfigWarnings.warnings l.warnings) l.loaded

@@ -21,7 +21,7 @@ returns-in_err-inputs-clause-ran g c = spent_first _ _ _ c.from_residual-in_err-
 
 pub returns-clause-ran : goal.returns-clause-ran
 returns-clause-ran g c =
-    let engines = readings_view (g.F.Filters.read c.args.pcx.now.filters.now) (g.S.Specs.read_spec c.args.pcx.now.specs.now) g.F.Filters.match_all g.F.Filters.holds g.F.Filters.holds_binary g.F.Filters.leaves g.S.Specs.holds_on in
+    let engines = readings_view g.F.Filters g.S.Specs c.args.pcx.now in
     let files = load_inputs_view c.args.shared.now c.args.selection.config_file c.args.tools.now in
     let repository = c.in_ok-repository.ensures in
     let is : map input_view c.deref.result.now ≡ inputs_of files =
@@ -32,7 +32,7 @@ returns-clause-ran g c =
 
 pub returns-clause-parts : goal.returns-clause-parts
 returns-clause-parts g c =
-    let engines = readings_view (g.F.Filters.read c.args.pcx.now.filters.now) (g.S.Specs.read_spec c.args.pcx.now.specs.now) g.F.Filters.match_all g.F.Filters.holds g.F.Filters.holds_binary g.F.Filters.leaves g.S.Specs.holds_on in
+    let engines = readings_view g.F.Filters g.S.Specs c.args.pcx.now in
     let files = load_inputs_view c.args.shared.now c.args.selection.config_file c.args.tools.now in
     let is : map input_view c.deref.result.now ≡ inputs_of files =
     ap (map input_view) c.deref.ensures.value ∙ c.in_ok-inputs.ensures ∙ ap (λ i. reverse (map tool_input files.tools) ++ i ∷ []) c.in_ok-repository.ensures

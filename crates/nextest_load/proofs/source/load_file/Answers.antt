@@ -9,14 +9,14 @@ use Rattle.nextest_load.proofs.source.load_file.Goals as goal
 
 pub returns-in_err-table-clause-ran : goal.returns-in_err-table-clause-ran
 returns-in_err-table-clause-ran g c below was =
-    let engines = readings_view (g.F.Filters.read c.args.pcx.now.filters.now) (g.S.Specs.read_spec c.args.pcx.now.specs.now) g.F.Filters.match_all g.F.Filters.holds g.F.Filters.holds_binary g.F.Filters.leaves g.S.Specs.holds_on in
+    let engines = readings_view g.F.Filters g.S.Specs c.args.pcx.now in
     let e = c.in_err-table.field-0.0 in
     ran_exit _ _ _ _ e c.from_residual.ensures.1
     (own_ended engines (features_view c.args.features.now) below (source_view c.args.source.now) (tree_view c.args.own.now) e c.in_err-table.ensures.ran)
 
 pub returns-in_err-check_definitions-clause-ran : goal.returns-in_err-check_definitions-clause-ran
 returns-in_err-check_definitions-clause-ran g c below was =
-    let engines = readings_view (g.F.Filters.read c.args.pcx.now.filters.now) (g.S.Specs.read_spec c.args.pcx.now.specs.now) g.F.Filters.match_all g.F.Filters.holds g.F.Filters.holds_binary g.F.Filters.leaves g.S.Specs.holds_on in
+    let engines = readings_view g.F.Filters g.S.Specs c.args.pcx.now in
     let e = c.in_err-check_definitions.field-0.0 in
     ran_exit _ _ _ _ e c.from_residual-in_err-check_definitions.ensures.1
     (definitions_ended engines (features_view c.args.features.now) below (source_view c.args.source.now) (tree_view c.args.own.now) e (file_table_view c.in_ok-table.table) c.in_ok-table.ensures.value
@@ -24,7 +24,7 @@ returns-in_err-check_definitions-clause-ran g c below was =
 
 pub returns-clause-ran : goal.returns-clause-ran
 returns-clause-ran g c below was =
-    let engines = readings_view (g.F.Filters.read c.args.pcx.now.filters.now) (g.S.Specs.read_spec c.args.pcx.now.specs.now) g.F.Filters.match_all g.F.Filters.holds g.F.Filters.holds_binary g.F.Filters.leaves g.S.Specs.holds_on in
+    let engines = readings_view g.F.Filters g.S.Specs c.args.pcx.now in
     rules_ended engines (features_view c.args.features.now) below (source_view c.args.source.now) (tree_view c.args.own.now) (file_table_view c.in_ok-table.table) c.in_ok-table.ensures.value
     c.in_ok-table.ensures.ran c.in_ok-check_definitions.ensures (c.check_rules.ensures.ran below was)
 

@@ -32,8 +32,7 @@ returns-in_err-add-clause-ran g c below was = ran_failed _ _ _ c.from_residual-i
 
 pub returns-in_err-layer-clause-ran : goal.returns-in_err-layer-clause-ran
 returns-in_err-layer-clause-ran g c below was =
-    let engines = readings_view (g.F.Filters.read c.args.pcx.now.filters.now) (g.S.Specs.read_spec c.args.pcx.now.specs.now)
-    g.F.Filters.match_all g.F.Filters.holds g.F.Filters.holds_binary g.F.Filters.leaves g.S.Specs.holds_on in
+    let engines = readings_view g.F.Filters g.S.Specs c.args.pcx.now in
     let s = source_view c.args.source.now in
     let f = file_table_view c.args.file in
     let e = c.in_err-layer.field-0.0 in
@@ -47,8 +46,7 @@ returns-in_err-layer-clause-ran g c below was =
 
 pub returns-in_err-check_names-clause-ran : goal.returns-in_err-check_names-clause-ran
 returns-in_err-check_names-clause-ran g c below was =
-    let engines = readings_view (g.F.Filters.read c.args.pcx.now.filters.now) (g.S.Specs.read_spec c.args.pcx.now.specs.now)
-    g.F.Filters.match_all g.F.Filters.holds g.F.Filters.holds_binary g.F.Filters.leaves g.S.Specs.holds_on in
+    let engines = readings_view g.F.Filters g.S.Specs c.args.pcx.now in
     let s = source_view c.args.source.now in
     let f = file_table_view c.args.file in
     let e = c.in_err-check_names.field-0.0 in
@@ -66,8 +64,7 @@ returns-in_err-check_names-clause-ran g c below was =
 
 pub returns-clause-ran : goal.returns-clause-ran
 returns-clause-ran g c below was =
-    let engines = readings_view (g.F.Filters.read c.args.pcx.now.filters.now) (g.S.Specs.read_spec c.args.pcx.now.specs.now)
-    g.F.Filters.match_all g.F.Filters.holds g.F.Filters.holds_binary g.F.Filters.leaves g.S.Specs.holds_on in
+    let engines = readings_view g.F.Filters g.S.Specs c.args.pcx.now in
     let s = source_view c.args.source.now in
     let f = file_table_view c.args.file in
     let old = g.W.ConfigWarnings.warnings c.args.warnings.now in

@@ -20,8 +20,7 @@ use Rattle.nextest_rules.proofs.compile.compile_profiles.Goals as goal
 
 pub loop-name-preserved : goal.loop-name-preserved
 loop-name-preserved g c =
-    let engines = readings_view (g.F.Filters.read c.args.pcx.now.filters.now) (g.S.Specs.read_spec c.args.pcx.now.specs.now)
-    g.F.Filters.match_all g.F.Filters.holds g.F.Filters.holds_binary g.F.Filters.leaves g.S.Specs.holds_on in
+    let engines = readings_view g.F.Filters g.S.Specs c.args.pcx.now in
     let source = source_view c.args.source.now in
     let f : Name × ProfileText → List CompileFault = λ p. profile_faults engines p.0 p.1 in
     let made = λ (es : List (Name × ProfileText)). (layer_of engines source es).profiles in
@@ -66,8 +65,7 @@ returns-clause-profiles g c = sym (append-nil _) ∙ (rw c.in-None.ensures.steps
 
 pub returns-clause-faults : goal.returns-clause-faults
 returns-clause-faults g c =
-    let engines = readings_view (g.F.Filters.read c.args.pcx.now.filters.now) (g.S.Specs.read_spec c.args.pcx.now.specs.now)
-    g.F.Filters.match_all g.F.Filters.holds g.F.Filters.holds_binary g.F.Filters.leaves g.S.Specs.holds_on in
+    let engines = readings_view g.F.Filters g.S.Specs c.args.pcx.now in
     let f : Name × ProfileText → List CompileFault = λ p. profile_faults engines p.0 p.1 in
     let inv = rw c.in-None.ensures.steps.0 at c.loop-name.invariant in
     all_together compile_error_view f (by_name profile_view c.args.tables.entries) c.loop-name.errors.default.items c.loop-name.errors.others.items c.in_ok-errors.errors.items c.in_ok-errors.ensures inv.1 inv.2

@@ -16,8 +16,7 @@ use Rattle.nextest_rules.proofs.compile.compile_profiles.Given as goal
 -- what was made so far, and what is left
 abbrev pub invariant-loop-name : goal.invariant-loop-name
 invariant-loop-name g l =
-    let engines = readings_view (g.F.Filters.read l.pcx.filters.now) (g.S.Specs.read_spec l.pcx.specs.now)
-    g.F.Filters.match_all g.F.Filters.holds g.F.Filters.holds_binary g.F.Filters.leaves g.S.Specs.holds_on in
+    let engines = readings_view g.F.Filters g.S.Specs l.pcx in
     let faults = λ (p : Name × ProfileText). profile_faults engines p.0 p.1 in
     let made = λ (es : List (Name × ProfileText)). (layer_of engines (source_view l.source) es).profiles in
     let left = by_name profile_view l.name-iterator in

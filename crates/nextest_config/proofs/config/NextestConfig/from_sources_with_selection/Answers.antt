@@ -8,13 +8,13 @@ use Rattle.nextest_config.proofs.config.NextestConfig.from_sources_with_selectio
 
 pub returns-in_err-root-clause-loads : goal.returns-in_err-root-clause-loads
 returns-in_err-root-clause-loads g c =
-    let engines = readings_view (g.F.Filters.read c.args.pcx.now.filters.now) (g.S.Specs.read_spec c.args.pcx.now.specs.now) g.F.Filters.match_all g.F.Filters.holds g.F.Filters.holds_binary g.F.Filters.leaves g.S.Specs.holds_on in
+    let engines = readings_view g.F.Filters g.S.Specs c.args.pcx.now in
     let p = err_from_is_err_and c.from_residual.result c.from_residual.ensures.1 in
     rw p.1 (memory_load (loaded_by g.F.Filters.meaning g.S.Specs.spec_meaning) engines (features_view c.args.experimental.now)
     (load_inputs_view c.args.shared.now c.args.selection.config_file c.args.tools.now) _ p.0 p.2)
 
 pub returns-clause-loads : goal.returns-clause-loads
 returns-clause-loads g c =
-    let engines = readings_view (g.F.Filters.read c.args.pcx.now.filters.now) (g.S.Specs.read_spec c.args.pcx.now.specs.now) g.F.Filters.match_all g.F.Filters.holds g.F.Filters.holds_binary g.F.Filters.leaves g.S.Specs.holds_on in
+    let engines = readings_view g.F.Filters g.S.Specs c.args.pcx.now in
     c.from_load.ensures.loads engines (features_view c.args.experimental.now)
     (load_inputs_view c.args.shared.now c.args.selection.config_file c.args.tools.now) _ _ c.load-loaded.ensures.loads

@@ -9,14 +9,14 @@ use Rattle.nextest_load.proofs.layers.LoadedLayers.load_input.Goals as goal
 
 pub returns-in_err-text-clause-ran : goal.returns-in_err-text-clause-ran
 returns-in_err-text-clause-ran g c below was =
-    let engines = readings_view (g.F.Filters.read c.args.pcx.now.filters.now) (g.S.Specs.read_spec c.args.pcx.now.specs.now) g.F.Filters.match_all g.F.Filters.holds g.F.Filters.holds_binary g.F.Filters.leaves g.S.Specs.holds_on in
+    let engines = readings_view g.F.Filters g.S.Specs c.args.pcx.now in
     let e = c.in_err-text.field-0.0 in
     let told = g.W.ConfigWarnings.warnings c.args.warnings.now in
     ran_exit _ told told _ e c.from_residual.ensures.1 (outcome_ended engines (features_view c.args.features.now) below (input_view c.args.input.now) told e c.in_err-text.ensures.found)
 
 pub returns-in_err-loaded-clause-ran : goal.returns-in_err-loaded-clause-ran
 returns-in_err-loaded-clause-ran g c below was =
-    let engines = readings_view (g.F.Filters.read c.args.pcx.now.filters.now) (g.S.Specs.read_spec c.args.pcx.now.specs.now) g.F.Filters.match_all g.F.Filters.holds g.F.Filters.holds_binary g.F.Filters.leaves g.S.Specs.holds_on in
+    let engines = readings_view g.F.Filters g.S.Specs c.args.pcx.now in
     let e = c.in_err-loaded.field-0.0 in
     let i = input_view c.args.input.now in
     let s : SourceText = record { source = i.source; text = c.in-Some.text.now } in
@@ -26,7 +26,7 @@ returns-in_err-loaded-clause-ran g c below was =
 
 pub returns-in_err-add-clause-ran : goal.returns-in_err-add-clause-ran
 returns-in_err-add-clause-ran g c below was =
-    let engines = readings_view (g.F.Filters.read c.args.pcx.now.filters.now) (g.S.Specs.read_spec c.args.pcx.now.specs.now) g.F.Filters.match_all g.F.Filters.holds g.F.Filters.holds_binary g.F.Filters.leaves g.S.Specs.holds_on in
+    let engines = readings_view g.F.Filters g.S.Specs c.args.pcx.now in
     let i = input_view c.args.input.now in
     let s : SourceText = record { source = i.source; text = c.in-Some.text.now } in
     let one : source_texts_of i ≡ s ∷ [] = rw c.in-Some.is at c.in_ok-text.ensures.text in
@@ -35,7 +35,7 @@ returns-in_err-add-clause-ran g c below was =
 
 pub returns-clause-ran : goal.returns-clause-ran
 returns-clause-ran g c below was =
-    let engines = readings_view (g.F.Filters.read c.args.pcx.now.filters.now) (g.S.Specs.read_spec c.args.pcx.now.specs.now) g.F.Filters.match_all g.F.Filters.holds g.F.Filters.holds_binary g.F.Filters.leaves g.S.Specs.holds_on in
+    let engines = readings_view g.F.Filters g.S.Specs c.args.pcx.now in
     let i = input_view c.args.input.now in
     let s : SourceText = record { source = i.source; text = c.in-Some.text.now } in
     let one : source_texts_of i ≡ s ∷ [] = rw c.in-Some.is at c.in_ok-text.ensures.text in
@@ -43,7 +43,7 @@ returns-clause-ran g c below was =
 
 pub returns-clause-loaded : goal.returns-clause-loaded
 returns-clause-loaded g c below was =
-    let engines = readings_view (g.F.Filters.read c.args.pcx.now.filters.now) (g.S.Specs.read_spec c.args.pcx.now.specs.now) g.F.Filters.match_all g.F.Filters.holds g.F.Filters.holds_binary g.F.Filters.leaves g.S.Specs.holds_on in
+    let engines = readings_view g.F.Filters g.S.Specs c.args.pcx.now in
     let i = input_view c.args.input.now in
     let s : SourceText = record { source = i.source; text = c.in-Some.text.now } in
     let one : source_texts_of i ≡ s ∷ [] = rw c.in-Some.is at c.in_ok-text.ensures.text in

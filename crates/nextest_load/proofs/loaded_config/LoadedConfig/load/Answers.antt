@@ -12,7 +12,7 @@ use Rattle.nextest_load.proofs.loaded_config.LoadedConfig.load.Goals as goal
 
 pub returns-in_err-parts : goal.returns-in_err-parts
 returns-in_err-parts g c =
-    let engines = readings_view (g.F.Filters.read c.args.pcx.now.filters.now) (g.S.Specs.read_spec c.args.pcx.now.specs.now) g.F.Filters.match_all g.F.Filters.holds g.F.Filters.holds_binary g.F.Filters.leaves g.S.Specs.holds_on in
+    let engines = readings_view g.F.Filters g.S.Specs c.args.pcx.now in
     let files = load_inputs_view c.args.shared.now c.args.selection.config_file c.args.tools.now in
     let features = features_view c.args.experimental.now in
     let definitions : DefinitionsLaw features = λ source file. accepted_definitions features source file in
@@ -25,7 +25,7 @@ returns-in_err-parts g c =
 
 pub new-requires : goal.new-requires
 new-requires g c =
-    let engines = readings_view (g.F.Filters.read c.args.pcx.now.filters.now) (g.S.Specs.read_spec c.args.pcx.now.specs.now) g.F.Filters.match_all g.F.Filters.holds g.F.Filters.holds_binary g.F.Filters.leaves g.S.Specs.holds_on in
+    let engines = readings_view g.F.Filters g.S.Specs c.args.pcx.now in
     let files = load_inputs_view c.args.shared.now c.args.selection.config_file c.args.tools.now in
     let features = features_view c.args.experimental.now in
     let definitions : DefinitionsLaw features = λ source file. accepted_definitions features source file in
@@ -35,7 +35,7 @@ new-requires g c =
 
 pub returns : goal.returns
 returns g c =
-    let engines = readings_view (g.F.Filters.read c.args.pcx.now.filters.now) (g.S.Specs.read_spec c.args.pcx.now.specs.now) g.F.Filters.match_all g.F.Filters.holds g.F.Filters.holds_binary g.F.Filters.leaves g.S.Specs.holds_on in
+    let engines = readings_view g.F.Filters g.S.Specs c.args.pcx.now in
     let files = load_inputs_view c.args.shared.now c.args.selection.config_file c.args.tools.now in
     let features = features_view c.args.experimental.now in
     let definitions : DefinitionsLaw features = λ source file. accepted_definitions features source file in

@@ -11,8 +11,7 @@ use Rattle.nextest_rules.proofs.compile.profile.compile_script_rules.Given as go
 -- what was made so far, and what is left
 abbrev pub invariant-loop-index : goal.invariant-loop-index
 invariant-loop-index g l =
-    let engines = readings_view (g.F.Filters.read l.pcx.filters.now) (g.S.Specs.read_spec l.pcx.specs.now)
-    g.F.Filters.match_all g.F.Filters.holds g.F.Filters.holds_binary g.F.Filters.leaves g.S.Specs.holds_on in
+    let engines = readings_view g.F.Filters g.S.Specs l.pcx in
     let left = l.index-iterator in
     let meaning = script_rule_meaning g.F.Filters.meaning g.S.Specs.spec_meaning in
     (map meaning (map view.script_rule_view l.rules.items) ++ map (script_rule engines) (map script_rule_table_view left.iter.rest.items)
