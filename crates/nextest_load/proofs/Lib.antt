@@ -17,7 +17,13 @@ mod Accepting
 mod SortedTrees
 mod Keeping
 mod Leading
-mod Closing
+pub mod Closing
 mod LeastFaults
 mod Exactness
 mod Loads
+pub mod Under
+pub mod ProfileNodes
+pub mod Agreement
+pub mod RulesOfNode
+pub mod WritesOnlyParent
+pub mod AreScriptsOf

@@ -1,4 +1,4 @@
--- A profile of a closed configuration gives tests groups of the configuration.
+-- A profile gives tests groups of the configuration, where its overrides write no others.
 use Rattle.std.proofs.Common.{List, [], ◌∷◌, Bool, true, false, cond, find, Option, None, Some, IfSome, option_and_then}
 use Rattle.std.specs.Option.{option_or}
 use Rattle.nextest_elements.specs.declared.run_mode.NextestRunMode.{NextestRunMode}
@@ -6,7 +6,7 @@ use Rattle.nextest_elements.specs.declared.test_group.TestGroup.{TestGroup}
 use Rattle.nextest_elements.specs.declared.test_group.TestGroup.TheVariants.{Global}
 use Rattle.nextest_engines.specs.declared.queries.BuildPlatforms.{BuildPlatforms}
 use Rattle.nextest_inheritance.specs.Parents.{with_default}
-use Rattle.nextest_load.specs.Closed.{BinaryMatch, IsClosed}
+use Rattle.nextest_load.specs.Closed.{EachOverride}
 use Rattle.nextest_rules.specs.Accepted.{IsAmong}
 use Rattle.nextest_rules.specs.Rules.{OverrideUse}
 use Rattle.nextest_settings.specs.Chains.{overrides_of}
@@ -40,15 +40,15 @@ module _ (names : List Name) where
   of_override None h = tt
   of_override (Some r) h = or_global r.writes.settings.test_group h
 
-module _ {M K P : Type 0} (matches : BinaryMatch M) (meets : K → P → Option Bool) (platforms : BuildPlatforms P) (configured : Configured M K) (name : Name) (chain : List Name)
-    (closed : IsClosed matches configured.config configured.scripts) where
+module _ {M K P : Type 0} (meets : K → P → Option Bool) (platforms : BuildPlatforms P) (configured : Configured M K) (name : Name) (chain : List Name)
+    (groups : EachOverride (λ r. IsAmong (names_in configured.config.groups) r.writes.settings.test_group) configured.config) where
   abbrev profile : EvaluatableModel M
   profile = profile_on meets platforms (profile_of configured name chain)
 
   known : Each (WritesKnown (names_in configured.config.groups)) profile.overrides
   known =
       each_image (WritesKnown (names_in configured.config.groups)) (rule_on meets platforms) (overrides_of configured.config.layers (with_default chain))
-      (each_gathered (λ r. IsAmong (names_in configured.config.groups) r.writes.settings.test_group) (λ p. p.overrides) configured.config.layers (with_default chain) closed.groups)
+      (each_gathered (λ r. IsAmong (names_in configured.config.groups) r.writes.settings.test_group) (λ p. p.overrides) configured.config.layers (with_default chain) groups)
 
   pub group_known : (query : QueryContext M) (mode : NextestRunMode) → IsAmong (names_in configured.config.groups) (setting_value query mode profile at.TestGroup)
   group_known query mode =

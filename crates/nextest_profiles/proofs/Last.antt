@@ -12,21 +12,14 @@ use Rattle.nextest_elements.specs.declared.test_group.TestGroup.{TestGroup}
 use Rattle.nextest_elements.specs.declared.test_group.TestGroup.TheVariants.{Global, Custom}
 use Rattle.nextest_engines.specs.Engines.{Test}
 use Rattle.nextest_settings.specs.Chains.{first_of}
+use Rattle.nextest_settings.proofs.FirstOf.{first_cons, or_assoc}
 use Rattle.nextest_settings.specs.Queries.{custom_group, is_of_name, last_group}
 use Rattle.nextest_tree.specs.Schema.{first}
 use Rattle.nextest_profiles.specs.Memberships.{IsLastGroup, NoneGetsGroup, HaveDistinctIds}
 
-first_cons : {Y : Type 0} (o : Option Y) (ys : List Y) → first (cons_option o ys) ≡ option_or o (first ys)
-first_cons None ys = refl
-first_cons (Some y) ys = refl
-
 or_none : {Y : Type 0} (o : Option Y) → option_or o None ≡ o
 or_none None = refl
 or_none (Some y) = refl
-
-or_assoc : {Y : Type 0} (a b c : Option Y) → option_or a (option_or b c) ≡ option_or (option_or a b) c
-or_assoc None b c = refl
-or_assoc (Some y) b c = refl
 
 -- the first of what f gives, with one element more at the end
 first_more : {X Y : Type 0} (f : X → Option Y) (xs : List X) (x : X) → first_of f (xs ++ x ∷ []) ≡ option_or (first_of f xs) (f x)

@@ -15,3 +15,6 @@ pub mod Least
 pub mod Memberships
 pub mod Fifteen
 pub mod Answering
+pub mod Chains
+pub mod FirstOf
+pub mod Deciding

@@ -14,6 +14,7 @@ use Rattle.nextest_engines.specs.Engines.{Test}
 use Rattle.nextest_tree.specs.Schema.{first}
 use Rattle.nextest_settings.specs.Chains.{first_of}
 use Rattle.nextest_settings.specs.Pass.{Override}
+use Rattle.nextest_settings.proofs.FirstOf.{first_cons}
 use Rattle.nextest_settings.specs.Queries.{custom_group, is_of_name}
 
 -- a map of maps from which the map of b was taken, and put back with one more name
@@ -34,10 +35,6 @@ module _ {X Y : Type 0} (m0 m1 m2 : BTreeMap (String Y) (BTreeMap (String Y) X))
   custom_group_in_after id test = rw (put id, taken id) (here id test (bytes_eq b id) refl)
 
 -- the first of what f gives, with one more in front
-first_cons : {Z : Type 0} (o : Option Z) (zs : List Z) → first (cons_option o zs) ≡ option_or o (first zs)
-first_cons None zs = refl
-first_cons (Some z) zs = refl
-
 -- one test more
 pub last_more : (f : Test → Option TestGroup) (ts : List Test) (t : Test) (id name : List ℕ) → first_of f (reverse (filter (is_of_name id name) (ts ++ t ∷ [])))
     ≡ (if is_of_name id name t then option_or (f t) (first_of f (reverse (filter (is_of_name id name) ts))) else first_of f (reverse (filter (is_of_name id name) ts)))

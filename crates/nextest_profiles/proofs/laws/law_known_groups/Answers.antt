@@ -7,4 +7,4 @@ pub returns : goal.returns
 returns g c = λ configured name chain platforms mode test closed.
     let meets = g.S.Specs.holds_on in
     let profile = profile_on meets platforms (profile_of configured name chain) in
-    group_known g.F.Filters.holds_binary meets platforms configured name chain closed (test_query g.F.Filters.holds profile.default_filter.filter test) mode
+    group_known meets platforms configured name chain closed.groups (test_query g.F.Filters.holds profile.default_filter.filter test) mode
