@@ -9,13 +9,13 @@ mod Parents
 mod NamesInOrder
 mod Placing
 mod Defining
-mod MergedScripts
+pub mod MergedScripts
 mod Merging
 mod Wholes
 mod Tools
 mod Accepting
 mod SortedTrees
-mod Keeping
+pub mod Keeping
 mod Leading
 pub mod Closing
 mod LeastFaults
