@@ -7,3 +7,11 @@ pub mod Loading
 pub mod Known
 pub mod Wrapper
 pub mod Moving
+pub mod GiveTheSame
+pub mod TakingOut
+pub mod LastRule
+pub mod ScriptsAreEnabledInOrder
+pub mod HaveSameProfile
+pub mod Isolation
+pub mod FileApart
+pub mod Aliasing

@@ -108,11 +108,12 @@ pub record GiveTheSame {M K P : Type 0} (engines : Readings M K P) (p q : Evalua
       → at_name id (enabled_for engines p tests) ≡ at_name id (enabled_for engines q tests)
   pub default_filter : p.default_filter ≡ q.default_filter
 
--- Two lists of accepted files have the same profile of a name and a chain: it is a profile of both or
--- of neither, it has the same chain, it gives the same, and the profiles of the chain write the same
--- fields.
-pub record HaveSameProfile {M K P : Type 0} (engines : Readings M K P) (platforms : BuildPlatforms P)
-    (a b : AcceptedFiles engines) (name : Name) (chain : List Name) : Type 0 where
+-- Two lists of accepted files have the same profile of a name and a chain: it is a profile of both
+-- or of neither, it has the same chain, it gives the same, and the profiles of the chain write the
+-- same fields.
+pub record HaveSameProfile {M K P : Type 0} (engines : Readings M K P)
+    (platforms : BuildPlatforms P) (a b : AcceptedFiles engines) (name : Name) (chain : List Name)
+    : Type 0 where
   pub there : IsIn (profiles_by engines a) name ↔ IsIn (profiles_by engines b) name
   pub is_chain : IsChain (parents_by engines b) name chain
   pub gives : GiveTheSame engines (profile_by engines platforms a name chain)
@@ -193,7 +194,7 @@ TakingOut {M = M} {K = K} {P = P} engines =
     → GiveTestTheSame engines whole rest test
     × (whole.default_filter ≡ rest.default_filter)
 
--- One more override gives a test what it decides for it, and nothing else: each setting that another
+-- One more override gives a test what it decides, and nothing else: each setting that another
 -- override decides, or that this one does not write or does not hold for, keeps its value and its
 -- source; any other is what this one writes, and comes from it.
 pub record DecidesTheRest {M K P : Type 0} (engines : Readings M K P) (old new : EvaluatableModel M)
@@ -211,8 +212,9 @@ pub record DecidesTheRest {M K P : Type 0} (engines : Readings M K P) (old new :
       (setting_value asked mode new s ≡ sets rule.writes.settings mode s)
       × (setting_origin asked mode new s ≡ Some (by_override rule.writes.id))
 
--- A LAST RULE. Where one more override stands behind all others of a profile, and its default filter
--- is not chosen, it gives a test what it decides and nothing else, and the default filter stays.
+-- A LAST RULE. Where one more override stands behind all others of a profile, and its default
+-- filter is not chosen, it gives a test what it decides and nothing else, and the default filter
+-- stays.
 abbrev pub LastRule : {M K P : Type 0} → Readings M K P → Type 0
 LastRule {M = M} {K = K} {P = P} engines =
     (platforms : BuildPlatforms P) (p : EarlyModel M K) (rule : Compiled M K (OverrideUse M))

@@ -5,3 +5,4 @@ pub mod ProfileError
 pub mod RowView
 pub mod RunView
 pub mod RowSources
+pub mod Laws

@@ -7,8 +7,8 @@ use Rattle.nextest_tables.specs.FileTexts.{ScriptUse}
 use Rattle.nextest_tables.specs.Written.{WrittenFields}
 use Rattle.nextest_settings.specs.Deciding.{QueryContext, decides, rule_holds, winner}
 use Rattle.nextest_settings.specs.Platforms.{EvaluatedRule}
-use Rattle.nextest_settings.specs.Queries.{written_value, written_origin, value_by, origin_by, by_override, deciding_override}
-use Rattle.nextest_settings.specs.Settings.{sets, is_set}
+use Rattle.nextest_settings.specs.Queries.{written_value, written_origin, value_by, origin_by, by_override, fallback_origin, deciding_override}
+use Rattle.nextest_settings.specs.Settings.{sets, is_set, fallback_of}
 use Rattle.nextest_settings.specs.declared.setting.Setting.{Setting}
 use Rattle.nextest_settings.specs.declared.setting.Setting.TheVariants as at
 use Rattle.nextest_settings.proofs.Alone.{more-holds, more-fails, stays}
@@ -55,9 +55,9 @@ module _ {M : Type 0} (query : QueryContext M) (mode : NextestRunMode) (before :
   pub value_taken : (s : Setting) → deciding_override query mode before s ≡ None → decides query (λ w. is_set w.settings mode s) r ≡ true → value_by query mode (before ++ r ∷ []) rules fields s ≡ sets r.writes.settings mode s
   value_taken at.RunWrapper none takes = let bad : false ≡ true = second (rule_holds query r) false takes in absurd cc
   value_taken s none takes =
-      ap (λ o. option_or (option_and_then (λ (d : EvaluatedRule M (OverrideUse M)). sets d.writes.settings mode s) o) _) (more-holds query (λ w. is_set w.settings mode s) before r none takes)
-      ∙ or_some (sets r.writes.settings mode s) _ (second (rule_holds query r) (is_set r.writes.settings mode s) takes)
+      ap (λ o. option_or (option_and_then (λ (d : EvaluatedRule M (OverrideUse M)). sets d.writes.settings mode s) o) (fallback_of fields mode s)) (more-holds query (λ w. is_set w.settings mode s) before r none takes)
+      ∙ or_some (sets r.writes.settings mode s) (fallback_of fields mode s) (second (rule_holds query r) (is_set r.writes.settings mode s) takes)
 
   pub origin_taken : (s : Setting) → deciding_override query mode before s ≡ None → decides query (λ w. is_set w.settings mode s) r ≡ true → origin_by query mode (before ++ r ∷ []) rules s ≡ Some (by_override r.writes.id)
   origin_taken at.RunWrapper none takes = let bad : false ≡ true = second (rule_holds query r) false takes in absurd cc
-  origin_taken s none takes = ap (λ o. option_or (option_map (λ (d : EvaluatedRule M (OverrideUse M)). by_override d.writes.id) o) _) (more-holds query (λ w. is_set w.settings mode s) before r none takes)
+  origin_taken s none takes = ap (λ o. option_or (option_map (λ (d : EvaluatedRule M (OverrideUse M)). by_override d.writes.id) o) (fallback_origin s)) (more-holds query (λ w. is_set w.settings mode s) before r none takes)
