@@ -51,10 +51,10 @@ module _ {M K P : Type 0} (engines : Readings M K P) (platforms : BuildPlatforms
   whole = subst (λ ss. Alike names (merged_tree ss) (merged_tree (sources_in b.files))) (sym without)
       (subst (λ ss. Alike names (merged_tree (below ++ above)) (merged_tree ss)) (sym with_it) (merged_without names below s above apart all_leads))
 
-  high : List (Layer M K)
+  abbrev high : List (Layer M K)
   high = reverse (map (source_layer engines) above)
 
-  low : List (Layer M K)
+  abbrev low : List (Layer M K)
   low = reverse (map (source_layer engines) below)
 
   layers_of_a : (meant_by engines a).config.layers ≡ high ++ low
