@@ -14,7 +14,7 @@ use Rattle.nextest_load.proofs.Closing.{sources_readable}
 use Rattle.nextest_load.proofs.MergedScripts.{named_at}
 use Rattle.nextest_load.proofs.ProfileNodes.{merged_node, parent_node, profile_in_config, parent_in_config}
 use Rattle.nextest_load.proofs.Under.{Leads, sources_lead}
-use Rattle.nextest_rules.specs.Rules.{Layer, at_name}
+use Rattle.nextest_rules.specs.Rules.{at_name}
 use Rattle.nextest_settings.specs.Chains.{overrides_of, script_rules_of, nearest_filter, filter_of_nothing}
 use Rattle.nextest_settings.specs.Platforms.{rule_on, default_filter_of}
 use Rattle.nextest_settings.specs.Profile.{EvaluatableModel}
@@ -24,7 +24,7 @@ use Rattle.nextest_sources.specs.InputFaults.{Each}
 use Rattle.nextest_sources.specs.Inputs.{sources_in}
 use Rattle.nextest_tables.specs.FileTexts.{IsIn}
 use Rattle.nextest_tables.specs.Written.{Name}
-use Rattle.nextest_config.specs.Laws.{AcceptedFiles, meant_by, parents_by, profiles_by, profile_by, GiveTheSame, HaveSameProfile}
+use Rattle.nextest_config.specs.Laws.{AcceptedFiles, meant_by, parents_by, profiles_by, profile_by, HaveSameProfile}
 use Rattle.nextest_config.proofs.GiveTheSame.{give_the_same}
 
 -- tables lead to the profiles of the sources of accepted files

@@ -1,5 +1,5 @@
 -- One more override behind all others, whose default filter is not chosen, decides only the rest.
-use Rattle.std.proofs.Common.{◌≡◌, ◌⊎◌, ◌∙◌, List, [], ◌∷◌, ◌++◌, map, true, false, None, Some, IsSome, unwrap_or, append-nil, refl, sym, ap}
+use Rattle.std.proofs.Common.{◌≡◌, ◌∙◌, [], ◌∷◌, ◌++◌, None, IsSome, unwrap_or, append-nil, ap}
 use Rattle.std.proofs.lemmas.List.{map-append}
 use Rattle.std.specs.Option.{option_or}
 use Rattle.nextest_elements.specs.declared.run_mode.NextestRunMode.{NextestRunMode}
@@ -7,12 +7,11 @@ use Rattle.nextest_engines.specs.Engines.{Test}
 use Rattle.nextest_engines.specs.Readings.{Readings}
 use Rattle.nextest_engines.specs.declared.queries.BuildPlatforms.{BuildPlatforms}
 use Rattle.nextest_rules.specs.Rules.{Compiled, OverrideUse}
-use Rattle.nextest_settings.specs.Chains.{FilterChoice, first_of, filter_of_nothing}
-use Rattle.nextest_settings.specs.Deciding.{QueryContext, decides}
+use Rattle.nextest_settings.specs.Chains.{first_of, filter_of_nothing}
 use Rattle.nextest_settings.specs.Platforms.{EvaluatedRule, filter_of_override}
 use Rattle.nextest_settings.specs.Profile.{EarlyModel, EvaluatableModel, profile_on}
-use Rattle.nextest_settings.specs.Queries.{test_query, deciding_override, value_by, origin_by, by_override, fallback_origin}
-use Rattle.nextest_settings.specs.Settings.{sets, is_set, fallback_of}
+use Rattle.nextest_settings.specs.Queries.{test_query, value_by, origin_by, fallback_origin}
+use Rattle.nextest_settings.specs.Settings.{is_set, fallback_of}
 use Rattle.nextest_settings.specs.declared.setting.Setting.{Setting}
 use Rattle.nextest_settings.proofs.Deciding.{winner_before, value_same, origin_same, value_taken, origin_taken}
 use Rattle.nextest_settings.proofs.FirstOf.{first_without}

@@ -2,7 +2,6 @@
 use Rattle.std.proofs.Common.{◌≡◌, ◌∙◌, List, ◌∷◌, ◌++◌, map, Bool, false, None, IsSome, unwrap_or, sym, ap}
 use Rattle.std.proofs.lemmas.List.{map-append}
 use Rattle.std.specs.Option.{option_or}
-use Rattle.nextest_elements.specs.declared.run_mode.NextestRunMode.{NextestRunMode}
 use Rattle.nextest_engines.specs.Engines.{Test}
 use Rattle.nextest_engines.specs.Readings.{Readings}
 use Rattle.nextest_engines.specs.declared.queries.BuildPlatforms.{BuildPlatforms}
@@ -13,7 +12,6 @@ use Rattle.nextest_settings.specs.Platforms.{EvaluatedRule, filter_of_override}
 use Rattle.nextest_settings.specs.Profile.{EarlyModel, EvaluatableModel, profile_on}
 use Rattle.nextest_settings.specs.Queries.{test_query, value_by, origin_by, fallback_origin}
 use Rattle.nextest_settings.specs.Settings.{is_set, fallback_of}
-use Rattle.nextest_settings.specs.declared.setting.Setting.{Setting}
 use Rattle.nextest_settings.proofs.Deciding.{winner_without, value_same, origin_same}
 use Rattle.nextest_settings.proofs.FirstOf.{first_without}
 use Rattle.nextest_config.specs.Headline.{query_in}

@@ -42,7 +42,7 @@ module _ (names : List Name) (ss ts : List SourceText) (whole : Alike names (mer
   pub wrappers_stay : (id : Name) → at_name id a.wrapper ≡ at_name id b.wrapper
   wrappers_stay id =
       let there : SpellByName SpellsWrapperScript (entries_at keys.Wrapper (scripts_table (merged_tree ts))) sa.file.wrapper =
-          subst (λ es. SpellByName SpellsWrapperScript es sa.file.wrapper) wrapper_entries sa.in_merged_tree.wrapper
+      subst (λ es. SpellByName SpellsWrapperScript es sa.file.wrapper) wrapper_entries sa.in_merged_tree.wrapper
       in
       sa.wrapper id ∙ ap (at_name id) (same_scripts SpellsWrapperScript same_wrapper _ sa.file.wrapper sb.file.wrapper there sb.in_merged_tree.wrapper) ∙ sym (sb.wrapper id)
 

@@ -249,8 +249,8 @@ module _ {M K P : Type 0} (engines : Readings M K P) where
         let Group : Compiled M K (OverrideUse M) → Type 0 = λ r. IsAmong group_names r.writes.settings.test_group in
         let known = λ (below : List SourceText) (s : SourceText). known_to (map own_file below) (own_file s) in
         layers_closed (λ (l : Layer M K). Each (λ p. Each Group p.1.overrides) l.profiles) ss (λ below s above e. overrides_closed Group (λ o. IsAmong (known below s).groups o.settings.test_group)
-            (λ id o among. among_more (known below s).groups group_names (known_group below above s e) o.settings.test_group among) s.source (own_file s).profiles
-            (fine_groups (known below s) (own_file s).profiles (accepted.sources below s above e).rules.profiles))
+        (λ id o among. among_more (known below s).groups group_names (known_group below above s e) o.settings.test_group among) s.source (own_file s).profiles
+        (fine_groups (known below s) (own_file s).profiles (accepted.sources below s above e).rules.profiles))
 
   module _ (features : Features) (files : LoadInputs) (scripts : ScriptTables) (law : BinariesLaw engines) (accepted : IsAccepted engines features files) (same : HaveScriptIds (merged_file (sources_in files)) scripts) where
     all_readable : AllReadable (sources_in files)

@@ -1,5 +1,5 @@
 -- What a configuration has at the name of a profile, by the nodes of its trees.
-use Rattle.std.proofs.Common.{◌≡◌, ◌≢◌, ◌∙◌, List, map, Option, None, Some, option_map, option_and_then, unwrap_or, refl, sym, ap}
+use Rattle.std.proofs.Common.{◌≡◌, ◌≢◌, ◌∙◌, List, Option, None, Some, option_map, option_and_then, unwrap_or, refl, sym, ap}
 use Rattle.nextest_engines.specs.Readings.{Readings}
 use Rattle.nextest_inheritance.specs.Names.{default_name}
 use Rattle.nextest_inheritance.specs.Parents.{WrittenParents, parents_in}

@@ -1,5 +1,5 @@
 -- Nodes of profiles that have no rule and no default filter: those of the defaults.
-use Rattle.std.proofs.Common.{◌≡◌, ◌∙◌, List, [], Option, None, Some, Ordering, Less, Equal, Greater, nat_cmp, refl, sym, ap, subst}
+use Rattle.std.proofs.Common.{◌≡◌, ◌∙◌, [], Option, None, Some, Ordering, Less, Equal, Greater, nat_cmp, refl, sym, ap, subst}
 use Rattle.std.specs.Cmp.Lexicographic.{slice_cmp}
 use Rattle.std.specs.Ordering.{match_ordering}
 use Rattle.nextest_documents.proofs.Laying.{laid_over}

@@ -15,7 +15,7 @@ use Rattle.nextest_elements.specs.ThreadsRequired.{threads_required_at}
 use Rattle.nextest_sources.specs.InputFaults.{Each}
 use Rattle.nextest_sources.specs.Inputs.{SourceText}
 use Rattle.nextest_tables.specs.Defaults.{miri_name, defaults, profiles_default}
-use Rattle.nextest_tables.specs.FileTexts.{profile_text, override_text, script_rule_text, each_node}
+use Rattle.nextest_tables.specs.FileTexts.{override_text, script_rule_text, each_node}
 use Rattle.nextest_tables.specs.Texts.{at_key, policy_in, arguments_in, slow_in, leak_in, global_in, max_fail_in, report_in, bench_in, fields_in}
 use Rattle.nextest_tables.specs.Written.{Name, default_name}
 use Rattle.nextest_tree.specs.declared.key.Key.{Key}

@@ -4,7 +4,7 @@ use Rattle.std.proofs.lemmas.Bool.{and_parts, and_from}
 use Rattle.std.proofs.lemmas.List.{reverse-append}
 use Rattle.std.proofs.lemmas.Option.{same_Some}
 use Rattle.std.proofs.lemmas.Slice.Eq.{bytes_eq-Decides}
-use Rattle.std.specs.List.{cons_option, filter_map}
+use Rattle.std.specs.List.{filter_map}
 use Rattle.std.specs.Option.{option_or}
 use Rattle.std.specs.Str.{bytes_eq}
 use Rattle.std.proofs.Common.{◌⊎◌, inl, inr}
@@ -14,7 +14,6 @@ use Rattle.nextest_engines.specs.Engines.{Test}
 use Rattle.nextest_settings.specs.Chains.{first_of}
 use Rattle.nextest_settings.proofs.FirstOf.{first_cons, or_assoc}
 use Rattle.nextest_settings.specs.Queries.{custom_group, is_of_name, last_group}
-use Rattle.nextest_tree.specs.Schema.{first}
 use Rattle.nextest_profiles.specs.Memberships.{IsLastGroup, NoneGetsGroup, HaveDistinctIds}
 
 or_none : {Y : Type 0} (o : Option Y) → option_or o None ≡ o

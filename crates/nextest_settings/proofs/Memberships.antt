@@ -5,13 +5,12 @@ use Rattle.std.proofs.lemmas.List.{map-append, reverse-append}
 use Rattle.std.proofs.lemmas.List.Elements.{filter-append}
 use Rattle.std.proofs.lemmas.Slice.Eq.{bytes_eq-Decides}
 use Rattle.std.specs.BTreeMap.{BTreeMap, get_by_text}
-use Rattle.std.specs.List.{cons_option, filter_map}
+use Rattle.std.specs.List.{filter_map}
 use Rattle.std.specs.Option.{option_or}
 use Rattle.std.specs.Str.{bytes_eq}
 use Rattle.nextest_elements.specs.declared.test_group.TestGroup.{TestGroup}
 use Rattle.nextest_elements.specs.declared.test_group.TestGroup.TheVariants as groups
 use Rattle.nextest_engines.specs.Engines.{Test}
-use Rattle.nextest_tree.specs.Schema.{first}
 use Rattle.nextest_settings.specs.Chains.{first_of}
 use Rattle.nextest_settings.specs.Pass.{Override}
 use Rattle.nextest_settings.proofs.FirstOf.{first_cons}

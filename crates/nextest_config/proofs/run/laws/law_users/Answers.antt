@@ -11,7 +11,7 @@ use Rattle.nextest_config.proofs.ScriptsAreEnabledInOrder.{in_order}
 use Rattle.nextest_config.proofs.run.laws.law_users.Goals as goal
 
 pub returns-clause-groups : goal.returns-clause-groups
-returns-clause-groups g c = λ engines platforms a name chain mode test. 
+returns-clause-groups g c = λ engines platforms a name chain mode test.
     group_known engines.meets platforms (meant_by engines a) name chain (groups_closed engines a.features a.files a.rules_hold) (query_in engines.matches_test (profile_by engines platforms a name chain) test) mode
 
 pub returns-clause-chains : goal.returns-clause-chains
