@@ -1,9 +1,8 @@
-pub mod Resolving
-pub mod Wrapping
-pub mod Rows
-pub mod Answering
-pub mod Telling
-pub mod Loading
-pub mod Known
-pub mod Wrapper
-pub mod Moving
+pub mod Resolves
+pub mod AreRows
+pub mod Answers
+pub mod TellsEnding
+pub mod IsLoad
+pub mod IsNotFound
+pub mod MarksOrigin
+pub mod IsProfileOf
