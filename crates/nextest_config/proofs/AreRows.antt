@@ -1,5 +1,5 @@
 -- Rows of one test more.
-use Rattle.std.proofs.Common.{◌≡◌, ◌+◌, ◌<◌, ℕ, List, [], ◌∷◌, ◌++◌, ◌∙◌, length, get_or, take, map, Option, refl, sym, ap, append_assoc, append-nil}
+use Rattle.std.proofs.Common.{◌≡◌, ◌+◌, ◌<◌, ℕ, Bool, List, [], ◌∷◌, ◌++◌, ◌∙◌, length, get_or, take, map, Option, refl, sym, ap, append_assoc, append-nil}
 use Rattle.std.proofs.lemmas.List.{map-append, map_more}
 use Rattle.std.specs.List.{AllZip, flat_map}
 use Rattle.nextest_elements.specs.declared.run_mode.NextestRunMode.{NextestRunMode}
@@ -51,3 +51,10 @@ row_is matches profile mode test row value origin values sources of_values of_or
   values = λ s. values s ∙ of_values s;
   sources = λ s. sources s ∙ of_origins s;
 }
+
+-- what decides one setting more
+pub sources_more : {A B : Type 0} (f : A → B) (w : Setting → B) (ss : List Setting) (i : ℕ) (xs : List A) (x : A) (s d : Setting) → i < length ss → s ≡ get_or ss i d
+    → map f xs ≡ map w (take i ss) → f x ≡ w s → map f (xs ++ x ∷ []) ≡ map w (take (i + 1) ss)
+sources_more f w ss i xs x s d below at was is =
+    let one : f x ≡ w (get_or ss i d) = is ∙ ap w at in
+    map-append f xs (x ∷ []) ∙ (λ j. was j ++ one j ∷ []) ∙ sym (map_more w ss i d below)

@@ -29,9 +29,7 @@ fn write_setting<W: fmt::Write>(
             Some(wrapper) => write_line(f, row, setting, wrapper),
             None => write_line(f, row, setting, &"none"),
         },
-        Setting::RunExtraArgs => {
-            write_line(f, row, setting, &Arguments(&row.run_extra_args))
-        }
+        Setting::RunExtraArgs => { write_line(f, row, setting, &Arguments(&row.run_extra_args)) }
         Setting::Retries => write_line(f, row, setting, &Retries(row.retries)),
         Setting::FlakyResult => write_line(f, row, setting, &row.flaky_result),
         Setting::SlowTimeout => write_line(f, row, setting, &Slow(row.slow_timeout)),

@@ -55,11 +55,13 @@ fn source_text(alloc: Global, source: Option<&PlainSource>) -> Result<String, Al
         Some(PlainSource::Default) => String::from_str(alloc, "default"),
         Some(PlainSource::Profile) => String::from_str(alloc, "profile"),
         Some(PlainSource::Script) => String::from_str(alloc, "script"),
-        Some(PlainSource::Override {
-            source,
-            profile,
-            index,
-        }) => override_text(alloc, source, profile.as_str(), *index),
+        Some(
+            PlainSource::Override {
+                source,
+                profile,
+                index,
+            },
+        ) => override_text(alloc, source, profile.as_str(), *index),
     }
 }
 
