@@ -15,7 +15,7 @@ use Rattle.nextest_load.proofs.ProfileNodes.{profile_in_config, parent_in_config
 use Rattle.nextest_load.proofs.Under.{Leads}
 use Rattle.nextest_load.proofs.WritesOnlyParent.{own_only, merged_only, only_has_none, only_parent_fields}
 use Rattle.nextest_rules.specs.Rules.{Layer}
-use Rattle.nextest_settings.specs.Chains.{fields_of, filter_of_nothing}
+use Rattle.nextest_settings.specs.Chains.{fields_of, match_all_filter}
 use Rattle.nextest_settings.specs.Platforms.{rule_on, default_filter_of}
 use Rattle.nextest_settings.specs.Profile.{EvaluatableModel}
 use Rattle.nextest_settings.specs.Settings.{fallback_of}
@@ -62,9 +62,9 @@ module _ {M K P : Type 0} (engines : Readings M K P) (platforms : BuildPlatforms
   same_rules = ap (map (rule_on engines.meets platforms)) (script_rules_behind name (with_default chain) layers nothing)
 
   same_filter : p.default_filter ≡ q.default_filter
-  same_filter = λ i. default_filter_of (same_overrides i) (nearest_behind name (with_default chain) layers nothing i) (filter_of_nothing engines.match_all)
+  same_filter = λ i. default_filter_of (same_overrides i) (nearest_behind name (with_default chain) layers nothing i) (match_all_filter engines.match_all)
 
-  pub fields_more : p.grounds.fields ≡ fields_in (table no_entries) ∷ q.grounds.fields
+  pub fields_more : p.facts.fields ≡ fields_in (table no_entries) ∷ q.facts.fields
   fields_more =
       let o = node_of_profile name (merged_tree (sources_in a.files)) in
       let writes = merged_only name other (sources_in a.files) (all_lead engines a) only in
@@ -73,7 +73,7 @@ module _ {M K P : Type 0} (engines : Readings M K P) (platforms : BuildPlatforms
       (ap (option_map (λ (r : MergedProfile). r.fields)) (profile_in_config engines name (sources_in a.files)) ∙ only_parent_fields parent o writes written)
 
   pub alias_gives : GiveTheSame engines p q
-  alias_gives = give_the_same engines p q same_filter same_overrides same_rules (λ mode s. ap (λ fs. fallback_of fs mode s) fields_more ∙ same_fallback q.grounds.fields mode s) (λ id. refl) (λ id. refl)
+  alias_gives = give_the_same engines p q same_filter same_overrides same_rules (λ mode s. ap (λ fs. fallback_of fs mode s) fields_more ∙ same_fallback q.facts.fields mode s) (λ id. refl) (λ id. refl)
 
   pub alias_chain : IsChain (parents_by engines a) name (name ∷ chain)
   alias_chain =

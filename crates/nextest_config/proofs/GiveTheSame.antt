@@ -15,8 +15,8 @@ use Rattle.nextest_tables.specs.Written.{Name}
 use Rattle.nextest_config.specs.Laws.{GiveTestTheSame, GiveTheSame, enabled_for}
 
 module _ {M K P : Type 0} (engines : Readings M K P) (p q : EvaluatableModel M) (same_filter : p.default_filter ≡ q.default_filter) (same_overrides : p.overrides ≡ q.overrides) (same_rules : p.script_rules ≡ q.script_rules)
-    (same_fallback : (mode : NextestRunMode) (s : Setting) → fallback_of p.grounds.fields mode s ≡ fallback_of q.grounds.fields mode s)
-    (same_wrappers : (id : Name) → at_name id p.grounds.scripts.wrapper ≡ at_name id q.grounds.scripts.wrapper) (same_setups : (id : Name) → at_name id p.grounds.scripts.setup ≡ at_name id q.grounds.scripts.setup) where
+    (same_fallback : (mode : NextestRunMode) (s : Setting) → fallback_of p.facts.fields mode s ≡ fallback_of q.facts.fields mode s)
+    (same_wrappers : (id : Name) → at_name id p.facts.scripts.wrapper ≡ at_name id q.facts.scripts.wrapper) (same_setups : (id : Name) → at_name id p.facts.scripts.setup ≡ at_name id q.facts.scripts.setup) where
   tests_same : (test : Test) → GiveTestTheSame engines p q test
   tests_same test mode s = record {
     value = λ i. option_or (written_value (test_query engines.matches_test (same_filter i).filter test) mode (same_overrides i) (same_rules i) s) (same_fallback mode s i);
@@ -26,9 +26,9 @@ module _ {M K P : Type 0} (engines : Readings M K P) (p q : EvaluatableModel M) 
   enabled_same : (tests : List Test) (id : Name) → at_name id (enabled_for engines p tests) ≡ at_name id (enabled_for engines q tests)
   enabled_same tests id =
       let enables : 𝕀 → Name → Bool = λ i id. list_any (λ query. is_enabled_for query (same_rules i) id) (map (test_query engines.matches_test (same_filter i).filter) tests) in
-      at_filtered (enables 0) id p.grounds.scripts.setup
+      at_filtered (enables 0) id p.facts.scripts.setup
       ∙ (λ i. cond (enables i id) (same_setups id i) None)
-      ∙ sym (at_filtered (enables 1) id q.grounds.scripts.setup)
+      ∙ sym (at_filtered (enables 1) id q.facts.scripts.setup)
 
   pub give_the_same : GiveTheSame engines p q
   give_the_same = record {

@@ -15,7 +15,7 @@ use Rattle.nextest_load.proofs.MergedScripts.{named_at}
 use Rattle.nextest_load.proofs.ProfileNodes.{merged_node, parent_node, profile_in_config, parent_in_config}
 use Rattle.nextest_load.proofs.Under.{Leads, sources_lead}
 use Rattle.nextest_rules.specs.Rules.{at_name}
-use Rattle.nextest_settings.specs.Chains.{overrides_of, script_rules_of, nearest_filter, filter_of_nothing}
+use Rattle.nextest_settings.specs.Chains.{overrides_of, script_rules_of, nearest_filter, match_all_filter}
 use Rattle.nextest_settings.specs.Platforms.{rule_on, default_filter_of}
 use Rattle.nextest_settings.specs.Profile.{EvaluatableModel}
 use Rattle.nextest_settings.specs.Settings.{fallback_of}
@@ -87,9 +87,9 @@ module _ {M K P : Type 0} (engines : Readings M K P) (platforms : BuildPlatforms
   same_rules = ap (map (rule_on engines.meets platforms)) script_rules
 
   same_filter : p.default_filter ≡ q.default_filter
-  same_filter = λ i. default_filter_of (same_overrides i) (nearest i) (filter_of_nothing engines.match_all)
+  same_filter = λ i. default_filter_of (same_overrides i) (nearest i) (match_all_filter engines.match_all)
 
-  same_fields : p.grounds.fields ≡ q.grounds.fields
+  same_fields : p.facts.fields ≡ q.facts.fields
   same_fields = fields_same names (meant_by engines a).config.profiles (meant_by engines b).config.profiles (profiles_at names whole.profiles)
 
   pub same_profile : HaveSameProfile engines platforms a b name chain

@@ -7,9 +7,8 @@ use Rattle.nextest_engines.specs.Engines.{Test}
 use Rattle.nextest_engines.specs.Readings.{Readings}
 use Rattle.nextest_settings.specs.Deciding.{QueryContext}
 use Rattle.nextest_settings.specs.Profile.{EvaluatableModel}
-use Rattle.nextest_settings.specs.Queries.{is_enabled_for}
+use Rattle.nextest_settings.specs.Queries.{query_in, is_enabled_for}
 use Rattle.nextest_tables.specs.Written.{Name}
-use Rattle.nextest_config.specs.Headline.{query_in}
 use Rattle.nextest_config.specs.Laws.{IsSublist, ScriptsAreEnabledInOrder}
 
 module _ {X : Type 0} where
@@ -60,7 +59,7 @@ in_order {M = M} engines p =
     let asks : Name → QueryContext M → Bool = λ id query. is_enabled_for query p.script_rules id in
     let query : Test → QueryContext M = query_in engines.matches_test p in
     record {
-      some_of_all = λ tests. passing_part (λ e. list_any (asks e.0) (map query tests)) p.grounds.scripts.setup;
+      some_of_all = λ tests. passing_part (λ e. list_any (asks e.0) (map query tests)) p.facts.scripts.setup;
       at_least_the_same = λ tests more all. more_passing (λ e. list_any (asks e.0) (map query tests)) (λ e. list_any (asks e.0) (map query more))
-          (λ e h. some_of_more (asks e.0) query tests more all h) p.grounds.scripts.setup;
+          (λ e h. some_of_more (asks e.0) query tests more all h) p.facts.scripts.setup;
     }

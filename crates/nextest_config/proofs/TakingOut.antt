@@ -6,15 +6,14 @@ use Rattle.nextest_engines.specs.Engines.{Test}
 use Rattle.nextest_engines.specs.Readings.{Readings}
 use Rattle.nextest_engines.specs.declared.queries.BuildPlatforms.{BuildPlatforms}
 use Rattle.nextest_rules.specs.Rules.{Compiled, OverrideUse}
-use Rattle.nextest_settings.specs.Chains.{first_of, filter_of_nothing}
+use Rattle.nextest_settings.specs.Chains.{first_of, match_all_filter}
 use Rattle.nextest_settings.specs.Deciding.{QueryContext, rule_holds, winner}
 use Rattle.nextest_settings.specs.Platforms.{EvaluatedRule, filter_of_override}
 use Rattle.nextest_settings.specs.Profile.{EarlyModel, EvaluatableModel, profile_on}
-use Rattle.nextest_settings.specs.Queries.{test_query, value_by, origin_by, fallback_origin}
+use Rattle.nextest_settings.specs.Queries.{query_in, test_query, value_by, origin_by, fallback_origin}
 use Rattle.nextest_settings.specs.Settings.{is_set, fallback_of}
 use Rattle.nextest_settings.proofs.Deciding.{winner_without, value_same, origin_same}
 use Rattle.nextest_settings.proofs.FirstOf.{first_without}
-use Rattle.nextest_config.specs.Headline.{query_in}
 use Rattle.nextest_config.specs.Laws.{GiveTestTheSame, held_on, with_overrides, IsChosenFilter}
 
 module _ {M K P : Type 0} (engines : Readings M K P) (platforms : BuildPlatforms P) (p : EarlyModel M K) (before : List (Compiled M K (OverrideUse M))) (rule : Compiled M K (OverrideUse M)) (after : List (Compiled M K (OverrideUse M))) (test : Test)
@@ -37,7 +36,7 @@ module _ {M K P : Type 0} (engines : Readings M K P) (platforms : BuildPlatforms
   pub filter_stays : ¬ IsChosenFilter (map held before) (held rule) → whole.default_filter ≡ rest.default_filter
   filter_stays unchosen =
       let not_both : IsSome (filter_of_override (held rule)) → first_of filter_of_override (map held before) ≡ None → ⊥ = λ one none. unchosen (record { has_one = one; first = none }) in
-      ap (λ o. unwrap_or (option_or o p.nearest_filter) (filter_of_nothing p.match_all))
+      ap (λ o. unwrap_or (option_or o p.nearest_filter) (match_all_filter p.match_all))
       (ap (first_of filter_of_override) with_rule ∙ first_without filter_of_override (map held before) (held rule) (map held after) not_both ∙ ap (first_of filter_of_override) (sym without_rule))
 
   winners_stay : (query : QueryContext M) → rule_holds query (held rule) ≡ false → (wants : OverrideUse M → Bool) → winner query wants (map held p.overrides) ≡ winner query wants (map held (before ++ after))
@@ -53,8 +52,8 @@ module _ {M K P : Type 0} (engines : Readings M K P) (platforms : BuildPlatforms
       let decides_same = winners_stay query fails (λ w. is_set w.settings mode s) in
       record {
         value =
-            ap (λ o. option_or o (fallback_of p.grounds.fields mode s)) (value_same query mode whole.overrides rest.overrides whole.script_rules s decides_same)
-            ∙ ap (λ choice. value_by (test_query engines.matches_test choice.filter test) mode rest.overrides rest.script_rules p.grounds.fields s) filter;
+            ap (λ o. option_or o (fallback_of p.facts.fields mode s)) (value_same query mode whole.overrides rest.overrides whole.script_rules s decides_same)
+            ∙ ap (λ choice. value_by (test_query engines.matches_test choice.filter test) mode rest.overrides rest.script_rules p.facts.fields s) filter;
         origin =
             ap (λ o. option_or o (fallback_origin s)) (origin_same query mode whole.overrides rest.overrides whole.script_rules s decides_same)
             ∙ ap (λ choice. origin_by (test_query engines.matches_test choice.filter test) mode rest.overrides rest.script_rules s) filter;

@@ -22,7 +22,7 @@ use Rattle.nextest_settings.specs.Chains.{first_of}
 use Rattle.nextest_settings.specs.Deciding.{rule_holds, decides}
 use Rattle.nextest_settings.specs.Platforms.{EvaluatedRule, rule_on, filter_of_override}
 use Rattle.nextest_settings.specs.Profile.{Configured, EarlyModel, EvaluatableModel, profile_of, profile_on}
-use Rattle.nextest_settings.specs.Queries.{binary_query, deciding_override, setting_value, by_override, setting_origin, list_wrapper_of, enabled_scripts, group_of}
+use Rattle.nextest_settings.specs.Queries.{query_in, binary_query, deciding_override, setting_value, by_override, setting_origin, list_wrapper_of, enabled_scripts, group_of}
 use Rattle.nextest_settings.specs.Settings.{sets, is_set}
 use Rattle.nextest_settings.specs.declared.setting.Setting.{Setting}
 use Rattle.nextest_settings.specs.declared.setting.Setting.TheVariants as at
@@ -32,7 +32,6 @@ use Rattle.nextest_tables.specs.FileTexts.{names_in, IsIn}
 use Rattle.nextest_tables.specs.Texts.{fields_in}
 use Rattle.nextest_tables.specs.Written.{Name}
 use Rattle.nextest_tree.specs.Node.{table, no_entries}
-use Rattle.nextest_config.specs.Headline.{query_in}
 
 -- Files of which every written rule holds, with these features; the root of their workspace, and
 -- the scripts that they define.
@@ -103,7 +102,7 @@ pub record GiveTheSame {M K P : Type 0} (engines : Readings M K P) (p q : Evalua
   pub binaries : (binary : Binary)
       → list_wrapper_in engines p binary ≡ list_wrapper_in engines q binary
   pub wrappers : (id : Name)
-      → at_name id p.grounds.scripts.wrapper ≡ at_name id q.grounds.scripts.wrapper
+      → at_name id p.facts.scripts.wrapper ≡ at_name id q.facts.scripts.wrapper
   pub setup_scripts : (tests : List Test) (id : Name)
       → at_name id (enabled_for engines p tests) ≡ at_name id (enabled_for engines q tests)
   pub default_filter : p.default_filter ≡ q.default_filter
@@ -118,8 +117,8 @@ pub record HaveSameProfile {M K P : Type 0} (engines : Readings M K P)
   pub is_chain : IsChain (parents_by engines b) name chain
   pub gives : GiveTheSame engines (profile_by engines platforms a name chain)
       (profile_by engines platforms b name chain)
-  pub fields : (profile_by engines platforms a name chain).grounds.fields
-      ≡ (profile_by engines platforms b name chain).grounds.fields
+  pub fields : (profile_by engines platforms a name chain).facts.fields
+      ≡ (profile_by engines platforms b name chain).facts.fields
 
 -- ISOLATION. Where two lists of accepted files agree, source by source, on `default`, a profile and
 -- its ancestors, they have the same profile of that name.
@@ -154,7 +153,7 @@ Aliasing {P = P} engines =
     let q = profile_by engines platforms a parent chain in
     IsChain (parents_by engines a) name (name ∷ chain)
     × GiveTheSame engines p q
-    × (p.grounds.fields ≡ fields_in (table no_entries) ∷ q.grounds.fields)
+    × (p.facts.fields ≡ fields_in (table no_entries) ∷ q.facts.fields)
 
 -- an override on the platforms of a build
 abbrev pub held_on : {M K P : Type 0} → Readings M K P → BuildPlatforms P
@@ -165,7 +164,7 @@ held_on engines platforms rule = rule_on engines.meets platforms rule
 abbrev pub with_overrides : {M K : Type 0} → List (Compiled M K (OverrideUse M))
     → EarlyModel M K → EarlyModel M K
 with_overrides overrides p = record {
-  grounds = p.grounds;
+  facts = p.facts;
   overrides = overrides;
   script_rules = p.script_rules;
   nearest_filter = p.nearest_filter;
@@ -232,7 +231,7 @@ GroupsAreKnown {P = P} engines =
     (platforms : BuildPlatforms P) (a : AcceptedFiles engines) (name : Name) (chain : List Name)
     (mode : NextestRunMode) (test : Test)
     → let p = profile_by engines platforms a name chain in
-    IsAmong (names_in p.grounds.groups)
+    IsAmong (names_in p.facts.groups)
     (setting_value (query_in engines.matches_test p test) mode p at.TestGroup)
 
 -- USERS, chains. The names that count for a profile, those of its chain and then `default`, are all
@@ -252,7 +251,7 @@ IsSublist {X} xs (y ∷ ys) =
 pub record ScriptsAreEnabledInOrder {M K P : Type 0} (engines : Readings M K P)
     (p : EvaluatableModel M) : Type 0 where
   pub some_of_all : (tests : List Test)
-      → IsSublist (enabled_for engines p tests) p.grounds.scripts.setup
+      → IsSublist (enabled_for engines p tests) p.facts.scripts.setup
   pub at_least_the_same : (tests more : List Test)
       → ((test : Test) → Contains tests test → Contains more test)
       → IsSublist (enabled_for engines p tests) (enabled_for engines p more)

@@ -6,7 +6,7 @@ use Rattle.nextest_rules.specs.KnownView.{features_view}
 use Rattle.nextest_sources.specs.Inputs.{load_inputs_view}
 use Rattle.nextest_sources.specs.WarningsView.{warnings_view}
 use Rattle.nextest_config.specs.ConfigView.{loaded_by}
-use Rattle.nextest_config.proofs.Loading.{memory_load}
+use Rattle.nextest_config.proofs.IsLoad.{memory_load}
 use Rattle.nextest_config.proofs.config.NextestConfig.from_sources.Goals as goal
 
 pub returns-in_err-root-clause-loads : goal.returns-in_err-root-clause-loads

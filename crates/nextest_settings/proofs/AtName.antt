@@ -16,18 +16,18 @@ pub at_name-by_name : {X Y : Type 0} (f : X → Y) (name : Name) (es : List (Str
 at_name-by_name f name [] = refl
 at_name-by_name f name (e ∷ es) = found_or f (slice_cmp nat_cmp name (string_bytes e.0)) e.1 _ _ (at_name-by_name f name es)
 
-pub held_ref : {X Y : Type 0} (f : X → Y) (r : Option (Bor X)) → option_map (λ x. f x.now) r ≡ option_map f (option_map (λ x. x.now) r)
-held_ref f None = refl
-held_ref f (Some x) = refl
+pub ref_map : {X Y : Type 0} (f : X → Y) (r : Option (Bor X)) → option_map (λ x. f x.now) r ≡ option_map f (option_map (λ x. x.now) r)
+ref_map f None = refl
+ref_map f (Some x) = refl
 
 -- what a map finds at a name, for callers of its `get`
 pub got_at : {X Y : Type 0} (f : X → Y) (name : Name) (es : List (String Global × X)) (r : Option (Bor X)) → option_map (λ x. x.now) r ≡ lookup (is_at (λ k. slice_cmp nat_cmp name (string_bytes k))) es
     → option_map (λ x. f x.now) r ≡ at_name name (by_name f es)
-got_at f name es r found = held_ref f r ∙ ap (option_map f) found ∙ sym (at_name-by_name f name es)
+got_at f name es r found = ref_map f r ∙ ap (option_map f) found ∙ sym (at_name-by_name f name es)
 
 -- a filter that was looked up, by what it means
 pub filter_ref : {E M : Type 0} (meaning : E → M) (r : Option (Bor E)) (o : Option E) → option_map (λ e. e.now) r ≡ o → option_map (λ e. meaning e.now) r ≡ option_map meaning o
-filter_ref meaning r o found = held_ref meaning r ∙ ap (option_map meaning) found
+filter_ref meaning r o found = ref_map meaning r ∙ ap (option_map meaning) found
 
 pub some_ref : {E M : Type 0} (meaning : E → M) (r : Option (Bor E)) (o : Option E) → option_map (λ e. e.now) r ≡ o → is_some r ≡ is_some (option_map meaning o)
 some_ref meaning r o found = some_mapped (λ e. meaning e.now) r ∙ ap is_some (filter_ref meaning r o found) where

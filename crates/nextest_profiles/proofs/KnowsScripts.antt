@@ -11,8 +11,8 @@ use Rattle.nextest_sources.specs.InputFaults.{Each}
 use Rattle.nextest_tables.specs.FileTexts.{ScriptUse, names_in, IsIn}
 use Rattle.nextest_tables.specs.Written.{Name}
 use Rattle.nextest_profiles.specs.Known.{KnowsScripts}
-use Rattle.nextest_profiles.proofs.Gathered.{each_image, each_gathered}
-use Rattle.nextest_profiles.proofs.Natural.{script_rules_meaning}
+use Rattle.nextest_profiles.proofs.EachRule.{each_image, each_gathered}
+use Rattle.nextest_profiles.proofs.MeaningOfTexts.{script_rules_meaning}
 
 -- one map after another
 pub fused : {X Y Z : Type 0} (f : Y → Z) (g : X → Y) (xs : List X) → map f (map g xs) ≡ map (λ x. f (g x)) xs

@@ -1,38 +1,16 @@
--- Facts of each setting, and of one row more.
-use Rattle.std.proofs.Common.{◌≡◌, ◌+◌, ◌<◌, ℕ, Bool, List, [], ◌∷◌, ◌++◌, ◌∙◌, length, get_or, take, map, Option, None, Some, IsSome, refl, sym, ap, append_assoc, append-nil}
+-- Rows of one test more.
+use Rattle.std.proofs.Common.{◌≡◌, ◌+◌, ◌<◌, ℕ, Bool, List, [], ◌∷◌, ◌++◌, ◌∙◌, length, get_or, take, map, Option, refl, sym, ap, append_assoc, append-nil}
 use Rattle.std.proofs.lemmas.List.{map-append, map_more}
 use Rattle.std.specs.List.{AllZip, flat_map}
-use Rattle.std.specs.Option.{option_or}
 use Rattle.nextest_elements.specs.declared.run_mode.NextestRunMode.{NextestRunMode}
 use Rattle.nextest_engines.specs.Engines.{Test}
 use Rattle.nextest_settings.specs.Profile.{EvaluatableModel}
-use Rattle.nextest_settings.specs.Queries.{Origin, setting_value, setting_origin}
+use Rattle.nextest_settings.specs.Queries.{query_in, Origin, setting_value, setting_origin}
 use Rattle.nextest_settings.specs.Settings.{ValueOf}
 use Rattle.nextest_settings.specs.declared.setting.Setting.{Setting}
-use Rattle.nextest_settings.specs.declared.setting.Setting.TheVariants as at
-use Rattle.nextest_config.specs.Headline.{query_in, IsTestRow, numbers_for}
+use Rattle.nextest_config.specs.Headline.{IsTestRow, numbers_for}
 use Rattle.nextest_config.specs.RowView.{row_value, row_source, row_view}
 use Rattle.nextest_config.specs.declared.run.row.TestRow.{TestRow}
-
--- a fact of each setting
-pub each_setting : (P : Setting → Type 0) → P at.Priority → P at.ThreadsRequired → P at.RunWrapper → P at.RunExtraArgs → P at.Retries → P at.FlakyResult
-    → P at.SlowTimeout → P at.LeakTimeout → P at.TestGroup → P at.SuccessOutput → P at.FailureOutput → P at.JunitStoreSuccessOutput → P at.JunitStoreFailureOutput
-    → P at.JunitReportSkipped → P at.JunitFlakyFailStatus → (s : Setting) → P s
-each_setting P a b c d e f g h i j k l m n o at.Priority = a
-each_setting P a b c d e f g h i j k l m n o at.ThreadsRequired = b
-each_setting P a b c d e f g h i j k l m n o at.RunWrapper = c
-each_setting P a b c d e f g h i j k l m n o at.RunExtraArgs = d
-each_setting P a b c d e f g h i j k l m n o at.Retries = e
-each_setting P a b c d e f g h i j k l m n o at.FlakyResult = f
-each_setting P a b c d e f g h i j k l m n o at.SlowTimeout = g
-each_setting P a b c d e f g h i j k l m n o at.LeakTimeout = h
-each_setting P a b c d e f g h i j k l m n o at.TestGroup = i
-each_setting P a b c d e f g h i j k l m n o at.SuccessOutput = j
-each_setting P a b c d e f g h i j k l m n o at.FailureOutput = k
-each_setting P a b c d e f g h i j k l m n o at.JunitStoreSuccessOutput = l
-each_setting P a b c d e f g h i j k l m n o at.JunitStoreFailureOutput = m
-each_setting P a b c d e f g h i j k l m n o at.JunitReportSkipped = n
-each_setting P a b c d e f g h i j k l m n o at.JunitFlakyFailStatus = o
 
 -- one more of each list
 pub zip_push : {A B : Type 0} (R : A → B → Type 0) (xs : List A) (ys : List B) (x : A) (y : B) → AllZip R xs ys → R x y → AllZip R (xs ++ x ∷ []) (ys ++ y ∷ [])
@@ -45,11 +23,6 @@ zip_push R (a ∷ xs) (b ∷ ys) x y h r = (h.0, zip_push R xs ys x y h.1 r)
 pub flat_push : {A B : Type 0} (f : A → List B) (xs : List A) (x : A) → flat_map f (xs ++ x ∷ []) ≡ flat_map f xs ++ f x
 flat_push f [] x = append-nil (f x)
 flat_push f (y ∷ xs) x = ap (λ ys. f y ++ ys) (flat_push f xs x) ∙ sym (append_assoc (f y) (flat_map f xs) (f x))
-
--- a value over one that is there is there
-pub some_or : {X : Type 0} (o r : Option X) → IsSome r → IsSome (option_or o r)
-some_or None r h = h
-some_or (Some x) r h = refl
 
 -- a row more, of the next test of a list
 module _ {M Q : Type 0} (matches : M → Test → M → Bool) (profile : EvaluatableModel M) (mode : NextestRunMode) (view : Q → Test) (qs : List Q) (i : ℕ) (q d : Q) (below : i < length qs) (same : q ≡ get_or qs i d) where
@@ -78,3 +51,10 @@ row_is matches profile mode test row value origin values sources of_values of_or
   values = λ s. values s ∙ of_values s;
   sources = λ s. sources s ∙ of_origins s;
 }
+
+-- what decides one setting more
+pub sources_more : {A B : Type 0} (f : A → B) (w : Setting → B) (ss : List Setting) (i : ℕ) (xs : List A) (x : A) (s d : Setting) → i < length ss → s ≡ get_or ss i d
+    → map f xs ≡ map w (take i ss) → f x ≡ w s → map f (xs ++ x ∷ []) ≡ map w (take (i + 1) ss)
+sources_more f w ss i xs x s d below at was is =
+    let one : f x ≡ w (get_or ss i d) = is ∙ ap w at in
+    map-append f xs (x ∷ []) ∙ (λ j. was j ++ one j ∷ []) ∙ sym (map_more w ss i d below)

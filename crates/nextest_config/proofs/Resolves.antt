@@ -4,51 +4,61 @@ use Rattle.nextest_engines.specs.Readings.{Readings}
 use Rattle.nextest_inheritance.specs.Parents.{parents_in, IsChain}
 use Rattle.nextest_load.specs.Closed.{IsClosed}
 use Rattle.nextest_load.specs.Config.{config_of, config_parents}
+use Rattle.nextest_load.specs.Exact.{IsExact}
 use Rattle.nextest_load.specs.Scripts.{AreScriptsOf}
 use Rattle.nextest_settings.specs.Profile.{Configured, profile_of, profile_on}
+use Rattle.nextest_settings.specs.Queries.{query_in}
 use Rattle.nextest_settings.specs.Settings.{settings, is_set}
 use Rattle.nextest_tables.specs.FileTexts.{ScriptUse}
-use Rattle.nextest_settings.proofs.Few.{all_rise}
+use Rattle.nextest_settings.proofs.IsEvaluatedForTest.{test_exactly, test_count}
+use Rattle.nextest_settings.proofs.Rising.{all_rise}
+use Rattle.nextest_sources.specs.Causes.{LoadFault}
 use Rattle.nextest_sources.specs.Endings.{Ending, passed, refused, no_memory, malformed, WentThrough}
 use Rattle.nextest_sources.specs.Inputs.{sources_in}
 use Rattle.nextest_sources.specs.Steps.{warnings_before}
 use Rattle.nextest_sources.specs.Warnings.{Warning}
 use Rattle.nextest_tables.specs.FileTexts.{names_in, IsIn}
 use Rattle.nextest_config.specs.Answers.{Question, AreAskedRows, Answers}
-use Rattle.nextest_config.specs.Headline.{Request, Row, Refusal, bad_config, no_profile, out_of_memory, RulesHold, steps_for, AreRows, query_in, Resolves}
+use Rattle.nextest_config.specs.Headline.{Request, Row, Refusal, bad_config, no_profile, out_of_memory, RulesHold, steps_for, AreRows, Resolves}
 use Rattle.nextest_config.specs.RunView.{TellsEnding, run_view}
 
 module _ {M K P : Type 0} (engines : Readings M K P) (request : Request P) (wold wnew : List Warning) where
   -- a load that is refused
   pub load_refused : (numbers : List ℕ) (refusal : Refusal) (o : Ending) → WentThrough (steps_for engines request) wold wnew o
-      → (o ≡ no_memory) ⊎ (¬ RulesHold engines request) → (o ≡ passed → ⊥) → TellsEnding o refusal
+      → (o ≡ no_memory) ⊎ (¬ RulesHold engines request) → ((fault : LoadFault) → o ≡ refused fault → IsExact request.files fault) → (o ≡ passed → ⊥) → TellsEnding o refusal
       → Resolves engines request (run_view (Err refusal) wold wnew numbers numbers)
-  load_refused numbers refusal passed went verdict unpassed tells = absurd (unpassed refl)
-  load_refused numbers refusal (refused fault) went verdict unpassed tells =
+  load_refused numbers refusal passed went verdict exact unpassed tells = absurd (unpassed refl)
+  load_refused numbers refusal (refused fault) went verdict exact unpassed tells =
       let P : Refusal → Type 0 = λ r. Resolves engines request (run_view (Err r) wold wnew numbers numbers) in
       let broken : ¬ RulesHold engines request = elim verdict [ inl memory ↦ absurd (other memory) | inr fails ↦ fails ] in
       subst P (sym tells) (record {
         acceptance = tt;
         refusal = record { broken = broken; first = went.0; is_fault = refl };
+        exact = exact fault refl;
         absence = tt;
         unasked = refl;
         warnings = went.1;
-        rows = ([], sym (append-nil numbers), tt);
+        numbers = [];
+        tally = sym (append-nil numbers);
+        rows = tt;
       })
     where
       other : refused fault ≡ no_memory → ⊥
       other same = cc
-  load_refused numbers refusal no_memory went verdict unpassed tells =
+  load_refused numbers refusal no_memory went verdict exact unpassed tells =
       let P : Refusal → Type 0 = λ r. Resolves engines request (run_view (Err r) wold wnew numbers numbers) in
       subst P (sym tells) (record {
         acceptance = tt;
         refusal = tt;
+        exact = tt;
         absence = tt;
         unasked = tt;
         warnings = went;
-        rows = ([], sym (append-nil numbers), tt);
+        numbers = [];
+        tally = sym (append-nil numbers);
+        rows = tt;
       })
-  load_refused numbers refusal malformed went verdict unpassed tells = absurd went
+  load_refused numbers refusal malformed went verdict exact unpassed tells = absurd went
 
   -- the question that a request puts to its configuration
   abbrev pub question_of : Question P
@@ -73,6 +83,8 @@ module _ {M K P : Type 0} (engines : Readings M K P) (request : Request P) (wold
       each = asked.are_rows.each;
       evaluated = asked.are_rows.evaluated;
       rising = λ test. all_rise asked.profile.overrides asked.profile.script_rules (map (λ s w. is_set w.settings request.mode s) settings) ((λ (w : ScriptUse). is_some w.run_wrapper) ∷ []) (query_in engines.matches_test asked.profile test);
+      exactly = λ test. test_exactly (query_in engines.matches_test asked.profile test) request.mode asked.profile;
+      count = λ test. test_count (query_in engines.matches_test asked.profile test) request.mode asked.profile;
     }
 
     -- a load that is accepted
@@ -81,15 +93,19 @@ module _ {M K P : Type 0} (engines : Readings M K P) (request : Request P) (wold
     load_accepted nold nnew (Ok rows) answers = record {
       acceptance = holds;
       refusal = tt;
+      exact = tt;
       absence = tt;
       unasked = tt;
       warnings = went.1;
-      rows = (answers.rows.0, answers.rows.1, are_rows rows answers.rows.0 answers.rows.2);
+      numbers = answers.numbers;
+      tally = answers.tally;
+      rows = are_rows rows answers.numbers answers.rows;
     }
     load_accepted nold nnew (Err (bad_config fault)) answers = absurd answers.accepted
     load_accepted nold nnew (Err (no_profile name profiles)) answers = record {
       acceptance = tt;
       refusal = tt;
+      exact = tt;
       absence = (
         holds,
         record {
@@ -101,13 +117,18 @@ module _ {M K P : Type 0} (engines : Readings M K P) (request : Request P) (wold
       );
       unasked = answers.unasked;
       warnings = went.1;
-      rows = (answers.rows.0, answers.rows.1, tt);
+      numbers = answers.numbers;
+      tally = answers.tally;
+      rows = tt;
     }
     load_accepted nold nnew (Err out_of_memory) answers = record {
       acceptance = tt;
       refusal = tt;
+      exact = tt;
       absence = tt;
       unasked = tt;
       warnings = (warnings_before (steps_for engines request), ([], sym (append-nil (warnings_before (steps_for engines request)))), went.1);
-      rows = (answers.rows.0, answers.rows.1, tt);
+      numbers = answers.numbers;
+      tally = answers.tally;
+      rows = tt;
     }

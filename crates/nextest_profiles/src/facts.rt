@@ -12,7 +12,7 @@ use std::marker::Model;
 
 /// What a profile says whatever the platforms.
 #[derive(Drop)]
-pub(crate) struct Grounds<'cfg> {
+pub(crate) struct Facts<'cfg> {
     name: &'cfg str,
     inherits: Option<&'cfg str>,
     store_dir: String,
@@ -22,11 +22,11 @@ pub(crate) struct Grounds<'cfg> {
     values: ProfileValues<'cfg>,
 }
 
-impl<'cfg> Model for Grounds<'cfg> {
+impl<'cfg> Model for Facts<'cfg> {
     ghost use Rattle.std.specs.Prelude.{map, Some, option_map, string_bytes};
-    ghost use Rattle.nextest_settings.specs.Profile.{ProfileGrounds};
+    ghost use Rattle.nextest_settings.specs.Profile.{ProfileFacts};
 
-    ghost Value = { ProfileGrounds };
+    ghost Value = { ProfileFacts };
 
     ghost use Rattle.nextest_load.specs.ConfigView.{groups_view, scripts_view};
     ghost use Rattle.nextest_settings.specs.View.{fields_ref_view};
@@ -46,7 +46,7 @@ impl<'cfg> Model for Grounds<'cfg> {
     ghost invariant = { λ g. AreValues (map fields_ref_view g.fields.items) g.values };
 }
 
-impl<'cfg> Grounds<'cfg> {
+impl<'cfg> Facts<'cfg> {
     ghost use Rattle.std.specs.Prelude.{◌≡◌, List, Some, IfOk, is_some, option_map};
     ghost use Rattle.nextest_load.specs.ConfigView.{groups_view, scripts_view};
     ghost use Rattle.nextest_settings.specs.Settings.{report_path};
@@ -54,7 +54,7 @@ impl<'cfg> Grounds<'cfg> {
     ghost use Rattle.nextest_inheritance.specs.View.{borrowed_view};
     ghost use Rattle.nextest_inheritance.specs.Parents.{with_default};
     ghost use Rattle.nextest_settings.specs.ChainValues.{AreValues};
-    ghost use Rattle.nextest_settings.specs.Profile.{grounds_of};
+    ghost use Rattle.nextest_settings.specs.Profile.{facts_of};
     ghost use Rattle.nextest_tables.specs.Written.{Name};
     ghost use Rattle.nextest_profiles.specs.Profiles.{EndInDefault};
 
@@ -66,10 +66,10 @@ impl<'cfg> Grounds<'cfg> {
         config: &'cfg LoadedConfig<F, S>,
         name: &'cfg str,
         names: &[&str],
-    ) -> Result<Grounds<'cfg>, AllocError>
+    ) -> Result<Facts<'cfg>, AllocError>
         requires { EndInDefault (borrowed_view names.now) }
         ensures { (chain : List Name) → borrowed_view names.now ≡ with_default chain
-            → IfOk result (λ grounds. grounds ≡ grounds_of (record {
+            → IfOk result (λ facts. facts ≡ facts_of (record {
               root = workspace_root.now;
               config = config.now.config;
               scripts = config.now.scripts;
@@ -79,7 +79,7 @@ impl<'cfg> Grounds<'cfg> {
         let store_dir = join_paths(alloc, workspace_root, config.store_dir())?;
         let fields = fields_of(alloc, profiles, names)?;
         let values = values_of(&fields);
-        Ok(Grounds {
+        Ok(Facts {
             name,
             inherits: parent_of(profiles, name),
             store_dir: join_paths(alloc, &store_dir, name)?,

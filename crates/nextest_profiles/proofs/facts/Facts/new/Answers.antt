@@ -4,9 +4,9 @@ use Rattle.nextest_settings.specs.Chains.{fields_of}
 use Rattle.nextest_settings.specs.Profile.{store_dir_of}
 use Rattle.nextest_settings.specs.View.{fields_ref_view}
 use Rattle.nextest_inheritance.specs.View.{borrowed_view}
-use Rattle.nextest_profiles.proofs.Ends.{ends_complete}
-use Rattle.nextest_profiles.proofs.Parents.{parents_written, parents_same, parent_there}
-use Rattle.nextest_profiles.proofs.grounds.Grounds.new.Goals as goal
+use Rattle.nextest_profiles.proofs.EndsComplete.{ends_complete}
+use Rattle.nextest_profiles.proofs.ParentsIn.{parents_written, parents_same, parent_there}
+use Rattle.nextest_profiles.proofs.facts.Facts.new.Goals as goal
 
 pub values_of-values-requires : goal.values_of-values-requires
 values_of-values-requires g c =

@@ -11,7 +11,7 @@ use Rattle.nextest_load.specs.ConfigView.{groups_view}
 use Rattle.nextest_tables.specs.FileTexts.{names_in}
 use Rattle.nextest_tables.specs.Written.{Name}
 use Rattle.nextest_tree.specs.Schema.{is_one_of}
-use Rattle.nextest_profiles.proofs.Closing.{fused}
+use Rattle.nextest_profiles.proofs.KnowsScripts.{fused}
 
 turned : (a b c : Bool) → (cond b true a || c) ≡ (a || (b || c))
 turned true true c = refl

@@ -13,7 +13,7 @@ use Rattle.nextest_load.specs.Config.{ConfigModel, config_parents}
 use Rattle.nextest_load.specs.Meaning.{config_meaning}
 use Rattle.nextest_rules.specs.Meaning as rules
 use Rattle.nextest_rules.specs.Rules.{Compiled, OverrideUse, LayerProfile, Layer, at_name}
-use Rattle.nextest_settings.specs.Chains.{in_layer, in_order, overrides_of, script_rules_of, first_of, FilterChoice, at_profile, filter_of_profile, nearest_filter, filter_of_nothing}
+use Rattle.nextest_settings.specs.Chains.{in_layer, in_order, overrides_of, script_rules_of, first_of, FilterChoice, at_profile, filter_of_profile, nearest_filter, match_all_filter}
 use Rattle.nextest_settings.specs.Platforms.{spec_holds, EvaluatedRule, rule_on, filter_of_override, default_filter_of}
 use Rattle.nextest_settings.specs.Profile.{Configured, EarlyModel, EvaluatableModel, profile_of, profile_on}
 use Rattle.nextest_settings.specs.View.{evaluated_override_meaning, evaluated_script_rule_meaning}
@@ -148,10 +148,10 @@ module _ {E N M K : Type 0} (f : E → M) (g : N → K) where
       let ls = c.config.layers in
       let p = profile_of c name chain in
       let overrides = overrides_on meets platforms p.overrides ∙ ap (map (rule_on meets platforms)) (overrides_meaning ls names) in
-      let filter = counting_meaning (map (rule_on (λ spec platform. meets (g spec) platform) platforms) p.overrides) p.nearest_filter (filter_of_nothing p.match_all)
-      ∙ (λ i. default_filter_of (overrides i) (nearest_meaning ls names i) (filter_of_nothing (f c.config.match_all))) in
+      let filter = counting_meaning (map (rule_on (λ spec platform. meets (g spec) platform) platforms) p.overrides) p.nearest_filter (match_all_filter p.match_all)
+      ∙ (λ i. default_filter_of (overrides i) (nearest_meaning ls names i) (match_all_filter (f c.config.match_all))) in
       λ i. record {
-        grounds = p.grounds;
+        facts = p.facts;
         overrides = overrides i;
         script_rules = (script_rules_on meets platforms p.script_rules ∙ ap (map (rule_on meets platforms)) (script_rules_meaning ls names)) i;
         default_filter = filter i;

@@ -7,7 +7,7 @@ use Rattle.nextest_settings.specs.declared.setting.Setting.TheVariants as at
 use Rattle.nextest_settings.specs.Deciding.{QueryContext, asked_from}
 use Rattle.nextest_settings.specs.Pass.{Override, is_open, is_overridable, writes_setting, winners_of, wanted_settings}
 use Rattle.nextest_settings.specs.Settings.{settings}
-use Rattle.nextest_settings.proofs.Turns.{winners-kept, not-asked}
+use Rattle.nextest_settings.proofs.WinnersOf.{winners-kept, not-asked}
 
 -- none writes a wrapper
 not_written : {M : Type 0} (mode : NextestRunMode) (r : Override M) (s : Setting) → is_overridable s ≡ false → writes_setting mode r s ≡ false

@@ -4,7 +4,7 @@ use Rattle.std.specs.Result.{IfOk}
 use Rattle.nextest_engines.specs.Engines.{Test}
 use Rattle.nextest_profiles.specs.Meaning.{configured_meaning, profile_meaning}
 use Rattle.nextest_profiles.specs.Profiles.{IsProfileOf}
-use Rattle.nextest_profiles.proofs.Natural.{profile_means}
+use Rattle.nextest_profiles.proofs.MeaningOfTexts.{profile_means}
 use Rattle.nextest_settings.specs.Profile.{Configured, EarlyModel, EvaluatableModel, profile_on}
 use Rattle.nextest_tables.specs.FileTexts.{names_in, IsIn}
 use Rattle.nextest_tree.specs.Schema.{is_one_of}
@@ -25,7 +25,7 @@ if_ok P Q R (Err e) h p q = tt
 module _ {M K P : Type 0} (meets : K → P → Option Bool) (matches : M → Test → M → Bool) (configured : Configured M K) (question : Question P) where
   -- memory ran out
   pub no_rows : (old new numbers : List ℕ) → new ≡ old ++ numbers → Answers meets matches configured question (Err out_of_memory) old new
-  no_rows old new numbers is = record { accepted = tt; absence = tt; unasked = tt; rows = (numbers, is, tt) }
+  no_rows old new numbers is = record { accepted = tt; absence = tt; unasked = tt; numbers = numbers; tally = is; rows = tt }
 
   -- the profile is not given
   pub no_such_profile : (error : ProfileError) → IsNotFound (names_in configured.config.profiles) question.profile error → (old : List ℕ)
@@ -34,7 +34,9 @@ module _ {M K P : Type 0} (meets : K → P → Option Bool) (matches : M → Tes
     accepted = tt;
     absence = record { same = tells.same; all = tells.all; ascending = tells.ascending; absent = absent };
     unasked = refl;
-    rows = ([], sym (append-nil old), tt);
+    numbers = [];
+    tally = sym (append-nil old);
+    rows = tt;
   }
     where
       absent : IsIn (map string_bytes missing.known.items) (string_bytes missing.name) → ⊥
@@ -56,7 +58,9 @@ module _ {M K P : Type 0} (meets : K → P → Option Bool) (matches : M → Tes
     accepted = tt;
     absence = tt;
     unasked = tt;
-    rows = (numbers, added, record { known = known; profile = profile; is_profile = is; are_rows = are_rows });
+    numbers = numbers;
+    tally = added;
+    rows = record { known = known; profile = profile; is_profile = is; are_rows = are_rows };
   }
 
 -- the profile that is asked for, by what its rules mean

@@ -19,7 +19,7 @@ use Rattle.nextest_settings.specs.declared.setting.Setting.TheVariants as at
 use Rattle.nextest_sources.specs.InputFaults.{Each}
 use Rattle.nextest_tables.specs.FileTexts.{names_in}
 use Rattle.nextest_tables.specs.Written.{Name}
-use Rattle.nextest_profiles.proofs.Gathered.{each_image, each_gathered}
+use Rattle.nextest_profiles.proofs.EachRule.{each_image, each_gathered}
 
 -- what holds of each element holds of the one that is found
 each_found : {X : Type 0} (P : X → Type 0) (passes : X → Bool) (xs : List X) → Each P xs → IfSome (find passes xs) P

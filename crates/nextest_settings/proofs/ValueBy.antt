@@ -8,15 +8,15 @@ use Rattle.nextest_tables.specs.Written.{WrittenFields}
 use Rattle.nextest_settings.specs.ChainValues.{AreValues}
 use Rattle.nextest_settings.specs.Deciding.{QueryContext}
 use Rattle.nextest_settings.specs.Pass.{Override, slots_view, winners_of}
-use Rattle.nextest_settings.specs.Platforms.{EvaluatedRule}
+use Rattle.nextest_settings.specs.Platforms.{EvaluatedRule, rule_text}
 use Rattle.nextest_settings.specs.Queries.{deciding_override, wrapping_rule, written_value, value_by, written_origin, origin_by, by_override, by_script, fallback_origin}
 use Rattle.nextest_settings.specs.Settings.{settings, sets, index_of}
-use Rattle.nextest_settings.specs.SettingsView.{slot_at, written_at, value_at, fallback_view, written_origin_at, origin_at}
-use Rattle.nextest_settings.specs.View.{held_override_meaning, script_rule_ref_view}
+use Rattle.nextest_settings.specs.SettingsView.{slot_at, written_at, value_at, fallback_view, written_origin_at, origin_at, override_at}
+use Rattle.nextest_settings.specs.View.{meant_override, override_ref_view, override_text_meaning, script_rule_ref_view}
 use Rattle.nextest_settings.specs.declared.setting.Setting.{Setting}
 use Rattle.nextest_settings.specs.declared.setting.Setting.TheVariants as at
 use Rattle.nextest_settings.specs.declared.test_settings.TestSettings.{TestSettings}
-use Rattle.nextest_settings.proofs.Fallback.{fallback_view_is_fallback}
+use Rattle.nextest_settings.proofs.FallbackOf.{fallback_view_is_fallback}
 
 option_and_then-map : {A B C : Type 0} (f : A → B) (h : B → Option C) (o : Option A) → option_and_then h (option_map f o) ≡ option_and_then (λ x. h (f x)) o
 option_and_then-map f h None = refl
@@ -59,11 +59,11 @@ slot_is f slots w shown s = sym (slot-map f slots s) ∙ ap (λ l. slot_at l s) 
 module _ {F S Src E T N P M : Type 0} (meaning : E → M) (t : TestSettings F S Src E T N P) (query : QueryContext M) (overrides : List (Override M)) (script_rules : List (EvaluatedRule M ScriptUse))
     (shown : slots_view meaning t.winners.slots ≡ winners_of query t.mode overrides settings)
     (wrapped : option_map (λ w. (script_rule_ref_view w.rule).writes) t.run_wrapper ≡ option_map (λ r. r.writes) (wrapping_rule query script_rules)) where
-  slot-shown : (s : Setting) → option_map (held_override_meaning meaning) (slot_at t.winners.slots s) ≡ deciding_override query t.mode overrides s
-  slot-shown s = slot_is (held_override_meaning meaning) t.winners.slots (λ s. deciding_override query t.mode overrides s) shown s
+  slot-shown : (s : Setting) → option_map (meant_override meaning) (slot_at t.winners.slots s) ≡ deciding_override query t.mode overrides s
+  slot-shown s = slot_is (meant_override meaning) t.winners.slots (λ s. deciding_override query t.mode overrides s) shown s
 
-  by_slot : {C : Type 0} (s : Setting) (h : Override M → Option C) → option_and_then (λ x. h (held_override_meaning meaning x)) (slot_at t.winners.slots s) ≡ option_and_then h (deciding_override query t.mode overrides s)
-  by_slot s h = sym (option_and_then-map (held_override_meaning meaning) h (slot_at t.winners.slots s)) ∙ ap (option_and_then h) (slot-shown s)
+  by_slot : {C : Type 0} (s : Setting) (h : Override M → Option C) → option_and_then (λ x. h (meant_override meaning x)) (slot_at t.winners.slots s) ≡ option_and_then h (deciding_override query t.mode overrides s)
+  by_slot s h = sym (option_and_then-map (meant_override meaning) h (slot_at t.winners.slots s)) ∙ ap (option_and_then h) (slot-shown s)
 
   by_wrapper : {C : Type 0} (h : ScriptUse → Option C) → option_and_then (λ w. h (script_rule_ref_view w.rule).writes) t.run_wrapper ≡ option_and_then (λ r. h r.writes) (wrapping_rule query script_rules)
   by_wrapper h =
@@ -92,8 +92,15 @@ module _ {F S Src E T N P M : Type 0} (meaning : E → M) (t : TestSettings F S 
       ∙ ap (λ group. option_or (written_value query t.mode overrides script_rules s) (fallback_view t.values group t.mode s)) global
       ∙ ap (λ o. option_or (written_value query t.mode overrides script_rules s) o) (fallback_view_is_fallback fields t.values values t.mode s)
 
-  of_slot : (s : Setting) → option_map (λ x. by_override (held_override_meaning meaning x).writes.id) (slot_at t.winners.slots s) ≡ option_map (λ r. by_override r.writes.id) (deciding_override query t.mode overrides s)
-  of_slot s = sym (option_map-map (held_override_meaning meaning) (λ r. by_override r.writes.id) (slot_at t.winners.slots s)) ∙ ap (option_map (λ r. by_override r.writes.id)) (slot-shown s)
+  of_slot : (s : Setting) → option_map (λ x. by_override (meant_override meaning x).writes.id) (slot_at t.winners.slots s) ≡ option_map (λ r. by_override r.writes.id) (deciding_override query t.mode overrides s)
+  of_slot s = sym (option_map-map (meant_override meaning) (λ r. by_override r.writes.id) (slot_at t.winners.slots s)) ∙ ap (option_map (λ r. by_override r.writes.id)) (slot-shown s)
+
+  -- the override that decides a setting, by what it says
+  pub overrides_shown : (s : Setting) → option_map (override_text_meaning meaning) (override_at t s) ≡ option_map rule_text (deciding_override query t.mode overrides s)
+  overrides_shown s =
+      option_map-map (λ r. override_ref_view r.rule) (override_text_meaning meaning) (slot_at t.winners.slots s)
+      ∙ sym (option_map-map (meant_override meaning) rule_text (slot_at t.winners.slots s))
+      ∙ ap (option_map rule_text) (slot-shown s)
 
   of_wrapper : option_map (λ w. by_script) t.run_wrapper ≡ option_map (λ r. by_script) (wrapping_rule query script_rules)
   of_wrapper =
