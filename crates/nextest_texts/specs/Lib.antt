@@ -6,3 +6,5 @@ pub mod Identifier
 pub mod IdentifierText
 pub mod NameText
 pub mod IdentifierReader
+pub mod Owner
+pub mod OwnerView
