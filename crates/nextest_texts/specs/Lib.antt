@@ -8,3 +8,4 @@ pub mod NameText
 pub mod IdentifierReader
 pub mod Owner
 pub mod OwnerView
+pub mod OwnerEquality
