@@ -1,6 +1,6 @@
 use Rattle.nextest_sources.proofs.Ends.{exit, found_first, found_next}
 use Rattle.nextest_sources.specs.Endings.{error_view}
-use Rattle.nextest_rules.proofs.definitions.check_scripts.Goals as goal
+use Rattle.nextest_rules.proofs.definitions.check_defined_scripts.Goals as goal
 
 pub returns-in_err-check_features : goal.returns-in_err-check_features
 returns-in_err-check_features c =
