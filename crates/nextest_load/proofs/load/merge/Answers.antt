@@ -9,7 +9,7 @@ use Rattle.nextest_load.specs.Merged.{tables_of}
 use Rattle.nextest_load.specs.Steps.{tree_steps}
 use Rattle.nextest_load.specs.Trees.{tree_in}
 use Rattle.nextest_load.proofs.Tools.{spent_first}
-use Rattle.nextest_load.proofs.parts.parts_of.Goals as goal
+use Rattle.nextest_load.proofs.load.merge.Goals as goal
 
 pub returns-in_err-tree-clause-ran : goal.returns-in_err-tree-clause-ran
 returns-in_err-tree-clause-ran g c ss so_far told = spent_first _ told _ c.from_residual.ensures.1

@@ -5,7 +5,7 @@ use Rattle.nextest_sources.proofs.Runs.{ran_exit}
 use Rattle.nextest_tables.specs.View.{file_table_view}
 use Rattle.nextest_tree.specs.View.{tree_view}
 use Rattle.nextest_load.proofs.Files.{own_ended, definitions_ended, rules_ended}
-use Rattle.nextest_load.proofs.source.load_file.Goals as goal
+use Rattle.nextest_load.proofs.source.read_rules.Goals as goal
 
 pub returns-in_err-table-clause-ran : goal.returns-in_err-table-clause-ran
 returns-in_err-table-clause-ran g c below was =

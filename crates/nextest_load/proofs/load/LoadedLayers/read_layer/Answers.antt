@@ -5,7 +5,7 @@ use Rattle.nextest_sources.specs.Inputs.{SourceText, source_texts_of}
 use Rattle.nextest_sources.specs.InputsView.{input_view}
 use Rattle.nextest_sources.proofs.Runs.{ran_exit}
 use Rattle.nextest_load.proofs.Laying.{outcome_ended, source_ended, ran_out, loaded_more}
-use Rattle.nextest_load.proofs.layers.LoadedLayers.load_input.Goals as goal
+use Rattle.nextest_load.proofs.load.LoadedLayers.read_layer.Goals as goal
 
 pub returns-in_err-text-clause-ran : goal.returns-in_err-text-clause-ran
 returns-in_err-text-clause-ran g c below was =

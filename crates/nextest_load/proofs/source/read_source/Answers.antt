@@ -7,7 +7,7 @@ use Rattle.nextest_load.specs.Loading.{source_text_view}
 use Rattle.nextest_load.specs.Trees.{own_file}
 use Rattle.nextest_load.proofs.Files.{text_ended, file_ended}
 use Rattle.nextest_load.proofs.Laying.{ran_out}
-use Rattle.nextest_load.proofs.source.load_source.Goals as goal
+use Rattle.nextest_load.proofs.source.read_source.Goals as goal
 
 pub returns-in_err-trees-clause-ran : goal.returns-in_err-trees-clause-ran
 returns-in_err-trees-clause-ran g c below was =

@@ -1,7 +1,7 @@
 use Rattle.nextest_engines.specs.Readings.{readings_view}
 use Rattle.nextest_rules.specs.KnownView.{features_view}
 use Rattle.nextest_load.proofs.Inputs.{HaveRun}
-use Rattle.nextest_load.proofs.layers.load_inputs.Given as goal
+use Rattle.nextest_load.proofs.load.read_layers.Given as goal
 
 -- the inputs so far have passed, and their sources are loaded
 abbrev pub invariant-loop-input : goal.invariant-loop-input

@@ -4,7 +4,7 @@ use Rattle.nextest_tree.specs.View.{tree_view}
 use Rattle.nextest_load.specs.Loading.{tree_so_far}
 use Rattle.nextest_load.specs.Trees.{merged_tree}
 use Rattle.nextest_load.proofs.Wholes.{whole_is, whole_none}
-use Rattle.nextest_load.proofs.parts.whole_tree.Goals as goal
+use Rattle.nextest_load.proofs.load.whole_tree.Goals as goal
 
 pub returns-in-Some : goal.returns-in-Some
 returns-in-Some c ss so_far = whole_is ss (tree_view c.in-Some.tree) (sym (ap (option_map tree_view) c.in-Some.is) ∙ so_far)

@@ -9,7 +9,7 @@ use Rattle.nextest_tables.specs.Scripts.{AreFileScripts, file_scripts_view}
 use Rattle.nextest_tree.specs.View.{tree_view}
 use Rattle.nextest_load.specs.Steps.{no_profiles}
 use Rattle.nextest_load.proofs.Merging.{elements_ended, parents_ended}
-use Rattle.nextest_load.proofs.merged.load_merged.Goals as goal
+use Rattle.nextest_load.proofs.merged.read_merged.Goals as goal
 
 pub returns-in_err-table-clause-ran : goal.returns-in_err-table-clause-ran
 returns-in_err-table-clause-ran c told =

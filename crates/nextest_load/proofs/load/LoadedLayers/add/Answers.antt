@@ -3,7 +3,7 @@ use Rattle.nextest_script_order.specs.Standing.{ids_view}
 use Rattle.nextest_load.specs.ScriptNames.{AreIdsOf}
 use Rattle.nextest_load.specs.Scripts.{sections_at, setup_path, old_setup_path, wrapper_path}
 use Rattle.nextest_load.proofs.Defining.{ids_with_last}
-use Rattle.nextest_load.proofs.layers.LoadedLayers.add.Goals as goal
+use Rattle.nextest_load.proofs.load.LoadedLayers.add.Goals as goal
 
 pub returns-clause-names : goal.returns-clause-names
 returns-clause-names g c ss s was setup old_setup wrapper =

@@ -4,7 +4,7 @@ use Rattle.nextest_documents.specs.Merge.{over}
 use Rattle.nextest_tree.specs.View.{tree_view}
 use Rattle.nextest_load.specs.Loading.{tree_so_far}
 use Rattle.nextest_load.proofs.Laying.{source_laid, lowest_laid}
-use Rattle.nextest_load.proofs.layers.lay_source.Goals as goal
+use Rattle.nextest_load.proofs.load.lay_source.Goals as goal
 
 pub returns-in-Some : goal.returns-in-Some
 returns-in-Some c ss s so_far tree own =

@@ -6,23 +6,23 @@ use Rattle.nextest_rules.specs.KnownView.{features_view}
 use Rattle.nextest_sources.proofs.Runs.{ran_exit}
 use Rattle.nextest_tree.specs.View.{tree_view}
 use Rattle.nextest_load.proofs.Inputs.{sources_before, runs_start, runs_stop, runs_next, runs_end, runs_loaded}
-use Rattle.nextest_load.proofs.layers.load_inputs.Goals as goal
+use Rattle.nextest_load.proofs.load.read_layers.Goals as goal
 
 pub loop-input-init : goal.loop-input-init
 loop-input-init g c =
     runs_start _ _ _ _ c.args.inputs.now _ c.new-loaded.result (record { known = c.new-loaded.ensures.known; merged = ap (option_map tree_view) c.new-loaded.ensures.merged; layers = ap (map _) c.new-loaded.ensures.layers; names = c.new-loaded.ensures.names })
 
-pub returns-in_err-load_input-clause-ran : goal.returns-in_err-load_input-clause-ran
-returns-in_err-load_input-clause-ran g c =
+pub returns-in_err-read_layer-clause-ran : goal.returns-in_err-read_layer-clause-ran
+returns-in_err-read_layer-clause-ran g c =
     let engines = readings_view g.F.Filters g.S.Specs c.args.pcx.now in
     let inputs = c.args.inputs.now in
     let i = c.loop-input.input-index in
     let input = c.input-item.result in
-    let e = c.in_err-load_input.field-0.0 in
+    let e = c.in_err-read_layer.field-0.0 in
     let next : drop i inputs ≡ input ∷ drop (i + 1) inputs = drop_more inputs i input c.loop-input-test.true ∙ ap (λ f. f ∷ drop (i + 1) inputs) (sym c.input-item.is) in
     let below = sources_before i inputs in
     ran_exit _ _ _ _ e c.from_residual.ensures.1
-    (runs_stop g.F.Filters.meaning g.S.Specs.spec_meaning engines (features_view c.args.features.now) inputs input e next c.loop-input.invariant (c.in_err-load_input.ensures.ran below c.loop-input.invariant.sources))
+    (runs_stop g.F.Filters.meaning g.S.Specs.spec_meaning engines (features_view c.args.features.now) inputs input e next c.loop-input.invariant (c.in_err-read_layer.ensures.ran below c.loop-input.invariant.sources))
 
 pub loop-input-preserved : goal.loop-input-preserved
 loop-input-preserved g c =
@@ -33,8 +33,8 @@ loop-input-preserved g c =
     let next : drop i inputs ≡ input ∷ drop (i + 1) inputs = drop_more inputs i input c.loop-input-test.true ∙ ap (λ f. f ∷ drop (i + 1) inputs) (sym c.input-item.is) in
     let taken : take (i + 1) inputs ≡ take i inputs ++ input ∷ [] = take_more inputs i input c.loop-input-test.true ∙ ap (λ f. take i inputs ++ f ∷ []) (sym c.input-item.is) in
     let below = sources_before i inputs in
-    runs_next g.F.Filters.meaning g.S.Specs.spec_meaning engines (features_view c.args.features.now) inputs input next taken c.loop-input.invariant (c.in_ok-load_input.ensures.ran below c.loop-input.invariant.sources)
-    (c.in_ok-load_input.ensures.loaded below c.loop-input.invariant.sources)
+    runs_next g.F.Filters.meaning g.S.Specs.spec_meaning engines (features_view c.args.features.now) inputs input next taken c.loop-input.invariant (c.in_ok-read_layer.ensures.ran below c.loop-input.invariant.sources)
+    (c.in_ok-read_layer.ensures.loaded below c.loop-input.invariant.sources)
 
 pub returns-clause-ran : goal.returns-clause-ran
 returns-clause-ran g c =
