@@ -15,6 +15,16 @@ struct StoredFile<'a> {
 #[derive(Drop)]
 pub struct StoredFiles<'a>(Vec<StoredFile<'a>>);
 
+/// A copy of what came of reading a file.
+fn copied(outcome: &ReadOutcome) -> Result<ReadOutcome, AllocError> {
+    match outcome {
+        ReadOutcome::Text(text) => Ok(ReadOutcome::Text(text.clone()?)),
+        ReadOutcome::NotFound => Ok(ReadOutcome::NotFound),
+        ReadOutcome::NotADirectory => Ok(ReadOutcome::NotADirectory),
+        ReadOutcome::Failed(message) => Ok(ReadOutcome::Failed(message.clone()?)),
+    }
+}
+
 impl FileReader for StoredFiles<'_> {
     fn read(&self, _alloc: Global, path: &str) -> Result<ReadOutcome, AllocError> {
         match self.0.iter().find(|file| file.path == path) {
@@ -23,7 +33,7 @@ impl FileReader for StoredFiles<'_> {
                     outcome: Ok(outcome),
                     ..
                 },
-            ) => outcome.clone(),
+            ) => copied(outcome),
             Some(_) => Err(AllocError),
             None => Ok(ReadOutcome::NotFound),
         }
