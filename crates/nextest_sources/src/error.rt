@@ -138,8 +138,7 @@ impl ConfigParseErrorKind {
 /// Writes a message as details: each of its lines behind two spaces.
 fn write_details<W: fmt::Write>(f: &mut fmt::Formatter<W>, message: &str) -> fmt::Result {
     for line in message.lines() {
-        begin_detail(f)?;
-        f.write_str(line)?;
+        write_detail(f, &line)?;
     }
     Ok(())
 }
