@@ -1,0 +1,6 @@
+pub mod Cuts
+pub mod Knowledge
+pub mod Lines
+pub mod Orders
+pub mod Prefixes
+pub mod Suffixes
