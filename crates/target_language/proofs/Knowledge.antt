@@ -36,16 +36,16 @@ Fits p asks = (p.features_given ≡ true) ⊎ (asks ≡ false)
 
 first : (p : PlatformData) (a b : Bool) → Fits p (a || b) → Fits p a
 first p a b (inl is) = inl is
-first p a b (inr no) = inr (neither a b no).0
+first p a b (inr none) = inr (neither a b none).0
 
 rest : (p : PlatformData) (a b : Bool) → Fits p (a || b) → Fits p b
 rest p a b (inl is) = inl is
-rest p a b (inr no) = inr (neither a b no).1
+rest p a b (inr none) = inr (neither a b none).1
 
 leaf_known : (p : PlatformData) (leaf : Leaf) → Fits p (asks_feature (Asks leaf)) → IsSome (leaf_value p leaf)
 leaf_known p (Has line) fits = refl
 leaf_known p (Feature name) (inl is) = feature_known p name is
-leaf_known p (Feature name) (inr no) = absurd (cc)
+leaf_known p (Feature name) (inr none) = absurd (cc)
 leaf_known p Nowhere fits = refl
 
 mutual

@@ -1,5 +1,5 @@
 -- A platform has a line exactly where it is among its lines.
-use Rattle.std.proofs.Common.{◌≡◌, ℕ, ◌<◌, ◌⊎◌, inl, inr, Bool, true, false, ◌||◌, ◌&&◌, List, [], ◌∷◌, Option, None, Some, bytes_eq, Contains, refl, sym, ◌∙◌, ap, arith}
+use Rattle.std.proofs.Common.{◌≡◌, ℕ, ◌<◌, ◌⊎◌, inl, inr, Bool, true, false, ◌||◌, ◌&&◌, List, [], ◌∷◌, Option, None, Some, bytes_eq, Contains, refl, sym, ◌∙◌, ap, subst, arith}
 use Rattle.std.specs.List.{list_any}
 use Rattle.std.specs.Cmp.Lexicographic.{same_text}
 use Rattle.std.proofs.lemmas.Slice.Eq.{bytes_eq-Decides}
@@ -33,7 +33,10 @@ own_value None = refl
 own_value (Some a) = own_bytes a
 
 lines_same : (a b : Line) → a.key ≡ b.key → a.value ≡ b.value → a ≡ b
-lines_same a b x y = cc
+lines_same a b x y =
+    let by_key : List ℕ → Line = λ k. record { key = k; value = a.value } in
+    let by_value : Option (List ℕ) → Line = λ v. record { key = b.key; value = v } in
+    ap by_key x ∙ ap by_value y
 
 same_lines : (a b : Line) → same_line a b ≡ true → a ≡ b
 same_lines a b e =
@@ -50,20 +53,27 @@ or_right false = refl
 abbrev found : Line → List Line → Bool
 found line lines = list_any (λ it. same_line it line) lines
 
+here : (it line : Line) (lines : List Line) → it ≡ line → Contains (it ∷ lines) line
+here it line lines same = subst (λ x. Contains (it ∷ lines) x) same (0, omega arith, refl)
+
+by_first : (it line : Line) (lines : List Line) (b : Bool) → same_line it line ≡ b
+    → (found line lines ≡ true → Contains lines line) → (b || found line lines) ≡ true → Contains (it ∷ lines) line
+by_first it line lines true is known _ = here it line lines (same_lines it line is)
+by_first it line lines false is known e = Contains-append_right (it ∷ []) lines line (known e)
+
 among : (line : Line) (lines : List Line) → found line lines ≡ true → Contains lines line
 among line [] e = absurd (cc)
-among line (it ∷ lines) e = by_first (same_line it line) refl e
-  where
-    by_first : (b : Bool) → same_line it line ≡ b → (b || found line lines) ≡ true → Contains (it ∷ lines) line
-    by_first true is _ = let same : it ≡ line = same_lines it line is in rw (sym same) (0, omega arith, refl)
-    by_first false is e = Contains-append_right (it ∷ []) lines line (among line lines e)
+among line (it ∷ lines) e = by_first it line lines (same_line it line) refl (among line lines) e
+
+nothing_there : (line : Line) → Contains [] line → ⊥
+nothing_there line (k, below, is) = omega (arith, below)
 
 is_found : (line : Line) (lines : List Line) → Contains lines line → found line lines ≡ true
-is_found line [] (k, below, is) = absurd (omega (arith, below))
+is_found line [] there = absurd (nothing_there line there)
 is_found line (it ∷ lines) there =
     elim (Contains-append_cases (it ∷ []) lines line there) [
       | inl one ↦ elim (Contains-push_cases [] it line one) [
-        | inl no ↦ absurd (omega (arith, no.1))
+        | inl none ↦ absurd (nothing_there line none)
         | inr same ↦ ap (λ b. b || found line lines) (ap (λ x. same_line it x) (sym same) ∙ own_line it)
       ]
       | inr later ↦ ap (λ b. same_line it line || b) (is_found line lines later) ∙ or_right (same_line it line)

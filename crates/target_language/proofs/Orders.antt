@@ -23,7 +23,7 @@ among_cases : (v : Value) (vs : List Value) (w : Value) → Contains (v ∷ vs) 
     → (v ≡ w) ⊎ Contains vs w
 among_cases v vs w among =
     elim (Contains-append_cases (v ∷ []) vs w among) [
-      | inl one ↦ elim (Contains-push_cases [] v w one) [ inl no ↦ absurd (none_among w no) | inr same ↦ inl same ]
+      | inl one ↦ elim (Contains-push_cases [] v w one) [ inl none ↦ absurd (none_among w none) | inr same ↦ inl same ]
       | inr later ↦ inr later
     ]
 
@@ -112,7 +112,7 @@ among_all v least vs (inr same) (inl is) = inl (same ∙ is)
 among_all v least vs (inr same) (inr among) = inr (rw same (later_among v vs least among))
 
 pub all_is_least : AllIsLeast
-all_is_least [] = record { below = λ v no. absurd (none_among v no); among = inl refl }
+all_is_least [] = record { below = λ v there. absurd (none_among v there); among = inl refl }
 all_is_least (v ∷ vs) =
     let it = all_is_least vs in
     let l = least vs in
@@ -135,7 +135,7 @@ among_any v greatest vs (inr same) (inl is) = inl (same ∙ is)
 among_any v greatest vs (inr same) (inr among) = inr (rw same (later_among v vs greatest among))
 
 pub any_is_greatest : AnyIsGreatest
-any_is_greatest [] = record { above = λ v no. absurd (none_among v no); among = inl refl }
+any_is_greatest [] = record { above = λ v there. absurd (none_among v there); among = inl refl }
 any_is_greatest (v ∷ vs) =
     let it = any_is_greatest vs in
     let g = greatest vs in

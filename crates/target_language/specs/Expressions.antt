@@ -7,7 +7,7 @@ use Rattle.target_language.specs.declared.expression.Expression as expression
 use Rattle.target_language.specs.declared.expression.Expression.{fold-Expression}
 use Rattle.target_language.specs.declared.expression.Expression.TheOpen.{Expression-F}
 use Rattle.target_language.specs.declared.expression.TargetSpec as spec
-use Rattle.target_language.specs.declared.expression.TargetSpec.TheVariants.{Triple, Expression}
+use Rattle.target_language.specs.declared.expression.TargetSpec.TheVariants as said
 
 -- What is asked of a platform: a line, a feature, or what no platform has.
 pub data Leaf : Type 0 where
@@ -50,7 +50,7 @@ abbrev pub expression_step : Expression-F Expression → Expression
 expression_step (Expression-F.Leaf l) = Asks (leaf_view l)
 expression_step (Expression-F.All parts) = Every (parts_of parts.items)
 expression_step (Expression-F.Any parts) = Some_of (parts_of parts.items)
-expression_step (Expression-F.Not part) = Negated part.value
+expression_step (Expression-F.Not inner) = Negated inner.value
 
 -- the expression that stands in memory
 abbrev pub expression_view : expression.Expression → Expression
@@ -62,5 +62,5 @@ parts_view parts = parts_of (map expression_view parts)
 
 -- the spec that stands in memory
 abbrev pub spec_view : spec.TargetSpec → Spec
-spec_view (Triple triple) = OfTriple (string_bytes triple)
-spec_view (Expression e) = OfExpression (expression_view e)
+spec_view (said.Triple triple) = OfTriple (string_bytes triple)
+spec_view (said.Expression e) = OfExpression (expression_view e)

@@ -1,6 +1,5 @@
 -- The leaves that keys and values write.
-use Rattle.std.specs.Prelude.{ℕ, ◌==◌, ◌||◌, ◌&&◌, Bool, not, List, Option, None, Some, Result, Ok, Err, length, codes, bytes_eq, decimal, option_map, option_and_then, if◌then◌else◌}
-use Rattle.std.specs.Nat.{nat_le}
+use Rattle.std.specs.Prelude.{ℕ, leb, ◌==◌, ◌||◌, ◌&&◌, Bool, not, List, Option, None, Some, Result, Ok, Err, length, codes, bytes_eq, decimal, option_map, option_and_then, if◌then◌else◌}
 use Rattle.std.specs.Str.{all_ascii_digits}
 use Rattle.std.specs.Str.Parse.{digits_value, without_leading_plus}
 use Rattle.target_platforms.specs.Platforms.{Line}
@@ -43,7 +42,7 @@ number_in text = if is_numeral (without_leading_plus text)
 -- a number that is at most another, written plainly
 abbrev pub plain_to : ℕ → List ℕ → Option (List ℕ)
 plain_to most text =
-    option_and_then (λ n. if nat_le n most then Some (decimal n) else None) (number_in text)
+    option_and_then (λ n. if leb n most then Some (decimal n) else None) (number_in text)
 
 -- the leaf of a key and a plain number, or a fault where there is none
 abbrev pub number_leaf : List ℕ → BodyFault → Option (List ℕ) → Result Leaf BodyFault

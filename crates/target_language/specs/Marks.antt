@@ -7,9 +7,9 @@ use Rattle.target_language.specs.declared.expression.Function.{Function}
 use Rattle.target_language.specs.declared.expression.Function.TheVariants.{All, Any, Not}
 use Rattle.target_language.specs.declared.fault.Place.{Place}
 use Rattle.target_language.specs.declared.marks.Mark as mark
-use Rattle.target_language.specs.declared.marks.Mark.TheVariants.{Open, Close, Comma, Equals, Function, Name, Value}
-use Rattle.target_language.specs.declared.marks.Front as front
-use Rattle.target_language.specs.declared.marks.Front.TheVariants.{Mark, Unclosed, Foreign}
+use Rattle.target_language.specs.declared.marks.Mark.TheVariants as said
+use Rattle.target_language.specs.declared.marks.Front as found
+use Rattle.target_language.specs.declared.marks.Front.TheVariants as first
 use Rattle.target_language.specs.Faults.{place}
 
 -- A mark is one of four signs, a function, any other word, or a value.
@@ -24,13 +24,13 @@ pub data Mark : Type 0 where
 
 -- the mark that stands in memory
 abbrev pub mark_view : mark.Mark → Mark
-mark_view Open = OpenMark
-mark_view Close = CloseMark
-mark_view Comma = CommaMark
-mark_view Equals = EqualsMark
-mark_view (Function function) = FunctionMark function
-mark_view (Name name) = NameMark name.now
-mark_view (Value value) = ValueMark value.now
+mark_view said.Open = OpenMark
+mark_view said.Close = CloseMark
+mark_view said.Comma = CommaMark
+mark_view said.Equals = EqualsMark
+mark_view (said.Function function) = FunctionMark function
+mark_view (said.Name name) = NameMark name.now
+mark_view (said.Value value) = ValueMark value.now
 
 -- whether a word may begin with a byte: a letter of ASCII or `_`
 abbrev pub is_word_start : ℕ → Bool
@@ -102,10 +102,10 @@ pub data Front : Type 0 where
   ForeignFront : Front
 
 -- the front that stands in memory
-abbrev pub front_view : front.Front → Front
-front_view (Mark m behind) = FrontMark (mark_view m) behind.now
-front_view Unclosed = UnclosedFront
-front_view Foreign = ForeignFront
+abbrev pub front_view : found.Front → Front
+front_view (first.Mark m behind) = FrontMark (mark_view m) behind.now
+front_view first.Unclosed = UnclosedFront
+front_view first.Foreign = ForeignFront
 
 -- how many bytes of a word a text begins with
 abbrev pub word_len : List ℕ → ℕ

@@ -1,7 +1,6 @@
 -- Reading a body, mark by mark, with what stands open on a stack.
-use Rattle.std.specs.Prelude.{◌≡◌, ℕ, zero, suc, ◌+◌, ◌-◌, ◌==◌, Bool, true, false, not, List, [], ◌∷◌, ◌++◌, Option, None, Some, Result, Ok, Err, length, map, if◌then◌else◌}
+use Rattle.std.specs.Prelude.{◌≡◌, nat_lt, ℕ, zero, suc, ◌+◌, ◌-◌, ◌==◌, Bool, true, false, not, List, [], ◌∷◌, ◌++◌, Option, None, Some, Result, Ok, Err, length, map, if◌then◌else◌}
 use Rattle.std.specs.List.{fold}
-use Rattle.std.specs.Nat.{nat_lt}
 use Rattle.std.specs.Str.{trim_start}
 use Rattle.target_language.specs.declared.expression.Function.{Function}
 use Rattle.target_language.specs.declared.expression.Function.TheVariants.{All, Any, Not}
@@ -94,11 +93,15 @@ with_leaf (AfterValue key value) parts =
     map_ok (λ leaf. parts ++ (Asks leaf ∷ [])) (leaf_with key value)
 with_leaf _ parts = Ok parts
 
+-- whether a leaf ends behind a mark
+abbrev pub ends_leaf : Before → Bool
+ends_leaf (AfterKey key) = true
+ends_leaf (AfterValue key value) = true
+ends_leaf _ = false
+
 -- how many parts there are, with the leaf that ends behind a mark
 abbrev pub count_parts : Before → List Expression → ℕ
-count_parts (AfterKey key) parts = length parts + 1
-count_parts (AfterValue key value) parts = length parts + 1
-count_parts _ parts = length parts
+count_parts before parts = if ends_leaf before then length parts + 1 else length parts
 
 -- whether a function does not take so many parts
 abbrev pub refuses : Function → ℕ → Bool

@@ -1,7 +1,6 @@
 -- What texts say: triples, and bodies of expressions between `cfg(` and `)`.
-use Rattle.std.specs.Prelude.{◌≡◌, ℕ, ◌+◌, ◌<◌, ◌==◌, ◌||◌, Bool, true, not, List, [], ◌∷◌, ◌++◌, Option, None, Some, Result, Ok, Err, length, codes, option_map, if◌then◌else◌}
-use Rattle.std.specs.List.{list_all, position_or_len}
-use Rattle.std.specs.Nat.{nat_lt}
+use Rattle.std.specs.Prelude.{◌≡◌, ℕ, ◌+◌, ◌<◌, ◌==◌, ◌||◌, Bool, true, not, List, [], ◌∷◌, ◌++◌, Option, None, Some, Result, Ok, Err, length, codes, option_map, position, if◌then◌else◌}
+use Rattle.std.specs.List.{list_all}
 use Rattle.std.specs.Char.{is_ascii_alphanumeric}
 use Rattle.std.specs.Result.{result_map_both}
 use Rattle.target_language.specs.declared.fault.FaultKind.{FaultKind}
@@ -48,17 +47,20 @@ before_close [] = None
 before_close (c ∷ []) = if c == 41 then Some [] else None
 before_close (c ∷ d ∷ rest) = option_map (λ front. c ∷ front) (before_close (d ∷ rest))
 
--- where the first byte stands that no triple has, or the length
-abbrev pub first_bad : List ℕ → ℕ
-first_bad text = position_or_len (λ c. not (is_triple_byte c)) text
+-- where the first byte stands that no triple has, if any
+abbrev pub first_bad : List ℕ → Option ℕ
+first_bad text = position (λ c. not (is_triple_byte c)) text
+
+-- a text as a triple, or the fault of its first byte that no triple has
+abbrev pub triple_but : List ℕ → Option ℕ → Result Spec TargetSpecFault
+triple_but text None = Ok (OfTriple text)
+triple_but text (Some at) = Err (text_fault BadTripleCharacter at (at + 1) None)
 
 -- the triple that a text is, or the fault
 abbrev pub triple_in : List ℕ → Result Spec TargetSpecFault
 triple_in text =
-    if length text == 0 then Err (text_fault EmptyText 0 0 None) else
-    (if nat_lt (first_bad text) (length text)
-    then Err (text_fault BadTripleCharacter (first_bad text) (first_bad text + 1) None)
-    else Ok (OfTriple text))
+    if length text == 0 then Err (text_fault EmptyText 0 0 None)
+    else triple_but text (first_bad text)
 
 -- the expression that a body in a text is, or the fault. Where `)` does not end the text, `cfg` is
 -- read as a name that `(` may not follow.

@@ -18,10 +18,11 @@ impl Display for Leaf {
 
 #[cycle(expression_text)]
 fn write_parts<W: Write>(f: &mut Formatter<W>, parts: &[Expression]) -> Result<(), Error> {
-    let mut between = "";
-    for part in parts {
-        write!(f, "{between}{part}")?;
-        between = ", ";
+    for (i, part) in parts.iter().enumerate() {
+        if i > 0 {
+            write!(f, ", ")?;
+        }
+        write!(f, "{part}")?;
     }
     Ok(())
 }

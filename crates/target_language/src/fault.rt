@@ -1,5 +1,6 @@
 //! Why a text is no spec.
 ghost use Rattle.std.specs.Prelude.{◌≡◌};
+ghost use Rattle.target_language.specs.Faults.{in_text, fault_at, expecting_at};
 
 use std::alloc::AllocError;
 
@@ -110,7 +111,9 @@ pub enum Stop {
 }
 
 impl From<AllocError> for Stop {
-    ghost from_gives = { λ _ stop. stop ≡ Stop.Memory };
+    ghost use Rattle.target_language.specs.declared.fault.Stop.TheVariants.{Memory};
+
+    ghost from_gives = { λ _ stop. stop ≡ Memory };
 
     fn from(_error: AllocError) -> Stop {
         Stop::Memory
@@ -118,8 +121,6 @@ impl From<AllocError> for Stop {
 }
 
 impl BodyFault {
-    ghost use Rattle.target_language.specs.Faults.{in_text};
-
     /// The fault of a text of so many bytes.
     pub fn in_text(self, len: usize) -> TargetSpecFault
         ensures { result ≡ in_text len self }

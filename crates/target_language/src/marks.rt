@@ -1,6 +1,6 @@
 //! The marks of which the body of an expression is written.
-ghost use Rattle.std.specs.Prelude.{◌≡◌, ◌<◌, length, slice_index, take, drop, option_map};
-ghost use Rattle.target_language.specs.Marks.{mark_view, front_view, front, word_len, cut};
+ghost use Rattle.std.specs.Prelude.{◌≡◌, ◌<◌, length, slice_index, take, drop, not, position, option_map};
+ghost use Rattle.target_language.specs.Marks.{mark_view, front_view, front, word_len as word_len_of, cut};
 ghost use Rattle.target_language.specs.Marks.{is_word_start as word_start_test, is_word_byte as word_byte_test, word_mark as word_mark_of, word_front as word_front_of, value_front as value_front_of};
 
 use crate::expression::Function;
@@ -55,17 +55,27 @@ fn behind_byte(text: &str) -> &str
     &text[1..]
 }
 
+/// Where the first byte stands that no word has, if any.
+fn word_end(text: &str) -> Option<usize>
+    ensures { result ≡ position (λ c. not (word_byte_test c)) text.now }
+{
+    text.as_bytes().iter().position(|byte| !is_word_byte(*byte))
+}
+
+/// How many bytes of a word a text begins with.
+#[tactic(auto, using(crate::proofs::Words::word_ends))]
+fn word_len(text: &str) -> usize
+    ensures { result ≡ word_len_of text.now }
+{
+    word_end(text).unwrap_or(text.len())
+}
+
 /// The word that a text begins with, as long as it can be, and the text behind it.
 fn split_word(text: &str) -> (&str, &str)
-    ensures word { result.0.now ≡ take (word_len text.now) text.now }
-    ensures behind { result.1.now ≡ drop (word_len text.now) text.now }
+    ensures word { result.0.now ≡ take (word_len_of text.now) text.now }
+    ensures behind { result.1.now ≡ drop (word_len_of text.now) text.now }
 {
-    let end = text
-        .as_bytes()
-        .iter()
-        .position(|byte| !is_word_byte(*byte))
-        .unwrap_or(text.len());
-    text.split_at(end)
+    text.split_at(word_len(text))
 }
 
 /// The mark that a word is.

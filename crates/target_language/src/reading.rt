@@ -5,7 +5,7 @@ ghost use Rattle.target_language.specs.Expressions.{expression_view};
 ghost use Rattle.target_language.specs.Faults.{IfFault};
 ghost use Rattle.target_language.specs.Leaves.{piece_view};
 ghost use Rattle.target_language.specs.Marks.{mark_view};
-ghost use Rattle.target_language.specs.Reading.{before_view, level_view, levels_view, reading_view, expected_after, entered, opened_by, separated, closed, advanced, finished};
+ghost use Rattle.target_language.specs.Reading.{before_view, level_view, levels_view, reading_view, expected_after, ends_leaf, entered, opened_by, separated, closed, advanced, finished};
 ghost use Rattle.target_language.specs.Reading.{with_leaf as with_leaf_of, only_part as only_part_of, call as call_of, count_parts as count_parts_of, behind as behind_of, value_piece as value_piece_of, step as step_of, read_body as read_body_of};
 
 use crate::expression::{Expression, Function};
@@ -75,7 +75,9 @@ impl Before<'_> {
     }
 
     /// Whether a leaf ends here that is not judged yet.
-    fn is_leaf(self) -> bool {
+    fn is_leaf(self) -> bool
+        ensures { result ≡ ends_leaf (before_view self.entry) }
+    {
         matches!(self, Before::Key(_) | Before::Value(_, _))
     }
 }
@@ -156,6 +158,7 @@ fn call(
 }
 
 /// A function's name.
+#[tactic(auto, using(crate::proofs::Levels::levels_len))]
 fn enter(reader: Reader<'_>, function: Function, place: Place) -> Result<Reader<'_>, Stop>
     ensures ok { IfOk result (λ next. entered function place (reading_view reader.entry) ≡ Ok (reading_view next)) }
     ensures err { IfErr result (λ stop. IfFault stop (λ fault. entered function place (reading_view reader.entry) ≡ Err fault)) }

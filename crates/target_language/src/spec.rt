@@ -1,8 +1,8 @@
 //! Reads specs.
-ghost use Rattle.std.specs.Prelude.{◌≡◌, None, Some, Ok, Err, IfOk, IfErr, MatchOption, option_map, codes};
+ghost use Rattle.std.specs.Prelude.{◌≡◌, ◌<◌, length, IfSome, None, Some, Ok, Err, IfOk, IfErr, MatchOption, option_map, codes};
 ghost use Rattle.target_language.specs.Expressions.{spec_view};
 ghost use Rattle.target_language.specs.Texts.{text_fault, after_prefix, before_close, triple_in, expression_in, spec_in, IfRefused};
-ghost use Rattle.target_language.specs.Texts.{is_triple_byte as triple_byte_test};
+ghost use Rattle.target_language.specs.Texts.{is_triple_byte as triple_byte_test, first_bad as first_bad_of};
 
 use crate::expression::TargetSpec;
 use crate::fault::{Expected, FaultKind, Span, Stop, TargetSpecFault};
@@ -22,7 +22,9 @@ pub enum TargetSpecError {
 }
 
 impl From<AllocError> for TargetSpecError {
-    ghost from_gives = { λ _ error. error ≡ TargetSpecError.Memory };
+    ghost use Rattle.target_language.specs.declared.spec.TargetSpecError.TheVariants.{Memory};
+
+    ghost from_gives = { λ _ error. error ≡ Memory };
 
     fn from(_error: AllocError) -> TargetSpecError {
         TargetSpecError::Memory
@@ -33,6 +35,16 @@ fn is_triple_byte(byte: u8) -> bool
     ensures { result ≡ triple_byte_test byte }
 {
     byte.is_ascii_alphanumeric() || matches!(byte, b'_' | b'-' | b'.')
+}
+
+/// Where the first byte stands that no triple has.
+fn first_bad(text: &str) -> Option<usize>
+    ensures bad { result ≡ first_bad_of text.now }
+    ensures below { IfSome result (λ at. at < length text.now) }
+{
+    text.as_bytes()
+        .iter()
+        .position(|byte| !is_triple_byte(*byte))
 }
 
 fn refused(
@@ -58,8 +70,7 @@ fn read_triple(alloc: Global, text: &str) -> Result<TargetSpec, TargetSpecError>
     if text.is_empty() {
         return Err(refused(FaultKind::EmptyText, 0, 0, None));
     }
-    let bad = text.as_bytes().iter().position(|byte| !is_triple_byte(*byte));
-    match bad {
+    match first_bad(text) {
         Some(at) => Err(refused(FaultKind::BadTripleCharacter, at, at + 1, None)),
         None => Ok(TargetSpec::Triple(String::from_str(alloc, text)?)),
     }

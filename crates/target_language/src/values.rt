@@ -1,8 +1,9 @@
 //! What a spec says of a platform.
-ghost use Rattle.std.specs.Prelude.{◌≡◌};
+ghost use Rattle.std.specs.Prelude.{◌≡◌, codes};
+ghost use Rattle.std.specs.List.{list_any};
 ghost use Rattle.target_platforms.specs.Platforms.{line_view, platform_view};
-ghost use Rattle.target_language.specs.Expressions.{Feature, leaf_view, expression_view, parts_view, spec_view};
-ghost use Rattle.target_language.specs.Values.{same_line, has, leaf_value, value, values, spec_value, line_of, name_of};
+ghost use Rattle.target_language.specs.Expressions.{leaf_view, expression_view, parts_view, spec_view};
+ghost use Rattle.target_language.specs.Values.{same_line, leaf_value, value, values, spec_value, line_of, name_of};
 ghost use Rattle.target_language.specs.Values.{lesser as lesser_of, greater as greater_of, mirror as mirror_of, least as least_of, greatest as greatest_of};
 
 use crate::expression::{Expression, Leaf, TargetSpec};
@@ -55,7 +56,8 @@ fn is_name(line: &CfgLine, name: &str) -> bool
 }
 
 fn has_line(platform: &Platform, wanted: &CfgLine) -> bool
-    ensures { result ≡ has (platform_view platform.now) (line_view wanted.now) }
+    ensures { result ≡ list_any (λ found. same_line (line_view found) (line_view wanted.now))
+        platform.now.lines.items }
 {
     match &wanted.value {
         Some(value) => platform
@@ -69,28 +71,26 @@ fn has_line(platform: &Platform, wanted: &CfgLine) -> bool
     }
 }
 
-fn has_feature(platform: &Platform, feature: &str) -> Option<bool>
-    ensures { result ≡ leaf_value (platform_view platform.now) (Feature feature.now) }
+fn has_feature(platform: &Platform, feature: &str) -> bool
+    ensures { result ≡ list_any (λ found. same_line (line_view found)
+        (line_of (codes "target_feature") feature.now)) platform.now.lines.items }
 {
-    if !platform.features_given {
-        return None;
-    }
-    Some(
-        platform
-            .lines
-            .iter()
-            .any(|line| is_line(line, "target_feature", feature)),
-    )
+    platform
+        .lines
+        .iter()
+        .any(|line| is_line(line, "target_feature", feature))
 }
 
 impl Leaf {
     /// Whether it holds on a platform, or `None` where that is unknown.
+    #[tactic(auto, using(crate::proofs::Lookups::any_seen))]
     pub fn eval(&self, platform: &Platform) -> Option<bool>
         ensures { result ≡ leaf_value (platform_view platform.now) (leaf_view self.now) }
     {
         match self {
             Leaf::Has(line) => Some(has_line(platform, line)),
-            Leaf::Feature(feature) => has_feature(platform, feature.as_str()),
+            Leaf::Feature(_) if !platform.features_given => None,
+            Leaf::Feature(feature) => Some(has_feature(platform, feature.as_str())),
             Leaf::Never => Some(false),
         }
     }
