@@ -6,9 +6,9 @@ use Rattle.std.specs.Str.{bytes_eq}
 use Rattle.std.specs.Str.Lines.{lines}
 use Rattle.target_platforms.specs.Platforms.{Line, PlatformData, line_view}
 use Rattle.target_platforms.specs.CfgLines.{WritesLines, IsNoLine}
-use Rattle.target_platforms.specs.declared.platform.CfgLine.{CfgLine}
-use Rattle.target_platforms.specs.declared.platform.PlatformFault.{PlatformFault}
-use Rattle.target_platforms.specs.declared.platform.PlatformFault.TheVariants.{UnknownTriple, BadLine, NotACfgList, Memory}
+use Rattle.target_platforms.specs.declared.CfgLine.{CfgLine}
+use Rattle.target_platforms.specs.declared.fault.PlatformFault.{PlatformFault}
+use Rattle.target_platforms.specs.declared.fault.PlatformFault.TheVariants.{UnknownTriple, BadLine, NotACfgList, Memory}
 
 -- whether some line has a value of this key
 abbrev pub has_value : List ℕ → List Line → Bool

@@ -1,8 +1,8 @@
 -- What a platform says, without the memory that it takes.
 use Rattle.std.specs.Prelude.{ℕ, Bool, List, map, Option, option_map, string_bytes}
 use Rattle.std.specs.Borrow.{Bor}
-use Rattle.target_platforms.specs.declared.platform.CfgLine.{CfgLine}
-use Rattle.target_platforms.specs.declared.platform.Platform.{Platform}
+use Rattle.target_platforms.specs.declared.CfgLine.{CfgLine}
+use Rattle.target_platforms.specs.declared.Platform.{Platform}
 
 -- A line that the compiler prints: a key alone, or a key with a value.
 pub record Line : Type 0 where

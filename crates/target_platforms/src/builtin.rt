@@ -6,7 +6,8 @@ ghost use Rattle.target_platforms.specs.Rows.{row_view, platform_of_row};
 ghost use Rattle.target_platforms.specs.Targets.{row_of};
 ghost use Rattle.target_platforms.specs.Table.{targets};
 
-use crate::platform::{Platform, PlatformFault};
+use crate::Platform;
+use crate::fault::PlatformFault;
 use crate::row::TargetRow;
 use crate::table::targets;
 use std::alloc::Global;

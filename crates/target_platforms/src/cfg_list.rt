@@ -6,7 +6,9 @@ ghost use Rattle.target_platforms.specs.Platforms.{Line, line_view, line_of, pla
 ghost use Rattle.target_platforms.specs.CfgLines.{is_word, starts_word, continues_word, quoted, WritesLine, WritesLines, IsNoLine};
 ghost use Rattle.target_platforms.specs.CfgList.{has_value, with_empty, platform_with, ReadsLines, IsPlatformOf, IsRefusedFor};
 
-use crate::platform::{CfgLine, Platform, PlatformFault, push_line};
+use crate::fault::PlatformFault;
+use crate::lines::push_line;
+use crate::{CfgLine, Platform};
 use std::alloc::{AllocError, Global};
 
 impl Platform {

@@ -4,7 +4,8 @@ ghost use Rattle.std.specs.Prelude.{◌≡◌, ◌++◌, map, flat_map, IfOk, On
 ghost use Rattle.target_platforms.specs.Platforms.{line_view, platform_view};
 ghost use Rattle.target_platforms.specs.Rows.{row_view, texts_of, value_line, name_line, lines_of_cell, parts_of, value_columns, list_columns, platform_of_row};
 
-use crate::platform::{CfgLine, Platform, push_line};
+use crate::lines::push_line;
+use crate::{CfgLine, Platform};
 use std::alloc::{AllocError, Global};
 
 /// A row of a table of platforms: what the compiler prints for a triple, but `debug_assertions`.

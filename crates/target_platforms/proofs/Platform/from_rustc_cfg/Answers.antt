@@ -1,7 +1,7 @@
 -- No text writes two lists of lines.
 use Rattle.std.specs.Str.Lines.{lines}
 use Rattle.target_platforms.proofs.CfgLineLemmas.{only_lines}
-use Rattle.target_platforms.proofs.platform.Platform.from_rustc_cfg.Goals as goal
+use Rattle.target_platforms.proofs.Platform.from_rustc_cfg.Goals as goal
 
 pub returns-in_err-lines-clause-only : goal.returns-in_err-lines-clause-only
 returns-in_err-lines-clause-only c = only_lines (lines c.args.text.now)

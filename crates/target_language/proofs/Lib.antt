@@ -1,0 +1,12 @@
+pub mod Cuts
+pub mod Endings
+pub mod Knowledge
+pub mod Levels
+pub mod Lines
+pub mod Lookups
+pub mod Numbers
+pub mod Orders
+pub mod Parts
+pub mod Prefixes
+pub mod Suffixes
+pub mod Words
