@@ -12,6 +12,8 @@ mod fault;
 mod lines;
 mod row;
 mod table;
+#[cfg(test)]
+mod tests;
 
 pub use fault::PlatformFault;
 pub use row::TargetRow;
