@@ -1,5 +1,10 @@
+pub mod Backward
+pub mod Blanks
+pub mod Bodies
 pub mod Cuts
 pub mod Endings
+pub mod Forward
+pub mod Fronts
 pub mod Knowledge
 pub mod Levels
 pub mod Lines
@@ -7,6 +12,8 @@ pub mod Lookups
 pub mod Numbers
 pub mod Orders
 pub mod Parts
+pub mod Points
 pub mod Prefixes
+pub mod Specs
 pub mod Suffixes
 pub mod Words

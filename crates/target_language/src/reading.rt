@@ -347,6 +347,7 @@ fn step<'t>(
 
 /// The mark that a text without blanks in front begins with, and the text behind it without blanks
 /// in front.
+#[tactic(auto, unfolding(crate::specs::Reading::advanced))]
 fn advance<'t>(
     alloc: Global,
     reader: Reader<'t>,
