@@ -9,6 +9,7 @@ pub mod Knowledge
 pub mod Levels
 pub mod Lines
 pub mod Lookups
+pub mod Loops
 pub mod Numbers
 pub mod Orders
 pub mod Parts
