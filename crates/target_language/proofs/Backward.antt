@@ -25,7 +25,6 @@ abbrev CameTo : (List Placed → Expression → Type 0) → Mark → Place → R
 CameTo To m at next = (more : ℕ) × Room more next
     × ((ms : List Placed) (e : Expression) → At next.before more next.parts next.levels ms e → To (put m at ∷ ms) e)
 
-
 -- A part begins.
 
 call_spells : (f : Function) (es : List Expression) (x : Expression) (room : ℕ) (marks inside last more : List Placed)
@@ -101,7 +100,7 @@ settled_came : (b : Before) (ps : List Expression) (l : Level) (ls : List Level)
     (found : Result (List Expression) BodyFault) → with_leaf b ps ≡ found
     → and_then (λ all. ended l ls bad (call l.function all)) found ≡ Ok next → d + length (l ∷ ls) ≡ 128
     → (qs : List Expression) × Settled b ps qs × (more : ℕ) × Room more next
-        × ((ms : List Placed) (e : Expression) → At next.before more next.parts next.levels ms e → Closes d qs (l ∷ ls) ms e)
+    × ((ms : List Placed) (e : Expression) → At next.before more next.parts next.levels ms e → Closes d qs (l ∷ ls) ms e)
 settled_came b ps l ls bad at next d (Err fault) is e fits = absurd (cc)
 settled_came b ps l ls bad at next d (Ok qs) is e fits =
     let it = made_came l ls bad qs at next d (call l.function qs) refl e fits in (qs, is, it.0, it.1, it.2)
@@ -110,14 +109,14 @@ refused_came : (b : Before) (ps : List Expression) (l : Level) (ls : List Level)
     → (if refused then (let r : Result Reading BodyFault = Err bad in r) else and_then (λ all. ended l ls bad (call l.function all)) (with_leaf b ps)) ≡ Ok next
     → d + length (l ∷ ls) ≡ 128
     → (qs : List Expression) × Settled b ps qs × (more : ℕ) × Room more next
-        × ((ms : List Placed) (e : Expression) → At next.before more next.parts next.levels ms e → Closes d qs (l ∷ ls) ms e)
+    × ((ms : List Placed) (e : Expression) → At next.before more next.parts next.levels ms e → Closes d qs (l ∷ ls) ms e)
 refused_came b ps l ls bad at next d true e fits = absurd (cc)
 refused_came b ps l ls bad at next d false e fits = settled_came b ps l ls bad at next d (with_leaf b ps) refl e fits
 
 closed_came : (b : Before) (ps : List Expression) (ls : List Level) (at : Place) (next : Reading) (d : ℕ) → closed b ps ls at ≡ Ok next
     → d + length ls ≡ 128
     → (qs : List Expression) × Settled b ps qs × (more : ℕ) × Room more next
-        × ((ms : List Placed) (e : Expression) → At next.before more next.parts next.levels ms e → Closes d qs ls ms e)
+    × ((ms : List Placed) (e : Expression) → At next.before more next.parts next.levels ms e → Closes d qs ls ms e)
 closed_came b ps [] at next d e fits = absurd (cc)
 closed_came b ps (l ∷ ls) at next d e fits =
     refused_came b ps l ls (not_one (count_parts b ps) l at) at next d (refuses l.function (count_parts b ps)) e fits
@@ -126,20 +125,20 @@ parted_came : (r : Reading) (next : Reading) (d : ℕ) (found : Result (List Exp
     → map_ok (λ parts. let n : Reading = record { before = AfterComma; parts = parts; levels = r.levels } in n) found ≡ Ok next
     → d + length r.levels ≡ 128
     → (qs : List Expression) × Settled r.before r.parts qs × (more : ℕ) × Room more next
-        × ((ms : List Placed) (e : Expression) → At next.before more next.parts next.levels ms e → Comma d qs r.levels ms e)
+    × ((ms : List Placed) (e : Expression) → At next.before more next.parts next.levels ms e → Comma d qs r.levels ms e)
 parted_came r next d (Err fault) is e fits = absurd (cc)
 parted_came r next d (Ok qs) is e fits =
     let there : Reading = record { before = AfterComma; parts = qs; levels = r.levels } in
     let same : there ≡ next = cc in
     let P : Reading → Type 0 = λ n. (qs : List Expression) × Settled r.before r.parts qs × (more : ℕ) × Room more n
-        × ((ms : List Placed) (e : Expression) → At n.before more n.parts n.levels ms e → Comma d qs r.levels ms e) in
+    × ((ms : List Placed) (e : Expression) → At n.before more n.parts n.levels ms e → Comma d qs r.levels ms e) in
     subst P same (qs, is, d, (fits, tt), λ ms e it. it)
 
 -- Behind a part that is complete with what ends there.
 ended_came : (r : Reading) (m : Mark) (at : Place) (next : Reading) (d : ℕ) → ended_by r.before r m at ≡ Ok next
     → d + length r.levels ≡ 128
     → (qs : List Expression) × Settled r.before r.parts qs × (more : ℕ) × Room more next
-        × ((ms : List Placed) (e : Expression) → At next.before more next.parts next.levels ms e → Behind d qs r.levels (put m at ∷ ms) e)
+    × ((ms : List Placed) (e : Expression) → At next.before more next.parts next.levels ms e → Behind d qs r.levels (put m at ∷ ms) e)
 ended_came r CommaMark at next d e fits =
     let it = parted_came r next d (with_leaf r.before r.parts) refl e fits in
     (it.0, it.1, it.2, it.3, λ ms e more. comma_behind d it.0 r.levels at ms e (it.4 ms e more))

@@ -111,6 +111,6 @@ blanks_skipped blanks rest c (front, all) small other utf8 =
     let one : c ∷ rest ≡ encode_utf8 c ++ rest = sym (ap (λ l. l ++ rest) (encode_ascii c small)) in
     let seen : chars (c ∷ rest) ≡ c ∷ chars rest = chars_past_char (c ∷ rest) rest c behind one in
     let left : skipped (chars (blanks ++ (c ∷ rest))) ≡ chars (c ∷ rest) =
-        ap skipped (chars-append blanks (c ∷ rest) front) ∙ skip_all (chars blanks) (chars (c ∷ rest)) all
-        ∙ ap skipped seen ∙ skip_other c (chars rest) other ∙ sym seen in
+    ap skipped (chars-append blanks (c ∷ rest) front) ∙ skip_all (chars blanks) (chars (c ∷ rest)) all
+    ∙ ap skipped seen ∙ skip_other c (chars rest) other ∙ sym seen in
     (ap encode_utf8_all left ∙ encodes-chars (c ∷ rest) behind, behind)

@@ -133,11 +133,11 @@ pub ended_goes : (F : Reads) (r : Reading) (m : Mark) (at : Place) (ms : List Pl
 ended_goes F r m at ms e d qs commas closes is fits behind =
     elim (behind_cases d qs r.levels m at ms e behind) [
       | inl it ↦ (let P : Mark → Type 0 = λ n. Goes (F n at) ms e in
-        let Q : Result Reading BodyFault → Type 0 = λ found. Goes found ms e in
-        subst P (sym it.0) (subst Q (sym (commas at)) (separated_goes r ms e d qs is fits it.1)))
+          let Q : Result Reading BodyFault → Type 0 = λ found. Goes found ms e in
+          subst P (sym it.0) (subst Q (sym (commas at)) (separated_goes r ms e d qs is fits it.1)))
       | inr it ↦ (let P : Mark → Type 0 = λ n. Goes (F n at) ms e in
-        let Q : Result Reading BodyFault → Type 0 = λ found. Goes found ms e in
-        subst P (sym it.0) (subst Q (sym (closes at)) (closed_goes r.before r.parts r.levels at ms e d qs is fits it.1)))
+          let Q : Result Reading BodyFault → Type 0 = λ found. Goes found ms e in
+          subst P (sym it.0) (subst Q (sym (closes at)) (closed_goes r.before r.parts r.levels at ms e d qs is fits it.1)))
     ]
 
 -- Behind a `(` and behind a `,`.
@@ -151,8 +151,8 @@ fresh_goes : (F : Reads) (r : Reading) (m : Mark) (at : Place) (ms : List Placed
 fresh_goes F r m at ms e d names enters closes is fits fresh =
     elim (fresh_cases d r.parts r.levels m at ms e fresh) [
       | inl it ↦ (let P : Mark → Type 0 = λ n. Goes (F n at) ms e in
-        let Q : Result Reading BodyFault → Type 0 = λ found. Goes found ms e in
-        subst P (sym it.0) (subst Q (sym (closes at)) (closed_goes r.before r.parts r.levels at ms e d r.parts is fits it.1)))
+          let Q : Result Reading BodyFault → Type 0 = λ found. Goes found ms e in
+          subst P (sym it.0) (subst Q (sym (closes at)) (closed_goes r.before r.parts r.levels at ms e d r.parts is fits it.1)))
       | inr it ↦ part_goes F r m at ms e d names enters fits it
     ]
 
@@ -169,7 +169,7 @@ goes AfterComma ps ls m at ms e d room it =
     let r = reading_of AfterComma ps ls in
     elim (comma_cases d ps ls m at ms e it) [
       | inl more ↦ (let P : Mark → Type 0 = λ n. Goes (step_behind AfterComma r n at) ms e in
-        subst P (sym more.0) (separated_goes r ms e d ps refl room.0 more.1))
+          subst P (sym more.0) (separated_goes r ms e d ps refl room.0 more.1))
       | inr fresh ↦ fresh_goes (step_behind AfterComma r) r m at ms e d (λ t p. refl) (λ f p. refl) (λ p. refl) refl room.0 fresh
     ]
 goes AfterClose ps ls m at ms e d room it =

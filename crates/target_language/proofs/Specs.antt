@@ -63,7 +63,7 @@ none_bad : (xs : List ℕ) → list_all is_triple_byte xs ≡ true → first_bad
 none_bad xs all =
     elim (tells is_triple_byte xs) [
       | inl it ↦ (let n = bad_at is_triple_byte xs in
-        ap (λ k. cond (ltb n k) (Some n) None) (sym it.1) ∙ ap (λ b. cond b (Some n) None) (not_below n))
+          ap (λ k. cond (ltb n k) (Some n) None) (sym it.1) ∙ ap (λ b. cond b (Some n) None) (not_below n))
       | inr it ↦ absurd (let clash : true ≡ false = sym all ∙ it.0 in cc)
     ]
 
@@ -72,7 +72,7 @@ all_fine xs none =
     elim (tells is_triple_byte xs) [
       | inl it ↦ it.0
       | inr it ↦ absurd (let n = bad_at is_triple_byte xs in
-        let clash : Some n ≡ None = sym (ap (λ b. cond b (Some n) None) (lt-ltb n (length xs) it.1)) ∙ none in cc)
+          let clash : Some n ≡ None = sym (ap (λ b. cond b (Some n) None) (lt-ltb n (length xs) it.1)) ∙ none in cc)
     ]
 
 no_length : (xs : List ℕ) → 0 < length xs → (length xs == 0) ≡ false

@@ -47,12 +47,7 @@ fn first_bad(text: &str) -> Option<usize>
         .position(|byte| !is_triple_byte(*byte))
 }
 
-fn refused(
-    kind: FaultKind,
-    start: usize,
-    end: usize,
-    expected: Option<Expected>,
-) -> TargetSpecError
+fn refused(kind: FaultKind, start: usize, end: usize, expected: Option<Expected>) -> TargetSpecError
     ensures { result ≡ TargetSpecError.Refused (text_fault kind start end expected) }
 {
     TargetSpecError::Refused(TargetSpecFault {
