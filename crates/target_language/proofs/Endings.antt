@@ -162,7 +162,7 @@ behind_end d ps [] e ([], end, commas, (is, one)) = (refl, sym (append-nil ps) �
 behind_end d ps (l ∷ ls) e ([], end, (zero, none), (rest, x, (at, is), called, es, last, further, ends)) =
     absurd (let clash : [] ≡ put CloseMark at ∷ rest = none ∙ is in cc)
 behind_end d ps ls e ([], end, (suc n, (more, (at, is), commas)), ends) = absurd (cc)
-behind_end d ps ls e (x ∷ es, end, (more, inside, last, (at, is), it), ends) = absurd (cc)
+behind_end d ps ls e (x ∷ es, end, (more, inside, last, (at, is), commas, spells, further), ends) = absurd (cc)
 
 pub end_behind : (d : ℕ) (e : Expression) → Behind d (e ∷ []) [] [] e
 end_behind d e = ([], [], (0, refl), (refl, refl))

@@ -1,8 +1,8 @@
 -- Numbers as they are written plainly.
-use Rattle.std.proofs.Common.{◌≡◌, ℕ, ◌+◌, ◌^◌, ◌<◌, ◌≤◌, leb, ◌==◌, ◌&&◌, ◌⊎◌, inl, inr, Bool, true, false, not, List, [], ◌∷◌, Option, None, Some, Result, Ok, Err, length, decimal, if◌then◌else◌, refl, sym, ◌∙◌, ap, arith}
+use Rattle.std.proofs.Common.{◌≡◌, ℕ, ◌+◌, ◌^◌, ◌<◌, ◌≤◌, leb, ◌==◌, ◌&&◌, ◌⊎◌, inl, inr, Bool, true, false, not, List, [], ◌∷◌, Option, None, Some, length, decimal, if◌then◌else◌, refl, sym, ◌∙◌, ap, arith}
 use Rattle.std.specs.Option.{option_and_then}
 use Rattle.std.specs.Str.{all_ascii_digits}
-use Rattle.std.specs.Str.Parse.{IsNumeral, digits_value, without_leading_plus, ParsesUnsigned}
+use Rattle.std.specs.Str.Parse.{IsNumeral, digits_value, without_leading_plus}
 use Rattle.std.proofs.lemmas.Bool.{le-leb, leb-true}
 use Rattle.std.proofs.lemmas.Bool.Decides.{eqb_tells}
 use Rattle.std.proofs.lemmas.Str.Parse.{IsNumeralModel, numerals_by_value, tells_all_ascii_digits}
@@ -54,8 +54,12 @@ by_none most n true none = by_size (leb n most) refl
     by_size false is = refl
     by_size true is = absurd (none refl (leb-true n most is))
 
+-- A text writes a number of so many bits, perhaps behind a `+`.
+abbrev Writes : ℕ → List ℕ → Type 0
+Writes k bs = IsNumeral 10 (without_leading_plus bs) × (digits_value 10 (without_leading_plus bs) < 2 ^ k)
+
 -- A text that parses to a number is written plainly as that number.
-pub plain_ok : {E : Type 0} (k most n : ℕ) (bs : List ℕ) → most + 1 ≡ 2 ^ k → ParsesUnsigned {E = E} k 10 bs (Ok n)
+pub plain_ok : (k most n : ℕ) (bs : List ℕ) → most + 1 ≡ 2 ^ k → Writes k bs × (n ≡ digits_value 10 (without_leading_plus bs))
     → Some (decimal n) ≡ plain_to most bs
 plain_ok k most n bs top ((numeral, below), is) =
     let ds = without_leading_plus bs in
@@ -64,9 +68,9 @@ plain_ok k most n bs top ((numeral, below), is) =
     ap (λ x. Some (decimal x)) is ∙ by_numeral most v (is_numeral ds) (numeral_tells ds numeral) fits
 
 -- A text that does not parse is not written plainly.
-pub plain_err : {E : Type 0} (k most : ℕ) (bs : List ℕ) (e : E) → most + 1 ≡ 2 ^ k → ParsesUnsigned {E = E} k 10 bs (Err e)
+pub plain_err : (k most : ℕ) (bs : List ℕ) → most + 1 ≡ 2 ^ k → ¬ (Writes k bs)
     → None ≡ plain_to most bs
-plain_err k most bs e top none =
+plain_err k most bs top none =
     let ds = without_leading_plus bs in
     let v = digits_value 10 ds in
     by_none most v (is_numeral ds) (λ is fits. none (is_a_numeral ds is, omega (arith, fits, top)))

@@ -176,11 +176,11 @@ order_is_free p es fs moved =
     let forth = λ (v : Value) (among : Contains vs v). Contains-permutation vs ws v to among in
     let hence = λ (v : Value) (among : Contains ws v). Contains-permutation ws vs v back among in
     let l = both (least vs) (least ws)
-        (least_below vs ws (least vs) (least ws) (all_is_least vs) (all_is_least ws) hence)
-        (least_below ws vs (least ws) (least vs) (all_is_least ws) (all_is_least vs) forth) in
+    (least_below vs ws (least vs) (least ws) (all_is_least vs) (all_is_least ws) hence)
+    (least_below ws vs (least ws) (least vs) (all_is_least ws) (all_is_least vs) forth) in
     let g = both (greatest vs) (greatest ws)
-        (greatest_above ws vs (greatest ws) (greatest vs) (any_is_greatest ws) (any_is_greatest vs) forth)
-        (greatest_above vs ws (greatest vs) (greatest ws) (any_is_greatest vs) (any_is_greatest ws) hence) in (
+    (greatest_above ws vs (greatest ws) (greatest vs) (any_is_greatest ws) (any_is_greatest vs) forth)
+    (greatest_above vs ws (greatest vs) (greatest ws) (any_is_greatest vs) (any_is_greatest ws) hence) in (
       ap least (listed p es) ∙ l ∙ ap least (sym (listed p fs)),
       ap greatest (listed p es) ∙ g ∙ ap greatest (sym (listed p fs)),
     )

@@ -84,3 +84,20 @@ least_all p parts = ap least (ap (map (said p)) (take_all parts) ∙ sym (values
 
 pub greatest_all : (p : PlatformData) (parts : List expression.Expression) → greatest_of p (length parts) parts ≡ greatest (values p (parts_view parts))
 greatest_all p parts = ap greatest (ap (map (said p)) (take_all parts) ∙ sym (values_said p parts))
+
+-- One part more, and all parts.
+pub least_step : (p : PlatformData) (parts : List expression.Expression) (n : ℕ) (d : expression.Expression) (v w r : Option Bool)
+    → n < length parts → v ≡ least_of p n parts → w ≡ said p (get_or parts n d) → r ≡ lesser v w → r ≡ least_of p (n + 1) parts
+least_step p parts n d v w r below x y z = z ∙ ap (λ a. lesser a w) x ∙ ap (lesser (least_of p n parts)) y ∙ sym (least_next p parts n d below)
+
+pub greatest_step : (p : PlatformData) (parts : List expression.Expression) (n : ℕ) (d : expression.Expression) (v w r : Option Bool)
+    → n < length parts → v ≡ greatest_of p n parts → w ≡ said p (get_or parts n d) → r ≡ greater v w → r ≡ greatest_of p (n + 1) parts
+greatest_step p parts n d v w r below x y z = z ∙ ap (λ a. greater a w) x ∙ ap (greater (greatest_of p n parts)) y ∙ sym (greatest_next p parts n d below)
+
+pub least_end : (p : PlatformData) (parts : List expression.Expression) (n : ℕ) (v : Option Bool) → n ≡ length parts
+    → v ≡ least_of p n parts → v ≡ least (values p (parts_view parts))
+least_end p parts n v is x = x ∙ ap (λ k. least_of p k parts) is ∙ least_all p parts
+
+pub greatest_end : (p : PlatformData) (parts : List expression.Expression) (n : ℕ) (v : Option Bool) → n ≡ length parts
+    → v ≡ greatest_of p n parts → v ≡ greatest (values p (parts_view parts))
+greatest_end p parts n v is x = x ∙ ap (λ k. greatest_of p k parts) is ∙ greatest_all p parts

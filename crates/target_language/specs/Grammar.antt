@@ -36,10 +36,10 @@ abbrev pub SpellsLeaf : Leaf → List Placed → List Placed → Type 0
 SpellsLeaf leaf marks rest =
     ((key : Piece) × Begins (NameMark key.text) key.place marks rest × (leaf_alone key ≡ Ok leaf))
     ⊎ ((key : Piece) × (text : List ℕ) × (at : Place) × (more : List Placed) × (last : List Placed)
-        × Begins (NameMark key.text) key.place marks more
-        × BeginsSomewhere EqualsMark more last
-        × Begins (ValueMark text) at last rest
-        × (leaf_with key (value_piece text at) ≡ Ok leaf))
+    × Begins (NameMark key.text) key.place marks more
+    × BeginsSomewhere EqualsMark more last
+    × Begins (ValueMark text) at last rest
+    × (leaf_with key (value_piece text at) ≡ Ok leaf))
 
 abbrev mutual
   -- Marks begin with an expression in which functions nest at most so deep, and go on with others.

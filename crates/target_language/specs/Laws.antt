@@ -77,6 +77,6 @@ OrderIsFree = (platform : PlatformData) (es fs : List Expression) → IsPermutat
 abbrev pub OppositesChangePlaces : Type 0
 OppositesChangePlaces = (platform : PlatformData) (es : List Expression)
     → (value platform (Negated (Every (parts_of es)))
-        ≡ value platform (Some_of (parts_of (map Negated es))))
+    ≡ value platform (Some_of (parts_of (map Negated es))))
     × (value platform (Negated (Some_of (parts_of es)))
-        ≡ value platform (Every (parts_of (map Negated es))))
+    ≡ value platform (Every (parts_of (map Negated es))))

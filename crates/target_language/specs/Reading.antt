@@ -161,7 +161,7 @@ closed before parts (level ∷ levels) at =
     then Err (not_one (count_parts before parts) level at)
     else and_then
     (λ all. ended level levels (not_one (count_parts before parts) level at)
-        (call level.function all))
+    (call level.function all))
     (with_leaf before parts)
 
 -- the piece between the quotes of a value

@@ -246,12 +246,14 @@ fn close(alloc: Global, reader: Reader<'_>, place: Place) -> Result<Reader<'_>, 
         levels,
     } = reader;
     let mut levels = levels;
-    let Some(Level {
-        function,
-        name,
-        open: _,
-        outside,
-    }) = levels.pop()
+    let Some(
+        Level {
+            function,
+            name,
+            open: _,
+            outside,
+        },
+    ) = levels.pop()
     else {
         return Err(fault(FaultKind::UnopenedParens, place));
     };
@@ -329,16 +331,10 @@ fn step<'t>(
             reader,
             Before::Value(key, value_piece(text, place)),
         )),
+        (Before::Comma | Before::Key(_) | Before::Value(_, _) | Before::Close, Mark::Comma) =>
+            comma(alloc, reader),
         (
-            Before::Comma | Before::Key(_) | Before::Value(_, _) | Before::Close,
-            Mark::Comma,
-        ) => comma(alloc, reader),
-        (
-            Before::Open
-            | Before::Comma
-            | Before::Key(_)
-            | Before::Value(_, _)
-            | Before::Close,
+            Before::Open | Before::Comma | Before::Key(_) | Before::Value(_, _) | Before::Close,
             Mark::Close,
         ) => close(alloc, reader, place),
         (before, _) => Err(expecting(FaultKind::Unexpected, place, before.expected())),
@@ -347,6 +343,7 @@ fn step<'t>(
 
 /// The mark that a text without blanks in front begins with, and the text behind it without blanks
 /// in front.
+#[tactic(auto, unfolding(crate::specs::Reading::advanced))]
 fn advance<'t>(
     alloc: Global,
     reader: Reader<'t>,

@@ -1,7 +1,7 @@
 //! Reads specs.
 ghost use Rattle.std.specs.Prelude.{◌≡◌, ◌<◌, length, IfSome, None, Some, Ok, Err, IfOk, IfErr, MatchOption, option_map, codes};
-ghost use Rattle.target_language.specs.Expressions.{spec_view};
-ghost use Rattle.target_language.specs.Texts.{text_fault, after_prefix, before_close, triple_in, expression_in, spec_in, IfRefused};
+ghost use Rattle.target_language.specs.Expressions.{Spec, spec_view};
+ghost use Rattle.target_language.specs.Texts.{text_fault, after_prefix, before_close, triple_in, expression_in, spec_in, IsSpec, IfRefused};
 ghost use Rattle.target_language.specs.Texts.{is_triple_byte as triple_byte_test, first_bad as first_bad_of};
 
 use crate::expression::TargetSpec;
@@ -47,12 +47,7 @@ fn first_bad(text: &str) -> Option<usize>
         .position(|byte| !is_triple_byte(*byte))
 }
 
-fn refused(
-    kind: FaultKind,
-    start: usize,
-    end: usize,
-    expected: Option<Expected>,
-) -> TargetSpecError
+fn refused(kind: FaultKind, start: usize, end: usize, expected: Option<Expected>) -> TargetSpecError
     ensures { result ≡ TargetSpecError.Refused (text_fault kind start end expected) }
 {
     TargetSpecError::Refused(TargetSpecFault {
@@ -112,16 +107,27 @@ fn read_expression(
     }
 }
 
+fn read_text(alloc: Global, text: &str) -> Result<TargetSpec, TargetSpecError>
+    ensures ok { IfOk result (λ spec. spec_in text.now ≡ Ok (spec_view spec)) }
+    ensures err { IfErr result (λ error. IfRefused error
+        (λ fault. spec_in text.now ≡ Err fault)) }
+{
+    match after_cfg(text) {
+        Some(inside) => read_expression(alloc, text, before_last(inside)),
+        None => read_triple(alloc, text),
+    }
+}
+
 impl TargetSpec {
-    /// Reads a spec.
+    /// Reads a spec: the one that the text writes, or else its first fault.
     pub fn parse(alloc: Global, text: &str) -> Result<TargetSpec, TargetSpecError>
         ensures ok { IfOk result (λ spec. spec_in text.now ≡ Ok (spec_view spec)) }
         ensures err { IfErr result (λ error. IfRefused error
             (λ fault. spec_in text.now ≡ Err fault)) }
+        ensures writes { IfOk result (λ spec. IsSpec text.now (spec_view spec)) }
+        ensures none { IfErr result (λ error. IfRefused error
+            (λ fault. (s : Spec) → IsSpec text.now s → ⊥)) }
     {
-        match after_cfg(text) {
-            Some(inside) => read_expression(alloc, text, before_last(inside)),
-            None => read_triple(alloc, text),
-        }
+        read_text(alloc, text)
     }
 }

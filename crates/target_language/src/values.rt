@@ -83,14 +83,19 @@ fn has_feature(platform: &Platform, feature: &str) -> bool
 
 impl Leaf {
     /// Whether it holds on a platform, or `None` where that is unknown.
-    #[tactic(auto, using(crate::proofs::Lookups::any_seen))]
+    #[tactic(auto, using(crate::proofs::Lookups::line_value, crate::proofs::Lookups::feature_value))]
     pub fn eval(&self, platform: &Platform) -> Option<bool>
         ensures { result ≡ leaf_value (platform_view platform.now) (leaf_view self.now) }
     {
         match self {
             Leaf::Has(line) => Some(has_line(platform, line)),
-            Leaf::Feature(_) if !platform.features_given => None,
-            Leaf::Feature(feature) => Some(has_feature(platform, feature.as_str())),
+            Leaf::Feature(feature) => {
+                if platform.features_given {
+                    Some(has_feature(platform, feature.as_str()))
+                } else {
+                    None
+                }
+            }
             Leaf::Never => Some(false),
         }
     }
