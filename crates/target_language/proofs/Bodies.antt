@@ -211,7 +211,7 @@ abbrev Known : ℕ → ℕ → Type 0
 Known len n = (text : List ℕ) (r : Reading) (e : Expression) (d : ℕ) → length (trim_start text) ≤ n → IsUtf8 text → Room d r
     → read_on len n r (trim_start text) ≡ Ok e → Written text d r e
 
-no_longer : (text : List ℕ) → IsUtf8 text → length (trim_start text) ≤ length text
+pub no_longer : (text : List ℕ) → IsUtf8 text → length (trim_start text) ≤ length text
 no_longer text utf8 =
     let it = split_blanks text utf8 in
     let size : length text ≡ length it.0 + length (trim_start text) = ap length it.2 ∙ length-append it.0 (trim_start text) in

@@ -94,7 +94,7 @@ get_own : (xs ys : List ℕ) (c : ℕ) → get_or (xs ++ (c ∷ ys)) (length xs)
 get_own [] ys c = refl
 get_own (x ∷ xs) ys c = get_own xs ys c
 
-body_utf8 : (body : List ℕ) → IsUtf8 (codes "cfg(" ++ (body ++ (41 ∷ []))) → IsUtf8 body
+pub body_utf8 : (body : List ℕ) → IsUtf8 (codes "cfg(" ++ (body ++ (41 ∷ []))) → IsUtf8 body
 body_utf8 body utf8 =
     let whole = body ++ (41 ∷ []) in
     let inside : IsUtf8 whole =

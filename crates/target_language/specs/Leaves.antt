@@ -49,20 +49,24 @@ abbrev pub number_leaf : List ℕ → BodyFault → Option (List ℕ) → Result
 number_leaf key bad (Some plain) = Ok (has_line key plain)
 number_leaf key bad None = Err bad
 
+-- the leaf of an endianness
 abbrev pub endian_leaf : Piece → Result Leaf BodyFault
 endian_leaf value = if bytes_eq value.text (codes "big") || bytes_eq value.text (codes "little")
     then Ok (has_line (codes "target_endian") value.text) else Err (fault_at BadEndian value.place)
 
+-- the leaf of the width of pointers
 abbrev pub width_leaf : Piece → Result Leaf BodyFault
 width_leaf value = number_leaf (codes "target_pointer_width")
     (fault_at BadWidth value.place) (plain_to 255 value.text)
 
+-- the leaf of the size of atomics
 abbrev pub atomic_leaf : Piece → Result Leaf BodyFault
 atomic_leaf value = if bytes_eq value.text (codes "ptr")
     then Ok (has_line (codes "target_has_atomic") value.text)
     else number_leaf (codes "target_has_atomic")
     (fault_at BadAtomic value.place) (plain_to 65535 value.text)
 
+-- the leaf of a feature
 abbrev pub feature_leaf : Piece → Result Leaf BodyFault
 feature_leaf value = if length value.text == 0
     then Err (fault_at EmptyFeature value.place) else Ok (Feature value.text)

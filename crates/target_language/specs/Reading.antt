@@ -45,6 +45,7 @@ pub record Reading : Type 0 where
 
 -- ---- what stands in memory
 
+-- the mark before that stands in memory
 abbrev pub before_view : before.Before → Before
 before_view last.Nothing = Nothing
 before_view (last.Function f at) = AfterFunction f at
@@ -55,6 +56,7 @@ before_view (last.Equals key) = AfterEquals (piece_view key)
 before_view (last.Value key value) = AfterValue (piece_view key) (piece_view value)
 before_view last.Close = AfterClose
 
+-- the open function that stands in memory
 abbrev pub level_view : level.Level → Level
 level_view l = record {
   function = l.function;
@@ -63,9 +65,11 @@ level_view l = record {
   outside = map expression_view l.outside.items;
 }
 
+-- the open functions that stand in memory, the innermost last
 abbrev pub levels_view : List level.Level → List Level
 levels_view levels = fold (λ outer l. level_view l ∷ outer) [] levels
 
+-- the reading that stands in memory
 abbrev pub reading_view : reader.Reader → Reading
 reading_view r = record {
   before = before_view r.before;
@@ -226,6 +230,7 @@ finished_behind (AfterFunction function name) len r =
     Err (expecting_at Unexpected name wanted.Parenthesis)
 finished_behind _ len r = complete len r r.levels
 
+-- what is read at the end of a body of so many bytes, behind any mark
 abbrev pub finished : ℕ → Reading → Result Expression BodyFault
 finished len r = finished_behind r.before len r
 

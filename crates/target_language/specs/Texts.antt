@@ -1,5 +1,5 @@
 -- What texts say: triples, and bodies of expressions between `cfg(` and `)`.
-use Rattle.std.specs.Prelude.{◌≡◌, ℕ, ◌+◌, ◌<◌, ◌==◌, ◌||◌, Bool, true, not, List, [], ◌∷◌, ◌++◌, Option, None, Some, Result, Ok, Err, length, codes, option_map, position, if◌then◌else◌}
+use Rattle.std.specs.Prelude.{◌≡◌, ℕ, ◌+◌, ◌<◌, ◌≤◌, ◌==◌, ◌||◌, Bool, true, not, List, [], ◌∷◌, ◌++◌, Option, None, Some, Result, Ok, Err, length, codes, option_map, position, if◌then◌else◌}
 use Rattle.std.specs.List.{list_all}
 use Rattle.std.specs.Char.{is_ascii_alphanumeric}
 use Rattle.std.specs.Result.{result_map_both}
@@ -77,6 +77,10 @@ spec_behind text (Some inside) = expression_in text (before_close inside)
 -- the spec that a text is, or the first fault
 abbrev pub spec_in : List ℕ → Result Spec TargetSpecFault
 spec_in text = spec_behind text (after_prefix (codes "cfg(") text)
+
+-- The span of a fault lies in a text.
+abbrev pub LiesIn : List ℕ → TargetSpecFault → Type 0
+LiesIn text fault = (fault.span.start ≤ fault.span.end) × (fault.span.end ≤ length text)
 
 -- Where a text is refused, something holds of the fault.
 abbrev pub IfRefused : TargetSpecError → (TargetSpecFault → Type 0) → Type 0

@@ -60,8 +60,11 @@ fn plain_size(alloc: Global, text: &str) -> Result<Option<String>, AllocError>
 }
 
 fn endian_leaf(alloc: Global, value: Piece<'_>) -> Result<Leaf, Stop>
-    ensures ok { IfOk result (λ leaf. endian_leaf_of (piece_view value.entry) ≡ Ok (leaf_view leaf)) }
-    ensures err { IfErr result (λ stop. IfFault stop (λ fault. endian_leaf_of (piece_view value.entry) ≡ Err fault)) }
+    ensures ok { IfOk result
+        (λ leaf. endian_leaf_of (piece_view value.entry) ≡ Ok (leaf_view leaf)) }
+    ensures err { IfErr result
+        (λ stop. IfFault stop
+        (λ fault. endian_leaf_of (piece_view value.entry) ≡ Err fault)) }
 {
     if value.text == "big" || value.text == "little" {
         return Ok(has_line(alloc, "target_endian", value.text)?);
@@ -70,8 +73,11 @@ fn endian_leaf(alloc: Global, value: Piece<'_>) -> Result<Leaf, Stop>
 }
 
 fn width_leaf(alloc: Global, value: Piece<'_>) -> Result<Leaf, Stop>
-    ensures ok { IfOk result (λ leaf. width_leaf_of (piece_view value.entry) ≡ Ok (leaf_view leaf)) }
-    ensures err { IfErr result (λ stop. IfFault stop (λ fault. width_leaf_of (piece_view value.entry) ≡ Err fault)) }
+    ensures ok { IfOk result
+        (λ leaf. width_leaf_of (piece_view value.entry) ≡ Ok (leaf_view leaf)) }
+    ensures err { IfErr result
+        (λ stop. IfFault stop
+        (λ fault. width_leaf_of (piece_view value.entry) ≡ Err fault)) }
 {
     match plain_width(alloc, value.text)? {
         Some(width) => Ok(has_line(alloc, "target_pointer_width", width.as_str())?),
@@ -80,8 +86,11 @@ fn width_leaf(alloc: Global, value: Piece<'_>) -> Result<Leaf, Stop>
 }
 
 fn atomic_leaf(alloc: Global, value: Piece<'_>) -> Result<Leaf, Stop>
-    ensures ok { IfOk result (λ leaf. atomic_leaf_of (piece_view value.entry) ≡ Ok (leaf_view leaf)) }
-    ensures err { IfErr result (λ stop. IfFault stop (λ fault. atomic_leaf_of (piece_view value.entry) ≡ Err fault)) }
+    ensures ok { IfOk result
+        (λ leaf. atomic_leaf_of (piece_view value.entry) ≡ Ok (leaf_view leaf)) }
+    ensures err { IfErr result
+        (λ stop. IfFault stop
+        (λ fault. atomic_leaf_of (piece_view value.entry) ≡ Err fault)) }
 {
     if value.text == "ptr" {
         return Ok(has_line(alloc, "target_has_atomic", value.text)?);
@@ -93,8 +102,11 @@ fn atomic_leaf(alloc: Global, value: Piece<'_>) -> Result<Leaf, Stop>
 }
 
 fn feature_leaf(alloc: Global, value: Piece<'_>) -> Result<Leaf, Stop>
-    ensures ok { IfOk result (λ leaf. feature_leaf_of (piece_view value.entry) ≡ Ok (leaf_view leaf)) }
-    ensures err { IfErr result (λ stop. IfFault stop (λ fault. feature_leaf_of (piece_view value.entry) ≡ Err fault)) }
+    ensures ok { IfOk result
+        (λ leaf. feature_leaf_of (piece_view value.entry) ≡ Ok (leaf_view leaf)) }
+    ensures err { IfErr result
+        (λ stop. IfFault stop
+        (λ fault. feature_leaf_of (piece_view value.entry) ≡ Err fault)) }
 {
     if value.text.is_empty() {
         return Err(fault(FaultKind::EmptyFeature, value.place));
@@ -105,7 +117,9 @@ fn feature_leaf(alloc: Global, value: Piece<'_>) -> Result<Leaf, Stop>
 /// The leaf that a key alone writes.
 pub fn leaf_alone(alloc: Global, key: Piece<'_>) -> Result<Leaf, Stop>
     ensures ok { IfOk result (λ leaf. leaf_alone_of (piece_view key.entry) ≡ Ok (leaf_view leaf)) }
-    ensures err { IfErr result (λ stop. IfFault stop (λ fault. leaf_alone_of (piece_view key.entry) ≡ Err fault)) }
+    ensures err { IfErr result
+        (λ stop. IfFault stop
+        (λ fault. leaf_alone_of (piece_view key.entry) ≡ Err fault)) }
 {
     match KeyKind::of(key.text) {
         KeyKind::Family => Ok(has_line(alloc, "target_family", key.text)?),
@@ -123,8 +137,11 @@ pub fn leaf_alone(alloc: Global, key: Piece<'_>) -> Result<Leaf, Stop>
 
 /// The leaf that a key with a value writes.
 pub fn leaf_with(alloc: Global, key: Piece<'_>, value: Piece<'_>) -> Result<Leaf, Stop>
-    ensures ok { IfOk result (λ leaf. leaf_with_of (piece_view key.entry) (piece_view value.entry) ≡ Ok (leaf_view leaf)) }
-    ensures err { IfErr result (λ stop. IfFault stop (λ fault. leaf_with_of (piece_view key.entry) (piece_view value.entry) ≡ Err fault)) }
+    ensures ok { IfOk result
+        (λ leaf. leaf_with_of (piece_view key.entry) (piece_view value.entry) ≡ Ok (leaf_view leaf)) }
+    ensures err { IfErr result
+        (λ stop. IfFault stop
+        (λ fault. leaf_with_of (piece_view key.entry) (piece_view value.entry) ≡ Err fault)) }
 {
     match KeyKind::of(key.text) {
         KeyKind::Family | KeyKind::Never => Err(fault(FaultKind::ValueNotAllowed, value.place)),

@@ -108,8 +108,11 @@ fn with_leaf(
     before: Before<'_>,
     parts: Vec<Expression>,
 ) -> Result<Vec<Expression>, Stop>
-    ensures ok { IfOk result (λ more. with_leaf_of (before_view before.entry) (map expression_view parts.items) ≡ Ok (map expression_view more.items)) }
-    ensures err { IfErr result (λ stop. IfFault stop (λ fault. with_leaf_of (before_view before.entry) (map expression_view parts.items) ≡ Err fault)) }
+    ensures ok { IfOk result
+        (λ more. with_leaf_of (before_view before.entry) (map expression_view parts.items) ≡ Ok (map expression_view more.items)) }
+    ensures err { IfErr result
+        (λ stop. IfFault stop
+        (λ fault. with_leaf_of (before_view before.entry) (map expression_view parts.items) ≡ Err fault)) }
 {
     match before {
         Before::Key(key) => {
@@ -160,8 +163,11 @@ fn call(
 /// A function's name.
 #[tactic(auto, using(crate::proofs::Levels::levels_len))]
 fn enter(reader: Reader<'_>, function: Function, place: Place) -> Result<Reader<'_>, Stop>
-    ensures ok { IfOk result (λ next. entered function place (reading_view reader.entry) ≡ Ok (reading_view next)) }
-    ensures err { IfErr result (λ stop. IfFault stop (λ fault. entered function place (reading_view reader.entry) ≡ Err fault)) }
+    ensures ok { IfOk result
+        (λ next. entered function place (reading_view reader.entry) ≡ Ok (reading_view next)) }
+    ensures err { IfErr result
+        (λ stop. IfFault stop
+        (λ fault. entered function place (reading_view reader.entry) ≡ Err fault)) }
 {
     if reader.levels.len() >= DEEPEST {
         return Err(fault(FaultKind::TooDeep, place));
@@ -186,7 +192,8 @@ fn open<'t>(
     name: Place,
     place: Place,
 ) -> Result<Reader<'t>, Stop>
-    ensures ok { IfOk result (λ next. opened_by function name place (reading_view reader.entry) ≡ reading_view next) }
+    ensures ok { IfOk result
+        (λ next. opened_by function name place (reading_view reader.entry) ≡ reading_view next) }
     ensures err { IfErr result (λ stop. stop ≡ Stop.Memory) }
 {
     let Reader {
@@ -209,8 +216,11 @@ fn open<'t>(
 
 /// A `,` behind what it may follow.
 fn comma(alloc: Global, reader: Reader<'_>) -> Result<Reader<'_>, Stop>
-    ensures ok { IfOk result (λ next. separated (reading_view reader.entry) ≡ Ok (reading_view next)) }
-    ensures err { IfErr result (λ stop. IfFault stop (λ fault. separated (reading_view reader.entry) ≡ Err fault)) }
+    ensures ok { IfOk result
+        (λ next. separated (reading_view reader.entry) ≡ Ok (reading_view next)) }
+    ensures err { IfErr result
+        (λ stop. IfFault stop
+        (λ fault. separated (reading_view reader.entry) ≡ Err fault)) }
 {
     let Reader {
         before,
@@ -237,8 +247,11 @@ fn count_parts(before: Before<'_>, parts: &[Expression]) -> usize
 
 /// A `)` behind what it may follow.
 fn close(alloc: Global, reader: Reader<'_>, place: Place) -> Result<Reader<'_>, Stop>
-    ensures ok { IfOk result (λ next. (let r = reading_view reader.entry in closed r.before r.parts r.levels place) ≡ Ok (reading_view next)) }
-    ensures err { IfErr result (λ stop. IfFault stop (λ fault. (let r = reading_view reader.entry in closed r.before r.parts r.levels place) ≡ Err fault)) }
+    ensures ok { IfOk result
+        (λ next. (let r = reading_view reader.entry in closed r.before r.parts r.levels place) ≡ Ok (reading_view next)) }
+    ensures err { IfErr result
+        (λ stop. IfFault stop
+        (λ fault. (let r = reading_view reader.entry in closed r.before r.parts r.levels place) ≡ Err fault)) }
 {
     let Reader {
         before,
@@ -313,8 +326,11 @@ fn step<'t>(
     mark: Mark<'t>,
     place: Place,
 ) -> Result<Reader<'t>, Stop>
-    ensures ok { IfOk result (λ next. step_of (reading_view reader.entry) (mark_view mark.entry) place ≡ Ok (reading_view next)) }
-    ensures err { IfErr result (λ stop. IfFault stop (λ fault. step_of (reading_view reader.entry) (mark_view mark.entry) place ≡ Err fault)) }
+    ensures ok { IfOk result
+        (λ next. step_of (reading_view reader.entry) (mark_view mark.entry) place ≡ Ok (reading_view next)) }
+    ensures err { IfErr result
+        (λ stop. IfFault stop
+        (λ fault. step_of (reading_view reader.entry) (mark_view mark.entry) place ≡ Err fault)) }
 {
     match (reader.before, mark) {
         (Before::Nothing | Before::Open | Before::Comma, Mark::Name(text)) => {
@@ -349,8 +365,11 @@ fn advance<'t>(
     reader: Reader<'t>,
     text: &'t str,
 ) -> Result<(Reader<'t>, &'t str), Stop>
-    ensures ok { IfOk result (λ next. advanced (reading_view reader.entry) text.now ≡ Ok (reading_view next.0, next.1.now)) }
-    ensures err { IfErr result (λ stop. IfFault stop (λ fault. advanced (reading_view reader.entry) text.now ≡ Err fault)) }
+    ensures ok { IfOk result
+        (λ next. advanced (reading_view reader.entry) text.now ≡ Ok (reading_view next.0, next.1.now)) }
+    ensures err { IfErr result
+        (λ stop. IfFault stop
+        (λ fault. advanced (reading_view reader.entry) text.now ≡ Err fault)) }
 {
     match front_of(text) {
         Front::Mark(mark, behind) => {
@@ -381,8 +400,11 @@ fn advance<'t>(
 
 /// The expression that a body is of so many bytes, when all its marks were read.
 fn finish(alloc: Global, reader: Reader<'_>, len: usize) -> Result<Expression, Stop>
-    ensures ok { IfOk result (λ e. finished len (reading_view reader.entry) ≡ Ok (expression_view e)) }
-    ensures err { IfErr result (λ stop. IfFault stop (λ fault. finished len (reading_view reader.entry) ≡ Err fault)) }
+    ensures ok { IfOk result
+        (λ e. finished len (reading_view reader.entry) ≡ Ok (expression_view e)) }
+    ensures err { IfErr result
+        (λ stop. IfFault stop
+        (λ fault. finished len (reading_view reader.entry) ≡ Err fault)) }
 {
     let end = Place { from: 0, to: 0 };
     let body = Place { from: len, to: 0 };

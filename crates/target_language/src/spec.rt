@@ -1,7 +1,7 @@
 //! Reads specs.
 ghost use Rattle.std.specs.Prelude.{◌≡◌, ◌<◌, length, IfSome, None, Some, Ok, Err, IfOk, IfErr, MatchOption, option_map, codes};
 ghost use Rattle.target_language.specs.Expressions.{Spec, spec_view};
-ghost use Rattle.target_language.specs.Texts.{text_fault, after_prefix, before_close, triple_in, expression_in, spec_in, IsSpec, IfRefused};
+ghost use Rattle.target_language.specs.Texts.{text_fault, after_prefix, before_close, triple_in, expression_in, spec_in, IsSpec, LiesIn, IfRefused};
 ghost use Rattle.target_language.specs.Texts.{is_triple_byte as triple_byte_test, first_bad as first_bad_of};
 
 use crate::expression::TargetSpec;
@@ -124,6 +124,7 @@ impl TargetSpec {
         ensures ok { IfOk result (λ spec. spec_in text.now ≡ Ok (spec_view spec)) }
         ensures err { IfErr result (λ error. IfRefused error
             (λ fault. spec_in text.now ≡ Err fault)) }
+        ensures inside { IfErr result (λ error. IfRefused error (LiesIn text.now)) }
         ensures writes { IfOk result (λ spec. IsSpec text.now (spec_view spec)) }
         ensures none { IfErr result (λ error. IfRefused error
             (λ fault. (s : Spec) → IsSpec text.now s → ⊥)) }
