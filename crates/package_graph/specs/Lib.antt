@@ -1,0 +1,4 @@
+pub mod Edges
+pub mod Graph
+pub mod GraphView
+pub mod Marks
