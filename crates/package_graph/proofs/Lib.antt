@@ -1,2 +1,6 @@
+pub mod Gathering
+pub mod Listing
+pub mod Matching
+pub mod Placing
 pub mod Reaching
 pub mod Spreading

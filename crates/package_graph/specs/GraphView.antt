@@ -1,14 +1,10 @@
 -- The graph that a `PackageGraph` holds, and the names in a `MemberSet`.
-use Rattle.std.specs.Prelude.{ℕ, Bool, List, map, String, string_bytes}
-use Rattle.std.specs.declared.alloc.Global.{Global}
+use Rattle.std.specs.Prelude.{ℕ, Bool, List}
 use Rattle.std.specs.BTreeSet.{contains_text}
 use Rattle.package_graph.specs.Graph.{Graph}
+use Rattle.package_graph.specs.Names.{names_view}
 use Rattle.package_graph.specs.declared.graph.PackageGraph.{PackageGraph}
 use Rattle.package_graph.specs.declared.member_set.MemberSet.{MemberSet}
-
--- the bytes of some texts
-abbrev pub names_view : List (String Global) → List (List ℕ)
-names_view names = map string_bytes names
 
 -- the graph that is held
 abbrev pub graph_view : PackageGraph → Graph

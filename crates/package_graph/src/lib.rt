@@ -3,9 +3,15 @@
 #![tactic(auto)]
 
 mod edges;
+mod fault;
 mod graph;
 mod member_set;
+mod metadata;
 mod search;
+#[cfg(test)]
+mod tests;
+mod values;
 
+pub use fault::{MetadataFault, Place};
 pub use graph::PackageGraph;
 pub use member_set::MemberSet;
