@@ -5,6 +5,7 @@
 mod edges;
 mod fault;
 mod graph;
+mod laws;
 mod member_set;
 mod metadata;
 mod search;
@@ -14,4 +15,5 @@ mod values;
 
 pub use fault::{MetadataFault, Place};
 pub use graph::PackageGraph;
+pub use laws::law_reaching;
 pub use member_set::MemberSet;
