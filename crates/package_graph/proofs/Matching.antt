@@ -46,15 +46,15 @@ passed_start members test marks n is = record {
 pub passed_step : (members : List ℕ) (test : ℕ → Bool) (marks : List Bool) (n p : ℕ) (b : Bool) → n < length members → p ≡ get_or members n p → p < length marks → b ≡ test p → MarksPassed members test marks n → MarksPassed members test (set marks p b) (n + 1)
 passed_step members test marks n p b within at inside is passed = record {
   sound = λ q m. elim (marked_written marks p q b m) [
-    inl was ↦ passed.sound q was
-  | inr (e, t) ↦ ((n, within, get_or_default members n q p within ∙ sym at ∙ sym e), ap test e ∙ sym is ∙ t)
+    | inl was ↦ passed.sound q was
+    | inr (e, t) ↦ ((n, within, get_or_default members n q p within ∙ sym at ∙ sym e), ap test e ∙ sym is ∙ t)
   ];
   complete = below_more (λ k. (d : ℕ) → test (get_or members k d) ≡ true → IsMarked (set marks p b) (get_or members k d)) n
       (λ k h d t. marked_still marks p (get_or members k d) b (λ e. is ∙ ap test (sym e) ∙ t) (passed.complete k h d t))
       (λ d t.
-        let here : get_or members n d ≡ p = get_or_default members n d p within ∙ sym at in
-        let written : b ≡ true = is ∙ ap test (sym here) ∙ t in
-        subst (IsMarked (set marks p b)) (sym here) (get_or-set_same marks p b false inside ∙ written));
+      let here : get_or members n d ≡ p = get_or_default members n d p within ∙ sym at in
+      let written : b ≡ true = is ∙ ap test (sym here) ∙ t in
+      subst (IsMarked (set marks p b)) (sym here) (get_or-set_same marks p b false inside ∙ written));
 }
 
 pub passed_all : (members : List ℕ) (test : ℕ → Bool) (marks : List Bool) (n p : ℕ) → length members ≤ n → MarksPassed members test marks n → IsMarked marks p ↔ (Contains members p × (test p ≡ true))
@@ -66,9 +66,10 @@ abbrev pub accepts_at : List (List ℕ) → (List ℕ → Bool) → ℕ → Bool
 accepts_at names accepts place = accepts (get_or names place [])
 
 pub matched_as_passed : (graph : Graph) (accepts : List ℕ → Bool) (p : ℕ) → All (λ place. place < length graph.names) graph.members → (Contains graph.members p × (accepts_at graph.names accepts p ≡ true)) ↔ IsMatched graph accepts p
-matched_as_passed graph accepts p below =
-    ( (λ (member, t). (get_or graph.names p [], (member, slice_get-get_or graph.names p [] (All-contains (λ place. place < length graph.names) graph.members p below member)), t))
-    , (λ (name, named, t). (named.0, ap accepts (get_or_from_slice_get graph.names p name [] named.1) ∙ t)) )
+matched_as_passed graph accepts p below = (
+  (λ (member, t). (get_or graph.names p [], (member, slice_get-get_or graph.names p [] (All-contains (λ place. place < length graph.names) graph.members p below member)), t)),
+  (λ (name, named, t). (named.0, ap accepts (get_or_from_slice_get graph.names p name [] named.1) ∙ t)),
+)
 
 -- ---- names
 
@@ -99,8 +100,8 @@ named_add names members marks has more n p bytes within at marked is adds named 
   complete = below_more (λ k. (d : ℕ) → IsMarked marks (get_or members k d) → more (get_or names (get_or members k d) []) ≡ true) n
       (λ k h d m. adds _ ∙ kept (bytes_eq bytes _) (named.complete k h d m))
       (λ d m.
-        let here : get_or names (get_or members n d) [] ≡ bytes = ap (λ q. get_or names q []) (get_or_default members n d p within ∙ sym at) ∙ sym is in
-        adds _ ∙ ap (λ b. cond b true (has (get_or names (get_or members n d) []))) ((bytes_eq-Decides bytes _).1 (sym here)));
+      let here : get_or names (get_or members n d) [] ≡ bytes = ap (λ q. get_or names q []) (get_or_default members n d p within ∙ sym at) ∙ sym is in
+      adds _ ∙ ap (λ b. cond b true (has (get_or names (get_or members n d) []))) ((bytes_eq-Decides bytes _).1 (sym here)));
 }
   where
     kept : (b : Bool) {c : Bool} → c ≡ true → cond b true c ≡ true
@@ -112,13 +113,14 @@ named_add names members marks has more n p bytes within at marked is adds named 
     found name false other h = named.sound name h
 
 pub named_all : (graph : Graph) (marks : List Bool) (has : List ℕ → Bool) (n : ℕ) (name : List ℕ) → All (λ place. place < length graph.names) graph.members → length graph.members ≤ n → NamesMarked graph.names graph.members marks has n → IsTrue (has name) ↔ ((place : ℕ) × IsMemberNamed graph name place × IsMarked marks place)
-named_all graph marks has n name below ended named =
-    ( (λ h.
-        let found = named.sound name h in
-        let inside = All-contains (λ place. place < length graph.names) graph.members found.0 below found.1 in
-        (found.0, (found.1, slice_get-get_or graph.names found.0 [] inside ∙ ap Some found.2), found.3))
-    , (λ (p, named_so, m).
-        let k = named_so.0.0 in
-        let at : get_or graph.members k p ≡ p = named_so.0.2 in
-        let is : get_or graph.names (get_or graph.members k p) [] ≡ name = ap (λ q. get_or graph.names q []) at ∙ get_or_from_slice_get graph.names p name [] named_so.1 in
-        ap has (sym is) ∙ named.complete k (omega (arith, named_so.0.1)) p (subst (IsMarked marks) (sym at) m)) )
+named_all graph marks has n name below ended named = (
+  (λ h.
+      let found = named.sound name h in
+      let inside = All-contains (λ place. place < length graph.names) graph.members found.0 below found.1 in
+      (found.0, (found.1, slice_get-get_or graph.names found.0 [] inside ∙ ap Some found.2), found.3)),
+  (λ (p, named_so, m).
+      let k = named_so.0.0 in
+      let at : get_or graph.members k p ≡ p = named_so.0.2 in
+      let is : get_or graph.names (get_or graph.members k p) [] ≡ name = ap (λ q. get_or graph.names q []) at ∙ get_or_from_slice_get graph.names p name [] named_so.1 in
+      ap has (sym is) ∙ named.complete k (omega (arith, named_so.0.1)) p (subst (IsMarked marks) (sym at) m)),
+)

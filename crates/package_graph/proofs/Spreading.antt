@@ -94,9 +94,9 @@ spread_new edges old now new n grown edge within at inside spread from_marked to
   same_length = ap length is ∙ length-set now edge.to true ∙ spread.same_length;
   keeps = λ place m. subst (λ marks. IsMarked marks place) (sym is) (set_keeps now edge.to place (spread.keeps place m));
   reached = λ place m. elim (set_adds now edge.to place (subst (λ marks. IsMarked marks place) is m)) [
-    inl was ↦ spread.reached place was
-  | inr e ↦ let start = spread.reached edge.from from_marked in
-    (start.0, start.1, subst (Reaches edges start.0) (sym e) (reaches_next start.2 (n, within, sym at)))
+    | inl was ↦ spread.reached place was
+    | inr e ↦ let start = spread.reached edge.from from_marked in
+        (start.0, start.1, subst (Reaches edges start.0) (sym e) (reaches_next start.2 (n, within, sym at)))
   ];
   fewer = omega (arith, less, not_more spread);
   closed = tt;

@@ -27,7 +27,10 @@ impl Edge {
     {
         match direction {
             Direction::Dependencies => self,
-            Direction::Dependents => Edge { from: self.to, to: self.from },
+            Direction::Dependents => Edge {
+                from: self.to,
+                to: self.from,
+            },
         }
     }
 }

@@ -64,7 +64,11 @@ impl PackageGraph {
         let names = package_names(alloc, packages)?;
         let members = members_of(alloc, &ids, metadata)?;
         let edges = edges_of(alloc, &ids, metadata)?;
-        Ok(PackageGraph { names, members, edges })
+        Ok(PackageGraph {
+            names,
+            members,
+            edges,
+        })
     }
 
     /// Marks the members whose name matches.

@@ -92,6 +92,9 @@ fn faults(rt: HostRuntime) -> Result<(), Fail> {
     assert_eq!(rt; fault, MetadataFault::ExpectedObject(Place::Resolve));
     let unknown = r#"{"packages": [], "workspace_members": ["a"]}"#;
     let fault = fault_of(&rt, unknown).ok_or("no fault")?;
-    assert_eq!(rt; fault, MetadataFault::UnknownPackage(Place::WorkspaceMember(0)));
+    assert_eq!(rt;
+        fault,
+        MetadataFault::UnknownPackage(Place::WorkspaceMember(0))
+    );
     Ok(())
 }

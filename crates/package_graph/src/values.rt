@@ -46,11 +46,7 @@ pub fn text_of(value: &Value, place: Place) -> Result<&str, MetadataFault>
 }
 
 /// The text under a key.
-pub fn text_under<'v>(
-    value: &'v Value,
-    key: &str,
-    place: Place,
-) -> Result<&'v str, MetadataFault>
+pub fn text_under<'v>(value: &'v Value, key: &str, place: Place) -> Result<&'v str, MetadataFault>
     ensures { result_map_both (λ text. text.now) (λ e. e) result
         ≡ text_under key.now place (view value.now) }
 {

@@ -26,13 +26,14 @@ loop-place-preserved c =
     let listed = c.in_ok-listed.listed.items in
     let join : (List (List Edge)) → List Edge = λ lists. flat_map (λ edges. edges) lists in
     let joined : join (done ++ listed ∷ []) ≡ join done ++ listed =
-    flat_map-append (λ (edges : List Edge). edges) done (listed ∷ []) ∙ ap (λ more. join done ++ more) (append-nil listed) in
-    ( done ++ listed ∷ []
-    , c.in_ok-extend_from_slice.ensures.items
-      ∙ ap (λ more. c.loop-place.edges.items ++ more) c.deref.ensures.value
-      ∙ ap (λ front. front ++ listed) c.loop-place.invariant.1
-      ∙ sym joined
-    , seen_step view (node_at (ids_view c.args.ids.now)) c.args.nodes.now c.loop-place.place done _ c.index-nodes-place.result listed c.loop-place-test.true c.index-nodes-place.is c.in_ok-listed.ensures c.loop-place.invariant.2 refl )
+    flat_map-append (λ (edges : List Edge). edges) done (listed ∷ []) ∙ ap (λ more. join done ++ more) (append-nil listed) in (
+      done ++ listed ∷ [],
+      c.in_ok-extend_from_slice.ensures.items
+          ∙ ap (λ more. c.loop-place.edges.items ++ more) c.deref.ensures.value
+          ∙ ap (λ front. front ++ listed) c.loop-place.invariant.1
+          ∙ sym joined,
+      seen_step view (node_at (ids_view c.args.ids.now)) c.args.nodes.now c.loop-place.place done _ c.index-nodes-place.result listed c.loop-place-test.true c.index-nodes-place.is c.in_ok-listed.ensures c.loop-place.invariant.2 refl,
+    )
 
 pub returns : goal.returns
 returns c =
