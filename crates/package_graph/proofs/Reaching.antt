@@ -1,8 +1,7 @@
 -- What reaches what.
-use Rattle.std.proofs.Common.{◌≡◌, ℕ, ◌<◌, List, [], ◌∷◌, length, map, get_or, Contains, refl, sym, ap, ◌∙◌, arith}
+use Rattle.std.proofs.Common.{◌≡◌, ℕ, ◌<◌, List, [], ◌∷◌, length, map, get_or, refl, sym, ap, ◌∙◌, arith}
 use Rattle.std.proofs.lemmas.List.{length-map, get_or-map}
 use Rattle.package_graph.specs.declared.edges.Edge.{Edge}
-use Rattle.package_graph.specs.declared.edges.Direction.{Direction}
 use Rattle.package_graph.specs.declared.edges.Direction.TheVariants.{Dependencies, Dependents}
 use Rattle.package_graph.specs.Edges.{DependsOn, Reaches, itself, onward, oriented}
 

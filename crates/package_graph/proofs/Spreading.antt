@@ -1,12 +1,12 @@
 -- How the marks of a search spread.
-use Rattle.std.proofs.Common.{◌≡◌, ℕ, zero, suc, ◌+◌, ◌<◌, ◌≤◌, Bool, true, false, not, ◌||◌, cond, List, [], ◌∷◌, length, get_or, set, refl, sym, ap, ◌∙◌, subst, arith, true≢false, below_more, ◌≢◌, MatchBool, ◌⊎◌, inl, inr}
+use Rattle.std.proofs.Common.{◌≡◌, ℕ, zero, suc, ◌+◌, ◌<◌, ◌≤◌, Bool, true, false, not, ◌||◌, cond, List, [], ◌∷◌, length, get_or, set, refl, sym, ap, ◌∙◌, subst, arith, below_more, MatchBool, ◌⊎◌, inl, inr}
 use Rattle.std.proofs.lemmas.List.{get_or_default, length-set}
 use Rattle.std.proofs.lemmas.List.Sums.{sum_by-cons}
 use Rattle.std.specs.Bool.{OnTrue, OnFalse}
 use Rattle.package_graph.specs.declared.edges.Edge.{Edge}
 use Rattle.package_graph.specs.declared.edges.Direction.{Direction}
 use Rattle.package_graph.specs.declared.edges.Direction.TheVariants.{Dependencies, Dependents}
-use Rattle.package_graph.specs.Edges.{DependsOn, Reaches, itself, onward, oriented}
+use Rattle.package_graph.specs.Edges.{Reaches, itself, onward, oriented}
 use Rattle.package_graph.specs.Marks.{IsMarked, unmarked, KeepsMarks, MarksReached, IsClosed, IsBelow}
 use Rattle.package_graph.proofs.Reaching.{reaches_through, reaches_next}
 

@@ -1,5 +1,5 @@
 -- The packages that a search has marked, each by its place.
-use Rattle.std.specs.Prelude.{◌≡◌, ◌<◌, ℕ, Bool, true, false, not, List, length, count_by, slice_index_or}
+use Rattle.std.specs.Prelude.{◌≡◌, ◌<◌, ℕ, Bool, true, false, not, List, count_by, slice_index_or}
 use Rattle.package_graph.specs.declared.edges.Edge.{Edge}
 use Rattle.package_graph.specs.Edges.{Reaches, DependsOn}
 

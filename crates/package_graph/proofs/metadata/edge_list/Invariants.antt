@@ -1,4 +1,4 @@
-use Rattle.std.proofs.Common.{codes, map}
+use Rattle.std.proofs.Common.{map}
 use Rattle.serde_json.specs.View.{view}
 use Rattle.package_graph.specs.Metadata.{edge_at}
 use Rattle.package_graph.specs.Names.{ids_view}

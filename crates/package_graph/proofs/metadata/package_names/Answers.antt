@@ -1,4 +1,4 @@
-use Rattle.std.proofs.Common.{◌≡◌, codes, map, ap, ◌∙◌, sym, refl, string_bytes, ◌++◌, ◌∷◌, []}
+use Rattle.std.proofs.Common.{codes, map, ap, ◌∙◌, sym, string_bytes, ◌++◌, ◌∷◌, []}
 use Rattle.std.proofs.lemmas.List.{map-append}
 use Rattle.std.proofs.lemmas.Result.{err_from_is_err_and}
 use Rattle.serde_json.specs.View.{view}

@@ -1,4 +1,4 @@
-use Rattle.std.proofs.Common.{◌≡◌, map, vec_len, refl, ◌∙◌}
+use Rattle.std.proofs.Common.{map, refl, ◌∙◌}
 use Rattle.package_graph.specs.Edges.{oriented, itself}
 use Rattle.package_graph.proofs.Spreading.{closed_reaches, reached_again}
 use Rattle.package_graph.proofs.search.reach.Goals as goal

@@ -1,6 +1,5 @@
-use Rattle.std.proofs.Common.{◌≡◌, ◌<◌, ◌≤◌, length, map, vec_len, get_or, refl, sym, subst, ap, ◌∙◌, arith}
+use Rattle.std.proofs.Common.{◌≡◌, ◌<◌, length, map, vec_len, get_or, refl, sym, subst, ◌∙◌, arith}
 use Rattle.std.proofs.lemmas.List.{length-map, get_or-map}
-use Rattle.package_graph.specs.declared.edges.Edge.{Edge}
 use Rattle.package_graph.specs.Edges.{oriented}
 use Rattle.package_graph.proofs.Spreading.{below_oriented, spread_start, spread_step, spread_closed}
 use Rattle.package_graph.specs.Marks.{IsBelow}

@@ -1,6 +1,4 @@
-use Rattle.std.proofs.Common.{sym, subst}
 use Rattle.std.proofs.lemmas.Result.{IfOk-weaker}
-use Rattle.package_graph.specs.Edges.{Reaches}
 use Rattle.package_graph.proofs.Reaching.{reaches_turned, turned_reaches}
 use Rattle.package_graph.proofs.graph.PackageGraph.dependents_of.Goals as goal
 
