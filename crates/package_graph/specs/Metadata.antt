@@ -81,7 +81,8 @@ abbrev pub node_at : List (List ℕ) → ℕ → Data → Result (List Edge) Met
 node_at ids place value =
     and_then (text_under (codes "id") (NodeId place) value) (λ id.
     and_then (package_of ids (NodeId place) id) (λ from.
-    and_then (list_under (codes "deps") (Dependencies place) value) (each (edge_at ids place from))))
+    and_then (list_under (codes "deps") (Dependencies place) value)
+    (each (edge_at ids place from))))
 
 -- the dependencies of all packages
 abbrev pub edges_of : List (List ℕ) → Data → Result (List Edge) MetadataFault

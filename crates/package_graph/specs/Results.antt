@@ -20,6 +20,7 @@ each f xs = gathered (map (λ p. f p.0 p.1) (enumerate_from 0 xs))
 
 -- What was read, seen in this way, is what stands there; and where there was memory, a fault is the
 -- one that stands there.
-abbrev pub Reads : {A B : Type 0} → (A → B) → Result A MetadataFault → Result B MetadataFault → Type 0
+abbrev pub Reads : {A B : Type 0} → (A → B) → Result A MetadataFault → Result B MetadataFault
+    → Type 0
 Reads seen result stands =
     MatchResult result (λ a. stands ≡ Ok (seen a)) (λ e. e ≢ Memory → stands ≡ Err e)

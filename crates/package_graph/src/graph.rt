@@ -46,7 +46,8 @@ impl PackageGraph {
     /// dependencies. [`MetadataFault::Memory`] where there was none.
     pub fn from_metadata(alloc: Global, text: &str) -> Result<PackageGraph, MetadataFault>
         ensures graph { IfOk result (λ graph. graph_of_text text.now ≡ Ok (graph_view graph)) }
-        ensures fault { IfErr result (λ fault. fault ≢ Memory → graph_of_text text.now ≡ Err fault) }
+        ensures fault { IfErr result (λ fault. fault ≢ Memory
+            → graph_of_text text.now ≡ Err fault) }
     {
         match Value::from_str(alloc, text) {
             Ok(metadata) => PackageGraph::from_value(alloc, &metadata),

@@ -29,7 +29,8 @@ fn spread(edges: &[Edge], direction: Direction, marks: &mut Vec<bool>) -> bool
     ensures reached { MarksReached (map (oriented direction) edges.now)
         marks.old.items marks.new.items }
     ensures fewer { OnTrue result (unmarked marks.new.items < unmarked marks.old.items) }
-    ensures closed { OnFalse result (IsClosed (map (oriented direction) edges.now) marks.new.items) }
+    ensures closed { OnFalse result
+        (IsClosed (map (oriented direction) edges.now) marks.new.items) }
 {
     let mut has_grown = false;
     for edge in edges {
