@@ -1,0 +1,4 @@
+pub mod StateLists
+pub mod Runs
+pub mod RegexTexts
+pub mod Matches

@@ -1,0 +1,12 @@
+//! What a filter asks of a name: to equal a text, to have it as a part, to match a glob or a regular
+//! expression.
+//!
+//! A pattern is compiled once. A name is matched with no memory but the stack's.
+#![tactic(auto)]
+
+mod machine;
+mod name_matcher;
+mod regex_matcher;
+
+pub use name_matcher::NameMatcher;
+pub use regex_matcher::{RegexFault, RegexMatcher};
