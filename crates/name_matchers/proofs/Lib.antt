@@ -6,3 +6,6 @@ pub mod Steps
 pub mod Searches
 pub mod Turns
 pub mod RegexTexts
+pub mod GlobParts
+pub mod GlobPatterns
+pub mod GlobMachines

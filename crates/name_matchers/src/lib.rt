@@ -4,9 +4,13 @@
 //! A pattern is compiled once. A name is matched with no memory but the stack's.
 #![tactic(auto)]
 
+mod glob;
 mod machine;
 mod name_matcher;
 mod regex_matcher;
+#[cfg(test)]
+mod tests;
 
-pub use name_matcher::NameMatcher;
+pub use glob::{GlobFault, GlobMatcher};
+pub use name_matcher::{NameMatcher, law_plain_glob};
 pub use regex_matcher::{RegexFault, RegexMatcher};
