@@ -1,18 +1,17 @@
 -- States closed under the edges that read no byte.
-use Rattle.std.proofs.Common.{◌≡◌, ℕ, ◌+◌, ◌<◌, ◌≤◌, ◌⊎◌, List, [], ◌∷◌, ◌++◌, length, get_or, vec_len, refl, sym, ap, ◌∙◌, ⊎_elim, inl, inr, arith, append-nil, length-append}
+use Rattle.std.proofs.Common.{◌≡◌, ℕ, ◌+◌, ◌<◌, ◌≤◌, List, [], length, get_or, refl, sym, ap, ◌∙◌, ⊎_elim, arith, append-nil, length-append}
 use Rattle.std.specs.Prelude.{Contains}
 use Rattle.std.proofs.lemmas.Bool.{cases_eq}
 use Rattle.std.proofs.lemmas.List.{get_or_append_left}
 use Rattle.std.proofs.lemmas.List.Elements.{Contains-get_or}
-use Rattle.regex_nfa.specs.States.{IsBelow}
 use Rattle.regex_nfa.specs.Run.{state_of}
-use Rattle.regex_nfa.specs.Paths.{EmptyEdge, Accepts, matched, skipped}
+use Rattle.regex_nfa.specs.Paths.{EmptyEdge, matched, skipped}
 use Rattle.regex_nfa.specs.declared.state.State.TheVariants.{Match}
 use Rattle.regex_nfa.specs.declared.nfa.Nfa.{Nfa}
 use Rattle.regex_nfa.proofs.PathsLemmas.{EmptyEdge-IsBelow}
 use Rattle.regex_nfa.proofs.RunLemmas.{any_default}
 use Rattle.regex_vm.proofs.NfaLemmas.{below_within}
-use Rattle.name_matchers.specs.Runs.{AreStates, Extends, AddsTargets, Succeeds, SomeSucceeds, IsClosed, IsClosing}
+use Rattle.name_matchers.specs.Runs.{AreStates, Extends, AddsTargets, SomeSucceeds, IsClosing}
 use Rattle.name_matchers.proofs.Targets.{extends_on, keeps}
 
 -- The state ends no match, and each state to which it leads with no byte is among these.

@@ -1,9 +1,7 @@
 -- The parts that a text writes are told by the text.
-use Rattle.std.proofs.Common.{◌≡◌, ℕ, ◌+◌, ◌<◌, ◌≤◌, ◌⊎◌, ◌↔◌, Bool, true, false, List, [], ◌∷◌, ◌++◌, length, drop, map, refl, sym, ap, ◌∙◌, ⊎_elim, inl, inr, arith, append-nil, append_assoc, true≢false, get_or}
-use Rattle.std.specs.Prelude.{All}
-use Rattle.std.proofs.lemmas.List.{drop_more}
+use Rattle.std.proofs.Common.{◌≡◌, ℕ, ◌<◌, ◌⊎◌, ◌↔◌, Bool, true, false, List, [], ◌∷◌, ◌++◌, length, map, refl, sym, ap, ◌∙◌, ⊎_elim, inl, arith, append-nil, append_assoc, true≢false}
 use Rattle.std.proofs.lemmas.List.Elements.{All-head, All-tail}
-use Rattle.name_matchers.specs.Globs.{is_special, ends_in_slash, BeginsFolders, Writes, WritesAll, Takes, TakeAll, IsGlob, GlobMatches, IsPlain}
+use Rattle.name_matchers.specs.Globs.{is_special, ends_in_slash, Writes, WritesAll, TakeAll, IsGlob, GlobMatches, IsPlain}
 use Rattle.name_matchers.specs.declared.glob.part.GlobPart.{GlobPart}
 use Rattle.name_matchers.specs.declared.glob.part.GlobPart.TheVariants.{Byte, AnyByte, AnyBytes, Folders}
 

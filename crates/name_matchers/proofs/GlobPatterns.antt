@@ -1,22 +1,22 @@
 -- Patterns match what the parts of a glob take.
-use Rattle.std.proofs.Common.{◌≡◌, ℕ, zero, suc, ◌+◌, ◌-◌, ◌<◌, ◌≤◌, ◌⊎◌, ◌↔◌, Bool, true, false, not, List, [], ◌∷◌, ◌++◌, Option, Some, None, map, length, take, drop, get_or, min, refl, sym, ap, ◌∙◌, subst, ⊎_elim, inl, inr, arith, append_assoc, true≢false}
+use Rattle.std.proofs.Common.{◌≡◌, ℕ, zero, suc, ◌+◌, ◌-◌, ◌<◌, ◌≤◌, ◌⊎◌, true, not, List, [], ◌∷◌, ◌++◌, Some, None, map, length, take, drop, get_or, min, refl, sym, ap, ◌∙◌, subst, ⊎_elim, inl, inr, arith, append_assoc, true≢false}
 use Rattle.std.specs.Prelude.{All, IfOk, Ok, Err, Result, slice_get, is_some}
 use Rattle.std.specs.declared.alloc.AllocError.{AllocError}
 use Rattle.std.proofs.Math.Seq.{drop-append_seam}
 use Rattle.std.proofs.lemmas.Bool.{cases_lt, le-leb}
 use Rattle.std.proofs.lemmas.List.{drop_more, take_more, take_all, map-append, drop-drop, length-drop, length-take, length-append, take-append-drop, nil_from_length}
-use Rattle.std.proofs.lemmas.Option.{slice_get-get_or, slice_get_past, slice_get_within, none-some}
+use Rattle.std.proofs.lemmas.Option.{slice_get-get_or, slice_get_past, slice_get_within}
 use Rattle.regex_class.specs.Ranges.{in_range, in_ranges, HasExactly}
 use Rattle.regex_hir.specs.Text.{has_bytes_at, byte_before}
 use Rattle.regex_hir.specs.Looks.{holds, holds_between}
 use Rattle.regex_hir.specs.declared.look.Look.TheVariants.{Start, End}
-use Rattle.regex_hir.specs.Re.{Re, Trace, empty, literal, byte_in, look, cat, alt, plus}
+use Rattle.regex_hir.specs.Re.{Re, empty, literal, byte_in, look, alt, plus}
 use Rattle.regex_hir.specs.declared.hir.Hir.{Hir}
 use Rattle.regex_hir.specs.declared.hir.Hir.TheVariants as variant
 use Rattle.regex_hir.specs.Meaning.{meaning, cat_all, alt_all, repeat}
 use Rattle.regex_hir.proofs.MeaningLemmas.{meaning-Look}
 use Rattle.regex_hir.specs.Matches.{Matches, Rounds, one_round, next_round}
-use Rattle.regex_hir.specs.Find.{Match, find}
+use Rattle.regex_hir.specs.Find.{find}
 use Rattle.regex_hir.proofs.TextLemmas.{has_bytes_at_parts, has_bytes_at_from, byte_before-zero, byte_before-add-one}
 use Rattle.regex_hir.proofs.MatchesLemmas.{Matches-IsSpan}
 use Rattle.regex_hir.proofs.OptionLemmas.{value_of_IsSome}

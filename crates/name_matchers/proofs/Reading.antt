@@ -1,5 +1,5 @@
 -- What states lead to on a byte.
-use Rattle.std.proofs.Common.{◌≡◌, ℕ, ◌+◌, ◌<◌, ◌≤◌, ◌⊎◌, List, [], ◌∷◌, ◌++◌, Option, Some, None, length, take, get_or, vec_len, refl, sym, ap, ◌∙◌, ⊎_elim, inl, inr, arith, append-nil}
+use Rattle.std.proofs.Common.{◌≡◌, ℕ, ◌+◌, ◌<◌, List, [], ◌∷◌, ◌++◌, Option, Some, None, length, take, get_or, vec_len, refl, sym, ap, ◌∙◌, ⊎_elim, inl, inr, arith, append-nil}
 use Rattle.std.specs.Prelude.{Contains, MatchOption}
 use Rattle.std.proofs.Math.Seq.{take-length}
 use Rattle.std.proofs.lemmas.List.{take_more}
@@ -9,7 +9,7 @@ use Rattle.regex_nfa.specs.Run.{state_of}
 use Rattle.regex_nfa.specs.declared.nfa.Nfa.{Nfa}
 use Rattle.regex_nfa.proofs.RunLemmas.{next_on_within}
 use Rattle.name_matchers.specs.StateLists.{AddsState}
-use Rattle.name_matchers.specs.Runs.{AreStates, Extends, Reads, ReadsState}
+use Rattle.name_matchers.specs.Runs.{AreStates, Reads, ReadsState}
 use Rattle.name_matchers.proofs.Targets.{extends_of, extends_on, keeps, cases_of}
 
 module _ (nfa : Nfa) (byte : ℕ) where

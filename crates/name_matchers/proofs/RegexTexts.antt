@@ -1,9 +1,9 @@
 -- Regular expressions and their automata.
-use Rattle.std.proofs.Common.{◌≡◌, ℕ, ◌<◌, ◌≤◌, ◌↔◌, ◌⊎◌, true, List, Option, Some, None, is_some, refl, sym, ap, ◌∙◌, ⊎_elim, get_or, length, arith, Fits, w8}
+use Rattle.std.proofs.Common.{◌≡◌, ℕ, ◌<◌, ◌≤◌, ◌↔◌, true, List, Option, Some, None, is_some, refl, sym, ap, ◌∙◌, ⊎_elim, get_or, length, arith, Fits, w8}
 use Rattle.std.specs.Prelude.{All, IfSome, IsSomeAnd, IsSome, option_map, chars}
 use Rattle.std.proofs.lemmas.List.Elements.{All-from_get_or}
 use Rattle.regex_hir.specs.Re.{Re}
-use Rattle.regex_hir.specs.Find.{Match, find}
+use Rattle.regex_hir.specs.Find.{find}
 use Rattle.regex_hir.specs.Meaning.{meaning}
 use Rattle.regex_hir.specs.declared.hir.Hir.{Hir}
 use Rattle.regex_nfa.specs.declared.nfa.Nfa.{Nfa}

@@ -1,18 +1,14 @@
 -- A search over a name, position by position.
-use Rattle.std.proofs.Common.{◌≡◌, ℕ, ◌+◌, ◌<◌, ◌≤◌, ◌⊎◌, ◌↔◌, Bool, true, false, List, [], length, Option, Some, None, is_some, refl, sym, ap, ◌∙◌, ⊎_elim, inl, inr, arith, true≢false}
-use Rattle.std.specs.Prelude.{Contains}
+use Rattle.std.proofs.Common.{◌≡◌, ℕ, ◌+◌, ◌<◌, ◌≤◌, ◌⊎◌, ◌↔◌, Bool, true, false, List, [], length, Option, Some, None, is_some, refl, sym, ap, ⊎_elim, inl, inr, arith, true≢false}
 use Rattle.std.proofs.lemmas.Bool.{cases_eq}
-use Rattle.regex_hir.specs.Find.{Match, first_between, find}
-use Rattle.regex_hir.specs.Re.{Re, accept, attempt}
-use Rattle.regex_hir.proofs.OptionLemmas.{value_of_IsSome}
+use Rattle.regex_hir.specs.Find.{Match, find}
+use Rattle.regex_hir.specs.Re.{Re}
 use Rattle.regex_hir.proofs.FindLemmas.{IsFirst-of_first_between, none_of_first_between, first_between_cong}
-use Rattle.regex_nfa.specs.Run.{run}
-use Rattle.regex_nfa.specs.Paths.{Accepts}
 use Rattle.regex_nfa.specs.declared.nfa.Nfa.{Nfa}
 use Rattle.regex_nfa.proofs.PathsLemmas.{Accepts-of_run, no_path_of_run_none}
 use Rattle.regex_compile.specs.Implements.{Implements}
 use Rattle.regex_vm.specs.Found.{first_match}
-use Rattle.name_matchers.specs.Runs.{finds, AreStates, Succeeds, SomeSucceeds, Begins, Steps}
+use Rattle.name_matchers.specs.Runs.{finds, AreStates, Succeeds, SomeSucceeds, Steps}
 
 -- What an automaton finds is what its pattern finds.
 pub finds_pattern : (nfa : Nfa) (re : Re) → Implements nfa re → (name : List ℕ) → finds nfa name ≡ is_some (find re name 0)

@@ -1,16 +1,14 @@
 -- A step over one byte of a name.
-use Rattle.std.proofs.Common.{◌≡◌, ℕ, ◌+◌, ◌<◌, ◌≤◌, ◌⊎◌, ◌↔◌, Bool, true, false, List, [], ◌∷◌, ◌++◌, Option, Some, None, length, get_or, vec_len, refl, sym, ap, ◌∙◌, subst, ⊎_elim, inl, inr, arith}
-use Rattle.std.specs.Prelude.{Contains, slice_get}
-use Rattle.std.specs.Bool.{MatchBool}
+use Rattle.std.proofs.Common.{◌≡◌, ℕ, ◌+◌, ◌<◌, true, false, List, [], Some, length, get_or, vec_len, refl, sym, ◌∙◌, subst, ⊎_elim, inl, inr, arith}
+use Rattle.std.specs.Prelude.{Contains}
 use Rattle.std.proofs.lemmas.Option.{slice_get-get_or}
 use Rattle.regex_nfa.specs.States.{next_on, byte_below}
 use Rattle.regex_nfa.specs.Run.{state_of}
-use Rattle.regex_nfa.specs.Paths.{EmptyEdge, ByteEdge, Accepts, matched, skipped, consumed}
-use Rattle.regex_nfa.specs.declared.state.State.TheVariants.{Match}
+use Rattle.regex_nfa.specs.Paths.{Accepts, matched, skipped, consumed}
 use Rattle.regex_nfa.specs.declared.nfa.Nfa.{Nfa}
 use Rattle.regex_nfa.proofs.RunLemmas.{byte_below-length, byte_below_some}
 use Rattle.name_matchers.specs.StateLists.{AddsState}
-use Rattle.name_matchers.specs.Runs.{AreStates, Extends, Reads, Succeeds, SomeSucceeds, Begins, Steps, Closes, IsClosed, IsClosing}
+use Rattle.name_matchers.specs.Runs.{AreStates, Reads, Succeeds, SomeSucceeds, Begins, Steps, Closes, IsClosed, IsClosing}
 use Rattle.name_matchers.proofs.Targets.{extends_of, keeps, cases_of}
 
 module _ (nfa : Nfa) (name : List ℕ) where

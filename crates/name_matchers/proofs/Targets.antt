@@ -1,12 +1,12 @@
 -- What a state leads to with no byte.
-use Rattle.std.proofs.Common.{◌≡◌, ℕ, ◌+◌, ◌<◌, ◌⊎◌, true, false, List, [], ◌∷◌, ◌++◌, vec_len, refl, sym, ap, ◌∙◌, ⊎_elim, inl, inr, append_assoc, append-nil}
+use Rattle.std.proofs.Common.{◌≡◌, ℕ, ◌⊎◌, true, List, [], ◌∷◌, ◌++◌, sym, ap, ◌∙◌, ⊎_elim, inl, inr, append_assoc, append-nil}
 use Rattle.std.specs.Prelude.{Contains}
 use Rattle.std.proofs.lemmas.List.Elements.{Contains-append_left, Contains-push_cases}
 use Rattle.regex_hir.specs.Looks.{holds}
 use Rattle.regex_hir.specs.declared.look.Look as look
 use Rattle.regex_nfa.specs.Run.{state_of}
 use Rattle.regex_nfa.specs.Paths.{EmptyEdge, by_first, by_second, by_save, by_look}
-use Rattle.regex_nfa.specs.declared.state.State.TheVariants.{ByteRange, Sparse, Split, Save, Look, Match, Fail}
+use Rattle.regex_nfa.specs.declared.state.State.TheVariants.{Split, Save, Look}
 use Rattle.regex_nfa.specs.declared.nfa.Nfa.{Nfa}
 use Rattle.name_matchers.specs.StateLists.{AddsState}
 use Rattle.name_matchers.specs.Runs.{AddsTargets, Extends}

@@ -1,5 +1,5 @@
 -- Globs: the parts that a text writes, and the names that they take.
-use Rattle.std.specs.Prelude.{◌≡◌, ℕ, ◌<◌, ◌+◌, ◌⊎◌, ◌↔◌, Bool, true, false, ◌||◌, ◌==◌, List, [], ◌∷◌, ◌++◌, length, drop, All, codes, MatchResult, Result, ⊤}
+use Rattle.std.specs.Prelude.{◌≡◌, ℕ, ◌<◌, ◌⊎◌, ◌↔◌, Bool, true, false, ◌||◌, ◌==◌, List, [], ◌∷◌, ◌++◌, length, drop, All, MatchResult, Result, ⊤}
 use Rattle.regex_nfa.specs.declared.nfa.Nfa.{Nfa}
 use Rattle.name_matchers.specs.Runs.{finds}
 use Rattle.name_matchers.specs.declared.glob.GlobFault.{GlobFault}

@@ -3,11 +3,10 @@ use Rattle.std.specs.Prelude.{◌≡◌, ℕ, ◌+◌, ◌<◌, ◌≤◌, ◌�
 use Rattle.std.specs.Bool.{MatchBool}
 use Rattle.regex_vm.specs.Found.{first_match}
 use Rattle.regex_nfa.specs.States.{next_on}
-use Rattle.regex_nfa.specs.Run.{state_of, run}
+use Rattle.regex_nfa.specs.Run.{state_of}
 use Rattle.regex_nfa.specs.Paths.{EmptyEdge, Accepts}
 use Rattle.name_matchers.specs.StateLists.{AddsState}
 use Rattle.regex_nfa.specs.declared.nfa.Nfa.{Nfa}
-use Rattle.regex_nfa.specs.declared.state.State.{State}
 use Rattle.regex_nfa.specs.declared.state.State.TheVariants.{Match}
 
 -- whether the automaton finds a match that starts somewhere in the name

@@ -1,5 +1,5 @@
 -- Lists of states.
-use Rattle.std.specs.Prelude.{◌≡◌, ℕ, ◌<◌, ◌≤◌, ◌⊎◌, Bool, true, false, List, [], ◌∷◌, ◌++◌, length, take, Contains, slice_index_or}
+use Rattle.std.specs.Prelude.{◌≡◌, ℕ, ◌≤◌, ◌⊎◌, Bool, true, false, List, [], ◌∷◌, ◌++◌, length, take, Contains, slice_index_or}
 use Rattle.regex_vm.specs.Bits.{members}
 
 -- The flags tell of each state whether it is among the first of the states, of which there are as

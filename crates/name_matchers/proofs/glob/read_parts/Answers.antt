@@ -1,7 +1,7 @@
 use Rattle.std.proofs.Common.{◌≡◌, ◌<◌, ◌-◌, drop, take, length, inr, arith}
 use Rattle.std.proofs.lemmas.List.{drop-drop, length-drop, nil_from_length, take_all}
 use Rattle.std.proofs.lemmas.Result.{err_from_is_err_and}
-use Rattle.name_matchers.proofs.GlobParts.{nothing_read, read_more, all_read, none_read}
+use Rattle.name_matchers.proofs.GlobParts.{read_more, all_read, none_read}
 use Rattle.name_matchers.proofs.glob.read_parts.Goals as goal
 
 pub loop-at-preserved : goal.loop-at-preserved

@@ -1,4 +1,4 @@
-use Rattle.std.proofs.Common.{◌≡◌, ◌%◌, arith}
+use Rattle.std.proofs.Common.{arith}
 use Rattle.name_matchers.proofs.Turns.{states_even, states_odd, states_after_even, states_after_odd, step_even, step_odd}
 use Rattle.name_matchers.proofs.machine.Machine.turn.Goals as goal
 

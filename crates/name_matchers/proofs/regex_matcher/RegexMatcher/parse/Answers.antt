@@ -1,4 +1,4 @@
-use Rattle.std.proofs.Common.{◌≡◌, subst, map}
+use Rattle.std.proofs.Common.{subst, map}
 use Rattle.std.specs.Prelude.{option_map, string_bytes}
 use Rattle.regex_syntax.specs.Verdict.{Reads, Refuses}
 use Rattle.name_matchers.proofs.RegexTexts.{is_read, machine_read, not_read}

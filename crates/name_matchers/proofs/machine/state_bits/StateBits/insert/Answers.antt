@@ -1,5 +1,4 @@
-use Rattle.std.proofs.Common.{◌≡◌, ◌*◌, ◌/◌, ◌%◌, ◌<◌, ◌∙◌, length, get_or, sym, ap, not, eqb, refl, arith}
-use Rattle.std.specs.Int.{bit_at}
+use Rattle.std.proofs.Common.{◌*◌, ◌/◌, ◌%◌, ◌<◌, ◌∙◌, length, get_or, sym, ap, not, refl, arith}
 use Rattle.regex_vm.specs.Bits.{bits_of}
 use Rattle.regex_vm.proofs.SetLemmas.{length-bits_of, get_or-bits_of, bit_clear, bits_of-set, inserted}
 use Rattle.name_matchers.proofs.machine.state_bits.StateBits.insert.Goals as goal

@@ -1,4 +1,4 @@
-use Rattle.std.proofs.Common.{◌≡◌, length, ap, arith}
+use Rattle.std.proofs.Common.{length, ap, arith}
 use Rattle.name_matchers.proofs.StateLists.{listed_len}
 use Rattle.name_matchers.proofs.machine.state_list.StateList.get.Goals as goal
 

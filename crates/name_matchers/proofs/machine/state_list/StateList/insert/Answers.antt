@@ -1,4 +1,4 @@
-use Rattle.std.proofs.Common.{◌∙◌, sym, ap, arith, length}
+use Rattle.std.proofs.Common.{arith}
 use Rattle.name_matchers.proofs.StateLists.{listed_more, adds_behind}
 use Rattle.name_matchers.proofs.machine.state_list.StateList.insert.Goals as goal
 
