@@ -43,7 +43,7 @@ module _ (nfa : Nfa) (name : List ℕ) where
   Steps at states next matched =
       MatchBool matched (Begins at states) (Begins at states ↔ SomeSucceeds (at + 1) next)
 
-  -- The new states are the old ones and some to which the state leads with no byte, and all such are among them.
+  -- The new states are the old ones and those to which the state leads with no byte.
   pub record AddsTargets (at q : ℕ) (old new : List ℕ) : Type 0 where
     pub kept : Extends old new
     pub added : (r : ℕ) → Contains new r → Contains old r ⊎ EmptyEdge nfa name at q r
@@ -54,12 +54,13 @@ module _ (nfa : Nfa) (name : List ℕ) where
     pub unmatched : (q : ℕ) → Contains states q → state_of nfa q ≡ Match → ⊥
     pub targets : (q r : ℕ) → Contains states q → EmptyEdge nfa name at q r → Contains states r
 
-  -- A match is found from the old states on, or the new ones are the old ones closed.
+  -- The new states are the old ones closed, and no match begins in them that begins in no old one.
   pub record IsClosing (at : ℕ) (old new : List ℕ) : Type 0 where
     pub kept : Extends old new
     pub sound : SomeSucceeds at new → SomeSucceeds at old
     pub closed : IsClosed at new
 
+  -- A match is found from the old states on, or the new ones are the old ones closed.
   abbrev pub Closes : ℕ → List ℕ → List ℕ → Bool → Type 0
   Closes at old new matched = MatchBool matched (SomeSucceeds at old) (IsClosing at old new)
 

@@ -16,7 +16,7 @@ use thiserror::Error;
 /// Why a text gives no glob.
 #[derive(Clone, Copy, Debug, PartialEq, Eq, Error)]
 pub enum GlobFault {
-    /// A backslash stands at the end.
+    /// A backslash stands at the end, or a bracket or brace is not closed or closes nothing.
     #[error("invalid glob")]
     Malformed,
     /// A class in brackets or a group in braces, which are not brought.

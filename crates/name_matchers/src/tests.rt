@@ -77,8 +77,12 @@ fn folders(rt: HostRuntime) -> Result<(), Fail> {
 #[test]
 fn no_globs(rt: HostRuntime) {
     let alloc = rt.alloc();
-    let lone = NameMatcher::glob(alloc, r"x\");
-    assert!(rt; matches!(&lone, Err(GlobFault::Malformed)));
-    let class = NameMatcher::glob(alloc, "foo[");
-    assert!(rt; matches!(&class, Err(GlobFault::NotBrought)));
+    for text in [r"x\", "foo[", "}x", "{x"] {
+        let malformed = NameMatcher::glob(alloc, text);
+        assert!(rt; matches!(&malformed, Err(GlobFault::Malformed)));
+    }
+    for text in ["[pq]", "{a,b}"] {
+        let other = NameMatcher::glob(alloc, text);
+        assert!(rt; matches!(&other, Err(GlobFault::NotBrought)));
+    }
 }

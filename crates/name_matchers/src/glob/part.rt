@@ -47,8 +47,8 @@ fn begins_folders(text: &[u8]) -> bool
 ///
 /// # Errors
 ///
-/// [`GlobFault::Malformed`] for a backslash at the end, and [`GlobFault::NotBrought`] for a class or
-/// a group.
+/// [`GlobFault::Malformed`] for a backslash at the end and a bracket or brace that is not closed or
+/// closes nothing, and [`GlobFault::NotBrought`] for a class or a group.
 pub fn read_part(text: &[u8], opens: bool) -> Result<(GlobPart, usize), GlobFault>
     requires { 0 < length text.now }
     ensures part { ReadsPart opens text.now result }
@@ -67,7 +67,22 @@ pub fn read_part(text: &[u8], opens: bool) -> Result<(GlobPart, usize), GlobFaul
     if first == b'\\' {
         return read_escaped(text);
     }
-    Err(GlobFault::NotBrought)
+    Err(fault_of(first, &text[1..]))
+}
+
+// Why no part begins with this byte: a bracket or a brace that is not closed, or that closes
+// nothing, is malformed.
+fn fault_of(first: u8, behind: &[u8]) -> GlobFault {
+    let closing = match first {
+        b'[' => b']',
+        b'{' => b'}',
+        _ => return GlobFault::Malformed,
+    };
+    if behind.iter().any(|byte| *byte == closing) {
+        GlobFault::NotBrought
+    } else {
+        GlobFault::Malformed
+    }
 }
 
 fn read_star(text: &[u8], opens: bool) -> (GlobPart, usize)
