@@ -1,0 +1,11 @@
+pub mod StateLists
+pub mod Targets
+pub mod Closing
+pub mod Reading
+pub mod Steps
+pub mod Searches
+pub mod Turns
+pub mod RegexTexts
+pub mod GlobParts
+pub mod GlobPatterns
+pub mod GlobMachines

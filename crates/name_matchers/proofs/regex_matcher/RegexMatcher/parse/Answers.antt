@@ -1,0 +1,29 @@
+use Rattle.std.proofs.Common.{subst, map}
+use Rattle.std.specs.Prelude.{option_map, string_bytes}
+use Rattle.regex_syntax.specs.Verdict.{Reads, Refuses}
+use Rattle.name_matchers.proofs.RegexTexts.{is_read, machine_read, not_read}
+use Rattle.name_matchers.proofs.regex_matcher.RegexMatcher.parse.Goals as goal
+
+pub returns-in_default : goal.returns-in_default
+returns-in_default c = record {
+  text = tt;
+  written = tt;
+  malformed = λ _.
+      not_read c.args.text.now c.in-Err.error.kind
+      (subst (λ config. Refuses config c.args.text.now c.in-Err.error.kind) c.default.ensures c.in-Err.ensures.err)
+      c.in_default.not-OutOfMemory;
+}
+
+pub invariant_of-result : goal.invariant_of-result
+invariant_of-result c =
+    let names = map (option_map string_bytes) c.in-Ok.parsed.names.items in
+    rw c.in_ok-text.ensures.ok
+    (machine_read c.args.text.now c.in-Ok.parsed.hir names c.in_ok-machine.machine.nfa
+    (subst (λ config. Reads config c.args.text.now c.in-Ok.parsed.hir names) c.default.ensures c.in-Ok.ensures.ok)
+    c.in_ok-machine.ensures)
+
+pub returns-clause-written : goal.returns-clause-written
+returns-clause-written c =
+    let names = map (option_map string_bytes) c.in-Ok.parsed.names.items in
+    is_read c.args.text.now c.in-Ok.parsed.hir names
+    (subst (λ config. Reads config c.args.text.now c.in-Ok.parsed.hir names) c.default.ensures c.in-Ok.ensures.ok)

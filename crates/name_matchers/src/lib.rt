@@ -1,0 +1,16 @@
+//! What a filter asks of a name: to equal a text, to have it as a part, to match a glob or a regular
+//! expression.
+//!
+//! A pattern is compiled once. A name is matched with no memory but the stack's.
+#![tactic(auto)]
+
+mod glob;
+mod machine;
+mod name_matcher;
+mod regex_matcher;
+#[cfg(test)]
+mod tests;
+
+pub use glob::{GlobFault, GlobMatcher};
+pub use name_matcher::{NameMatcher, law_plain_glob};
+pub use regex_matcher::{RegexFault, RegexMatcher};

@@ -1,0 +1,88 @@
+use crate::{GlobFault, NameMatcher, RegexFault};
+use std::alloc::Global;
+use std::test::Fail;
+
+fn globs(alloc: Global, glob: &str, name: &str) -> Result<bool, Fail> {
+    Ok(NameMatcher::glob(alloc, glob)?.is_match(name))
+}
+
+fn finds(alloc: Global, regex: &str, name: &str) -> Result<bool, Fail> {
+    Ok(NameMatcher::regex(alloc, regex)?.is_match(name))
+}
+
+#[test]
+fn texts(rt: HostRuntime) -> Result<(), Fail> {
+    let alloc = rt.alloc();
+    let equal = NameMatcher::equal(alloc, "foo")?;
+    assert!(rt; equal.is_match("foo"));
+    assert!(rt; !equal.is_match("a::foo"));
+    let part = NameMatcher::contains(alloc, "foo")?;
+    assert!(rt; part.is_match("xfoox"));
+    assert!(rt; !part.is_match("a::Foo"));
+    Ok(())
+}
+
+#[test]
+fn regexes(rt: HostRuntime) -> Result<(), Fail> {
+    let alloc = rt.alloc();
+    assert!(rt; finds(alloc, "^a::", "a::foo")?);
+    assert!(rt; finds(alloc, "foo", "a::foo_b")?);
+    assert!(rt; !finds(alloc, "foo$", "a::foo_b")?);
+    assert!(rt; finds(alloc, "^serial_|_serial$", "x_serial")?);
+    assert!(rt; finds(alloc, "(?i)FOO", "afoo")?);
+    assert!(rt; finds(alloc, r"\bfoo\b", "a::foo")?);
+    assert!(rt; finds(alloc, r"\d{2}", "t_12")?);
+    assert!(rt; finds(alloc, "", "x")?);
+    assert!(rt; finds(alloc, "é.", "aéb")?);
+    assert!(rt; !finds(alloc, "^(lib|bin)$", "test")?);
+    Ok(())
+}
+
+#[test]
+fn no_regexes(rt: HostRuntime) {
+    let alloc = rt.alloc();
+    for text in ["a(", "[z-a]", r"\q"] {
+        let refused = NameMatcher::regex(alloc, text);
+        assert!(rt; matches!(&refused, Err(RegexFault::Malformed)));
+    }
+}
+
+#[test]
+fn wildcards(rt: HostRuntime) -> Result<(), Fail> {
+    let alloc = rt.alloc();
+    assert!(rt; globs(alloc, "p", "p")?);
+    assert!(rt; globs(alloc, "foo*", "foobar")?);
+    assert!(rt; !globs(alloc, "foo*", "a::foo")?);
+    assert!(rt; globs(alloc, "*::foo", "a::b::foo")?);
+    assert!(rt; globs(alloc, "?", "p")?);
+    assert!(rt; !globs(alloc, "??", "p")?);
+    assert!(rt; globs(alloc, "**", "p")?);
+    assert!(rt; globs(alloc, "p??net", "p::net")?);
+    assert!(rt; globs(alloc, r"x\*", "x*")?);
+    assert!(rt; !globs(alloc, r"x\*", "xy")?);
+    Ok(())
+}
+
+#[test]
+fn folders(rt: HostRuntime) -> Result<(), Fail> {
+    let alloc = rt.alloc();
+    assert!(rt; globs(alloc, "**/tool", "p::bin/tool")?);
+    assert!(rt; globs(alloc, "p::*/**", "p::bin/tool")?);
+    assert!(rt; globs(alloc, "p::bin/**/tool", "p::bin/tool")?);
+    assert!(rt; !globs(alloc, "p::bin/**/tool", "p::bintool")?);
+    assert!(rt; globs(alloc, "*/tool", "p::bin/tool")?);
+    Ok(())
+}
+
+#[test]
+fn no_globs(rt: HostRuntime) {
+    let alloc = rt.alloc();
+    for text in [r"x\", "foo[", "}x", "{x"] {
+        let malformed = NameMatcher::glob(alloc, text);
+        assert!(rt; matches!(&malformed, Err(GlobFault::Malformed)));
+    }
+    for text in ["[pq]", "{a,b}"] {
+        let other = NameMatcher::glob(alloc, text);
+        assert!(rt; matches!(&other, Err(GlobFault::NotBrought)));
+    }
+}

@@ -1,0 +1,8 @@
+pub mod Composing
+pub mod Gathering
+pub mod Listing
+pub mod Matching
+pub mod Placing
+pub mod Reaching
+pub mod Spreading
+pub mod Within

@@ -1,0 +1,10 @@
+use Rattle.std.proofs.Common.{codes, map}
+use Rattle.serde_json.specs.View.{view}
+use Rattle.package_graph.specs.declared.fault.Place.TheVariants.{PackageId}
+use Rattle.package_graph.specs.Metadata.{text_under}
+use Rattle.package_graph.specs.Names.{ids_view}
+use Rattle.package_graph.proofs.Gathering.{Gave}
+use Rattle.package_graph.proofs.metadata.package_ids.Given as goal
+
+abbrev pub invariant-loop-place : goal.invariant-loop-place
+invariant-loop-place l = Gave (λ place. text_under (codes "id") (PackageId place)) (map view l.packages) l.place (ids_view l.ids.items)

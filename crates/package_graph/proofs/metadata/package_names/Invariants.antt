@@ -1,0 +1,10 @@
+use Rattle.std.proofs.Common.{codes, map}
+use Rattle.serde_json.specs.View.{view}
+use Rattle.package_graph.specs.declared.fault.Place.TheVariants.{PackageName}
+use Rattle.package_graph.specs.Metadata.{text_under}
+use Rattle.package_graph.specs.Names.{names_view}
+use Rattle.package_graph.proofs.Gathering.{Gave}
+use Rattle.package_graph.proofs.metadata.package_names.Given as goal
+
+abbrev pub invariant-loop-place : goal.invariant-loop-place
+invariant-loop-place l = Gave (λ place. text_under (codes "name") (PackageName place)) (map view l.packages) l.place (names_view l.names.items)

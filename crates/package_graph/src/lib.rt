@@ -1,0 +1,19 @@
+//! The graph of a workspace's packages, as `cargo metadata` writes it, and the sets of members that
+//! dependencies reach in it.
+#![tactic(auto)]
+
+mod edges;
+mod fault;
+mod graph;
+mod laws;
+mod member_set;
+mod metadata;
+mod search;
+#[cfg(test)]
+mod tests;
+mod values;
+
+pub use fault::{MetadataFault, Place};
+pub use graph::PackageGraph;
+pub use laws::law_reaching;
+pub use member_set::MemberSet;

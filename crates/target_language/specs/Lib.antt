@@ -1,0 +1,11 @@
+pub mod Expressions
+pub mod Faults
+pub mod Grammar
+pub mod Keys
+pub mod Laws
+pub mod Leaves
+pub mod Marks
+pub mod Messages
+pub mod Reading
+pub mod Texts
+pub mod Values
