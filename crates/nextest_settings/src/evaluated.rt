@@ -18,8 +18,11 @@ use std::alloc::{AllocError, Global};
 /// there.
 #[derive(Drop)]
 pub struct EvaluatedRules<'cfg, F: Filters, S: Specs> {
+    /// Overrides, the nearest profile first; their numbers begin at 0.
     pub overrides: Vec<EvaluatedOverride<'cfg, F, S>>,
+    /// Script rules; their numbers go on behind those of the overrides.
     pub script_rules: Vec<EvaluatedScriptRule<'cfg, F, S>>,
+    /// The filter that `default()` stands for in every one of them.
     pub default_filter: CompiledDefaultFilter<'cfg, F>,
 }
 
