@@ -1,5 +1,5 @@
 //! What readers of texts answer.
-use nextest_documents::{TextFault, merge_layers, tree_from_text};
+use nextest_documents::{TextFault, lay_over, tree_from_text};
 use nextest_elements::{ConfigIdentifier, Key, ToolName, Tree, parse_duration};
 use nextest_script_order::ids_in_order;
 use nextest_scripts::{ScriptId, split_shell_words, validate_env_var_key};
@@ -100,12 +100,11 @@ pub fn merged_answer(alloc: Global, documents: &[Tree]) -> Result<String, AllocE
 }
 
 fn merged(alloc: Global, documents: &[Tree]) -> Result<Tree, TextFault> {
-    let mut layers = Vec::new(alloc);
+    let mut tree = tree_from_text(alloc, "")?;
     for document in documents {
         let text = document.as_str().unwrap_or("");
-        layers
-            .push(tree_from_text(alloc, text)?)
-            .map_err(AllocError::from)?;
+        let above = tree_from_text(alloc, text)?;
+        tree = lay_over(alloc, &above, tree)?;
     }
-    Ok(merge_layers(alloc, tree_from_text(alloc, "")?, &layers)?)
+    Ok(tree)
 }
