@@ -1,7 +1,7 @@
 -- Who owns a name, by the parts of identifiers.
-use Rattle.std.proofs.Common.{◌≡◌, ◌↔◌, ℕ, List, Option, Some, None, refl, ap, subst, ◌∙◌}
+use Rattle.std.proofs.Common.{◌≡◌, ◌↔◌, ℕ, List, Option, Some, None, refl, ap, subst}
 use Rattle.nextest_texts.specs.Identifier.{HasOrganisationPart, HasToolParts, IsOrganisationIdentifier, IsToolIdentifier, Form, plain, of_organisation, of_tool, form_of}
-use Rattle.nextest_texts.specs.Owner.{Owner, nobody, the_organisation, a_tool, owner_of_form, owner_of_name}
+use Rattle.nextest_texts.specs.Owner.{nobody, the_organisation, a_tool, owner_of_form, owner_of_name}
 use Rattle.nextest_texts.proofs.Identifiers.{form_to, form_from}
 
 -- ---- tools

@@ -1,5 +1,5 @@
 -- Which texts are identifiers.
-use Rattle.std.specs.Prelude.{◌≡◌, ℕ, ◌==◌, Bool, true, false, ◌||◌, ◌&&◌, IsTrue, IsFalse, Contains, List, [], ◌∷◌, ◌++◌, ◌⊎◌, All, Option, Some, None, is_some, codes, drop, nat_eq, encode_utf8_all, if◌then◌else◌}
+use Rattle.std.specs.Prelude.{◌≡◌, ℕ, ◌==◌, Bool, false, ◌||◌, ◌&&◌, IsTrue, IsFalse, Contains, List, [], ◌∷◌, ◌++◌, ◌⊎◌, All, Option, Some, None, is_some, codes, drop, nat_eq, encode_utf8_all, if◌then◌else◌}
 use Rattle.std.specs.List.{list_all, starts_with, before_first, after_first}
 use Rattle.std.specs.Option.{option_or}
 use Rattle.std.specs.Str.{all_scalars, chars, is_utf8}

@@ -1,7 +1,7 @@
 -- Who owns a name.
 use Rattle.std.specs.Prelude.{ℕ, List, Bool, true, false, Option, Some, None}
 use Rattle.std.specs.Str.{bytes_eq}
-use Rattle.nextest_texts.specs.Identifier.{Form, plain, of_organisation, of_tool, form_of}
+use Rattle.nextest_texts.specs.Identifier.{Form, of_organisation, of_tool, form_of}
 
 -- Who owns a name, and so may define it: nobody, the organisation, or a tool.
 pub data Owner : Type 0 where
