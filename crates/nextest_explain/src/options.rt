@@ -9,6 +9,8 @@ use std::collections::BTreeSet;
 pub struct Options<'a> {
     /// The path of the file that is read in place of the repository's own.
     pub config_file: Option<&'a str>,
+    /// The path of the organisation's file.
+    pub organisation_config_file: Option<&'a str>,
     /// The files of tools, in the order of the words.
     pub tool_files: Vec<ToolFile<'a>>,
     /// The experimental features that are switched on.
@@ -32,6 +34,7 @@ pub struct ToolFile<'a> {
 #[derive(Clone, Copy)]
 pub enum OptionName {
     ConfigFile,
+    OrganisationConfigFile,
     ToolConfigFile,
     Experimental,
     Host,
@@ -43,6 +46,7 @@ impl OptionName {
     pub fn of(word: &str) -> Option<OptionName> {
         match word {
             "--config-file" => Some(OptionName::ConfigFile),
+            "--organisation-config-file" => Some(OptionName::OrganisationConfigFile),
             "--tool-config-file" => Some(OptionName::ToolConfigFile),
             "--experimental" => Some(OptionName::Experimental),
             "--host" => Some(OptionName::Host),
@@ -57,6 +61,7 @@ impl<'a> Options<'a> {
     pub fn new(alloc: Global) -> Options<'a> {
         Options {
             config_file: None,
+            organisation_config_file: None,
             tool_files: Vec::new(alloc),
             features: BTreeSet::new(alloc),
             host: None,
@@ -74,6 +79,9 @@ impl<'a> Options<'a> {
     ) -> Result<(), CommandError> {
         match name {
             OptionName::ConfigFile => set_once(&mut self.config_file, value),
+            OptionName::OrganisationConfigFile => {
+                set_once(&mut self.organisation_config_file, value)
+            }
             OptionName::ToolConfigFile => self.add_tool_file(alloc, value),
             OptionName::Experimental => self.add_feature(value),
             OptionName::Host => set_once(&mut self.host, value),

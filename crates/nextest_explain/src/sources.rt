@@ -14,6 +14,7 @@ use std::alloc::{AllocError, Global};
 pub struct Sources {
     paths: ConfigPaths,
     config_file: Option<FileInput>,
+    organisation_file: Option<FileInput>,
     tools: Vec<ToolConfigFile>,
 }
 
@@ -30,7 +31,8 @@ impl Sources {
                 workspace_root: String::from_str(alloc, command.root)?,
                 shared: shared_file(alloc, command.root, options, files)?,
             },
-            config_file: named_file(alloc, options, files)?,
+            config_file: named_file(alloc, options.config_file, files)?,
+            organisation_file: named_file(alloc, options.organisation_config_file, files)?,
             tools: tool_files(alloc, options, files)?,
         })
     }
@@ -39,9 +41,18 @@ impl Sources {
     pub fn inputs<'a>(&'a self, options: &'a Options<'_>) -> Inputs<'a> {
         Inputs {
             paths: &self.paths,
-            selection: ConfigFileSelection::new(self.config_file.as_ref()),
+            selection: self.selection(),
             tools: &self.tools,
             features: &options.features,
+        }
+    }
+
+    /// Which files are read beside those of tools.
+    fn selection(&self) -> ConfigFileSelection<'_> {
+        let selection = ConfigFileSelection::new(self.config_file.as_ref());
+        match &self.organisation_file {
+            Some(file) => selection.with_organisation(file),
+            None => selection,
         }
     }
 }
@@ -71,13 +82,13 @@ fn shared_file<R: FileReader>(
     read_at(alloc, path.as_str(), files)
 }
 
-/// The file that a user names, if there is one.
+/// The file at the path that an option names, if it is given.
 fn named_file<R: FileReader>(
     alloc: Global,
-    options: &Options<'_>,
+    path: Option<&str>,
     files: &R,
 ) -> Result<Option<FileInput>, AllocError> {
-    match options.config_file {
+    match path {
         Some(path) => Ok(Some(read_at(alloc, path, files)?)),
         None => Ok(None),
     }

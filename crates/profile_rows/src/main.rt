@@ -7,7 +7,8 @@
 //! |---|---|
 //! | `case NAME` | a case begins, without files, for the host `x86_64-unknown-linux-gnu` |
 //! | `file` | the workspace has a file of its own; the lines below it that begin with two spaces are its text |
-//! | `tool NAME` | the same, below it, for a file of this tool, at `/NAME.toml` |
+//! | `organisation` | the same, below it, for the organisation's file, at `/o.toml` |
+//! | `tool NAME` | the same, below both, for a file of this tool, at `/NAME.toml` |
 //! | `host TRIPLE`, `target TRIPLE` | the build is for this host, and for this target |
 //! | `test NAME` | a test of the binary `b`, which is built for the target |
 //! | `host-test NAME` | a test of the binary `b`, which is built for the host |

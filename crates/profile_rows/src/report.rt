@@ -5,7 +5,8 @@ use crate::profile::{Config, Profile, add_early, add_profile};
 use crate::rows::add_rows;
 use crate::tests::{add_binary, add_groups, add_setup_scripts, add_test};
 use nextest_config::{
-    BuildPlatforms, ConfigExperimental, ConfigParseError, NextestConfig, ParseContext,
+    BuildPlatforms, ConfigExperimental, ConfigFileSelection, ConfigParseError,
+    DefaultConfigWarnings, NextestConfig, ParseContext,
 };
 use std::alloc::{AllocError, Global};
 use std::collections::BTreeSet;
@@ -37,7 +38,16 @@ fn platforms_of(alloc: Global, case: &Case<'_>) -> Result<BuildPlatforms<String>
     })
 }
 
-/// Loads the files of a case.
+/// Which files of a case are read beside those of tools.
+pub fn selection_of<'a>(case: &'a Case<'_>) -> ConfigFileSelection<'a> {
+    let selection = ConfigFileSelection::new(None);
+    match &case.organisation {
+        Some(file) => selection.with_organisation(file),
+        None => selection,
+    }
+}
+
+/// Loads the files of a case. Without a file of the organisation the warnings are kept.
 fn load(
     alloc: Global,
     case: &Case<'_>,
@@ -45,7 +55,29 @@ fn load(
 ) -> Result<Config, ConfigParseError> {
     let root = case.paths.workspace_root.as_str();
     let shared = &case.paths.shared;
-    NextestConfig::from_sources(alloc, root, shared, &ENGINES, None, &case.tools, features)
+    let selection = selection_of(case);
+    if selection.organisation_file().is_none() {
+        return NextestConfig::from_sources(
+            alloc,
+            root,
+            shared,
+            &ENGINES,
+            None,
+            &case.tools,
+            features,
+        );
+    }
+    let mut sink = DefaultConfigWarnings::new(alloc);
+    NextestConfig::from_sources_with_selection(
+        alloc,
+        root,
+        shared,
+        &ENGINES,
+        selection,
+        &case.tools,
+        features,
+        &mut sink,
+    )
 }
 
 /// The names of a case and of a profile, and what is asked of it.

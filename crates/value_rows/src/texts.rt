@@ -44,14 +44,22 @@ fn duration_answer(alloc: Global, text: &str) -> Result<String, AllocError> {
     }
 }
 
-/// The identifier, and its parts where it is one of a tool.
+/// The identifier and its parts, or the cause of the refusal.
 fn identifier_answer(alloc: Global, text: &str) -> Result<String, AllocError> {
     match ConfigIdentifier::new(alloc, text) {
-        Ok(identifier) => match identifier.tool_components() {
-            Some((tool, name)) => format!(in alloc; "{identifier}, `{name}` of tool `{tool}`"),
-            None => identifier.to_string(alloc),
-        },
+        Ok(identifier) => parts_answer(alloc, &identifier),
         Err(cause) => refusal(alloc, &cause),
+    }
+}
+
+/// An identifier, and its parts where it is one of a tool or of the organisation.
+fn parts_answer(alloc: Global, identifier: &ConfigIdentifier) -> Result<String, AllocError> {
+    if let Some((tool, name)) = identifier.tool_components() {
+        return format!(in alloc; "{identifier}, `{name}` of tool `{tool}`");
+    }
+    match identifier.organisation_component() {
+        Some(name) => format!(in alloc; "{identifier}, `{name}` of the organisation"),
+        None => identifier.to_string(alloc),
     }
 }
 
