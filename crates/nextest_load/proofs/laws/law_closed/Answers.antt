@@ -8,7 +8,7 @@ use Rattle.std.proofs.Common.{refl}
 use Rattle.nextest_load.proofs.laws.law_closed.Goals as goal
 
 pub returns : goal.returns
-returns c engines features files scripts answer complete accepted are =
+returns g c engines features files scripts answer complete accepted are =
     let ss = sources_in files in
     closed engines features files scripts answer accepted (have_ids ss scripts are)
         (has_defaults (merged_file ss) (profiles_of (merged_file ss).profiles) refl complete)
