@@ -68,7 +68,10 @@ impl<'a> TestQuery<'a> {
             binary_name: "",
             platform: BuildPlatform::Target,
         };
-        TestQuery { binary_query, test_name }
+        TestQuery {
+            binary_query,
+            test_name,
+        }
     }
 }
 

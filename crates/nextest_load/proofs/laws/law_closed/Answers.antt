@@ -11,4 +11,4 @@ pub returns : goal.returns
 returns g c engines features files scripts answer complete accepted are =
     let ss = sources_in files in
     closed engines features files scripts answer accepted (have_ids ss scripts are)
-        (has_defaults (merged_file ss) (profiles_of (merged_file ss).profiles) refl complete)
+    (has_defaults (merged_file ss) (profiles_of (merged_file ss).profiles) refl complete)
