@@ -24,8 +24,24 @@ with_source None kind is = cc
 pub without_source : (source : Option Source) (kind : ConfigParseErrorKind) → is_some source ≡ false → is_some source ≡ not (is_memory kind)
     → TellsEnding (ending_with source kind) out_of_memory
 without_source (Some source) kind is placed = cc
+without_source None (kinds.DuplicateToolConfigFile tool first) is placed = cc
+without_source None (kinds.ReadError outcome) is placed = cc
+without_source None (kinds.BuildError message) is placed = cc
+without_source None (kinds.DeserializeError fault) is placed = cc
+without_source None (kinds.InvalidTestGroupsDefined groups) is placed = cc
+without_source None (kinds.InvalidTestGroupsDefinedByTool groups) is placed = cc
+without_source None (kinds.InvalidTestGroupsDefinedByOrganisation groups) is placed = cc
+without_source None kinds.BothScriptAndScriptsDefined is placed = cc
+without_source None (kinds.ExperimentalFeaturesNotEnabled features) is placed = cc
+without_source None (kinds.DuplicateConfigScriptNames ids) is placed = cc
+without_source None (kinds.InvalidConfigScriptsDefined ids) is placed = cc
+without_source None (kinds.InvalidConfigScriptsDefinedByTool ids) is placed = cc
+without_source None (kinds.InvalidConfigScriptsDefinedByOrganisation ids) is placed = cc
+without_source None (kinds.InheritanceErrors errors) is placed = cc
+without_source None (kinds.CompileErrors errors) is placed = cc
+without_source None (kinds.UnknownTestGroups errors known_groups) is placed = cc
+without_source None (kinds.ProfileScriptErrors errors known_scripts) is placed = cc
 without_source None kinds.Memory is placed = refl
-without_source None kind is placed = cc
 
 -- whether a source is there, by whether its path is
 pub same_some : {X Y Z : Type 0} (f : X → Z) (g : Y → Z) (o : Option X) (r : Option Y) → option_map f o ≡ option_map g r → is_some r ≡ is_some o
