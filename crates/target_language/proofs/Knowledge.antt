@@ -66,7 +66,8 @@ mutual
       greater_known (value p e) (greatest (values p es)) (known p e (first p _ _ fits)) (known_greatest p es (rest p _ _ fits))
 
 pub values_are_known : ValuesAreKnown
-values_are_known p e fits = known p e fits
+values_are_known p (OfTriple triple) fits = refl
+values_are_known p (OfExpression e) fits = known p e fits
 
 -- One value knows no more than another.
 abbrev Below : Value → Value → Type 0

@@ -49,10 +49,16 @@ abbrev mutual
   some_asks_feature no_parts = false
   some_asks_feature (part e es) = asks_feature e || some_asks_feature es
 
--- Where features are given, or none is asked for, a value is known.
+-- whether a spec does; a triple asks for none
+abbrev pub spec_asks_feature : Spec → Bool
+spec_asks_feature (OfTriple triple) = false
+spec_asks_feature (OfExpression e) = asks_feature e
+
+-- Where features are given, or none is asked for, the value of a spec is known.
 abbrev pub ValuesAreKnown : Type 0
-ValuesAreKnown = (platform : PlatformData) (e : Expression)
-    → (platform.features_given ≡ true) ⊎ (asks_feature e ≡ false) → IsSome (value platform e)
+ValuesAreKnown = (platform : PlatformData) (spec : Spec)
+    → (platform.features_given ≡ true) ⊎ (spec_asks_feature spec ≡ false)
+    → IsSome (spec_value platform spec)
 
 -- the platform with its features given
 abbrev pub given : PlatformData → PlatformData
