@@ -1,17 +1,16 @@
 -- The triples of the table rise, so each finds its own row.
-use Rattle.std.proofs.Common.{◌≡◌, ℕ, ◌+◌, ◌<◌, zero, suc, Bool, true, false, ◌&&◌, List, [], ◌∷◌, length, map, get_or, Some, Contains, Ordering, bytes_eq, refl, sym, ◌∙◌, ap, subst, arith}
+use Rattle.std.proofs.Common.{◌≡◌, ℕ, ◌+◌, ◌<◌, zero, suc, Bool, true, false, ◌&&◌, List, [], ◌∷◌, length, map, get_or, Ordering, bytes_eq, refl, sym, ◌∙◌, ap, subst, arith}
 use Rattle.std.proofs.lemmas.Bool.{true≢false, false_from_ne_true, and_parts}
 use Rattle.std.proofs.lemmas.Cmp.{nat_list_cmp_total}
 use Rattle.std.proofs.lemmas.List.{get_or-map, length-map}
 use Rattle.std.proofs.lemmas.Map.Keys.{sorted_from_all_adjacent, sorted_tail, Less-from_sorted}
 use Rattle.std.proofs.lemmas.Slice.Eq.{bytes_eq-Decides}
 use Rattle.std.specs.Cmp.Lexicographic.{slice_cmp}
-use Rattle.std.specs.List.Sorted.{IsStrictlySortedBy}
 use Rattle.std.specs.Ordering.{is_lt, nat_cmp, ordering_reverse}
 use Rattle.std.specs.declared.cmp.Ordering.TheVariants.{Less, Equal, Greater}
 use Rattle.target_platforms.specs.Rows.{Row}
 use Rattle.target_platforms.specs.Table.{targets}
-use Rattle.target_platforms.specs.Targets.{row_of, TriplesRise, RowsAreFound}
+use Rattle.target_platforms.specs.Targets.{TriplesRise, RowsAreFound}
 
 -- how two triples compare
 abbrev compare : List ℕ → List ℕ → Ordering
@@ -56,10 +55,10 @@ found (first ∷ rows) rise row (zero, inside, is) =
     rw is (rw ((bytes_eq-Decides row.triple row.triple).1 refl) refl)
 found (first ∷ rows) rise row (suc k, inside, is) =
     let there : get_or (map (λ row. row.triple) rows) k row.triple ≡ row.triple =
-        get_or-map (λ row. row.triple) rows k row row.triple (omega arith) ∙ ap (λ row. row.triple) is in
+    get_or-map (λ row. row.triple) rows k row row.triple (omega arith) ∙ ap (λ row. row.triple) is in
     let before : compare first.triple row.triple ≡ Less =
-        subst (λ t. compare first.triple t ≡ Less) there
-        (Less-from_sorted compare (map (λ row. row.triple) (first ∷ rows)) 0 (suc k) row.triple rise (omega arith) (omega (arith, length-map rows (λ row. row.triple)))) in
+    subst (λ t. compare first.triple t ≡ Less) there
+    (Less-from_sorted compare (map (λ row. row.triple) (first ∷ rows)) 0 (suc k) row.triple rise (omega arith) (omega (arith, length-map rows (λ row. row.triple)))) in
     rw (differs first.triple row.triple before) (found rows (sorted_tail compare first.triple (map (λ row. row.triple) rows) rise) row (k, omega arith, is))
 
 pub rows_are_found : RowsAreFound targets
