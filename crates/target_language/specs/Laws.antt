@@ -1,7 +1,7 @@
 -- What holds of the values of all specs.
-use Rattle.std.specs.Prelude.{◌≡◌, ℕ, ◌⊎◌, ◌↔◌, ◌||◌, Bool, true, false, List, [], ◌∷◌, map, Option, None, Some, IsSome, Contains, IsPermutation}
+use Rattle.std.specs.Prelude.{◌≡◌, ◌⊎◌, ◌↔◌, ◌||◌, Bool, true, false, List, map, Option, None, Some, IsSome, Contains, IsPermutation}
 use Rattle.target_platforms.specs.Platforms.{Line, PlatformData}
-use Rattle.target_language.specs.Expressions.{Leaf, Has, Feature, Nowhere, Expression, Asks, Every, Some_of, Negated, Expressions, no_parts, part, parts_of, Spec, OfTriple, OfExpression}
+use Rattle.target_language.specs.Expressions.{Feature, Expression, Asks, Every, Some_of, Negated, Expressions, no_parts, part, parts_of, Spec, OfTriple, OfExpression}
 use Rattle.target_language.specs.Values.{least, greatest, has, value, spec_value}
 
 -- whether a value is at most another: false is at most unknown, and unknown at most true
