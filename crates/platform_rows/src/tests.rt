@@ -30,11 +30,26 @@ fn answers_through_the_trait(rt: HostRuntime) -> Result<(), Fail> {
         ("cfg(windows)", "Some(false)"),
         ("cfg(target_feature = \"sse2\")", "None"),
         ("x86_64-unknown-linux-gnu", "Some(true)"),
-        ("cfg(target_os = \"macos)", "error parsing cfg() expression: unclosed quotes at bytes 16..22"),
-        ("cfg(target_os = \"linux", "error parsing cfg() expression: expected one of `=`, `,`, `)` here at bytes 3..4"),
-        ("cfg(all)", "error parsing cfg() expression: expected a `(` here at bytes 4..7"),
-        ("x86 64", "invalid triple: expected a letter, a digit, `_`, `-` or `.` at bytes 3..4"),
-        ("", "invalid triple: expected a triple or `cfg(` at bytes 0..0"),
+        (
+            "cfg(target_os = \"macos)",
+            "error parsing cfg() expression: unclosed quotes at bytes 16..22",
+        ),
+        (
+            "cfg(target_os = \"linux",
+            "error parsing cfg() expression: expected one of `=`, `,`, `)` here at bytes 3..4",
+        ),
+        (
+            "cfg(all)",
+            "error parsing cfg() expression: expected a `(` here at bytes 4..7",
+        ),
+        (
+            "x86 64",
+            "invalid triple: expected a letter, a digit, `_`, `-` or `.` at bytes 3..4",
+        ),
+        (
+            "",
+            "invalid triple: expected a triple or `cfg(` at bytes 0..0",
+        ),
     ] {
         let answer = answer(&TargetSpecs, alloc, text, &platform)?;
         assert_eq!(rt; answer.as_str(), told, "of {text:?}");
