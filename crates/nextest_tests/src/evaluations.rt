@@ -49,7 +49,7 @@ type CountedProfile<'cfg> = EvaluatableProfile<'cfg, Names, Anywhere>;
 fn load_rules(alloc: Global) -> Result<CountedConfig, Fail> {
     let text = text_of_rules(alloc, "[scripts.wrapper.w]\ncommand = 'x'\n")?;
     let engines = ParseContext {
-        filters: &Names,
+        filters: &Names::with_room(RULES),
         specs: &Anywhere,
     };
     let mut warnings = DefaultConfigWarnings::new(alloc);

@@ -1,13 +1,16 @@
 //! The lines of a report.
+use crate::refusal::Refusal;
 use nextest_config::ConfigSource;
 use std::alloc::{AllocError, Global};
 use std::fmt::Debug;
 
-/// The lines of a report, of which those are kept that are shown.
+/// The lines of a report, of which those are kept that are shown, and the name of the last call
+/// that was made once more.
 #[derive(Drop)]
 pub struct Lines<'a> {
     text: String,
     shown: Option<&'a str>,
+    again: Option<&'static str>,
 }
 
 impl<'a> Lines<'a> {
@@ -17,7 +20,30 @@ impl<'a> Lines<'a> {
         Lines {
             text: String::new(alloc),
             shown,
+            again: None,
         }
+    }
+
+    /// The answer of a call, which is made once more after want of memory.
+    pub fn ask<T, E: Refusal, F: Fn() -> Result<T, E>>(
+        &mut self,
+        name: &'static str,
+        call: F,
+    ) -> Result<T, E>
+        requires { F.IsAlwaysCallable call }
+    {
+        match call() {
+            Err(error) if error.is_memory() => {
+                self.note_again(name);
+                call()
+            }
+            answer => answer,
+        }
+    }
+
+    /// Keeps the name of a call that is made once more.
+    pub fn note_again(&mut self, name: &'static str) {
+        self.again = Some(name);
     }
 
     /// Adds a line: a name, and a value.
@@ -49,9 +75,13 @@ impl<'a> Lines<'a> {
         Ok(())
     }
 
-    /// The text of all lines.
-    pub fn as_str(&self) -> &str {
-        self.text.as_str()
+    /// The text of all lines. The last names the last call that was made once more, if one was.
+    pub fn into_text(self, alloc: Global) -> Result<String, AllocError> {
+        let Lines { text, again, .. } = self;
+        match again {
+            Some(name) => format!(in alloc; "{text}  again: {name}\n"),
+            None => Ok(text),
+        }
     }
 
     /// Whether a line of this name is kept.

@@ -20,7 +20,10 @@ pub fn add_rows(
     profile: &str,
     platforms: &BuildPlatforms<String>,
 ) -> Result<(), AllocError> {
-    match rows_of(alloc, case, features, profile, platforms) {
+    let rows = lines.ask("resolve", || {
+        rows_of(alloc, case, features, profile, platforms)
+    });
+    match rows {
         Ok(rows) => {
             lines.add(alloc, "rows", &rows.len())?;
             for row in &rows {
