@@ -2,6 +2,7 @@
  * the C library, by LD_PRELOAD.
  *
  * REFUSE_MEMORY=N    the Nth request for memory is refused, and the file REFUSE_TOLD is made then
+ * REFUSE_ON=1        so are all requests behind it
  * READ_ROOM=N        reads give N bytes in all, and then fail
  * READ_STEP=N        a read gives at most N bytes
  * WRITE_ROOM=N       writes take N bytes in all, and then fail
@@ -20,7 +21,7 @@ void *__libc_malloc(size_t size);
 void *__libc_calloc(size_t count, size_t size);
 void *__libc_realloc(void *old, size_t size);
 
-static uint64_t requests, refused_request;
+static uint64_t requests, refused_request, refused_on;
 static uint64_t read_room = UINT64_MAX, read_step = UINT64_MAX;
 static uint64_t write_room = UINT64_MAX, write_step = UINT64_MAX;
 static const char *grows, *grows_by;
@@ -38,6 +39,7 @@ __attribute__((constructor)) static void begin(void) {
     write_step = number_of("WRITE_STEP", UINT64_MAX);
     grows = getenv("GROWS");
     grows_by = getenv("GROWS_BY");
+    refused_on = number_of("REFUSE_ON", 0);
     refused_request = number_of("REFUSE_MEMORY", 0);
     requests = 0;
 }
@@ -45,11 +47,13 @@ __attribute__((constructor)) static void begin(void) {
 /* Whether this request is refused. */
 static int is_refused(void) {
     requests += 1;
-    if (requests != refused_request)
-        return 0;
     const char *told = getenv("REFUSE_TOLD");
-    if (told)
+    if (requests == refused_request && told)
         syscall(SYS_close, syscall(SYS_open, told, O_CREAT | O_WRONLY, 0600));
+    if (refused_request == 0 || requests < refused_request)
+        return 0;
+    if (requests > refused_request && !refused_on)
+        return 0;
     errno = ENOMEM;
     return 1;
 }
