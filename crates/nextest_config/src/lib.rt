@@ -22,9 +22,9 @@
 //! }
 //! ```
 //!
-//! `Inputs`, `resolve` and `ResolveFault` are those of [`run`]; a row has each value,
-//! and `source` tells what decides it. [`NextestConfig`] does the same step by step: it is loaded, gives a profile, and that, on
-//! the platforms of a build, the settings of each test.
+//! `Inputs`, `resolve` and `ResolveFault` are those of [`run`]; a row has each value, and `source`
+//! tells what decides it. [`NextestConfig`] does the same step by step: it is loaded, gives a
+//! profile, and that, on the platforms of a build, the settings of each test.
 #![tactic(auto)]
 
 mod config;
