@@ -28,8 +28,9 @@ run-wrapper = "w"
 
 /// Whether a load ends as an engine with memory for so many readings lets it.
 fn ends_by_readings(alloc: Global, room: usize) -> bool {
+    let names = Names::with_room(room);
     let engines = ParseContext {
-        filters: &Names::with_room(room),
+        filters: &names,
         specs: &Anywhere,
     };
     let mut warnings = DefaultConfigWarnings::new(alloc);
@@ -92,8 +93,9 @@ fn tool_file(alloc: Global, name: &str, path: &str, text: &str) -> Result<ToolCo
 
 /// Loads the three files. The first tool's file is above the second's.
 fn load_refused(alloc: Global) -> Result<NextestConfig<Names, Anywhere>, ConfigParseError> {
+    let names = Names::with_room(usize::MAX);
     let engines = ParseContext {
-        filters: &Names::with_room(usize::MAX),
+        filters: &names,
         specs: &Anywhere,
     };
     let Ok(first) = tool_file(alloc, "first", "/first.toml", REFUSED) else {

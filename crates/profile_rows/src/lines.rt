@@ -4,13 +4,28 @@ use nextest_config::ConfigSource;
 use std::alloc::{AllocError, Global};
 use std::fmt::Debug;
 
-/// The lines of a report, of which those are kept that are shown, and the name of the last call
-/// that was made once more.
+/// A call that may answer want of memory.
+#[derive(Clone, Copy, Debug, PartialEq, Eq)]
+pub enum Call {
+    FromSources,
+    Lines,
+    Profile,
+    KnownGroups,
+    ApplyBuildPlatforms,
+    DisplayConfig,
+    Junit,
+    SetupScripts,
+    PrecomputeGroupMemberships,
+    Resolve,
+}
+
+/// The lines of a report, of which those are kept that are shown, and the last call that was made
+/// once more.
 #[derive(Drop)]
 pub struct Lines<'a> {
     text: String,
     shown: Option<&'a str>,
-    again: Option<&'static str>,
+    again: Option<Call>,
 }
 
 impl<'a> Lines<'a> {
@@ -27,23 +42,23 @@ impl<'a> Lines<'a> {
     /// The answer of a call, which is made once more after want of memory.
     pub fn ask<T, E: Refusal, F: Fn() -> Result<T, E>>(
         &mut self,
-        name: &'static str,
-        call: F,
+        call: Call,
+        answer: F,
     ) -> Result<T, E>
-        requires { F.IsAlwaysCallable call }
+        requires { F.IsAlwaysCallable answer }
     {
-        match call() {
+        match answer() {
             Err(error) if error.is_memory() => {
-                self.note_again(name);
-                call()
+                self.note_again(call);
+                answer()
             }
-            answer => answer,
+            answered => answered,
         }
     }
 
-    /// Keeps the name of a call that is made once more.
-    pub fn note_again(&mut self, name: &'static str) {
-        self.again = Some(name);
+    /// Keeps that a call is made once more.
+    pub fn note_again(&mut self, call: Call) {
+        self.again = Some(call);
     }
 
     /// Adds a line: a name, and a value.
@@ -79,7 +94,7 @@ impl<'a> Lines<'a> {
     pub fn into_text(self, alloc: Global) -> Result<String, AllocError> {
         let Lines { text, again, .. } = self;
         match again {
-            Some(name) => format!(in alloc; "{text}  again: {name}\n"),
+            Some(call) => format!(in alloc; "{text}  again: {call:?}\n"),
             None => Ok(text),
         }
     }

@@ -1,5 +1,5 @@
 //! What a profile says, before and after the platforms are known.
-use crate::lines::Lines;
+use crate::lines::{Call, Lines};
 use indexmap::IndexMap;
 use nextest_config::{EarlyProfile, EvaluatableProfile, NextestConfig, NextestRunMode, ScriptId};
 use std::alloc::{AllocError, Global};
@@ -21,7 +21,7 @@ pub fn add_early(
     lines.add(alloc, "early-store-dir", &early.store_dir())?;
     lines.add(alloc, "has-junit", &early.has_junit())?;
     lines.add(alloc, "test-groups", &early.test_group_config().len())?;
-    let groups = lines.ask("known_groups", || early.known_groups(alloc))?;
+    let groups = lines.ask(Call::KnownGroups, || early.known_groups(alloc))?;
     lines.add(alloc, "known-groups", &groups)
 }
 
@@ -68,8 +68,8 @@ fn add_places(
     profile: &Profile<'_>,
 ) -> Result<(), AllocError> {
     let filter = profile.default_filter();
-    let place = lines.ask("display_config", || filter.display_config(alloc))?;
-    let junit = lines.ask("junit", || profile.junit(alloc))?;
+    let place = lines.ask(Call::DisplayConfig, || filter.display_config(alloc))?;
+    let junit = lines.ask(Call::Junit, || profile.junit(alloc))?;
     lines.add(alloc, "store-dir", &profile.store_dir())?;
     lines.add(alloc, "junit", &junit)?;
     lines.add(alloc, "default-filter", &place)

@@ -1,6 +1,6 @@
 //! The report of a run: the load of a case's files, and what a profile of them says.
 use crate::case::Case;
-use crate::lines::Lines;
+use crate::lines::{Call, Lines};
 use crate::profile::{Config, Early, Profile, add_early, add_profile};
 use crate::rows::add_rows;
 use crate::tests::{add_binary, add_groups, add_setup_scripts, add_test};
@@ -53,7 +53,7 @@ pub fn report_of(alloc: Global, case: &Case<'_>, profile: &str) -> Result<String
     let features = all_features(alloc)?;
     let platforms = platforms_of(alloc, case)?;
     let mut lines = Lines::new(alloc, case.shown);
-    match lines.ask("from_sources", || load(alloc, case, &features)) {
+    match lines.ask(Call::FromSources, || load(alloc, case, &features)) {
         Ok(config) => add_config(alloc, &mut lines, case, &config, profile, &platforms)?,
         Err(error) => lines.add(alloc, "refused", &error)?,
     }
@@ -71,9 +71,9 @@ fn add_config(
     name: &str,
     platforms: &BuildPlatforms<String>,
 ) -> Result<(), AllocError> {
-    let warnings = lines.ask("lines", || config.warnings().lines(alloc))?;
+    let warnings = lines.ask(Call::Lines, || config.warnings().lines(alloc))?;
     lines.add(alloc, "warnings", &warnings)?;
-    let early = match lines.ask("profile", || config.profile(alloc, name)) {
+    let early = match lines.ask(Call::Profile, || config.profile(alloc, name)) {
         Ok(early) => early,
         Err(error) => return lines.add(alloc, "refused", &error),
     };
@@ -94,7 +94,7 @@ fn on_platforms<'cfg>(
         Ok(profile) => return Ok(profile),
         Err(early) => early,
     };
-    lines.note_again("apply_build_platforms");
+    lines.note_again(Call::ApplyBuildPlatforms);
     match early.apply_build_platforms(alloc, platforms) {
         Ok(profile) => Ok(profile),
         Err(_) => Err(AllocError),

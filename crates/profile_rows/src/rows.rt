@@ -1,6 +1,6 @@
 //! The rows of a whole run, from the texts of files on.
 use crate::case::Case;
-use crate::lines::{Lines, override_text};
+use crate::lines::{Call, Lines, override_text};
 use crate::report::ENGINES;
 use nextest_config::run::{Inputs, PlainSource, ResolveFault, TestRow, resolve};
 use nextest_config::{
@@ -20,7 +20,7 @@ pub fn add_rows(
     profile: &str,
     platforms: &BuildPlatforms<String>,
 ) -> Result<(), AllocError> {
-    let rows = lines.ask("resolve", || {
+    let rows = lines.ask(Call::Resolve, || {
         rows_of(alloc, case, features, profile, platforms)
     });
     match rows {

@@ -1,5 +1,5 @@
 //! What a profile gives to tests and binaries.
-use crate::lines::{Lines, override_text};
+use crate::lines::{Call, Lines, override_text};
 use crate::profile::Profile;
 use nextest_config::{
     BinaryQuery, EvalContext, Filters, GroupLookup, NameMatcher, NextestRunMode,
@@ -115,7 +115,7 @@ pub fn add_setup_scripts(
     tests: &[TestQuery<'_>],
 ) -> Result<(), AllocError> {
     let context = profile.filterset_ecx();
-    let scripts = lines.ask("setup_scripts", || {
+    let scripts = lines.ask(Call::SetupScripts, || {
         profile.setup_scripts(alloc, tests, &mut ToyTally::new())
     })?;
     lines.add(alloc, "setup-scripts", &scripts.len())?;
@@ -167,7 +167,7 @@ pub fn add_groups(
     tests: &[TestQuery<'_>],
     groups: &[&str],
 ) -> Result<(), AllocError> {
-    let members = lines.ask("precompute_group_memberships", || {
+    let members = lines.ask(Call::PrecomputeGroupMemberships, || {
         profile.precompute_group_memberships(alloc, tests, &mut ToyTally::new())
     })?;
     lines.add(alloc, "memberships", &members)?;
