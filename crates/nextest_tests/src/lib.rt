@@ -16,6 +16,8 @@ mod loads;
 #[cfg(test)]
 mod queries;
 #[cfg(test)]
+mod refusals;
+#[cfg(test)]
 mod sinks;
 #[cfg(test)]
 mod texts;

@@ -18,13 +18,15 @@
 //! | `profile NAME` | the case is run for this profile |
 //!
 //! For each run it prints the names of the case and of the profile, and then a line for each thing
-//! that is asked, behind two spaces. A line that is none of these is told on standard error, and
-//! the status is 2.
+//! that is asked, behind two spaces. A call that answers want of memory is made once more, and a
+//! last line then names it. A line that is none of these is told on standard error, and the status
+//! is 2.
 #![tactic(auto)]
 
 mod case;
 mod lines;
 mod profile;
+mod refusal;
 mod report;
 mod rows;
 mod tests;

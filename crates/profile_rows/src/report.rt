@@ -1,7 +1,7 @@
 //! The report of a run: the load of a case's files, and what a profile of them says.
 use crate::case::Case;
-use crate::lines::Lines;
-use crate::profile::{Config, Profile, add_early, add_profile};
+use crate::lines::{Call, Lines};
+use crate::profile::{Config, Early, Profile, add_early, add_profile};
 use crate::rows::add_rows;
 use crate::tests::{add_binary, add_groups, add_setup_scripts, add_test};
 use nextest_config::{
@@ -85,13 +85,13 @@ pub fn report_of(alloc: Global, case: &Case<'_>, profile: &str) -> Result<String
     let features = all_features(alloc)?;
     let platforms = platforms_of(alloc, case)?;
     let mut lines = Lines::new(alloc, case.shown);
-    match load(alloc, case, &features) {
+    match lines.ask(Call::FromSources, || load(alloc, case, &features)) {
         Ok(config) => add_config(alloc, &mut lines, case, &config, profile, &platforms)?,
         Err(error) => lines.add(alloc, "refused", &error)?,
     }
     add_rows(alloc, &mut lines, case, &features, profile, &platforms)?;
-    let name = case.name;
-    format!(in alloc; "case {name}\nprofile {profile}\n{}", lines.as_str())
+    let (name, text) = (case.name, lines.into_text(alloc)?);
+    format!(in alloc; "case {name}\nprofile {profile}\n{text}")
 }
 
 /// Adds what a configuration kept, and what a profile of it says.
@@ -103,16 +103,34 @@ fn add_config(
     name: &str,
     platforms: &BuildPlatforms<String>,
 ) -> Result<(), AllocError> {
-    lines.add(alloc, "warnings", &config.warnings().lines(alloc)?)?;
-    let early = match config.profile(alloc, name) {
+    let warnings = lines.ask(Call::Lines, || config.warnings().lines(alloc))?;
+    lines.add(alloc, "warnings", &warnings)?;
+    let early = match lines.ask(Call::Profile, || config.profile(alloc, name)) {
         Ok(early) => early,
         Err(error) => return lines.add(alloc, "refused", &error),
     };
     add_early(alloc, lines, &early)?;
-    let Ok(profile) = early.apply_build_platforms(alloc, platforms) else {
-        return Err(AllocError);
-    };
+    let profile = on_platforms(alloc, lines, early, platforms)?;
     add_evaluatable(alloc, lines, case, &profile)
+}
+
+/// A profile on the platforms of a build. After want of memory the profile that was handed back is
+/// asked once more.
+fn on_platforms<'cfg>(
+    alloc: Global,
+    lines: &mut Lines<'_>,
+    early: Early<'cfg>,
+    platforms: &BuildPlatforms<String>,
+) -> Result<Profile<'cfg>, AllocError> {
+    let early = match early.apply_build_platforms(alloc, platforms) {
+        Ok(profile) => return Ok(profile),
+        Err(early) => early,
+    };
+    lines.note_again(Call::ApplyBuildPlatforms);
+    match early.apply_build_platforms(alloc, platforms) {
+        Ok(profile) => Ok(profile),
+        Err(_) => Err(AllocError),
+    }
 }
 
 /// Adds what a profile says on the platforms of a build, of itself and of what is asked.

@@ -1,6 +1,6 @@
 //! The rows of a whole run, from the texts of files on.
 use crate::case::Case;
-use crate::lines::{Lines, override_text};
+use crate::lines::{Call, Lines, override_text};
 use crate::report::{ENGINES, selection_of};
 use nextest_config::run::{Inputs, PlainSource, ResolveFault, TestRow, resolve};
 use nextest_config::{
@@ -19,7 +19,10 @@ pub fn add_rows(
     profile: &str,
     platforms: &BuildPlatforms<String>,
 ) -> Result<(), AllocError> {
-    match rows_of(alloc, case, features, profile, platforms) {
+    let rows = lines.ask(Call::Resolve, || {
+        rows_of(alloc, case, features, profile, platforms)
+    });
+    match rows {
         Ok(rows) => {
             lines.add(alloc, "rows", &rows.len())?;
             for row in &rows {

@@ -1,8 +1,10 @@
 //! What readers of texts answer.
 use nextest_documents::{TextFault, lay_over, tree_from_text};
-use nextest_elements::{ConfigIdentifier, Key, ToolName, Tree, parse_duration};
+use nextest_elements::{
+    ConfigIdentifier, InvalidIdentifier, Key, ToolName, Tree, parse_duration,
+};
 use nextest_script_order::ids_in_order;
-use nextest_scripts::{ScriptId, split_shell_words, validate_env_var_key};
+use nextest_scripts::{ScriptId, ShellWordsError, split_shell_words, validate_env_var_key};
 use std::alloc::{AllocError, Global};
 use std::fmt::Display;
 
@@ -46,9 +48,20 @@ fn duration_answer(alloc: Global, text: &str) -> Result<String, AllocError> {
 
 /// The identifier and its parts, or the cause of the refusal.
 fn identifier_answer(alloc: Global, text: &str) -> Result<String, AllocError> {
-    match ConfigIdentifier::new(alloc, text) {
-        Ok(identifier) => parts_answer(alloc, &identifier),
+    match identifier_of(alloc, text) {
+        Ok(identifier) => {
+            let copy = identifier.clone().or_else(|_| identifier.clone())?;
+            parts_answer(alloc, &copy)
+        }
         Err(cause) => refusal(alloc, &cause),
+    }
+}
+
+/// The identifier that a text is. After want of memory it is asked for once more.
+fn identifier_of(alloc: Global, text: &str) -> Result<ConfigIdentifier, InvalidIdentifier> {
+    match ConfigIdentifier::new(alloc, text) {
+        Err(InvalidIdentifier::Memory) => ConfigIdentifier::new(alloc, text),
+        identifier => identifier,
     }
 }
 
@@ -64,9 +77,17 @@ fn parts_answer(alloc: Global, identifier: &ConfigIdentifier) -> Result<String, 
 }
 
 fn words_answer(alloc: Global, text: &str) -> Result<String, AllocError> {
-    match split_shell_words(alloc, text) {
+    match words_of(alloc, text) {
         Ok(words) => format!(in alloc; "{words:?}"),
         Err(cause) => refusal(alloc, &cause),
+    }
+}
+
+/// The words of a line. After want of memory they are asked for once more.
+fn words_of(alloc: Global, text: &str) -> Result<Vec<String>, ShellWordsError> {
+    match split_shell_words(alloc, text) {
+        Err(ShellWordsError::Memory) => split_shell_words(alloc, text),
+        words => words,
     }
 }
 
