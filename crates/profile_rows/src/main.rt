@@ -23,6 +23,7 @@
 
 mod case;
 mod lines;
+mod numbers;
 mod profile;
 mod report;
 mod rows;
