@@ -1,8 +1,7 @@
 //! Index lists: for each platform and mode the rules that write something there, each once, with the
 //! lists that it stands in.
-ghost use Rattle.std.specs.Prelude.{◌≡◌, ◌+◌, ◌<◌, ◌^◌, ℕ, length, map, IfOk};
-ghost use Rattle.nextest_elements.specs.declared.run_mode.NextestRunMode.TheVariants as modes;
-ghost use Rattle.nextest_engines.specs.declared.queries.BuildPlatform.TheVariants as platforms;
+ghost use Rattle.std.specs.Prelude.{◌≡◌, ◌+◌, ◌<◌, ◌^◌, length, IfOk};
+ghost use Rattle.nextest_rules.specs.View.{script_rule_view};
 ghost use Rattle.nextest_settings.specs.Index.{IsIndex, IsPlatformIndex, is_listed, names_wrapper, override_tests, script_tests, rows_in, wrapper_rows_in, platform_rows};
 ghost use Rattle.nextest_settings.specs.Settings.{is_set};
 ghost use Rattle.nextest_settings.specs.View.{evaluated_override_view, evaluated_script_rule_view};
@@ -13,6 +12,7 @@ use crate::setting::Setting;
 use crate::written::is_set;
 use nextest_elements::NextestRunMode;
 use nextest_engines::{BuildPlatform, Filters, Specs};
+use nextest_rules::CompiledProfileScripts;
 use rule_lists::{Listed, Row, build_rows};
 use std::alloc::{AllocError, Global};
 
@@ -43,16 +43,25 @@ impl<F: Filters, S: Specs> Listed<Place, Setting> for EvaluatedOverride<'_, F, S
     }
 }
 
+/// Whether a script rule names a wrapper.
+fn names_wrapper<F: Filters, S: Specs>(
+    rule: &CompiledProfileScripts<F, S>,
+    wrapper: Wrapper,
+) -> bool
+    ensures { result ≡ names_wrapper wrapper (script_rule_view rule.now).writes }
+{
+    match wrapper {
+        Wrapper::Run => rule.run_wrapper().is_some(),
+        Wrapper::List => rule.list_wrapper().is_some(),
+    }
+}
+
 impl<F: Filters, S: Specs> Listed<BuildPlatform, Wrapper> for EvaluatedScriptRule<'_, F, S> {
     ghost listed = { λ platform wrapper rule. is_listed platform (names_wrapper wrapper)
         (evaluated_script_rule_view rule) };
 
     fn is_listed(&self, platform: &BuildPlatform, wrapper: &Wrapper) -> bool {
-        self.is_on(*platform)
-            && match wrapper {
-                Wrapper::Run => self.rule.run_wrapper().is_some(),
-                Wrapper::List => self.rule.list_wrapper().is_some(),
-            }
+        self.is_on(*platform) && names_wrapper(self.rule, *wrapper)
     }
 }
 

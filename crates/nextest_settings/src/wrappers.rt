@@ -1,5 +1,5 @@
 //! Wrapper scripts: the first script rule that holds and names one.
-ghost use Rattle.std.specs.Prelude.{◌≡◌, ℕ, IfSome, IsSome, IsTrue, slice_get, ◌++◌, ◌∷◌, ◌<◌, ◌+◌, ◌^◌, ◌&&◌, [], length, map, option_map, option_and_then, is_some, if◌then◌else◌, Some};
+ghost use Rattle.std.specs.Prelude.{◌≡◌, ℕ, IfSome, IsSome, slice_get, ◌++◌, ◌∷◌, ◌&&◌, [], map, option_map, option_and_then, is_some, if◌then◌else◌, Some};
 ghost use Rattle.nextest_load.specs.ConfigView.{scripts_view};
 ghost use Rattle.nextest_rules.specs.Rules.{at_name};
 ghost use Rattle.nextest_scripts.specs.ScriptId.{script_text};

@@ -6,6 +6,9 @@ use Rattle.nextest_settings.specs.View.{meant_override}
 use Rattle.nextest_settings.proofs.Listed.{winners-seen, all-told}
 use Rattle.nextest_settings.proofs.pass.winners.Goals as goal
 
+pub walk_rows-requires-clause-answers : goal.walk_rows-requires-clause-answers
+walk_rows-requires-clause-answers g c = λ k r at listed. tt
+
 pub returns-clause-winners : goal.returns-clause-winners
 returns-clause-winners g c =
     let F = g.F.Filters in

@@ -7,6 +7,9 @@ use Rattle.nextest_settings.proofs.Listed.{winner-seen, all-told, met, found-amo
 use Rattle.nextest_settings.proofs.Wrapped.{head-found, writes-it, if-some}
 use Rattle.nextest_settings.proofs.wrappers.run_wrapper_rule.Goals as goal
 
+pub walk_rows-requires-clause-answers : goal.walk_rows-requires-clause-answers
+walk_rows-requires-clause-answers g c = λ k r at listed. tt
+
 pub returns-clause-rule : goal.returns-clause-rule
 returns-clause-rule g c =
     let F = g.F.Filters in
