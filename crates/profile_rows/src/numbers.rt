@@ -8,8 +8,9 @@ use crate::case::Case;
 use crate::lines::Lines;
 use nextest_config::{
     BinaryQuery, BuildPlatforms, ConfigExperimental, EvalContext, EvaluatableProfile, FilterFault,
-    Filters, FiltersetKind, NextestConfig, NextestRunMode, ParseContext, Tally, TestQuery,
+    Filters, NextestConfig, NextestRunMode, ParseContext, Tally, TestQuery,
 };
+use nextest_engines::FiltersetKind;
 use nextest_engines::history::RuleHistory;
 use std::alloc::{AllocError, Global};
 use std::collections::BTreeSet;
