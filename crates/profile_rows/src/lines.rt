@@ -100,7 +100,7 @@ impl<'a> Lines<'a> {
     }
 
     /// Whether a line of this name is kept.
-    fn shows(&self, name: &str) -> bool {
+    pub fn shows(&self, name: &str) -> bool {
         match self.shown {
             Some(words) => words.split(' ').any(|word| word == name),
             None => true,

@@ -25,6 +25,7 @@
 
 mod case;
 mod lines;
+mod numbers;
 mod profile;
 mod refusal;
 mod report;

@@ -1,6 +1,7 @@
 //! The report of a run: the load of a case's files, and what a profile of them says.
 use crate::case::Case;
 use crate::lines::{Call, Lines};
+use crate::numbers::add_numbers;
 use crate::profile::{Config, Early, Profile, add_early, add_profile};
 use crate::rows::add_rows;
 use crate::tests::{add_binary, add_groups, add_setup_scripts, add_test};
@@ -18,6 +19,9 @@ pub const ENGINES: ParseContext<'static, ToyFilters, ToySpecs> = ParseContext {
     filters: &ToyFilters,
     specs: &ToySpecs,
 };
+
+/// The lines that tell which rules are evaluated.
+static EVALUATED: [&str; 3] = ["evaluated", "bench-evaluated", "list-evaluated"];
 
 /// All features.
 pub fn all_features(alloc: Global) -> Result<BTreeSet<ConfigExperimental>, AllocError> {
@@ -90,6 +94,9 @@ pub fn report_of(alloc: Global, case: &Case<'_>, profile: &str) -> Result<String
         Err(error) => lines.add(alloc, "refused", &error)?,
     }
     add_rows(alloc, &mut lines, case, &features, profile, &platforms)?;
+    if EVALUATED.iter().any(|name| lines.shows(name)) {
+        add_numbers(alloc, &mut lines, case, &features, profile, &platforms)?;
+    }
     let (name, text) = (case.name, lines.into_text(alloc)?);
     format!(in alloc; "case {name}\nprofile {profile}\n{text}")
 }
