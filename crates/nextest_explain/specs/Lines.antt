@@ -1,0 +1,65 @@
+-- The lines of rows: each setting with its value and where it comes from.
+use Rattle.std.specs.Prelude.{ℕ, List, [], ◌∷◌, ◌++◌, Option, None, Some, codes}
+use Rattle.std.specs.Fmt.{decimal}
+use Rattle.std.specs.List.{flat_map}
+use Rattle.nextest_config.specs.Headline.{Row}
+use Rattle.nextest_config.specs.ValueTexts.{value_text}
+use Rattle.nextest_rules.specs.Rules.{RuleId}
+use Rattle.nextest_settings.specs.Queries.{Origin, unwritten, by_profile, by_override, by_script}
+use Rattle.nextest_settings.specs.Settings.{settings, setting_name}
+use Rattle.nextest_settings.specs.declared.setting.Setting.{Setting}
+use Rattle.nextest_sources.specs.Sources.{Source, owner_of_source}
+use Rattle.nextest_texts.specs.Owner.{Owner, nobody, a_tool}
+use Rattle.nextest_explain.specs.declared.options.Places.{Places}
+use Rattle.nextest_explain.specs.declared.options.Places.TheVariants.{Words, Whole}
+
+-- What stands behind the path of a source: who provides it, where it is not the repository's.
+abbrev pub provider_text : Owner → List ℕ
+provider_text nobody = []
+provider_text (a_tool tool) = codes " provided by tool `" ++ tool ++ codes "`"
+
+-- A source is told by its path as it is, and by who provides it.
+abbrev pub where_text : Source → List ℕ
+where_text source = source.path ++ provider_text (owner_of_source source.kind)
+
+-- An override is told by the profile under which it stands, its position there, and its source.
+abbrev pub override_text : RuleId → List ℕ
+override_text rule =
+    codes "override profile." ++ rule.profile ++ codes ".overrides." ++ decimal rule.index
+    ++ codes " in " ++ where_text rule.source
+
+-- The place of a value: what decides it, and a dash where nothing does.
+abbrev pub place_text : Option Origin → List ℕ
+place_text None = codes "-"
+place_text (Some unwritten) = codes "default"
+place_text (Some by_profile) = codes "profile"
+place_text (Some (by_override rule)) = override_text rule
+place_text (Some by_script) = codes "script"
+
+-- The place of a value in one word.
+abbrev pub place_word : Option Origin → List ℕ
+place_word (Some (by_override rule)) = codes "override"
+place_word origin = place_text origin
+
+-- The place of a value, as lines are to tell it.
+abbrev pub told_place : Places → Option Origin → List ℕ
+told_place Words origin = place_word origin
+told_place Whole origin = place_text origin
+
+-- The end of a line.
+abbrev pub line_end : List ℕ
+line_end = 10 ∷ []
+
+-- A line tells the name of a setting, its value in a row, and the place of that value.
+abbrev pub line_of : Places → Row → Setting → List ℕ
+line_of places row s =
+    setting_name s ++ codes ": " ++ value_text s (row.value s)
+    ++ codes " [" ++ told_place places (row.source s) ++ codes "]" ++ line_end
+
+-- The lines of rows: for each row in order, one line for each setting in order.
+abbrev pub lines_telling : Places → List Row → List ℕ
+lines_telling places rows = flat_map (λ row. flat_map (line_of places row) settings) rows
+
+-- The lines of rows, each with the whole place of its value.
+abbrev pub lines_of : List Row → List ℕ
+lines_of rows = lines_telling Whole rows
