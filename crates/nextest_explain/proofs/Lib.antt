@@ -1,0 +1,3 @@
+pub mod LineLists
+pub mod AskedRows
+pub mod Endings

@@ -13,14 +13,14 @@ use Rattle.nextest_texts.specs.Owner.{Owner, nobody, a_tool}
 use Rattle.nextest_explain.specs.declared.options.Places.{Places}
 use Rattle.nextest_explain.specs.declared.options.Places.TheVariants.{Words, Whole}
 
--- What stands behind the path of a source: who provides it, where it is not the repository's.
-abbrev pub provider_text : Owner → List ℕ
-provider_text nobody = []
-provider_text (a_tool tool) = codes " provided by tool `" ++ tool ++ codes "`"
+-- A file is told by its path as it is, and by who provides it, where that is not the repository.
+abbrev pub provided : List ℕ → Owner → List ℕ
+provided path nobody = path
+provided path (a_tool tool) = path ++ codes " provided by tool `" ++ tool ++ codes "`"
 
--- A source is told by its path as it is, and by who provides it.
+-- A source is told by its file and its owner.
 abbrev pub where_text : Source → List ℕ
-where_text source = source.path ++ provider_text (owner_of_source source.kind)
+where_text source = provided source.path (owner_of_source source.kind)
 
 -- An override is told by the profile under which it stands, its position there, and its source.
 abbrev pub override_text : RuleId → List ℕ
@@ -56,9 +56,13 @@ line_of places row s =
     setting_name s ++ codes ": " ++ value_text s (row.value s)
     ++ codes " [" ++ told_place places (row.source s) ++ codes "]" ++ line_end
 
--- The lines of rows: for each row in order, one line for each setting in order.
+-- The lines of a row: one for each setting, in order.
+abbrev pub row_lines : Places → Row → List ℕ
+row_lines places row = flat_map (line_of places row) settings
+
+-- The lines of rows: those of each row, in order.
 abbrev pub lines_telling : Places → List Row → List ℕ
-lines_telling places rows = flat_map (λ row. flat_map (line_of places row) settings) rows
+lines_telling places rows = flat_map (row_lines places) rows
 
 -- The lines of rows, each with the whole place of its value.
 abbrev pub lines_of : List Row → List ℕ

@@ -1,64 +1,77 @@
 //! The lines of rows: each setting with its value and where it comes from.
 ghost use Rattle.std.specs.Prelude.{◌≡◌, ◌++◌, IfOk, OnOk, Some, map, option_map, string_bytes};
 ghost use Rattle.nextest_config.specs.RowView.{origin_view, row_view};
+ghost use Rattle.nextest_rules.specs.Rules.{RuleId};
+ghost use Rattle.nextest_settings.specs.Queries.{by_override};
 ghost use Rattle.nextest_sources.specs.Sources.{source_view};
-ghost use Rattle.nextest_explain.specs.Lines.{where_text, told_place, line_of, lines_telling};
+ghost use Rattle.nextest_explain.specs.Lines as lines;
 
 use crate::options::Places;
 use nextest_config::run::{PlainSource, TestRow};
 use nextest_config::{ConfigSource, IdentifierOwner, Setting};
 use std::alloc::{AllocError, Global};
-use std::fmt::{self, Write};
+use std::fmt::Write;
 
-/// A source: its path as it is, and who provides it.
-#[derive(Drop)]
-struct Where<'a>(&'a ConfigSource);
-
-impl fmt::Display for Where<'_> {
-    ghost output = { λ x. Some (where_text (source_view x.0.now)) };
-
-    fn fmt<W: fmt::Write>(&self, f: &mut fmt::Formatter<W>) -> fmt::Result {
-        let path = self.0.path();
-        match self.0.kind().owner() {
-            IdentifierOwner::Tool(tool) => write!(f, "{path} provided by tool `{tool}`"),
-            IdentifierOwner::Nobody => write!(f, "{path}"),
-        }
+/// A source as lines tell it: the path of its file as it is, and who provides it.
+fn where_text(alloc: Global, source: &ConfigSource) -> Result<String, AllocError>
+    ensures { IfOk result (λ text. string_bytes text ≡ lines.where_text (source_view source.now)) }
+{
+    let path = source.path();
+    match source.kind().owner() {
+        IdentifierOwner::Tool(tool) => format!(in alloc; "{path} provided by tool `{tool}`"),
+        IdentifierOwner::Nobody => path.to_string(alloc),
     }
 }
 
-/// The place of a value.
-#[derive(Drop)]
-struct Place<'a> {
-    source: Option<&'a PlainSource>,
+/// An override as lines tell it, by where it stands.
+fn override_text(
+    alloc: Global,
+    source: &ConfigSource,
+    profile: &str,
+    index: usize,
     places: Places,
-}
-
-impl fmt::Display for Place<'_> {
-    ghost output = { λ place. Some (told_place place.places
-        (option_map (λ source. origin_view source.now) place.source)) };
-
-    fn fmt<W: fmt::Write>(&self, f: &mut fmt::Formatter<W>) -> fmt::Result {
-        match (self.source, self.places) {
-            (Some(PlainSource::Default), _) => f.write_str("default"),
-            (Some(PlainSource::Profile), _) => f.write_str("profile"),
-            (Some(PlainSource::Override { .. }), Places::Words) => f.write_str("override"),
-            (
-                Some(
-                    PlainSource::Override {
-                        source,
-                        profile,
-                        index,
-                    },
-                ),
-                Places::Whole,
-            ) => {
-                let source = Where(source);
-                write!(f, "override profile.{profile}.overrides.{index} in {source}")
-            }
-            (Some(PlainSource::Script), _) => f.write_str("script"),
-            (None, _) => f.write_str("-"),
+) -> Result<String, AllocError>
+    ensures { IfOk result (λ text. string_bytes text
+        ≡ lines.told_place places (Some (by_override (record {
+          source = source_view source.now;
+          profile = profile.now;
+          index = index;
+        })))) }
+{
+    match places {
+        Places::Words => String::from_str(alloc, "override"),
+        Places::Whole => {
+            let place = where_text(alloc, source)?;
+            format!(in alloc; "override profile.{profile}.overrides.{index} in {place}")
         }
     }
+}
+
+/// The place of a value, or a dash where nothing decides it.
+fn place_text(
+    alloc: Global,
+    source: Option<&PlainSource>,
+    places: Places,
+) -> Result<String, AllocError>
+    ensures { IfOk result (λ text. string_bytes text
+        ≡ lines.told_place places (option_map (λ source. origin_view source.now) source)) }
+{
+    let word = match source {
+        Some(
+            PlainSource::Override {
+                source,
+                profile,
+                index,
+            },
+        ) => {
+            return override_text(alloc, source, profile.as_str(), *index, places);
+        }
+        Some(PlainSource::Default) => "default",
+        Some(PlainSource::Profile) => "profile",
+        Some(PlainSource::Script) => "script",
+        None => "-",
+    };
+    String::from_str(alloc, word)
 }
 
 /// Adds the line that a row has of a setting.
@@ -70,21 +83,18 @@ fn add_line(
     places: Places,
 ) -> Result<(), AllocError>
     ensures { OnOk result (string_bytes text.new
-        ≡ string_bytes text.old ++ line_of places (row_view row.now) setting) }
+        ≡ string_bytes text.old ++ lines.line_of places (row_view row.now) setting) }
 {
     let name = setting.name();
     let value = row.value_text(alloc, setting)?;
-    let place = Place {
-        source: row.source(setting),
-        places,
-    };
+    let place = place_text(alloc, row.source(setting), places)?;
     write!(text, "{name}: {value} [{place}]\n")
 }
 
 /// The lines of a row.
 fn lines_of_row(alloc: Global, row: &TestRow, places: Places) -> Result<String, AllocError>
     ensures { IfOk result (λ text. string_bytes text
-        ≡ lines_telling places (row_view row.now ∷ [])) }
+        ≡ lines.row_lines places (row_view row.now)) }
 {
     let mut text = String::new(alloc);
     for setting in Setting::ALL.iter() {
@@ -96,12 +106,12 @@ fn lines_of_row(alloc: Global, row: &TestRow, places: Places) -> Result<String, 
 /// The lines of rows.
 pub fn lines_of_rows(alloc: Global, rows: &[TestRow], places: Places) -> Result<String, AllocError>
     ensures { IfOk result (λ text. string_bytes text
-        ≡ lines_telling places (map row_view rows.now)) }
+        ≡ lines.lines_telling places (map row_view rows.now)) }
 {
     let mut text = String::new(alloc);
     for row in rows {
-        let lines = lines_of_row(alloc, row, places)?;
-        text.push_str(lines.as_str())?;
+        let row_lines = lines_of_row(alloc, row, places)?;
+        text.push_str(row_lines.as_str())?;
     }
     Ok(text)
 }

@@ -190,7 +190,10 @@ fn platforms_of(
     ensures target { IfOk result (λ platforms. option_map string_bytes platforms.target
         ≡ option_map (λ target. target.now) command.now.options.target) }
 {
-    let host = command.options.host.unwrap_or(HOST);
+    let host = match command.options.host {
+        Some(host) => host,
+        None => HOST,
+    };
     let target = match command.options.target {
         Some(target) => Some(String::from_str(alloc, target)?),
         None => None,

@@ -42,8 +42,8 @@ impl Sources {
 
     /// What a run takes of them, beside the features that a command switches on.
     pub fn inputs<'a>(&'a self, options: &'a Options<'_>) -> Inputs<'a>
-        ensures paths { result.entry.paths.now ≡ self.now.paths }
-        ensures features { result.entry.features.now ≡ options.now.features }
+        ensures paths { result.paths.now ≡ self.now.paths }
+        ensures features { result.features.now ≡ options.now.features }
     {
         Inputs {
             paths: &self.paths,

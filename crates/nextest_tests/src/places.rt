@@ -145,7 +145,7 @@ fn a_writer_that_ends_has_the_bytes_before(rt: HostRuntime) -> Result<(), Fail> 
         }
         let (out, answer) = explained(rt.alloc(), &rows, step, whole.len(), End::Nothing);
         answer?;
-        assert!(&rt; &out.taken[..] == &whole[..] && out.calls_after == 0);
+        assert!(rt; &out.taken[..] == &whole[..] && out.calls_after == 0);
     }
     Ok(())
 }
@@ -154,7 +154,7 @@ fn a_writer_that_ends_has_the_bytes_before(rt: HostRuntime) -> Result<(), Fail> 
 fn no_rows_have_no_lines(rt: HostRuntime) -> Result<(), Fail> {
     let (out, answer) = explained(rt.alloc(), &[], 1, 0, End::Nothing);
     answer?;
-    assert!(&rt; out.taken.is_empty() && out.calls_after == 0);
+    assert!(rt; out.taken.is_empty() && out.calls_after == 0);
     Ok(())
 }
 
@@ -167,9 +167,9 @@ fn rows_stand_one_behind_another(rt: HostRuntime) -> Result<(), Fail> {
     let text = String::from_utf8(whole)?;
     let lines: Vec<&str> = text.lines().collect(alloc)?;
     let place = "[override profile.default.overrides.1 in /w/.config/nextest.toml]";
-    assert!(&rt; lines.len() == 30);
-    assert!(&rt; lines[0] == format!(in alloc; "priority: 10 {place}")?.as_str());
-    assert!(&rt; lines[14] == "junit-flaky-fail-status: failure [profile]");
-    assert!(&rt; lines[15] == "priority: 0 [default]");
+    assert!(rt; lines.len() == 30);
+    assert!(rt; lines[0] == format!(in alloc; "priority: 10 {place}")?.as_str());
+    assert!(rt; lines[14] == "junit-flaky-fail-status: failure [profile]");
+    assert!(rt; lines[15] == "priority: 0 [default]");
     Ok(())
 }

@@ -19,7 +19,9 @@ use nextest_settings::{Setting, SettingSource, TestSettings};
 use nextest_sources::ConfigSource;
 use sources::sources_of;
 use std::alloc::{AllocError, Global};
-use values::{Leak, Retries, Slow, arguments_text, wrapper_text};
+use values::{
+    arguments_text, leak_timeout_text, retries_text, slow_timeout_text, wrapper_text,
+};
 
 /// What decides a setting.
 #[derive(Debug, Drop, PartialEq, Eq)]
@@ -99,12 +101,12 @@ impl TestRow {
         match setting {
             Setting::Priority => self.priority.0.to_string(alloc),
             Setting::ThreadsRequired => self.threads_required.to_string(alloc),
-            Setting::RunWrapper => wrapper_text(alloc, self.run_wrapper.as_ref()),
+            Setting::RunWrapper => wrapper_text(alloc, &self.run_wrapper),
             Setting::RunExtraArgs => arguments_text(alloc, &self.run_extra_args),
-            Setting::Retries => Retries(self.retries).to_string(alloc),
+            Setting::Retries => retries_text(alloc, self.retries),
             Setting::FlakyResult => self.flaky_result.to_string(alloc),
-            Setting::SlowTimeout => Slow(self.slow_timeout).to_string(alloc),
-            Setting::LeakTimeout => Leak(self.leak_timeout).to_string(alloc),
+            Setting::SlowTimeout => slow_timeout_text(alloc, self.slow_timeout),
+            Setting::LeakTimeout => leak_timeout_text(alloc, self.leak_timeout),
             Setting::TestGroup => self.test_group.to_string(alloc),
             Setting::SuccessOutput => self.success_output.to_string(alloc),
             Setting::FailureOutput => self.failure_output.to_string(alloc),

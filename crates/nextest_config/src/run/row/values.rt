@@ -1,5 +1,5 @@
 //! Values of a row as texts.
-ghost use Rattle.std.specs.Prelude.{◌≡◌, IfOk, Some, map, string_bytes};
+ghost use Rattle.std.specs.Prelude.{◌≡◌, IfOk, Some, map, option_map, string_bytes};
 ghost use Rattle.nextest_scripts.specs.ScriptId.{script_text};
 ghost use Rattle.nextest_config.specs.ValueTexts as spelled;
 
@@ -25,7 +25,20 @@ impl fmt::Display for OptionalCount {
     }
 }
 
-/// A duration that may be absent, in nanoseconds.
+/// A duration in nanoseconds.
+#[derive(Clone, Copy)]
+struct Duration(u128);
+
+impl fmt::Display for Duration {
+    ghost output = { λ duration. Some (spelled.duration_text duration.0) };
+
+    fn fmt<W: fmt::Write>(&self, f: &mut fmt::Formatter<W>) -> fmt::Result {
+        let nanoseconds = self.0;
+        write!(f, "{nanoseconds}ns")
+    }
+}
+
+/// A duration in nanoseconds that may be absent.
 #[derive(Clone, Copy)]
 struct OptionalDuration(Option<u128>);
 
@@ -34,75 +47,60 @@ impl fmt::Display for OptionalDuration {
 
     fn fmt<W: fmt::Write>(&self, f: &mut fmt::Formatter<W>) -> fmt::Result {
         match self.0 {
-            Some(duration) => write!(f, "{duration}ns"),
+            Some(nanoseconds) => write!(f, "{nanoseconds}ns"),
             None => f.write_str("none"),
         }
     }
 }
 
-/// A retry policy.
-#[derive(Clone, Copy)]
-pub(super) struct Retries(pub RetryPolicy);
-
-impl fmt::Display for Retries {
-    ghost output = { λ retries. Some (spelled.retries_text retries.0) };
-
-    fn fmt<W: fmt::Write>(&self, f: &mut fmt::Formatter<W>) -> fmt::Result {
-        match self.0 {
-            RetryPolicy::Fixed {
-                count,
-                delay,
-                jitter,
-            } => write!(f, "fixed count={count} delay={delay}ns jitter={jitter}"),
-            RetryPolicy::Exponential {
-                count,
-                delay,
-                jitter,
-                max_delay,
-            } => {
-                let max_delay = OptionalDuration(max_delay);
-                write!(
-                    f,
-                    "exponential count={count} delay={delay}ns jitter={jitter} max-delay={max_delay}"
-                )
-            }
+/// The text of a retry policy.
+pub(super) fn retries_text(alloc: Global, retries: RetryPolicy) -> Result<String, AllocError>
+    ensures { IfOk result (λ text. string_bytes text ≡ spelled.retries_text retries) }
+{
+    match retries {
+        RetryPolicy::Fixed {
+            count,
+            delay,
+            jitter,
+        } => {
+            let delay = Duration(delay);
+            format!(in alloc; "fixed count={count} delay={delay} jitter={jitter}")
+        }
+        RetryPolicy::Exponential {
+            count,
+            delay,
+            jitter,
+            max_delay,
+        } => {
+            let delay = Duration(delay);
+            let max_delay = OptionalDuration(max_delay);
+            format!(in alloc;
+                "exponential count={count} delay={delay} jitter={jitter} max-delay={max_delay}"
+            )
         }
     }
 }
 
-/// A slow timeout.
-#[derive(Clone, Copy)]
-pub(super) struct Slow(pub SlowTimeout);
-
-impl fmt::Display for Slow {
-    ghost output = { λ slow. Some (spelled.slow_timeout_text slow.0) };
-
-    fn fmt<W: fmt::Write>(&self, f: &mut fmt::Formatter<W>) -> fmt::Result {
-        let SlowTimeout {
-            period,
-            terminate_after,
-            grace_period,
-            on_timeout,
-        } = self.0;
-        let periods = OptionalCount(terminate_after);
-        write!(
-            f,
-            "period={period}ns terminate-after={periods} grace-period={grace_period}ns on-timeout={on_timeout}"
-        )
-    }
+/// The text of a slow timeout.
+pub(super) fn slow_timeout_text(alloc: Global, slow: SlowTimeout) -> Result<String, AllocError>
+    ensures { IfOk result (λ text. string_bytes text ≡ spelled.slow_timeout_text slow) }
+{
+    let period = Duration(slow.period);
+    let periods = OptionalCount(slow.terminate_after);
+    let grace = Duration(slow.grace_period);
+    let on_timeout = slow.on_timeout;
+    format!(in alloc;
+        "period={period} terminate-after={periods} grace-period={grace} on-timeout={on_timeout}"
+    )
 }
 
-/// A leak timeout.
-#[derive(Clone, Copy)]
-pub(super) struct Leak(pub LeakTimeout);
-
-impl fmt::Display for Leak {
-    ghost output = { λ leak. Some (spelled.leak_timeout_text leak.0) };
-
-    fn fmt<W: fmt::Write>(&self, f: &mut fmt::Formatter<W>) -> fmt::Result {
-        let LeakTimeout { period, result } = self.0;
-        write!(f, "period={period}ns result={result}")
-    }
+/// The text of a leak timeout.
+pub(super) fn leak_timeout_text(alloc: Global, leak: LeakTimeout) -> Result<String, AllocError>
+    ensures { IfOk result (λ text. string_bytes text ≡ spelled.leak_timeout_text leak) }
+{
+    let period = Duration(leak.period);
+    let result = leak.result;
+    format!(in alloc; "period={period} result={result}")
 }
 
 /// The text of arguments.
@@ -116,9 +114,12 @@ pub(super) fn arguments_text(alloc: Global, arguments: &[String]) -> Result<Stri
 }
 
 /// The text of the id of a run wrapper, if there is one.
-pub(super) fn wrapper_text(alloc: Global, wrapper: Option<&ScriptId>) -> Result<String, AllocError>
+pub(super) fn wrapper_text(
+    alloc: Global,
+    wrapper: &Option<ScriptId>,
+) -> Result<String, AllocError>
     ensures { IfOk result (λ text. string_bytes text
-        ≡ spelled.optional_text (λ id. script_text id.now) wrapper) }
+        ≡ spelled.optional_text (λ id. id) (option_map script_text wrapper.now)) }
 {
     match wrapper {
         Some(id) => id.to_string(alloc),
