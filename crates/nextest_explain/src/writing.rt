@@ -1,6 +1,6 @@
 //! Writes every setting of rows with its place.
-ghost use Rattle.std.specs.Prelude.{◌≡◌, OnOk, OnErr, IfErr, map};
-ghost use Rattle.std.specs.Io.KnownBytes.{Appends};
+ghost use Rattle.std.specs.Prelude.{◌≡◌, ◌≤◌, ◌<◌, OnOk, OnErr, IfOk, IfErr, length, map, take};
+ghost use Rattle.std.specs.Io.KnownBytes.{Appends, Keeps};
 ghost use Rattle.nextest_config.specs.RowView.{row_view};
 ghost use Rattle.nextest_explain.specs.Lines.{lines_of, lines_telling};
 ghost use Rattle.nextest_explain.specs.Writing.{AppendsBeginning};
@@ -25,20 +25,34 @@ pub enum ExplainFault {
     Memory,
 }
 
-/// Writes bytes, in as many calls as the writer takes. A call that fails, whatever the cause, or
-/// that takes none ends it.
+/// Writes a beginning of some bytes, and answers how many. A call that fails, whatever the cause, or
+/// that takes none is a fault.
+#[tactic(auto, using(crate::proofs::Writers::kept_of_none))]
+fn write_some<W: Write>(bytes: &[u8], out: &mut W) -> Result<usize, ExplainFault>
+    ensures bound { IfOk result (λ count. count ≤ length bytes.now) }
+    ensures some { IfOk result (λ count. 0 < count) }
+    ensures taken { IfOk result (λ count. Appends (W.contents out.old) (W.contents out.new)
+        (take count bytes.now)) }
+    ensures fault { IfErr result (λ fault. fault ≡ faults.Write) }
+    ensures kept { OnErr result (Keeps (W.contents out.old) (W.contents out.new)) }
+{
+    match out.write(bytes) {
+        Ok(0) | Err(_) => Err(ExplainFault::Write),
+        Ok(count) => Ok(count),
+    }
+}
+
+/// Writes bytes, in as many calls as the writer takes.
 fn write_bytes<W: Write>(bytes: &[u8], out: &mut W) -> Result<(), ExplainFault>
     ensures ok { OnOk result (Appends (W.contents out.old) (W.contents out.new) bytes.now) }
-    ensures write { IfErr result (λ fault. fault ≡ faults.Write) }
+    ensures fault { IfErr result (λ fault. fault ≡ faults.Write) }
     ensures begun { OnErr result
         (AppendsBeginning (W.contents out.old) (W.contents out.new) bytes.now) }
 {
     let mut rest = bytes;
     while !rest.is_empty() {
-        match out.write(rest) {
-            Ok(0) | Err(_) => return Err(ExplainFault::Write),
-            Ok(count) => rest = &rest[count..],
-        }
+        let count = write_some(rest, out)?;
+        rest = &rest[count..];
     }
     Ok(())
 }
