@@ -36,7 +36,7 @@ pub record Asks (command : Command) (request : Request (String Global)) : Type 0
   pub profile : request.profile ≡ command.profile.now
   pub features : request.features ≡ features_view command.options.features
   pub host : string_bytes request.platforms.host
-      ≡ option_map_or (λ host. host.now) usual_host command.options.host
+      ≡ option_map_or (λ host. host.now) command.options.host usual_host
   pub target : option_map string_bytes request.platforms.target
       ≡ option_map (λ target. target.now) command.options.target
   pub mode : request.mode ≡ command.mode

@@ -186,7 +186,7 @@ fn platforms_of(
     command: &Command<'_>,
 ) -> Result<BuildPlatforms<String>, AllocError>
     ensures host { IfOk result (λ platforms. string_bytes platforms.host
-        ≡ option_map_or (λ host. host.now) usual_host command.now.options.host) }
+        ≡ option_map_or (λ host. host.now) command.now.options.host usual_host) }
     ensures target { IfOk result (λ platforms. option_map string_bytes platforms.target
         ≡ option_map (λ target. target.now) command.now.options.target) }
 {
