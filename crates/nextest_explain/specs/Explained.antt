@@ -7,6 +7,9 @@ use Rattle.nextest_config.specs.Headline.{Request, Row, Run, Resolves}
 use Rattle.nextest_engines.specs.Engines.{Test}
 use Rattle.nextest_engines.specs.Readings.{Readings}
 use Rattle.nextest_rules.specs.KnownView.{features_view}
+use Rattle.toy_engines.specs.FilterValues.{Filter, match_all}
+use Rattle.toy_engines.specs.Filters.{filter_read, filter_matches, filter_holds_binary, filter_leaves}
+use Rattle.toy_engines.specs.Platforms.{Platforms, spec_read, meets}
 use Rattle.nextest_explain.specs.Lines.{lines_telling}
 use Rattle.nextest_explain.specs.declared.command.Command.{Command}
 use Rattle.nextest_explain.specs.declared.options.Places.{Places}
@@ -42,27 +45,36 @@ pub record Asks (command : Command) (request : Request (String Global)) : Type 0
   pub mode : request.mode ≡ command.mode
   pub tests : request.tests ≡ asked_test command ∷ []
 
--- Rows are those that a command asks for: they resolve its request.
-pub record AreRowsFor {M K : Type 0} (engines : Readings M K (String Global)) (command : Command)
-    (rows : List Row) : Type 0 where
+-- What the toy engines make of texts.
+abbrev pub toy_readings : Readings Filter Platforms (String Global)
+toy_readings = record {
+  read_filter = filter_read;
+  read_spec = spec_read;
+  match_all = match_all;
+  matches_test = filter_matches;
+  matches_binary = filter_holds_binary;
+  leaves = filter_leaves;
+  meets = λ spec platform. meets spec (string_bytes platform);
+}
+
+-- Rows are those that a command asks for: by the toy engines they resolve its request.
+pub record AreRowsFor (command : Command) (rows : List Row) : Type 0 where
   pub request : Request (String Global)
   pub asks : Asks command request
   pub run : Run
   pub answered : run.answer ≡ Ok rows
-  pub resolves : Resolves engines request run
+  pub resolves : Resolves toy_readings request run
 
 -- Rows are asked for by some command, with lines that tell places so.
-pub record AreAskedRows {M K : Type 0} (engines : Readings M K (String Global)) (places : Places)
-    (rows : List Row) : Type 0 where
+pub record AreAskedRows (places : Places) (rows : List Row) : Type 0 where
   pub command : Command
   pub places_asked : command.options.places ≡ places
-  pub are_rows : AreRowsFor engines command rows
+  pub are_rows : AreRowsFor command rows
 
 -- A writer was given the lines of a command: known bytes grew by exactly the lines of the rows that
 -- it asks for, which tell places as it asks.
-pub record Explains {M K : Type 0} (engines : Readings M K (String Global))
-    (old new : Option (List ℕ)) : Type 0 where
+pub record Explains (old new : Option (List ℕ)) : Type 0 where
   pub places : Places
   pub rows : List Row
-  pub asked : AreAskedRows engines places rows
+  pub asked : AreAskedRows places rows
   pub lines : Appends old new (lines_telling places rows)

@@ -4,10 +4,6 @@ ghost use Rattle.std.specs.Option.{option_map_or};
 ghost use Rattle.std.specs.Io.KnownBytes.{Appends};
 ghost use Rattle.nextest_config.specs.RowView.{row_view};
 ghost use Rattle.nextest_engines.specs.Engines.{test_view};
-ghost use Rattle.nextest_engines.specs.Readings.{readings_view};
-ghost use Rattle.nextest_engines.specs.declared.parse_context.ParseContext.{ParseContext};
-ghost use Rattle.toy_engines.specs.declared.filters.ToyFilters.{ToyFilters};
-ghost use Rattle.toy_engines.specs.declared.platforms.ToySpecs.{ToySpecs};
 ghost use Rattle.nextest_explain.specs.Explained.{usual_host, asked_test, AreRowsFor, AreAskedRows, Explains};
 ghost use Rattle.nextest_explain.specs.Lines.{lines_telling};
 ghost use Rattle.nextest_explain.specs.Statuses.{IsRefusalStatus, IsStatus};
@@ -42,9 +38,7 @@ pub fn explain<R: FileReader, O: Write, E: Write>(
 ) -> u8
     ensures status { IsStatus result }
     ensures quiet { (result ≡ 0) ⊎ (result ≡ 6) ⊎ (O.contents out.new ≡ O.contents out.old) }
-    ensures lines { result ≡ 0 → (pcx : ParseContext ToyFilters ToySpecs)
-        × Explains (readings_view ⟦<ToyFilters as Filters>⟧ ⟦<ToySpecs as Specs>⟧ pcx)
-        (O.contents out.old) (O.contents out.new) }
+    ensures lines { result ≡ 0 → Explains (O.contents out.old) (O.contents out.new) }
 {
     let mut warnings = DefaultConfigWarnings::new(alloc);
     let answer = run(alloc, words, files, &mut warnings);
@@ -135,9 +129,8 @@ fn run<R: FileReader>(
     files: &R,
     warnings: &mut DefaultConfigWarnings,
 ) -> Result<Asked, Failure>
-    ensures { IfOk result (λ asked. (pcx : ParseContext ToyFilters ToySpecs)
-        × AreAskedRows (readings_view ⟦<ToyFilters as Filters>⟧ ⟦<ToySpecs as Specs>⟧ pcx)
-        asked.places (map row_view asked.rows.items)) }
+    ensures { IfOk result
+        (λ asked. AreAskedRows asked.places (map row_view asked.rows.items)) }
 {
     let command = Command::parse(alloc, words)?;
     let sources = Sources::read(alloc, &command, files)?;
@@ -156,9 +149,7 @@ fn rows(
     warnings: &mut DefaultConfigWarnings,
 ) -> Result<Vec<TestRow>, ResolveFault>
     ensures { string_bytes sources.now.paths.workspace_root ≡ command.now.root.now
-        → IfOk result (λ rows. (pcx : ParseContext ToyFilters ToySpecs)
-        × AreRowsFor (readings_view ⟦<ToyFilters as Filters>⟧ ⟦<ToySpecs as Specs>⟧ pcx)
-        command.now (map row_view rows.items)) }
+        → IfOk result (λ rows. AreRowsFor command.now (map row_view rows.items)) }
 {
     let Ok(platforms) = platforms_of(alloc, command) else {
         return Err(ResolveFault::Memory);
