@@ -28,23 +28,18 @@ override_text rule =
     codes "override profile." ++ rule.profile ++ codes ".overrides." ++ decimal rule.index
     ++ codes " in " ++ where_text rule.source
 
+-- An override, as lines are to tell it: in one word, or whole.
+abbrev pub told_override : Places → RuleId → List ℕ
+told_override Words rule = codes "override"
+told_override Whole rule = override_text rule
+
 -- The place of a value: what decides it, and a dash where nothing does.
-abbrev pub place_text : Option Origin → List ℕ
-place_text None = codes "-"
-place_text (Some unwritten) = codes "default"
-place_text (Some by_profile) = codes "profile"
-place_text (Some (by_override rule)) = override_text rule
-place_text (Some by_script) = codes "script"
-
--- The place of a value in one word.
-abbrev pub place_word : Option Origin → List ℕ
-place_word (Some (by_override rule)) = codes "override"
-place_word origin = place_text origin
-
--- The place of a value, as lines are to tell it.
 abbrev pub told_place : Places → Option Origin → List ℕ
-told_place Words origin = place_word origin
-told_place Whole origin = place_text origin
+told_place places None = codes "-"
+told_place places (Some unwritten) = codes "default"
+told_place places (Some by_profile) = codes "profile"
+told_place places (Some (by_override rule)) = told_override places rule
+told_place places (Some by_script) = codes "script"
 
 -- The end of a line.
 abbrev pub line_end : List ℕ

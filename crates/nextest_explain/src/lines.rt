@@ -1,8 +1,6 @@
 //! The lines of rows: each setting with its value and where it comes from.
 ghost use Rattle.std.specs.Prelude.{◌≡◌, ◌++◌, IfOk, OnOk, Some, map, option_map, string_bytes};
 ghost use Rattle.nextest_config.specs.RowView.{origin_view, row_view};
-ghost use Rattle.nextest_rules.specs.Rules.{RuleId};
-ghost use Rattle.nextest_settings.specs.Queries.{by_override};
 ghost use Rattle.nextest_sources.specs.Sources.{source_view};
 ghost use Rattle.nextest_explain.specs.Lines as lines;
 
@@ -10,7 +8,6 @@ use crate::options::Places;
 use nextest_config::run::{PlainSource, TestRow};
 use nextest_config::{ConfigSource, IdentifierOwner, Setting};
 use std::alloc::{AllocError, Global};
-use std::fmt::Write;
 
 /// A source as lines tell it: the path of its file as it is, and who provides it.
 fn where_text(alloc: Global, source: &ConfigSource) -> Result<String, AllocError>
@@ -31,12 +28,11 @@ fn override_text(
     index: usize,
     places: Places,
 ) -> Result<String, AllocError>
-    ensures { IfOk result (λ text. string_bytes text
-        ≡ lines.told_place places (Some (by_override (record {
-          source = source_view source.now;
-          profile = profile.now;
-          index = index;
-        })))) }
+    ensures { IfOk result (λ text. string_bytes text ≡ lines.told_override places (record {
+      source = source_view source.now;
+      profile = profile.now;
+      index = index;
+    })) }
 {
     match places {
         Places::Words => String::from_str(alloc, "override"),
@@ -56,22 +52,19 @@ fn place_text(
     ensures { IfOk result (λ text. string_bytes text
         ≡ lines.told_place places (option_map (λ source. origin_view source.now) source)) }
 {
-    let word = match source {
-        Some(
-            PlainSource::Override {
-                source,
-                profile,
-                index,
-            },
-        ) => {
-            return override_text(alloc, source, profile.as_str(), *index, places);
-        }
-        Some(PlainSource::Default) => "default",
-        Some(PlainSource::Profile) => "profile",
-        Some(PlainSource::Script) => "script",
-        None => "-",
+    let Some(source) = source else {
+        return String::from_str(alloc, "-");
     };
-    String::from_str(alloc, word)
+    match source {
+        PlainSource::Default => String::from_str(alloc, "default"),
+        PlainSource::Profile => String::from_str(alloc, "profile"),
+        PlainSource::Override {
+            source,
+            profile,
+            index,
+        } => override_text(alloc, source, profile.as_str(), *index, places),
+        PlainSource::Script => String::from_str(alloc, "script"),
+    }
 }
 
 /// Adds the line that a row has of a setting.
