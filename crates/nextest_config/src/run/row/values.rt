@@ -114,10 +114,7 @@ pub(super) fn arguments_text(alloc: Global, arguments: &[String]) -> Result<Stri
 }
 
 /// The text of the id of a run wrapper, if there is one.
-pub(super) fn wrapper_text(
-    alloc: Global,
-    wrapper: &Option<ScriptId>,
-) -> Result<String, AllocError>
+pub(super) fn wrapper_text(alloc: Global, wrapper: &Option<ScriptId>) -> Result<String, AllocError>
     ensures { IfOk result (λ text. string_bytes text
         ≡ spelled.optional_text (λ id. id) (option_map script_text wrapper.now)) }
 {
