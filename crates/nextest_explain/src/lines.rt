@@ -50,7 +50,7 @@ fn place_text(
     places: Places,
 ) -> Result<String, AllocError>
     ensures { IfOk result (λ text. string_bytes text
-        ≡ lines.told_place places (option_map (λ source. origin_view source.now) source)) }
+        ≡ lines.told_place places (option_map (λ source. origin_view source.now) source.entry)) }
 {
     let Some(source) = source else {
         return String::from_str(alloc, "-");

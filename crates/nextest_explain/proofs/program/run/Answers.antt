@@ -3,4 +3,4 @@ use Rattle.nextest_explain.proofs.program.run.Goals as goal
 
 pub returns : goal.returns
 returns g c =
-    record { command = c.in_ok-command.field-0; places_asked = refl; are_rows = c.in_ok-rows.ensures c.in_ok-sources.ensures.root }
+    record { command = c.in_ok-command.command; places_asked = refl; are_rows = c.in_ok-rows.ensures c.in_ok-sources.ensures.root }

@@ -16,7 +16,7 @@ pub loop-rest-preserved : goal.loop-rest-preserved
 loop-rest-preserved g c =
     let (done, split, appended) = c.loop-rest.invariant in
     let rest = c.loop-rest.rest.now in
-    let n = c.in_ok-count.field-0 in
+    let n = c.in_ok-count.count in
     (done ++ take n rest, moved _ done rest n split, Appends-trans _ _ _ _ _ appended c.in_ok-count.ensures.taken)
 
 pub returns-in_err-count-clause-begun : goal.returns-in_err-count-clause-begun
