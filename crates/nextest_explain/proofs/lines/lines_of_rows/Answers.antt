@@ -1,4 +1,4 @@
-use Rattle.std.proofs.Common.{◌≡◌, ◌∙◌, ap, string_bytes}
+use Rattle.std.proofs.Common.{◌∙◌, ◌++◌, ap, string_bytes}
 use Rattle.std.proofs.lemmas.List.{take_all}
 use Rattle.std.specs.List.{flat_map}
 use Rattle.nextest_config.specs.RowView.{row_view}
@@ -8,7 +8,7 @@ use Rattle.nextest_explain.proofs.lines.lines_of_rows.Goals as goal
 
 pub loop-row-preserved : goal.loop-row-preserved
 loop-row-preserved c =
-    lines_more (λ row. row_lines c.args.places (row_view row)) c.args.rows.now c.loop-row.row-index c.row-item.result _ c.loop-row-test.true c.row-item.is _ _ c.loop-row.invariant (cc c.in_ok-row_lines.ensures)
+    lines_more (λ row. row_lines c.args.places (row_view row)) c.args.rows.now c.loop-row.row-index c.row-item.result _ c.loop-row-test.true c.row-item.is _ _ c.loop-row.invariant (c.in_ok-push_str.ensures.bytes ∙ ap (λ lines. string_bytes c.loop-row.text ++ lines) (c.as_str.ensures.value ∙ c.in_ok-row_lines.ensures))
 
 pub returns : goal.returns
 returns c =

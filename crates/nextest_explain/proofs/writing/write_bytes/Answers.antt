@@ -2,6 +2,7 @@ use Rattle.std.proofs.Common.{◌≡◌, ◌∙◌, ◌++◌, ◌-◌, ℕ, List
 use Rattle.std.proofs.KnownBytes.{Appends-kept, Appends-trans}
 use Rattle.std.proofs.lemmas.List.{take_rest}
 use Rattle.std.specs.Io.KnownBytes.{Appends}
+use Rattle.nextest_explain.proofs.Writers.{at_fault}
 use Rattle.nextest_explain.proofs.writing.write_bytes.Goals as goal
 
 -- what is taken from the rest goes to what is done
@@ -22,7 +23,7 @@ loop-rest-preserved g c =
 pub returns-in_err-count-clause-begun : goal.returns-in_err-count-clause-begun
 returns-in_err-count-clause-begun g c =
     let (done, split, appended) = c.loop-rest.invariant in
-    (done, c.loop-rest.rest.now, split, search rules, Appends-kept _ _ _ _ appended c.in_err-count.ensures.kept)
+    at_fault _ _ (done, c.loop-rest.rest.now, split, search rules, Appends-kept _ _ _ _ appended c.in_err-count.ensures.kept)
 
 pub returns-clause-ok : goal.returns-clause-ok
 returns-clause-ok g c =
