@@ -14,3 +14,4 @@ pub mod HaveSameProfile
 pub mod Isolation
 pub mod FileApart
 pub mod Aliasing
+pub mod JoinedTexts

@@ -51,7 +51,7 @@ pub use nextest_sources::{
     ProfileListScriptUsesRunFiltersError, ProfileScriptErrors, ProfileUnknownScriptError,
     ProfileWrongConfigScriptTypeError, ReadOutcome, ToolConfigFile, UnknownTestGroupError,
 };
-pub use nextest_texts::{ConfigIdentifier, InvalidIdentifier, ToolName};
+pub use nextest_texts::{ConfigIdentifier, IdentifierOwner, InvalidIdentifier, ToolName};
 pub use nextest_tree::{Element, ElementCause, ElementFault, Tree, Walk};
 
 // Profiles, settings and what decides them.

@@ -1,1 +1,4 @@
 pub mod Statuses
+pub mod Lines
+pub mod Writing
+pub mod Explained

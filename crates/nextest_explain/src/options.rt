@@ -4,6 +4,15 @@ use nextest_config::{BuildPlatform, ConfigExperimental, ToolName};
 use std::alloc::{AllocError, Global};
 use std::collections::BTreeSet;
 
+/// How lines tell where a value comes from.
+#[derive(Clone, Copy, Debug, PartialEq, Eq)]
+pub enum Places {
+    /// In one word.
+    Words,
+    /// Whole: an override by its profile, its position there, and its file.
+    Whole,
+}
+
 /// The options among the words.
 #[derive(Debug, Drop)]
 pub struct Options<'a> {
@@ -21,6 +30,8 @@ pub struct Options<'a> {
     pub target: Option<&'a str>,
     /// What the test's binary is built for.
     pub platform: BuildPlatform,
+    /// How lines tell where a value comes from.
+    pub places: Places,
 }
 
 /// A file that a tool provides.
@@ -67,6 +78,7 @@ impl<'a> Options<'a> {
             host: None,
             target: None,
             platform: BuildPlatform::Target,
+            places: Places::Words,
         }
     }
 
@@ -95,6 +107,17 @@ impl<'a> Options<'a> {
             BuildPlatform::Host => Err(CommandError::Usage),
             BuildPlatform::Target => {
                 self.platform = BuildPlatform::Host;
+                Ok(())
+            }
+        }
+    }
+
+    /// Says that lines tell the whole place of each value.
+    pub fn set_whole_places(&mut self) -> Result<(), CommandError> {
+        match self.places {
+            Places::Whole => Err(CommandError::Usage),
+            Places::Words => {
+                self.places = Places::Whole;
                 Ok(())
             }
         }

@@ -1,4 +1,6 @@
 //! Reads the files that a command names.
+ghost use Rattle.std.specs.Prelude.{◌≡◌, IfOk, string_bytes};
+
 use crate::command::Command;
 use crate::files::FileReader;
 use crate::options::{Options, ToolFile};
@@ -24,7 +26,10 @@ impl Sources {
         alloc: Global,
         command: &Command<'_>,
         files: &R,
-    ) -> Result<Sources, AllocError> {
+    ) -> Result<Sources, AllocError>
+        ensures root { IfOk result (λ sources. string_bytes sources.paths.workspace_root
+            ≡ command.now.root.now) }
+    {
         let options = &command.options;
         Ok(Sources {
             paths: ConfigPaths {
@@ -38,7 +43,10 @@ impl Sources {
     }
 
     /// What a run takes of them, beside the features that a command switches on.
-    pub fn inputs<'a>(&'a self, options: &'a Options<'_>) -> Inputs<'a> {
+    pub fn inputs<'a>(&'a self, options: &'a Options<'_>) -> Inputs<'a>
+        ensures paths { result.paths.now ≡ self.now.paths }
+        ensures features { result.features.now ≡ options.now.features }
+    {
         Inputs {
             paths: &self.paths,
             selection: self.selection(),

@@ -14,6 +14,8 @@ mod evaluations;
 #[cfg(test)]
 mod loads;
 #[cfg(test)]
+mod places;
+#[cfg(test)]
 mod queries;
 #[cfg(test)]
 mod refusals;

@@ -7,7 +7,7 @@ use std::alloc::{AllocError, Global};
 use std::collections::BTreeSet;
 
 /// The paths of a workspace whose own file has this text.
-fn workspace_paths(alloc: Global, text: &str) -> Result<ConfigPaths, AllocError> {
+pub fn workspace_paths(alloc: Global, text: &str) -> Result<ConfigPaths, AllocError> {
     let shared = FileInput {
         path: ConfigPath::new(alloc, "/w/.config/nextest.toml")?,
         outcome: ReadOutcome::Text(String::from_str(alloc, text)?),

@@ -1,0 +1,4 @@
+use Rattle.nextest_config.proofs.run.row.values.slow_timeout_text.Goals as goal
+
+pub returns : goal.returns
+returns c = c.format.ensures.ok

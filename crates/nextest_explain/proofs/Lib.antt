@@ -1,0 +1,4 @@
+pub mod LineLists
+pub mod AskedRows
+pub mod Endings
+pub mod Writers

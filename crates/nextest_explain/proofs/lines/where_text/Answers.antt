@@ -1,0 +1,15 @@
+use Rattle.std.proofs.Common.{◌≡◌, ◌∙◌, ap, sym}
+use Rattle.nextest_sources.specs.Sources.{source_view, owner_of_source}
+use Rattle.nextest_texts.specs.Owner.{nobody, a_tool}
+use Rattle.nextest_texts.specs.OwnerView.{owner_view}
+use Rattle.nextest_explain.proofs.lines.where_text.Goals as goal
+
+pub returns-in-Tool : goal.returns-in-Tool
+returns-in-Tool c =
+    let owner : owner_of_source (source_view c.args.source.now).kind ≡ a_tool c.in-Tool.tool.now = sym (ap owner_of_source c.kind.ensures) ∙ sym c.owner.ensures ∙ ap owner_view c.in-Tool.is in
+    rw (owner, ← c.path.ensures) c.format.ensures.ok
+
+pub returns-in-Nobody : goal.returns-in-Nobody
+returns-in-Nobody c =
+    let owner : owner_of_source (source_view c.args.source.now).kind ≡ nobody = sym (ap owner_of_source c.kind.ensures) ∙ sym c.owner.ensures ∙ ap owner_view c.in-Nobody.is in
+    rw (owner, ← c.path.ensures) c.to_string.ensures.ok
