@@ -9,7 +9,7 @@ use Rattle.nextest_settings.specs.Queries.{Origin, unwritten, by_profile, by_ove
 use Rattle.nextest_settings.specs.Settings.{settings, setting_name}
 use Rattle.nextest_settings.specs.declared.setting.Setting.{Setting}
 use Rattle.nextest_sources.specs.Sources.{Source, owner_of_source}
-use Rattle.nextest_texts.specs.Owner.{Owner, nobody, a_tool}
+use Rattle.nextest_texts.specs.Owner.{Owner, nobody, a_tool, the_organisation}
 use Rattle.nextest_explain.specs.declared.options.Places.{Places}
 use Rattle.nextest_explain.specs.declared.options.Places.TheVariants.{Words, Whole}
 
@@ -17,6 +17,7 @@ use Rattle.nextest_explain.specs.declared.options.Places.TheVariants.{Words, Who
 abbrev pub provided : List ℕ → Owner → List ℕ
 provided path nobody = path
 provided path (a_tool tool) = path ++ codes " provided by tool `" ++ tool ++ codes "`"
+provided path the_organisation = path ++ codes " provided by organisation"
 
 -- A source is told by its file and its owner.
 abbrev pub where_text : Source → List ℕ

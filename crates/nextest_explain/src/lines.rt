@@ -16,6 +16,7 @@ fn where_text(alloc: Global, source: &ConfigSource) -> Result<String, AllocError
     let path = source.path();
     match source.kind().owner() {
         IdentifierOwner::Tool(tool) => format!(in alloc; "{path} provided by tool `{tool}`"),
+        IdentifierOwner::Organisation => format!(in alloc; "{path} provided by organisation"),
         IdentifierOwner::Nobody => path.to_string(alloc),
     }
 }

@@ -1,6 +1,6 @@
 use Rattle.std.proofs.Common.{◌≡◌, ◌∙◌, ap, sym}
 use Rattle.nextest_sources.specs.Sources.{source_view, owner_of_source}
-use Rattle.nextest_texts.specs.Owner.{nobody, a_tool}
+use Rattle.nextest_texts.specs.Owner.{nobody, a_tool, the_organisation}
 use Rattle.nextest_texts.specs.OwnerView.{owner_view}
 use Rattle.nextest_explain.proofs.lines.where_text.Goals as goal
 
@@ -13,3 +13,8 @@ pub returns-in-Nobody : goal.returns-in-Nobody
 returns-in-Nobody c =
     let owner : owner_of_source (source_view c.args.source.now).kind ≡ nobody = sym (ap owner_of_source c.kind.ensures) ∙ sym c.owner.ensures ∙ ap owner_view c.in-Nobody.is in
     rw (owner, ← c.path.ensures) c.to_string.ensures.ok
+
+pub returns-in-Organisation : goal.returns-in-Organisation
+returns-in-Organisation c =
+    let owner : owner_of_source (source_view c.args.source.now).kind ≡ the_organisation = sym (ap owner_of_source c.kind.ensures) ∙ sym c.owner.ensures ∙ ap owner_view c.in-Organisation.is in
+    rw (owner, ← c.path.ensures) c.format.ensures.ok
