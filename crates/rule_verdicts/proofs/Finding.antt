@@ -1,5 +1,5 @@
 -- What is found in a list, and in its beginnings.
-use Rattle.std.proofs.Common.{◌≡◌, ℕ, ◌<◌, zero, suc, Bool, true, false, cond, Option, Some, None, is_some, List, [], ◌∷◌, take, find, slice_get, refl, sym, ◌∙◌, ap, arith}
+use Rattle.std.proofs.Common.{◌≡◌, ℕ, ◌<◌, zero, suc, Bool, true, false, cond, Some, None, List, [], ◌∷◌, take, find, slice_get, refl, ◌∙◌, ap, arith}
 
 -- an element of a beginning stands in the list, before the beginning's end
 pub in_take : {X : Type 0} (xs : List X) (n m : ℕ) (y : X) → slice_get (take n xs) m ≡ Some y

@@ -1,5 +1,5 @@
 -- Verdicts, place by place.
-use Rattle.std.proofs.Common.{◌≡◌, ◌≢◌, ℕ, ◌<◌, zero, suc, Bool, true, false, ◌&&◌, ◌||◌, cond, Option, Some, None, IfSome, is_some, List, [], ◌∷◌, ◌++◌, take, map, find, slice_get, refl, sym, ◌∙◌, ap, arith, append_assoc}
+use Rattle.std.proofs.Common.{◌≡◌, ◌≢◌, ℕ, zero, suc, Bool, true, false, ◌&&◌, ◌||◌, cond, Option, Some, None, IfSome, is_some, List, [], ◌∷◌, ◌++◌, take, map, find, slice_get, refl, sym, ◌∙◌, ap, append_assoc}
 use Rattle.std.proofs.lemmas.List.{append-nil}
 use Rattle.nextest_settings.proofs.StandsFirst.{find-least, find-none}
 use Rattle.nextest_settings.specs.Deciding.{QueryContext, filter_holds, decides, winner, StandsFirst}
@@ -8,7 +8,7 @@ use Rattle.rule_verdicts.proofs.Finding.{in_take, to_take, none_found, first_fou
 use Rattle.rule_verdicts.specs.Verdicts.{verdict_of, verdicts_after, verdicts_of, facts_of, IsDeciding}
 use Rattle.rule_verdicts.specs.VerdictsBy.{verdict_by, verdicts_by}
 use Rattle.rule_verdicts.specs.declared.verdict.Verdict.{Verdict}
-use Rattle.rule_verdicts.specs.declared.verdict.Verdict.TheVariants.{PlatformNo, FilterNo, SetsNothing, DecidedBefore, Decides}
+use Rattle.rule_verdicts.specs.declared.verdict.Verdict.TheVariants.{Decides}
 
 -- a verdict that decides has all for it
 only_decides : (a b c d : Bool) → verdict_by a b c d ≡ Decides → (((a && b) && c) ≡ true) × (d ≡ false)
