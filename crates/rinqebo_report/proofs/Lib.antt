@@ -1,0 +1,4 @@
+pub mod WholeTexts
+pub mod Joined
+pub mod Prefixes
+pub mod Pages

@@ -1,0 +1,79 @@
+-- The document of a report.
+use Rattle.std.specs.Prelude.{ℕ, List, [], ◌∷◌, ◌++◌, Option, None, Some, codes, String, string_bytes}
+use Rattle.serde_json.specs.Data.{Data, null, number, unsigned, string, array, object, Items, no_items, item, Members, no_members, member}
+use Rattle.rinqebo_report.specs.declared.report.Asked.{Asked}
+use Rattle.rinqebo_report.specs.declared.report.Content.{Content}
+use Rattle.rinqebo_report.specs.declared.report.Content.TheVariants as contents
+use Rattle.rinqebo_report.specs.declared.report.Report.{Report}
+use Rattle.rinqebo_report.specs.Documents.{count_data, text_data, optional_text_data, list_data, test_data, rule_data, finding_data, source_data, unreached_data}
+use Rattle.rinqebo_report.specs.Pages.{mode_word}
+
+-- What was asked for, as the document tells it.
+pub record AskedData : Type 0 where
+  pub chain : Data
+  pub host : Data
+  pub mode : Data
+  pub profile : Data
+  pub target : Data
+
+-- nothing was asked for
+abbrev pub nothing_asked : AskedData
+nothing_asked =
+    record { chain = array no_items; host = null; mode = null; profile = null; target = null }
+
+-- this was asked for
+abbrev pub asked_data : Asked → AskedData
+asked_data asked = record {
+  chain = list_data text_data asked.chain.items;
+  host = text_data asked.host;
+  mode = string (mode_word asked.mode);
+  profile = text_data asked.profile;
+  target = optional_text_data asked.target;
+}
+
+-- what was asked for, by what a command answers
+abbrev pub content_asked : Content → AskedData
+content_asked (contents.Explain asked test) = asked_data asked
+content_asked (contents.Why asked key rules) = asked_data asked
+content_asked contents.Check = nothing_asked
+
+-- the word of a command
+abbrev pub command_word : Content → List ℕ
+command_word (contents.Explain asked test) = codes "explain"
+command_word (contents.Why asked key rules) = codes "explain"
+command_word contents.Check = codes "check"
+
+-- the rules that are answered
+abbrev pub rules_data : Content → Data
+rules_data (contents.Explain asked test) = array no_items
+rules_data (contents.Why asked key rules) = list_data rule_data rules.items
+rules_data contents.Check = array no_items
+
+-- the tests that are answered
+abbrev pub tests_data : Content → Data
+tests_data (contents.Explain asked test) = array (item (test_data test) no_items)
+tests_data (contents.Why asked key rules) = array no_items
+tests_data contents.Check = array no_items
+
+-- a report, with what was asked for
+abbrev pub document_with : AskedData → Report → Data
+document_with asked report =
+    object (member (codes "chain") asked.chain
+    (member (codes "command") (string (command_word report.content))
+    (member (codes "entries") (array no_items)
+    (member (codes "findings") (list_data finding_data report.findings.items)
+    (member (codes "host") asked.host
+    (member (codes "mode") asked.mode
+    (member (codes "profile") asked.profile
+    (member (codes "root") (text_data report.root)
+    (member (codes "rules") (rules_data report.content)
+    (member (codes "sources") (list_data source_data report.sources.items)
+    (member (codes "target") asked.target
+    (member (codes "tests") (tests_data report.content)
+    (member (codes "unreached") (list_data unreached_data report.unreached.items)
+    (member (codes "unused") (array no_items)
+    (member (codes "version") (count_data 1) no_members)))))))))))))))
+
+-- the document of a report
+abbrev pub document_data : Report → Data
+document_data report = document_with (content_asked report.content) report
