@@ -1,0 +1,209 @@
+//! The next mark of a text.
+ghost use Rattle.std.specs.Prelude.{◌≡◌, None, IfOk, IfErr, IfSome};
+ghost use Rattle.filter_language.specs.Places.{misreading_view, IfMisread, IsBehind, IsPast, StandsIn};
+
+use crate::fault::{Ban, FaultKind, Misread, Stop};
+use crate::mark::{Mark, Question};
+use crate::matchers::Matchers;
+use crate::reading::nesting::Nesting;
+use crate::reading::operator::{Operator, operator_at};
+use crate::reading::predicate::{Predicate, read_predicate, word_at};
+use crate::reading::texts::{after, skip_blanks};
+use crate::words::Field;
+use nextest_engines::FiltersetKind;
+use std::alloc::Global;
+
+/// A mark, and what follows it.
+#[derive(Drop)]
+pub struct Next<'a, M> {
+    pub mark: Mark<M>,
+    /// Why it may not stand in a filter of its kind.
+    pub objection: Option<Misread<'a>>,
+    pub rest: &'a str,
+}
+
+/// Why a question may not stand in a filter of a kind.
+fn banned<M>(
+    kind: FiltersetKind,
+    knows_packages: bool,
+    question: &Question<M>,
+) -> Option<FaultKind> {
+    match question {
+        Question::All | Question::Nothing | Question::Platform(_) => None,
+        Question::Default => match kind {
+            FiltersetKind::DefaultFilter => {
+                Some(FaultKind::BannedPredicate(Ban::DefaultInDefaultFilter))
+            }
+            FiltersetKind::Test | FiltersetKind::OverrideFilter => None,
+        },
+        Question::Matches(matching) => match matching.field {
+            Field::Group => Some(banned_group(kind)),
+            Field::Deps | Field::Rdeps => {
+                if knows_packages {
+                    None
+                } else {
+                    Some(FaultKind::NoPackageGraph)
+                }
+            }
+            Field::TestName | Field::Package | Field::BinaryId | Field::BinaryName | Field::Kind =>
+                None,
+        },
+    }
+}
+
+/// Why a test group may not stand in a filter of a kind.
+fn banned_group(kind: FiltersetKind) -> FaultKind {
+    match kind {
+        FiltersetKind::Test => FaultKind::NoTestGroups,
+        FiltersetKind::OverrideFilter => FaultKind::BannedPredicate(Ban::GroupInOverrideFilter),
+        FiltersetKind::DefaultFilter => FaultKind::BannedPredicate(Ban::GroupInDefaultFilter),
+    }
+}
+
+/// Why a predicate may not stand in a filter of a kind, and where.
+fn find_objection<'a, M>(
+    kind: FiltersetKind,
+    knows_packages: bool,
+    start: &'a str,
+    predicate: &Predicate<'a, M>,
+) -> Option<Misread<'a>>
+    requires within { IsBehind predicate.now.rest.now predicate.now.close.now
+        × IsBehind predicate.now.close.now predicate.now.inside.now
+        × IsBehind predicate.now.inside.now start.now }
+    ensures { IfSome result (λ m. StandsIn start.now (misreading_view m)) }
+{
+    let fault = banned(kind, knows_packages, &predicate.question)?;
+    let (from, until) = match fault {
+        FaultKind::NoPackageGraph => (predicate.inside, predicate.close),
+        _ => (start, predicate.rest),
+    };
+    Some(Misread {
+        kind: fault,
+        from,
+        until,
+    })
+}
+
+/// The `not` that a text begins with.
+fn not(text: &str) -> Option<&str>
+    ensures { IfSome result (λ rest. IsPast rest.now text.now) }
+{
+    match after("not ", text) {
+        Some(rest) => Some(rest),
+        None => after("!", text),
+    }
+}
+
+/// A mark that may stand where it does, or what is wrong with it.
+fn unless_full<'a, M>(
+    is_within: bool,
+    mark: Mark<M>,
+    from: &'a str,
+    rest: &'a str,
+) -> Result<Next<'a, M>, Stop<'a>>
+where
+    M: Drop,
+    ensures ok { IfOk result (λ next. next.rest.now ≡ rest.now × next.objection ≡ None) }
+    ensures err { IfErr result (λ stop. IfMisread stop (λ m. m.from ≡ from.now × m.until ≡ rest.now)) }
+{
+    if !is_within {
+        return Err(Stop::between(FaultKind::TooDeeplyNested, from, rest));
+    }
+    Ok(Next {
+        mark,
+        objection: None,
+        rest,
+    })
+}
+
+/// The mark where an operand is due.
+fn wanted<'a, E: Matchers>(
+    engine: &E,
+    alloc: Global,
+    kind: FiltersetKind,
+    nesting: &mut Nesting,
+    place: &'a str,
+) -> Result<Next<'a, E::Matcher>, Stop<'a>>
+    ensures ok { IfOk result (λ next. IsPast next.rest.now place.now
+        × IfSome next.objection (λ m. StandsIn place.now (misreading_view m))) }
+    ensures err { IfErr result (λ stop. IfMisread stop (StandsIn place.now)) }
+{
+    let text = skip_blanks(place);
+    if let Some(rest) = not(text) {
+        return unless_full(nesting.negate(), Mark::Not, text, rest);
+    }
+    if let Some(rest) = after("(", text) {
+        return unless_full(nesting.open()?, Mark::Open, text, rest);
+    }
+    let Some((word, behind)) = word_at(text) else {
+        return Err(Stop::between(FaultKind::ExpectedExpr, place, ""));
+    };
+    let found = read_predicate(engine, alloc, word, text, behind)?;
+    nesting.complete();
+    Ok(Next {
+        objection: find_objection(kind, engine.has_package_graph(), text, &found),
+        mark: Mark::Predicate(found.question),
+        rest: found.rest,
+    })
+}
+
+/// The mark behind an operand, or `None` where the filter ends.
+fn joining<'a, M>(nesting: &mut Nesting, place: &'a str) -> Result<Option<Next<'a, M>>, Stop<'a>>
+    ensures ok { IfOk result (λ found. IfSome found (λ next. IsPast next.rest.now place.now
+        × IfSome next.objection (λ m. StandsIn place.now (misreading_view m)))) }
+    ensures err { IfErr result (λ stop. IfMisread stop (StandsIn place.now)) }
+{
+    let text = skip_blanks(place);
+    let (mark, rest) = match operator_at(text)? {
+        Some((Operator::And, rest)) => (Mark::And, rest),
+        Some((Operator::Or, rest)) => (Mark::Or, rest),
+        Some((Operator::Minus, rest)) => (Mark::Minus, rest),
+        Some((Operator::Close, rest)) if nesting.is_inside() => (Mark::Close, rest),
+        _ => return ended(nesting, place, text),
+    };
+    match mark {
+        Mark::Close => nesting.close(),
+        _ => nesting.join(),
+    }
+    Ok(Some(Next {
+        mark,
+        objection: None,
+        rest,
+    }))
+}
+
+/// The end of a filter, or what is wrong there.
+fn ended<'a, M>(
+    nesting: &Nesting,
+    place: &'a str,
+    text: &str,
+) -> Result<Option<Next<'a, M>>, Stop<'a>>
+    ensures ok { IfOk result (λ found. found ≡ None) }
+    ensures err { IfErr result (λ stop. IfMisread stop (StandsIn place.now)) }
+{
+    if nesting.is_inside() {
+        return Err(Stop::at(FaultKind::ExpectedCloseParenthesis, place));
+    }
+    if !text.is_empty() {
+        return Err(Stop::between(FaultKind::ExpectedEndOfExpression, place, ""));
+    }
+    Ok(None)
+}
+
+/// The next mark, or `None` where the filter ends.
+pub fn next_mark<'a, E: Matchers>(
+    engine: &E,
+    alloc: Global,
+    kind: FiltersetKind,
+    nesting: &mut Nesting,
+    place: &'a str,
+) -> Result<Option<Next<'a, E::Matcher>>, Stop<'a>>
+    ensures ok { IfOk result (λ found. IfSome found (λ next. IsPast next.rest.now place.now
+        × IfSome next.objection (λ m. StandsIn place.now (misreading_view m)))) }
+    ensures err { IfErr result (λ stop. IfMisread stop (StandsIn place.now)) }
+{
+    if nesting.wants_operand {
+        return Ok(Some(wanted(engine, alloc, kind, nesting, place)?));
+    }
+    joining(nesting, place)
+}
