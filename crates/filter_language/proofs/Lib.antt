@@ -5,3 +5,5 @@ pub mod Stacks
 pub mod Evaluations
 pub mod Readings
 pub mod Truths
+pub mod Shapes
+pub mod Bans

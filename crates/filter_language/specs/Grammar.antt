@@ -1,5 +1,5 @@
 -- How filters are written, as lists of marks. Each definition puts what it writes before a rest.
-use Rattle.std.specs.Prelude.{◌≡◌, ℕ, zero, suc, max, Bool, true, false, ◌&&◌, List, [], ◌∷◌}
+use Rattle.std.specs.Prelude.{◌≡◌, ◌≤◌, ℕ, zero, suc, max, Bool, true, false, ◌&&◌, List, [], ◌∷◌}
 use Rattle.filter_language.specs.declared.mark.Mark as mark
 use Rattle.filter_language.specs.declared.mark.Mark.TheVariants.{Predicate, Not, Open, Close, And, Or, Minus}
 use Rattle.filter_language.specs.Formula.{Question, question_view, Formula, Asks, Negated, Both, Either, Without, Grouped}
@@ -67,3 +67,11 @@ nesting (Both a b) = max (nesting a) (nesting b)
 nesting (Either a b) = max (nesting a) (nesting b)
 nesting (Without a b) = max (nesting a) (nesting b)
 nesting (Grouped a) = suc (nesting a)
+
+-- The most `not`s and parentheses around one place that are read.
+abbrev pub NestsWithin : {L : Type 0} → Formula L → Type 0
+NestsWithin f = nesting f ≤ 128
+
+-- Marks spell a filter that nests within the bound.
+abbrev pub WritesAFilter : {L : Type 0} → List (Mark L) → Type 0
+WritesAFilter {L} marks = (f : Formula L) × Spells marks f × NestsWithin f

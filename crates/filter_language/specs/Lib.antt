@@ -8,3 +8,6 @@ pub mod Truth
 pub mod Bodies
 pub mod Reading
 pub mod Filtersets
+pub mod Nesting
+pub mod Bans
+pub mod Leaves

@@ -2,6 +2,9 @@
 use Rattle.std.specs.Prelude.{ℕ, ◌≤◌, ◌<◌, List, length}
 use Rattle.filter_language.specs.declared.fault.FaultKind.{FaultKind}
 use Rattle.filter_language.specs.declared.fault.Misread as misread
+use Rattle.filter_language.specs.declared.fault.FiltersetFault as fault
+use Rattle.filter_language.specs.declared.fault.ParseFault as parse_fault
+use Rattle.filter_language.specs.declared.fault.ParseFault.TheVariants.{Refused, Memory}
 use Rattle.filter_language.specs.declared.fault.Stop as stop
 use Rattle.filter_language.specs.declared.fault.Stop.TheVariants.{Misread, Memory}
 
@@ -30,3 +33,8 @@ IsPast place start = length place < length start
 -- What is wrong stands in what is left of a text.
 abbrev pub StandsIn : List ℕ → Misreading → Type 0
 StandsIn start m = IsBehind m.until m.from × IsBehind m.from start
+
+-- Where a text is refused, something holds of the refusal.
+abbrev pub IfRefused : parse_fault.ParseFault → (fault.FiltersetFault → Type 0) → Type 0
+IfRefused (Refused refusal) P = P refusal
+IfRefused Memory P = Unit {0}

@@ -1,5 +1,9 @@
 //! Filters.
-ghost use Rattle.std.specs.Prelude.{◌≡◌, option_map, Some, None};
+ghost use Rattle.std.specs.Prelude.{◌≡◌, ◌+◌, ◌≤◌, ◌++◌, true, length, map, string_bytes, option_map, Some, None, IfOk, IfErr};
+ghost use Rattle.filter_language.specs.Grammar.{mark_view, WritesAFilter};
+ghost use Rattle.filter_language.specs.Bans.{are_allowed};
+ghost use Rattle.filter_language.specs.Leaves.{mark_leaves, leaves};
+ghost use Rattle.filter_language.specs.Places.{IfMisread, StandsIn, IfRefused};
 ghost use Rattle.nextest_engines.specs.Engines.{binary_view, test_view};
 ghost use Rattle.filter_language.specs.Values.{answer, subject_view};
 ghost use Rattle.filter_language.specs.Evaluation.{marks_value};
@@ -24,13 +28,17 @@ pub enum Filterset<M> {
 }
 
 /// The refusal of a text.
-fn refused(text: &str, stop: Stop<'_>) -> ParseFault {
+fn refused(text: &str, stop: Stop<'_>) -> ParseFault
+    requires { IfMisread stop (StandsIn text.now) }
+    ensures { IfRefused result (λ refusal.
+        refusal.span.start + refusal.span.length ≤ length text.now) }
+{
     match stop {
         Stop::Misread(misread) => ParseFault::Refused(FiltersetFault {
             kind: misread.kind,
             span: Span {
-                start: text.len().saturating_sub(misread.from.len()),
-                length: misread.from.len().saturating_sub(misread.until.len()),
+                start: text.len() - misread.from.len(),
+                length: misread.from.len() - misread.until.len(),
             },
         }),
         Stop::Memory => ParseFault::Memory,
@@ -77,6 +85,38 @@ fn value_beside<E: Matchers>(
     )
 }
 
+/// One more leaf, where a mark is one.
+fn with_leaf<E: Matchers>(
+    found: Vec<String>,
+    mark: &Mark<E::Matcher>,
+) -> Result<Vec<String>, AllocError>
+    ensures { IfOk result (λ all. map string_bytes all.items
+        ≡ map string_bytes found.items ++ mark_leaves (mark_view E.meaning mark.now)) }
+{
+    let mut found = found;
+    if let Mark::Predicate(Question::Matches(matching)) = mark {
+        if matching.field == Field::TestName {
+            found.push(matching.written.clone()?)?;
+        }
+    }
+    Ok(found)
+}
+
+/// The leaves of marks.
+fn leaves_of<E: Matchers>(
+    alloc: Global,
+    marks: &[Mark<E::Matcher>],
+) -> Result<Vec<String>, AllocError>
+    ensures { IfOk result (λ found. map string_bytes found.items
+        ≡ leaves (map (mark_view E.meaning) marks.now)) }
+{
+    let mut found = Vec::new(alloc);
+    for mark in marks {
+        found = with_leaf::<E>(found, mark)?;
+    }
+    Ok(found)
+}
+
 impl<M: Drop> Filterset<M> {
     /// Reads a filter.
     pub fn parse<E: Matchers<Matcher = M>>(
@@ -84,7 +124,13 @@ impl<M: Drop> Filterset<M> {
         alloc: Global,
         text: &str,
         kind: FiltersetKind,
-    ) -> Result<Filterset<M>, ParseFault> {
+    ) -> Result<Filterset<M>, ParseFault>
+        ensures filter { IfOk result (λ filter. WritesAFilter (marks_view E.meaning filter)) }
+        ensures allowed { IfOk result (λ filter. are_allowed kind (E.knows_packages engine.now)
+            (marks_view E.meaning filter) ≡ true) }
+        ensures span { IfErr result (λ fault. IfRefused fault (λ refusal.
+            refusal.span.start + refusal.span.length ≤ length text.now)) }
+    {
         match read_marks(engine, alloc, text, kind) {
             Ok(marks) => Ok(Filterset::Marks(marks)),
             Err(stop) => Err(refused(text, stop)),
@@ -120,17 +166,16 @@ impl<M: Drop> Filterset<M> {
     }
 
     /// The predicates that only a test can answer, as they are written.
-    pub fn runtime_only_leaves(&self, alloc: Global) -> Result<Vec<String>, AllocError> {
-        let mut leaves = Vec::new(alloc);
-        if let Filterset::Marks(marks) = self {
-            for mark in marks {
-                if let Mark::Predicate(Question::Matches(matching)) = mark {
-                    if matching.field == Field::TestName {
-                        leaves.push(matching.written.clone()?)?;
-                    }
-                }
-            }
+    pub fn runtime_only_leaves<E: Matchers<Matcher = M>>(
+        &self,
+        alloc: Global,
+    ) -> Result<Vec<String>, AllocError>
+        ensures { IfOk result (λ found. map string_bytes found.items
+            ≡ leaves (marks_view E.meaning self.now)) }
+    {
+        match self {
+            Filterset::Everything => Ok(Vec::new(alloc)),
+            Filterset::Marks(marks) => leaves_of::<E>(alloc, marks),
         }
-        Ok(leaves)
     }
 }

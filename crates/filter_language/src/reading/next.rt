@@ -1,5 +1,10 @@
 //! The next mark of a text.
-ghost use Rattle.std.specs.Prelude.{◌≡◌, None, IfOk, IfErr, IfSome};
+ghost use Rattle.std.specs.Prelude.{◌≡◌, Bool, None, Some, true, false, [], option_map, IfOk, IfErr, IfSome, MatchOption};
+ghost use Rattle.nextest_engines.specs.declared.queries.FiltersetKind.{FiltersetKind};
+ghost use Rattle.filter_language.specs.Formula.{question_view};
+ghost use Rattle.filter_language.specs.Bans.{group_ban, default_ban, field_ban, question_ban, mark_ban};
+ghost use Rattle.filter_language.specs.Grammar.{mark_view};
+ghost use Rattle.filter_language.specs.Nesting.{shape_view, joined_shape, wanted_step, joining_step, shape_step, MayEnd};
 ghost use Rattle.filter_language.specs.Places.{misreading_view, IfMisread, IsBehind, IsPast, StandsIn};
 
 use crate::fault::{Ban, FaultKind, Misread, Stop};
@@ -22,37 +27,10 @@ pub struct Next<'a, M> {
     pub rest: &'a str,
 }
 
-/// Why a question may not stand in a filter of a kind.
-fn banned<M>(
-    kind: FiltersetKind,
-    knows_packages: bool,
-    question: &Question<M>,
-) -> Option<FaultKind> {
-    match question {
-        Question::All | Question::Nothing | Question::Platform(_) => None,
-        Question::Default => match kind {
-            FiltersetKind::DefaultFilter => {
-                Some(FaultKind::BannedPredicate(Ban::DefaultInDefaultFilter))
-            }
-            FiltersetKind::Test | FiltersetKind::OverrideFilter => None,
-        },
-        Question::Matches(matching) => match matching.field {
-            Field::Group => Some(banned_group(kind)),
-            Field::Deps | Field::Rdeps => {
-                if knows_packages {
-                    None
-                } else {
-                    Some(FaultKind::NoPackageGraph)
-                }
-            }
-            Field::TestName | Field::Package | Field::BinaryId | Field::BinaryName | Field::Kind =>
-                None,
-        },
-    }
-}
-
 /// Why a test group may not stand in a filter of a kind.
-fn banned_group(kind: FiltersetKind) -> FaultKind {
+fn banned_group(kind: FiltersetKind) -> FaultKind
+    ensures { result ≡ group_ban kind }
+{
     match kind {
         FiltersetKind::Test => FaultKind::NoTestGroups,
         FiltersetKind::OverrideFilter => FaultKind::BannedPredicate(Ban::GroupInOverrideFilter),
@@ -60,19 +38,69 @@ fn banned_group(kind: FiltersetKind) -> FaultKind {
     }
 }
 
+/// Why `default()` may not stand in a filter of a kind.
+fn banned_default(kind: FiltersetKind) -> Option<FaultKind>
+    ensures { result ≡ default_ban kind }
+{
+    match kind {
+        FiltersetKind::DefaultFilter => {
+            Some(FaultKind::BannedPredicate(Ban::DefaultInDefaultFilter))
+        }
+        FiltersetKind::Test | FiltersetKind::OverrideFilter => None,
+    }
+}
+
+/// Why a field may not be asked in a filter of a kind.
+fn banned_field(kind: FiltersetKind, knows_packages: bool, field: Field) -> Option<FaultKind>
+    ensures { result ≡ field_ban kind knows_packages field }
+{
+    match field {
+        Field::Group => Some(banned_group(kind)),
+        Field::Deps | Field::Rdeps => {
+            if knows_packages {
+                None
+            } else {
+                Some(FaultKind::NoPackageGraph)
+            }
+        }
+        Field::TestName
+        | Field::Package
+        | Field::BinaryId
+        | Field::BinaryName
+        | Field::Kind => None,
+    }
+}
+
+/// Why a question may not stand in a filter of a kind.
+fn banned<E: Matchers>(
+    kind: FiltersetKind,
+    knows_packages: bool,
+    question: &Question<E::Matcher>,
+) -> Option<FaultKind>
+    ensures { result ≡ question_ban kind knows_packages (question_view E.meaning question.now) }
+{
+    match question {
+        Question::All | Question::Nothing | Question::Platform(_) => None,
+        Question::Default => banned_default(kind),
+        Question::Matches(matching) => banned_field(kind, knows_packages, matching.field),
+    }
+}
+
 /// Why a predicate may not stand in a filter of a kind, and where.
-fn find_objection<'a, M>(
+fn find_objection<'a, E: Matchers>(
     kind: FiltersetKind,
     knows_packages: bool,
     start: &'a str,
-    predicate: &Predicate<'a, M>,
+    predicate: &Predicate<'a, E::Matcher>,
 ) -> Option<Misread<'a>>
     requires within { IsBehind predicate.now.rest.now predicate.now.close.now
         × IsBehind predicate.now.close.now predicate.now.inside.now
         × IsBehind predicate.now.inside.now start.now }
-    ensures { IfSome result (λ m. StandsIn start.now (misreading_view m)) }
+    ensures within { IfSome result (λ m. StandsIn start.now (misreading_view m)) }
+    ensures ban { option_map (λ m. m.kind) result
+        ≡ question_ban kind knows_packages (question_view E.meaning predicate.now.question) }
 {
-    let fault = banned(kind, knows_packages, &predicate.question)?;
+    let fault = banned::<E>(kind, knows_packages, &predicate.question)?;
     let (from, until) = match fault {
         FaultKind::NoPackageGraph => (predicate.inside, predicate.close),
         _ => (start, predicate.rest),
@@ -103,7 +131,8 @@ fn unless_full<'a, M>(
 ) -> Result<Next<'a, M>, Stop<'a>>
 where
     M: Drop,
-    ensures ok { IfOk result (λ next. next.rest.now ≡ rest.now × next.objection ≡ None) }
+    ensures ok { IfOk result (λ next. next.rest.now ≡ rest.now × next.objection ≡ None
+        × next.mark ≡ mark × is_within ≡ true) }
     ensures err { IfErr result (λ stop. IfMisread stop (λ m. m.from ≡ from.now × m.until ≡ rest.now)) }
 {
     if !is_within {
@@ -126,6 +155,10 @@ fn wanted<'a, E: Matchers>(
 ) -> Result<Next<'a, E::Matcher>, Stop<'a>>
     ensures ok { IfOk result (λ next. IsPast next.rest.now place.now
         × IfSome next.objection (λ m. StandsIn place.now (misreading_view m))) }
+    ensures ban { IfOk result (λ next. option_map (λ m. m.kind) next.objection
+        ≡ mark_ban kind (E.knows_packages engine.now) (mark_view E.meaning next.mark)) }
+    ensures step { IfOk result (λ next. wanted_step (shape_view nesting.old)
+        (mark_view E.meaning next.mark) ≡ Some (shape_view nesting.new)) }
     ensures err { IfErr result (λ stop. IfMisread stop (StandsIn place.now)) }
 {
     let text = skip_blanks(place);
@@ -141,35 +174,60 @@ fn wanted<'a, E: Matchers>(
     let found = read_predicate(engine, alloc, word, text, behind)?;
     nesting.complete();
     Ok(Next {
-        objection: find_objection(kind, engine.has_package_graph(), text, &found),
+        objection: find_objection::<E>(kind, engine.has_package_graph(), text, &found),
         mark: Mark::Predicate(found.question),
         rest: found.rest,
     })
 }
 
-/// The mark behind an operand, or `None` where the filter ends.
-fn joining<'a, M>(nesting: &mut Nesting, place: &'a str) -> Result<Option<Next<'a, M>>, Stop<'a>>
-    ensures ok { IfOk result (λ found. IfSome found (λ next. IsPast next.rest.now place.now
-        × IfSome next.objection (λ m. StandsIn place.now (misreading_view m)))) }
-    ensures err { IfErr result (λ stop. IfMisread stop (StandsIn place.now)) }
+/// An operator, and what follows it.
+fn joined<'a, M>(nesting: &mut Nesting, mark: Mark<M>, rest: &'a str) -> Next<'a, M>
+    ensures next { result ≡ record { mark = mark; objection = None; rest = rest.entry } }
+    ensures shape { shape_view nesting.new ≡ joined_shape (shape_view nesting.old) }
 {
-    let text = skip_blanks(place);
-    let (mark, rest) = match operator_at(text)? {
-        Some((Operator::And, rest)) => (Mark::And, rest),
-        Some((Operator::Or, rest)) => (Mark::Or, rest),
-        Some((Operator::Minus, rest)) => (Mark::Minus, rest),
-        Some((Operator::Close, rest)) if nesting.is_inside() => (Mark::Close, rest),
-        _ => return ended(nesting, place, text),
-    };
-    match mark {
-        Mark::Close => nesting.close(),
-        _ => nesting.join(),
-    }
-    Ok(Some(Next {
+    nesting.join();
+    Next {
         mark,
         objection: None,
         rest,
-    }))
+    }
+}
+
+/// The mark behind an operand, or `None` where the filter ends.
+fn joining<'a, E: Matchers>(
+    nesting: &mut Nesting,
+    place: &'a str,
+) -> Result<Option<Next<'a, E::Matcher>>, Stop<'a>>
+    requires { nesting.old.wants_operand ≡ false }
+    ensures ok { IfOk result (λ found. IfSome found (λ next. IsPast next.rest.now place.now
+        × IfSome next.objection (λ m. StandsIn place.now (misreading_view m)))) }
+    ensures ban { IfOk result (λ found. IfSome found (λ next. (next.objection ≡ None)
+        × ((kind : FiltersetKind) (knows : Bool)
+        → mark_ban kind knows (mark_view E.meaning next.mark) ≡ None))) }
+    ensures step { IfOk result (λ found. MatchOption found (MayEnd (shape_view nesting.old))
+        (λ next. joining_step (shape_view nesting.old) (mark_view E.meaning next.mark)
+        ≡ Some (shape_view nesting.new))) }
+    ensures err { IfErr result (λ stop. IfMisread stop (StandsIn place.now)) }
+{
+    let text = skip_blanks(place);
+    let Some((operator, rest)) = operator_at(text)? else {
+        return ended(nesting, place, text);
+    };
+    match operator {
+        Operator::And => Ok(Some(joined(nesting, Mark::And, rest))),
+        Operator::Or => Ok(Some(joined(nesting, Mark::Or, rest))),
+        Operator::Minus => Ok(Some(joined(nesting, Mark::Minus, rest))),
+        Operator::Close => {
+            if !nesting.close() {
+                return Err(Stop::between(FaultKind::ExpectedEndOfExpression, place, ""));
+            }
+            Ok(Some(Next {
+                mark: Mark::Close,
+                objection: None,
+                rest,
+            }))
+        }
+    }
 }
 
 /// The end of a filter, or what is wrong there.
@@ -178,7 +236,7 @@ fn ended<'a, M>(
     place: &'a str,
     text: &str,
 ) -> Result<Option<Next<'a, M>>, Stop<'a>>
-    ensures ok { IfOk result (λ found. found ≡ None) }
+    ensures ok { IfOk result (λ found. (found ≡ None) × ((shape_view nesting.now).outer ≡ [])) }
     ensures err { IfErr result (λ stop. IfMisread stop (StandsIn place.now)) }
 {
     if nesting.is_inside() {
@@ -200,10 +258,16 @@ pub fn next_mark<'a, E: Matchers>(
 ) -> Result<Option<Next<'a, E::Matcher>>, Stop<'a>>
     ensures ok { IfOk result (λ found. IfSome found (λ next. IsPast next.rest.now place.now
         × IfSome next.objection (λ m. StandsIn place.now (misreading_view m)))) }
+    ensures ban { IfOk result (λ found. IfSome found (λ next.
+        option_map (λ m. m.kind) next.objection
+        ≡ mark_ban kind (E.knows_packages engine.now) (mark_view E.meaning next.mark))) }
+    ensures step { IfOk result (λ found. MatchOption found (MayEnd (shape_view nesting.old))
+        (λ next. shape_step (shape_view nesting.old) (mark_view E.meaning next.mark)
+        ≡ Some (shape_view nesting.new))) }
     ensures err { IfErr result (λ stop. IfMisread stop (StandsIn place.now)) }
 {
     if nesting.wants_operand {
         return Ok(Some(wanted(engine, alloc, kind, nesting, place)?));
     }
-    joining(nesting, place)
+    joining::<E>(nesting, place)
 }

@@ -1,5 +1,7 @@
 //! Reads a whole text.
-ghost use Rattle.std.specs.Prelude.{IfErr};
+ghost use Rattle.std.specs.Prelude.{◌≡◌, ◌++◌, ◌∷◌, [], true, IfOk, IfErr, map};
+ghost use Rattle.filter_language.specs.Grammar.{mark_view, WritesAFilter};
+ghost use Rattle.filter_language.specs.Bans.{are_allowed};
 ghost use Rattle.filter_language.specs.Places.{IfMisread, StandsIn};
 
 use crate::fault::{Misread, Stop};
@@ -14,6 +16,7 @@ use std::alloc::{AllocError, Global};
 fn keep<M>(marks: &mut Vec<Mark<M>>, mark: Mark<M>) -> Result<(), AllocError>
 where
     M: Drop,
+    ensures { IfOk result (λ _. marks.new.items ≡ marks.old.items ++ mark ∷ []) }
 {
     marks.push(mark)?;
     Ok(())
@@ -26,6 +29,9 @@ pub fn read_marks<'a, E: Matchers>(
     text: &'a str,
     kind: FiltersetKind,
 ) -> Result<Vec<Mark<E::Matcher>>, Stop<'a>>
+    ensures allowed { IfOk result (λ marks. are_allowed kind (E.knows_packages engine.now)
+        (map (mark_view E.meaning) marks.items) ≡ true) }
+    ensures ok { IfOk result (λ marks. WritesAFilter (map (mark_view E.meaning) marks.items)) }
     ensures err { IfErr result (λ stop. IfMisread stop (StandsIn text.now)) }
 {
     let mut marks = Vec::new(alloc);
