@@ -7,3 +7,4 @@ pub mod Readings
 pub mod Truths
 pub mod Shapes
 pub mod Bans
+pub mod MarksTell

@@ -1,11 +1,13 @@
 //! Filters.
-ghost use Rattle.std.specs.Prelude.{◌≡◌, ◌+◌, ◌≤◌, ◌++◌, true, length, map, string_bytes, option_map, Some, None, IfOk, IfErr};
-ghost use Rattle.filter_language.specs.Grammar.{mark_view, WritesAFilter};
+ghost use Rattle.std.specs.Prelude.{◌≡◌, ◌↔◌, ◌+◌, ◌≤◌, ◌++◌, true, length, map, string_bytes, option_map, Some, None, IfOk, IfErr};
+ghost use Rattle.filter_language.specs.Formula.{Formula};
+ghost use Rattle.filter_language.specs.Grammar.{mark_view, Spells, NestsWithin, WritesAFilter};
+ghost use Rattle.filter_language.specs.Truth.{HoldsBeside};
 ghost use Rattle.filter_language.specs.Bans.{are_allowed};
 ghost use Rattle.filter_language.specs.Leaves.{mark_leaves, leaves};
 ghost use Rattle.filter_language.specs.Places.{IfMisread, StandsIn, IfRefused};
 ghost use Rattle.nextest_engines.specs.Engines.{binary_view, test_view};
-ghost use Rattle.filter_language.specs.Values.{answer, subject_view};
+ghost use Rattle.filter_language.specs.Values.{answer, of_test, subject_view};
 ghost use Rattle.filter_language.specs.Evaluation.{marks_value};
 ghost use Rattle.filter_language.specs.Filtersets.{marks_view, subject_of, marks_value_beside, says_true};
 
@@ -85,6 +87,16 @@ fn value_beside<E: Matchers>(
     )
 }
 
+/// Whether a value is known and true.
+fn is_true(value: Option<bool>) -> bool
+    ensures { result ≡ says_true value }
+{
+    match value {
+        Some(known) => known,
+        None => false,
+    }
+}
+
 /// One more leaf, where a mark is one.
 fn with_leaf<E: Matchers>(
     found: Vec<String>,
@@ -143,14 +155,20 @@ impl<M: Drop> Filterset<M> {
         query: &TestQuery<'_>,
         default: &Filterset<M>,
     ) -> bool
-        ensures { result ≡ says_true (marks_value_beside E.accepts
-            (subject_of (test_view query.now).binary (Some (test_view query.now).name))
+        ensures value { result ≡ says_true (marks_value_beside E.accepts
+            (of_test (test_view query.now))
             (marks_view E.meaning default.now) (marks_view E.meaning self.now)) }
+        ensures truth { (g f : Formula E.Meaning)
+            → Spells (marks_view E.meaning default.now) g → NestsWithin g
+            → Spells (marks_view E.meaning self.now) f → NestsWithin f
+            → (result ≡ true) ↔ HoldsBeside E.accepts g f (test_view query.now) }
     {
-        match value_beside::<E>(self, default, query.binary_query, Some(query.test_name)) {
-            Some(known) => known,
-            None => false,
-        }
+        is_true(value_beside::<E>(
+            self,
+            default,
+            query.binary_query,
+            Some(query.test_name),
+        ))
     }
 
     /// Whether it matches a binary, or `None` where that depends on the test.
