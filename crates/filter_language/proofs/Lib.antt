@@ -8,3 +8,4 @@ pub mod Truths
 pub mod Shapes
 pub mod Bans
 pub mod MarksTell
+pub mod Stops

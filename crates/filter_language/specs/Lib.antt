@@ -11,3 +11,4 @@ pub mod Filtersets
 pub mod Nesting
 pub mod Bans
 pub mod Leaves
+pub mod Lexing

@@ -1,5 +1,5 @@
 -- Parts of texts, as bytes.
-use Rattle.std.specs.Prelude.{ℕ, Bool, ◌==◌, ◌&&◌, ◌||◌, List, [], ◌∷◌, Option, None, Some, is_some, codes, if◌then◌else◌}
+use Rattle.std.specs.Prelude.{ℕ, Bool, ◌==◌, ◌&&◌, ◌||◌, true, nat_lt, List, [], ◌∷◌, Option, None, Some, is_some, codes, if◌then◌else◌}
 use Rattle.std.specs.Char.{char_set_contains}
 
 -- What follows a prefix of a text, or none where the text does not begin with it.
@@ -29,3 +29,8 @@ abbrev pub rest_until : List ℕ → List ℕ → List ℕ
 rest_until stops [] = []
 rest_until stops (c ∷ text) =
     if char_set_contains stops c then c ∷ text else rest_until stops text
+
+-- Whether each stop is an ASCII character.
+abbrev pub are_ascii : List ℕ → Bool
+are_ascii [] = true
+are_ascii (c ∷ stops) = nat_lt c 128 && are_ascii stops

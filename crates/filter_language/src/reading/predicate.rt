@@ -1,5 +1,6 @@
 //! Predicates.
-ghost use Rattle.std.specs.Prelude.{IfOk, IfErr, IfSome};
+ghost use Rattle.std.specs.Prelude.{◌≡◌, Ok, Err, option_map, IfOk, IfErr, IfSome};
+ghost use Rattle.filter_language.specs.Lexing.{field_in, word_in, opened_in, closed_in, closed_bare_in};
 ghost use Rattle.filter_language.specs.Places.{IfMisread, IsBehind, IsPast, StandsIn};
 
 use crate::fault::{FaultKind, Stop};
@@ -25,7 +26,8 @@ pub struct Predicate<'a, M> {
 
 /// The field whose word a text begins with, and what follows it.
 fn field_at(text: &str) -> Option<(Field, &str)>
-    ensures { IfSome result (λ found. IsPast found.1.now text.now) }
+    ensures value { option_map (λ found. (found.0, found.1.now)) result ≡ field_in text.now }
+    ensures place { IfSome result (λ found. IsPast found.1.now text.now) }
 {
     if let Some(rest) = after("binary_id", text) {
         return Some((Field::BinaryId, rest));
@@ -54,7 +56,8 @@ fn field_at(text: &str) -> Option<(Field, &str)>
 
 /// The word that a text begins with, and what follows it.
 pub fn word_at(text: &str) -> Option<(Word, &str)>
-    ensures { IfSome result (λ found. IsPast found.1.now text.now) }
+    ensures value { option_map (λ found. (found.0, found.1.now)) result ≡ word_in text.now }
+    ensures place { IfSome result (λ found. IsPast found.1.now text.now) }
 {
     if let Some(rest) = after("all", text) {
         return Some((Word::All, rest));
@@ -74,6 +77,8 @@ pub fn word_at(text: &str) -> Option<(Word, &str)>
 
 /// What follows the `(` behind a word.
 fn opened(text: &str) -> Result<&str, Stop<'_>>
+    ensures value { IfOk result (λ inside. opened_in text.now ≡ Ok inside.now) }
+    ensures wrong { IfErr result (λ stop. IfMisread stop (λ m. opened_in text.now ≡ Err m)) }
     ensures ok { IfOk result (λ inside. IsPast inside.now text.now) }
     ensures err { IfErr result (λ stop. IfMisread stop (StandsIn text.now)) }
 {
@@ -85,6 +90,8 @@ fn opened(text: &str) -> Result<&str, Stop<'_>>
 
 /// The `)` behind an argument, and what follows it.
 fn closed(text: &str) -> Result<(&str, &str), Stop<'_>>
+    ensures value { IfOk result (λ found. closed_in text.now ≡ Ok (found.0.now, found.1.now)) }
+    ensures wrong { IfErr result (λ stop. IfMisread stop (λ m. closed_in text.now ≡ Err m)) }
     ensures ok { IfOk result
         (λ found. IsPast found.1.now found.0.now × IsBehind found.0.now text.now) }
     ensures err { IfErr result (λ stop. IfMisread stop (StandsIn text.now)) }
@@ -102,6 +109,9 @@ fn closed(text: &str) -> Result<(&str, &str), Stop<'_>>
 
 /// The `)` of a set without an argument, and what follows it.
 fn closed_bare(inside: &str) -> Result<(&str, &str), Stop<'_>>
+    ensures value { IfOk result
+        (λ found. closed_bare_in inside.now ≡ Ok (found.0.now, found.1.now)) }
+    ensures wrong { IfErr result (λ stop. IfMisread stop (λ m. closed_bare_in inside.now ≡ Err m)) }
     ensures ok { IfOk result
         (λ found. IsPast found.1.now found.0.now × IsBehind found.0.now inside.now) }
     ensures err { IfErr result (λ stop. IfMisread stop (StandsIn inside.now)) }
