@@ -1,8 +1,11 @@
 -- What stands open around a place, and which marks may stand there.
-use Rattle.std.specs.Prelude.{◌≡◌, ℕ, suc, ◌+◌, nat_lt, Bool, true, false, List, [], ◌∷◌, Option, None, Some, if◌then◌else◌}
+use Rattle.std.specs.Prelude.{◌≡◌, ℕ, suc, ◌+◌, nat_lt, Bool, true, false, List, [], ◌∷◌, Option, None, Some, option_map, if◌then◌else◌}
 use Rattle.std.specs.List.{fold}
 use Rattle.std.specs.Option.{option_and_then}
 use Rattle.filter_language.specs.declared.reading.nesting.Nesting as nesting
+use Rattle.filter_language.specs.declared.reading.operator.Operator.{Operator}
+use Rattle.filter_language.specs.declared.reading.operator.Operator.TheVariants.{And, Or, Minus, Close}
+use Rattle.filter_language.specs.Lexing.{operator_of}
 use Rattle.filter_language.specs.Grammar.{Mark, Asked, NotMark, OpenMark, CloseMark, AndMark, OrMark, MinusMark}
 
 -- The `not`s and parentheses around the innermost level, the `not`s that wait for an operand,
@@ -83,3 +86,15 @@ shape_behind s (m ∷ marks) = option_and_then (λ next. shape_behind next marks
 -- A filter may end: an operand is complete, and no parenthesis stands open.
 abbrev pub MayEnd : Shape → Type 0
 MayEnd s = (s.wants ≡ false) × (s.outer ≡ [])
+
+-- The mark that an operator or a `)` is.
+abbrev pub operator_mark : {L : Type 0} → Operator → Mark L
+operator_mark And = AndMark
+operator_mark Or = OrMark
+operator_mark Minus = MinusMark
+operator_mark Close = CloseMark
+
+-- The operator or `)` that a text begins with, as a mark, and what follows it.
+abbrev pub joining_mark : {L : Type 0} → List ℕ → Option (Mark L × List ℕ)
+joining_mark {L} text =
+    option_map {U = Mark L × List ℕ} (λ p. (operator_mark p.0, p.1)) (operator_of text)

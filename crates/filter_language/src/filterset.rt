@@ -163,12 +163,7 @@ impl<M: Drop> Filterset<M> {
             → Spells (marks_view E.meaning self.now) f → NestsWithin f
             → (result ≡ true) ↔ HoldsBeside E.accepts g f (test_view query.now) }
     {
-        is_true(value_beside::<E>(
-            self,
-            default,
-            query.binary_query,
-            Some(query.test_name),
-        ))
+        is_true(value_beside::<E>(self, default, query.binary_query, Some(query.test_name)))
     }
 
     /// Whether it matches a binary, or `None` where that depends on the test.

@@ -4,7 +4,8 @@ ghost use Rattle.nextest_engines.specs.declared.queries.FiltersetKind.{Filterset
 ghost use Rattle.filter_language.specs.Formula.{question_view};
 ghost use Rattle.filter_language.specs.Bans.{group_ban, default_ban, field_ban, question_ban, mark_ban};
 ghost use Rattle.filter_language.specs.Grammar.{mark_view};
-ghost use Rattle.filter_language.specs.Nesting.{shape_view, joined_shape, wanted_step, joining_step, shape_step, MayEnd};
+ghost use Rattle.filter_language.specs.Texts.{skipped};
+ghost use Rattle.filter_language.specs.Nesting.{joining_mark, shape_view, joined_shape, wanted_step, joining_step, shape_step, MayEnd};
 ghost use Rattle.filter_language.specs.Places.{misreading_view, IfMisread, IsBehind, IsPast, StandsIn};
 
 use crate::fault::{Ban, FaultKind, Misread, Stop};
@@ -63,11 +64,8 @@ fn banned_field(kind: FiltersetKind, knows_packages: bool, field: Field) -> Opti
                 Some(FaultKind::NoPackageGraph)
             }
         }
-        Field::TestName
-        | Field::Package
-        | Field::BinaryId
-        | Field::BinaryName
-        | Field::Kind => None,
+        Field::TestName | Field::Package | Field::BinaryId | Field::BinaryName | Field::Kind =>
+            None,
     }
 }
 
@@ -204,6 +202,9 @@ fn joining<'a, E: Matchers>(
     ensures ban { IfOk result (λ found. IfSome found (λ next. (next.objection ≡ None)
         × ((kind : FiltersetKind) (knows : Bool)
         → mark_ban kind knows (mark_view E.meaning next.mark) ≡ None))) }
+    ensures text { IfOk result (λ found. IfSome found (λ next.
+        joining_mark {L = E.Meaning} (skipped place.now)
+        ≡ Some (mark_view E.meaning next.mark, next.rest.now))) }
     ensures step { IfOk result (λ found. MatchOption found (MayEnd (shape_view nesting.old))
         (λ next. joining_step (shape_view nesting.old) (mark_view E.meaning next.mark)
         ≡ Some (shape_view nesting.new))) }

@@ -64,6 +64,8 @@ pub fn operator_at(text: &str) -> Result<Option<(Operator, &str)>, Stop<'_>>
     ensures ok { IfOk result (λ found. operator_in text.now
         ≡ Ok (option_map (λ pair. (pair.0, pair.1.now)) found)) }
     ensures wrong { IfErr result (λ stop. IfMisread stop (λ m. operator_in text.now ≡ Err m)) }
+    ensures own { IfOk result (λ found. option_map (λ pair. (pair.0, pair.1.now)) found
+        ≡ operator_of text.now) }
     ensures place { IfOk result (λ found. IfSome found (λ pair. IsPast pair.1.now text.now)) }
     ensures err { IfErr result (λ stop. IfMisread stop (StandsIn text.now)) }
 {
