@@ -1,0 +1,14 @@
+pub mod Texts
+pub mod Places
+pub mod Formula
+pub mod Grammar
+pub mod Values
+pub mod Evaluation
+pub mod Truth
+pub mod Bodies
+pub mod Reading
+pub mod Filtersets
+pub mod Nesting
+pub mod Bans
+pub mod Leaves
+pub mod Lexing
