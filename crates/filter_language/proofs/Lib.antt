@@ -9,3 +9,6 @@ pub mod Shapes
 pub mod Bans
 pub mod MarksTell
 pub mod Stops
+pub mod Hex
+pub mod Cuts
+pub mod Turns

@@ -1,6 +1,7 @@
 -- Marks that may each stand where they do, up to where a filter may end, spell a filter.
-use Rattle.std.proofs.Common.{◌≡◌, ◌≤◌, ◌<◌, ◌+◌, ◌-◌, ◌^◌, ℕ, zero, suc, min, nat_lt, Bool, true, false, List, [], ◌∷◌, ◌++◌, Option, None, Some, map, refl, sym, ◌∙◌, ap, arith, if◌then◌else◌}
+use Rattle.std.proofs.Common.{◌≡◌, ◌≤◌, ◌<◌, ◌+◌, ◌-◌, ◌^◌, ℕ, zero, suc, min, length, nat_lt, Bool, true, false, List, [], ◌∷◌, ◌++◌, Option, None, Some, map, refl, sym, ◌∙◌, ap, arith, if◌then◌else◌}
 use Rattle.std.specs.Bool.{Decides}
+use Rattle.std.specs.List.{fold}
 use Rattle.std.proofs.lemmas.Bool.Decides.{same_from_decides, Decides-ltb}
 use Rattle.std.specs.Option.{option_and_then}
 use Rattle.filter_language.specs.Formula.{Formula}
@@ -102,3 +103,12 @@ room_is a b = same_from_decides _ _ (Decides-ltb (min (a + b) (2 ^ 64 - 1)) 128)
   where
     below : Decides (nat_lt (a + b) 128) (a + b < 128) → Decides (nat_lt (a + b) 128) (min (a + b) (2 ^ 64 - 1) < 128)
     below d = (λ e. (let h = d.0 e in omega (arith, h)), λ h. d.1 (omega (arith, h)))
+
+-- Levels that were put one on the other have an innermost.
+innermost : (a : ℕ) (acc items : List ℕ) → (b : ℕ) × (more : List ℕ) × (fold (λ outer x. x ∷ outer) (a ∷ acc) items ≡ b ∷ more)
+innermost a acc [] = (a, acc, refl)
+innermost a acc (c ∷ items) = innermost c (a ∷ acc) items
+
+pub inside_some : (items : List ℕ) → 0 < length items → (b : ℕ) × (more : List ℕ) × (fold (λ outer x. x ∷ outer) [] items ≡ b ∷ more)
+inside_some [] some = absurd (omega (arith, some))
+inside_some (a ∷ items) some = innermost a [] items

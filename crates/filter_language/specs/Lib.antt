@@ -12,3 +12,8 @@ pub mod Nesting
 pub mod Bans
 pub mod Leaves
 pub mod Lexing
+pub mod Arguments
+pub mod Predicates
+pub mod Filters
+pub mod Messages
+pub mod Decided

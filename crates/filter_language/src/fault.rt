@@ -1,5 +1,6 @@
 //! What is wrong with a text.
-ghost use Rattle.std.specs.Prelude.{◌≡◌};
+ghost use Rattle.std.specs.Prelude.{◌≡◌, Some};
+ghost use Rattle.filter_language.specs.Messages.{ban_summary, ban_label, name, summary, label, message};
 
 use std::alloc::AllocError;
 use std::fmt;
@@ -39,6 +40,8 @@ pub enum FaultKind {
     InvalidGlob,
     /// A malformed regex.
     InvalidRegex,
+    /// A pattern of a form that the engine does not answer.
+    NotBrought,
     /// A regex without its closing `/`.
     ExpectedCloseRegex,
     /// A platform that is neither `host` nor `target`.
@@ -128,7 +131,9 @@ impl<'a> Stop<'a> {
 
 impl Ban {
     /// What is wrong.
-    fn summary(self) -> &'static str {
+    fn summary(self) -> &'static str
+        ensures { result.now ≡ ban_summary self }
+    {
         match self {
             Ban::DefaultInDefaultFilter | Ban::GroupInDefaultFilter => {
                 "predicate not allowed in `default-filter` expressions"
@@ -138,7 +143,9 @@ impl Ban {
     }
 
     /// Why it is wrong.
-    fn label(self) -> &'static str {
+    fn label(self) -> &'static str
+        ensures { result.now ≡ ban_label self }
+    {
         match self {
             Ban::DefaultInDefaultFilter => "default() causes infinite recursion",
             Ban::GroupInDefaultFilter | Ban::GroupInOverrideFilter =>
@@ -149,7 +156,9 @@ impl Ban {
 
 impl FaultKind {
     /// Its name.
-    pub fn name(self) -> &'static str {
+    pub fn name(self) -> &'static str
+        ensures { result.now ≡ name self }
+    {
         match self {
             FaultKind::ExpectedExpr => "ExpectedExpr",
             FaultKind::TooDeeplyNested => "TooDeeplyNested",
@@ -161,6 +170,7 @@ impl FaultKind {
             FaultKind::InvalidEscapeCharacter => "InvalidEscapeCharacter",
             FaultKind::InvalidGlob => "InvalidGlob",
             FaultKind::InvalidRegex => "InvalidRegex",
+            FaultKind::NotBrought => "NotBrought",
             FaultKind::ExpectedCloseRegex => "ExpectedCloseRegex",
             FaultKind::InvalidPlatformArgument => "InvalidPlatformArgument",
             FaultKind::InvalidOrOperator => "InvalidOrOperator",
@@ -173,7 +183,9 @@ impl FaultKind {
     }
 
     /// What is wrong.
-    fn summary(self) -> &'static str {
+    fn summary(self) -> &'static str
+        ensures { result.now ≡ summary self }
+    {
         match self {
             FaultKind::ExpectedExpr => "expected expression",
             FaultKind::TooDeeplyNested => "expression nests too deep",
@@ -185,6 +197,7 @@ impl FaultKind {
             FaultKind::InvalidEscapeCharacter => "invalid escape character",
             FaultKind::InvalidGlob => "invalid glob",
             FaultKind::InvalidRegex => "invalid regex",
+            FaultKind::NotBrought => "unsupported pattern",
             FaultKind::ExpectedCloseRegex => "expected close regex",
             FaultKind::InvalidPlatformArgument => "invalid argument for platform",
             FaultKind::InvalidOrOperator => "invalid OR operator",
@@ -197,7 +210,9 @@ impl FaultKind {
     }
 
     /// What would be right.
-    fn label(self) -> &'static str {
+    fn label(self) -> &'static str
+        ensures { result.now ≡ label self }
+    {
         match self {
             FaultKind::ExpectedExpr => "missing expression",
             FaultKind::TooDeeplyNested => "more than 128 levels",
@@ -209,6 +224,7 @@ impl FaultKind {
             FaultKind::InvalidEscapeCharacter => "invalid escape character",
             FaultKind::InvalidGlob => "invalid glob",
             FaultKind::InvalidRegex => "invalid regex",
+            FaultKind::NotBrought => "patterns of this form are not brought",
             FaultKind::ExpectedCloseRegex => "missing `/`",
             FaultKind::InvalidPlatformArgument => "expected \"target\" or \"host\"",
             FaultKind::InvalidOrOperator => "expected `|`, `+`, or `or`",
@@ -222,14 +238,13 @@ impl FaultKind {
 }
 
 impl fmt::Display for FiltersetFault {
+    ghost output = { λ fault. Some (message fault) };
+
     fn fmt<W: fmt::Write>(&self, f: &mut fmt::Formatter<W>) -> fmt::Result {
-        write!(
-            f,
-            "{}: {} (offset {}, length {})",
-            self.kind.summary(),
-            self.kind.label(),
-            self.span.start,
-            self.span.length
-        )
+        let summary = self.kind.summary();
+        let label = self.kind.label();
+        let start = self.span.start;
+        let length = self.span.length;
+        write!(f, "{summary}: {label} (offset {start}, length {length})")
     }
 }

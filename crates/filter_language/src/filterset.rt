@@ -1,9 +1,10 @@
 //! Filters.
-ghost use Rattle.std.specs.Prelude.{◌≡◌, ◌↔◌, ◌+◌, ◌≤◌, ◌++◌, true, length, map, string_bytes, option_map, Some, None, IfOk, IfErr};
+ghost use Rattle.std.specs.Prelude.{◌≡◌, ◌↔◌, ◌+◌, ◌≤◌, ◌++◌, true, length, map, string_bytes, option_map, Some, None, Ok, Err, IfOk, IfErr};
 ghost use Rattle.filter_language.specs.Formula.{Formula};
 ghost use Rattle.filter_language.specs.Grammar.{mark_view, Spells, NestsWithin, WritesAFilter};
 ghost use Rattle.filter_language.specs.Truth.{HoldsBeside};
 ghost use Rattle.filter_language.specs.Bans.{are_allowed};
+ghost use Rattle.filter_language.specs.Filters.{fault_in, filter_in};
 ghost use Rattle.filter_language.specs.Leaves.{mark_leaves, leaves};
 ghost use Rattle.filter_language.specs.Places.{IfMisread, StandsIn, IfRefused};
 ghost use Rattle.nextest_engines.specs.Engines.{binary_view, test_view};
@@ -32,7 +33,9 @@ pub enum Filterset<M> {
 /// The refusal of a text.
 fn refused(text: &str, stop: Stop<'_>) -> ParseFault
     requires { IfMisread stop (StandsIn text.now) }
-    ensures { IfRefused result (λ refusal.
+    ensures value { IfRefused result (λ refusal.
+        IfMisread stop.entry (λ m. refusal ≡ fault_in text.now m)) }
+    ensures span { IfRefused result (λ refusal.
         refusal.span.start + refusal.span.length ≤ length text.now) }
 {
     match stop {
@@ -130,13 +133,25 @@ fn leaves_of<E: Matchers>(
 }
 
 impl<M: Drop> Filterset<M> {
-    /// Reads a filter.
+    /// Reads a filter: the one that a text writes for a kind, or else its first fault, from left to
+    /// right.
+    ///
+    /// # Errors
+    ///
+    /// [`ParseFault::Refused`] with what is wrong and where, and [`ParseFault::Memory`] where a growth
+    /// of memory was refused.
     pub fn parse<E: Matchers<Matcher = M>>(
         engine: &E,
         alloc: Global,
         text: &str,
         kind: FiltersetKind,
     ) -> Result<Filterset<M>, ParseFault>
+        ensures ok { IfOk result (λ filter.
+            filter_in (E.compiled engine.now) (E.knows_packages engine.now) kind text.now
+            ≡ Ok (marks_view E.meaning filter)) }
+        ensures err { IfErr result (λ fault. IfRefused fault (λ refusal.
+            filter_in (E.compiled engine.now) (E.knows_packages engine.now) kind text.now
+            ≡ Err refusal)) }
         ensures filter { IfOk result (λ filter. WritesAFilter (marks_view E.meaning filter)) }
         ensures allowed { IfOk result (λ filter. are_allowed kind (E.knows_packages engine.now)
             (marks_view E.meaning filter) ≡ true) }

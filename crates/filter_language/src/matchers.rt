@@ -1,11 +1,22 @@
 //! What the language asks of an engine of patterns.
-ghost use Rattle.std.specs.Prelude.{◌≡◌, List, ℕ, Bool, Option, IfOk, option_map};
+ghost use Rattle.std.specs.Prelude.{◌≡◌, List, ℕ, Bool, Result, IfOk};
+ghost use Rattle.std.specs.Result.{result_map_both};
 
 use crate::words::{Field, Sign};
 use std::alloc::{AllocError, Global};
 
+/// Why a pattern is not compiled.
+#[derive(Clone, Copy, Debug, PartialEq, Eq)]
+pub enum PatternFault {
+    /// It is malformed.
+    Malformed,
+    /// The engine does not answer patterns of this form.
+    NotBrought,
+}
+
 /// An engine of patterns.
 pub trait Matchers {
+    ghost use Rattle.filter_language.specs.declared.matchers.PatternFault.{PatternFault};
     ghost use Rattle.filter_language.specs.declared.words.Field.{Field};
     ghost use Rattle.filter_language.specs.declared.words.Sign.{Sign};
 
@@ -21,21 +32,21 @@ pub trait Matchers {
     /// Whether a name is among those that match.
     ghost accepts: { Meaning → List ℕ → Bool };
 
-    /// What a text means behind a sign where a field is asked, or none where it is malformed.
-    ghost compiled: { Self → Field → Sign → List ℕ → Option Meaning };
+    /// What a text means behind a sign where a field is asked, or why it has no meaning.
+    ghost compiled: { Self → Field → Sign → List ℕ → Result Meaning PatternFault };
 
     /// Whether the package graph is known.
     ghost knows_packages: { Self → Bool };
 
-    /// Compiles a pattern, or answers `None` where it is malformed.
+    /// Compiles a pattern, or says why it is not compiled.
     fn compile(
         &self,
         alloc: Global,
         field: Field,
         sign: Sign,
         text: &str,
-    ) -> Result<Option<Self::Matcher>, AllocError>
-        ensures { IfOk result (λ found. option_map meaning found
+    ) -> Result<Result<Self::Matcher, PatternFault>, AllocError>
+        ensures { IfOk result (λ found. result_map_both meaning (λ fault. fault) found
             ≡ compiled self.now field sign text.now) };
 
     /// Whether a name matches.

@@ -1,4 +1,6 @@
 //! The words of the language.
+ghost use Rattle.std.specs.Prelude.{◌≡◌};
+ghost use Rattle.filter_language.specs.Predicates.{default_sign};
 
 /// What a predicate with a pattern asks about.
 #[derive(Clone, Copy, Debug, PartialEq, Eq)]
@@ -51,7 +53,9 @@ pub enum Word {
 
 impl Field {
     /// The sign of a text without one.
-    pub fn default_sign(self) -> Sign {
+    pub fn default_sign(self) -> Sign
+        ensures { result ≡ default_sign self }
+    {
         match self {
             Field::TestName => Sign::Contains,
             Field::Kind => Sign::Equal,

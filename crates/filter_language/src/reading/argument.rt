@@ -1,7 +1,10 @@
 //! The texts and regexes between a predicate's parentheses.
-ghost use Rattle.std.specs.Prelude.{IfOk, IfErr, IfSome};
+ghost use Rattle.std.specs.Prelude.{◌≡◌, IfOk, IfErr, IfSome, Ok, Err, option_map, string_bytes};
+ghost use Rattle.std.specs.List.{list_all};
+ghost use Rattle.std.specs.Char.{is_digit};
 ghost use Rattle.filter_language.specs.Places.{IfMisread, IsBehind, IsPast, StandsIn};
-ghost use Rattle.filter_language.specs.Bodies.{GoesOnWithin};
+ghost use Rattle.filter_language.specs.Bodies.{GoesOnWithin, turn_view, body_view};
+ghost use Rattle.filter_language.specs.Arguments.{hex_in, unicode_in, escape_in, text_turn, regex_turn, text_in, regex_in, filled as filled_text, slashed as slashed_regex};
 
 use crate::fault::{FaultKind, Stop};
 use crate::reading::texts::{after, behind_character, until};
@@ -27,13 +30,21 @@ pub enum Progress<'a> {
     Ended(&'a str),
 }
 
-/// The value of one to six hex digits.
-fn hex_value(digits: &str) -> Option<u32> {
-    let are_hex = digits
+/// Whether each character is a hex digit.
+fn are_hex(digits: &str) -> bool
+    ensures { result ≡ list_all (λ c. is_digit c 16) digits.now }
+{
+    digits
         .as_bytes()
         .iter()
-        .all(|byte| byte.is_ascii_hexdigit());
-    if digits.len() > 6 || !are_hex {
+        .all(|byte| (*byte as char).is_digit(16))
+}
+
+/// The value of one to six hex digits.
+fn hex_value(digits: &str) -> Option<u32>
+    ensures { result ≡ hex_in digits.now }
+{
+    if digits.len() > 6 || !are_hex(digits) {
         return None;
     }
     u32::from_str_radix(digits, 16).ok()
@@ -41,7 +52,8 @@ fn hex_value(digits: &str) -> Option<u32> {
 
 /// The character of an escape `u{..}`, and what follows it.
 fn unicode_escape(text: &str) -> Option<(char, &str)>
-    ensures { IfSome result (λ found. IsPast found.1.now text.now) }
+    ensures value { option_map (λ found. (found.0, found.1.now)) result ≡ unicode_in text.now }
+    ensures place { IfSome result (λ found. IsPast found.1.now text.now) }
 {
     let (digits, end) = until(&['}'], after("u{", text)?);
     let rest = after("}", end)?;
@@ -51,7 +63,8 @@ fn unicode_escape(text: &str) -> Option<(char, &str)>
 
 /// The character of an escape behind its `\`, and what follows it.
 fn escape(text: &str) -> Option<(char, &str)>
-    ensures { IfSome result (λ found. IsPast found.1.now text.now) }
+    ensures value { option_map (λ found. (found.0, found.1.now)) result ≡ escape_in text.now }
+    ensures place { IfSome result (λ found. IsPast found.1.now text.now) }
 {
     if let Some(rest) = after("n", text) {
         return Some(('\n', rest));
@@ -79,6 +92,10 @@ fn escape(text: &str) -> Option<(char, &str)>
 
 /// Adds what stands up to the next escape of a text, and the escape.
 fn grow_text<'a>(text: &mut String, rest: &'a str) -> Result<Progress<'a>, Stop<'a>>
+    ensures value { IfOk result (λ progress. text_turn (string_bytes text.old) rest.now
+        ≡ Ok (turn_view (string_bytes text.new) progress)) }
+    ensures wrong { IfErr result (λ stop. IfMisread stop (λ m.
+        text_turn (string_bytes text.old) rest.now ≡ Err m)) }
     ensures ok { IfOk result (GoesOnWithin rest.now) }
     ensures err { IfErr result (λ stop. IfMisread stop (StandsIn rest.now)) }
 {
@@ -95,8 +112,29 @@ fn grow_text<'a>(text: &mut String, rest: &'a str) -> Result<Progress<'a>, Stop<
     Ok(Progress::On(next))
 }
 
+/// A text that ends at a place, unless nothing was read.
+fn filled<'a>(text: String, end: &'a str) -> Result<Body<'a>, Stop<'a>>
+    ensures value { IfOk result (λ body.
+        filled_text (Ok (string_bytes text, end.now)) ≡ Ok (body_view body)) }
+    ensures wrong { IfErr result (λ stop. IfMisread stop (λ m.
+        filled_text (Ok (string_bytes text, end.now)) ≡ Err m)) }
+    ensures ok { IfOk result (λ body. body.end.now ≡ end.now × body.behind.now ≡ end.now) }
+    ensures err { IfErr result (λ stop. IfMisread stop (StandsIn end.now)) }
+{
+    if text.is_empty() {
+        return Err(Stop::at(FaultKind::InvalidString, end));
+    }
+    Ok(Body {
+        text,
+        end,
+        behind: end,
+    })
+}
+
 /// A text, with its escapes resolved.
 pub fn read_text<'a>(alloc: Global, start: &'a str) -> Result<Body<'a>, Stop<'a>>
+    ensures value { IfOk result (λ body. text_in start.now ≡ Ok (body_view body)) }
+    ensures wrong { IfErr result (λ stop. IfMisread stop (λ m. text_in start.now ≡ Err m)) }
     ensures ok { IfOk result
         (λ body. IsBehind body.behind.now body.end.now × IsBehind body.end.now start.now) }
     ensures err { IfErr result (λ stop. IfMisread stop (StandsIn start.now)) }
@@ -106,22 +144,17 @@ pub fn read_text<'a>(alloc: Global, start: &'a str) -> Result<Body<'a>, Stop<'a>
     'pieces: loop {
         match grow_text(&mut text, rest)? {
             Progress::On(next) => rest = next,
-            Progress::Ended(end) => {
-                if text.is_empty() {
-                    return Err(Stop::at(FaultKind::InvalidString, end));
-                }
-                return Ok(Body {
-                    text,
-                    end,
-                    behind: end,
-                });
-            }
+            Progress::Ended(end) => return filled(text, end),
         }
     }
 }
 
 /// Adds what stands up to the next `\/` or other `\` of a regex, and that.
 fn grow_regex<'a>(text: &mut String, rest: &'a str) -> Result<Progress<'a>, Stop<'a>>
+    ensures value { IfOk result (λ progress. regex_turn (string_bytes text.old) rest.now
+        ≡ Ok (turn_view (string_bytes text.new) progress)) }
+    ensures wrong { IfErr result (λ stop. IfMisread stop (λ m.
+        regex_turn (string_bytes text.old) rest.now ≡ Err m)) }
     ensures ok { IfOk result (GoesOnWithin rest.now) }
     ensures err { IfErr result (λ stop. IfMisread stop (StandsIn rest.now)) }
 {
@@ -140,6 +173,8 @@ fn grow_regex<'a>(text: &mut String, rest: &'a str) -> Result<Progress<'a>, Stop
 
 /// A regex behind its `/`, with each `\/` resolved.
 pub fn read_regex<'a>(alloc: Global, start: &'a str) -> Result<Body<'a>, Stop<'a>>
+    ensures value { IfOk result (λ body. regex_in start.now ≡ Ok (body_view body)) }
+    ensures wrong { IfErr result (λ stop. IfMisread stop (λ m. regex_in start.now ≡ Err m)) }
     ensures ok { IfOk result
         (λ body. IsBehind body.behind.now body.end.now × IsBehind body.end.now start.now) }
     ensures err { IfErr result (λ stop. IfMisread stop (StandsIn start.now)) }
@@ -149,13 +184,7 @@ pub fn read_regex<'a>(alloc: Global, start: &'a str) -> Result<Body<'a>, Stop<'a
     'pieces: loop {
         match grow_regex(&mut text, rest)? {
             Progress::On(next) => rest = next,
-            Progress::Ended(end) => {
-                let Some(behind) = after("/", end) else {
-                    let (_, close) = until(&[')'], start);
-                    return Err(Stop::at(FaultKind::ExpectedCloseRegex, close));
-                };
-                return Ok(Body { text, end, behind });
-            }
+            Progress::Ended(end) => return slashed(text, start, end),
         }
     }
 }

@@ -1,5 +1,5 @@
 //! What stands open around a place.
-ghost use Rattle.std.specs.Prelude.{◌≡◌, ◌+◌, false, nat_lt, not, None, Some, [], IfOk, if◌then◌else◌};
+ghost use Rattle.std.specs.Prelude.{◌≡◌, ◌+◌, ◌∷◌, ℕ, List, true, false, nat_lt, not, None, Some, [], IfOk, if◌then◌else◌};
 ghost use Rattle.filter_language.specs.Nesting.{shape_view, start_shape, negated_shape, opened_shape, complete_shape, joined_shape, closed_shape};
 
 use std::alloc::{AllocError, Global};
@@ -43,7 +43,9 @@ impl Nesting {
 
     /// Whether a parenthesis stands open.
     pub fn is_inside(&self) -> bool
-        ensures { result ≡ false → (shape_view self.now).outer ≡ [] }
+        ensures out { result ≡ false → (shape_view self.now).outer ≡ [] }
+        ensures inside { result ≡ true → (a : ℕ) × (more : List ℕ)
+            × ((shape_view self.now).outer ≡ a ∷ more) }
     {
         !self.outer.is_empty()
     }

@@ -1,10 +1,14 @@
 //! The next mark of a text.
-ghost use Rattle.std.specs.Prelude.{◌≡◌, Bool, None, Some, true, false, [], option_map, IfOk, IfErr, IfSome, MatchOption};
+ghost use Rattle.std.specs.Prelude.{◌≡◌, Bool, None, Some, Ok, Err, true, false, [], codes, option_map, IfOk, IfErr, IfSome, MatchOption};
 ghost use Rattle.nextest_engines.specs.declared.queries.FiltersetKind.{FiltersetKind};
+ghost use Rattle.filter_language.specs.declared.fault.FaultKind.TheVariants.{TooDeeplyNested};
 ghost use Rattle.filter_language.specs.Formula.{question_view};
 ghost use Rattle.filter_language.specs.Bans.{group_ban, default_ban, field_ban, question_ban, mark_ban};
 ghost use Rattle.filter_language.specs.Grammar.{mark_view};
 ghost use Rattle.filter_language.specs.Texts.{skipped};
+ghost use Rattle.filter_language.specs.Lexing.{after_one, wrong_between};
+ghost use Rattle.filter_language.specs.Predicates.{predicate_view};
+ghost use Rattle.filter_language.specs.Filters.{next_view, plain, within_bound, objection_to, wanted_in, ended_in, joining_in, next_in};
 ghost use Rattle.filter_language.specs.Nesting.{joining_mark, shape_view, joined_shape, wanted_step, joining_step, shape_step, MayEnd};
 ghost use Rattle.filter_language.specs.Places.{misreading_view, IfMisread, IsBehind, IsPast, StandsIn};
 
@@ -97,6 +101,9 @@ fn find_objection<'a, E: Matchers>(
     ensures within { IfSome result (λ m. StandsIn start.now (misreading_view m)) }
     ensures ban { option_map (λ m. m.kind) result
         ≡ question_ban kind knows_packages (question_view E.meaning predicate.now.question) }
+    ensures value { option_map misreading_view result
+        ≡ option_map (objection_to start.now (predicate_view E.meaning predicate.now))
+        (question_ban kind knows_packages (question_view E.meaning predicate.now.question)) }
 {
     let fault = banned::<E>(kind, knows_packages, &predicate.question)?;
     let (from, until) = match fault {
@@ -112,7 +119,9 @@ fn find_objection<'a, E: Matchers>(
 
 /// The `not` that a text begins with.
 fn not(text: &str) -> Option<&str>
-    ensures { IfSome result (λ rest. IsPast rest.now text.now) }
+    ensures value { option_map (λ rest. rest.now) result
+        ≡ after_one (codes "not ") (codes "!") text.now }
+    ensures place { IfSome result (λ rest. IsPast rest.now text.now) }
 {
     match after("not ", text) {
         Some(rest) => Some(rest),
@@ -131,7 +140,8 @@ where
     M: Drop,
     ensures ok { IfOk result (λ next. next.rest.now ≡ rest.now × next.objection ≡ None
         × next.mark ≡ mark × is_within ≡ true) }
-    ensures err { IfErr result (λ stop. IfMisread stop (λ m. m.from ≡ from.now × m.until ≡ rest.now)) }
+    ensures err { IfErr result (λ stop. IfMisread stop (λ m.
+        (is_within ≡ false) × (m ≡ wrong_between TooDeeplyNested from.now rest.now))) }
 {
     if !is_within {
         return Err(Stop::between(FaultKind::TooDeeplyNested, from, rest));
@@ -157,6 +167,13 @@ fn wanted<'a, E: Matchers>(
         ≡ mark_ban kind (E.knows_packages engine.now) (mark_view E.meaning next.mark)) }
     ensures step { IfOk result (λ next. wanted_step (shape_view nesting.old)
         (mark_view E.meaning next.mark) ≡ Some (shape_view nesting.new)) }
+    ensures value { IfOk result (λ next.
+        wanted_in (E.compiled engine.now) (E.knows_packages engine.now) kind
+        (shape_view nesting.old) place.now
+        ≡ Ok (next_view E.meaning (shape_view nesting.new) next)) }
+    ensures wrong { IfErr result (λ stop. IfMisread stop (λ m.
+        wanted_in (E.compiled engine.now) (E.knows_packages engine.now) kind
+        (shape_view nesting.old) place.now ≡ Err m)) }
     ensures err { IfErr result (λ stop. IfMisread stop (StandsIn place.now)) }
 {
     let text = skip_blanks(place);
@@ -208,11 +225,16 @@ fn joining<'a, E: Matchers>(
     ensures step { IfOk result (λ found. MatchOption found (MayEnd (shape_view nesting.old))
         (λ next. joining_step (shape_view nesting.old) (mark_view E.meaning next.mark)
         ≡ Some (shape_view nesting.new))) }
+    ensures value { IfOk result (λ found.
+        joining_in {L = E.Meaning} (shape_view nesting.old) place.now
+        ≡ Ok (option_map (next_view E.meaning (shape_view nesting.new)) found)) }
+    ensures wrong { IfErr result (λ stop. IfMisread stop (λ m.
+        joining_in {L = E.Meaning} (shape_view nesting.old) place.now ≡ Err m)) }
     ensures err { IfErr result (λ stop. IfMisread stop (StandsIn place.now)) }
 {
     let text = skip_blanks(place);
     let Some((operator, rest)) = operator_at(text)? else {
-        return ended(nesting, place, text);
+        return ended::<E>(nesting, place, text);
     };
     match operator {
         Operator::And => Ok(Some(joined(nesting, Mark::And, rest))),
@@ -232,11 +254,15 @@ fn joining<'a, E: Matchers>(
 }
 
 /// The end of a filter, or what is wrong there.
-fn ended<'a, M>(
+fn ended<'a, E: Matchers>(
     nesting: &Nesting,
     place: &'a str,
     text: &str,
-) -> Result<Option<Next<'a, M>>, Stop<'a>>
+) -> Result<Option<Next<'a, E::Matcher>>, Stop<'a>>
+    ensures value { IfOk result (λ _.
+        ended_in {L = E.Meaning} place.now (shape_view nesting.now).outer text.now ≡ Ok None) }
+    ensures wrong { IfErr result (λ stop. IfMisread stop (λ m.
+        ended_in {L = E.Meaning} place.now (shape_view nesting.now).outer text.now ≡ Err m)) }
     ensures ok { IfOk result (λ found. (found ≡ None) × ((shape_view nesting.now).outer ≡ [])) }
     ensures err { IfErr result (λ stop. IfMisread stop (StandsIn place.now)) }
 {
@@ -265,6 +291,13 @@ pub fn next_mark<'a, E: Matchers>(
     ensures step { IfOk result (λ found. MatchOption found (MayEnd (shape_view nesting.old))
         (λ next. shape_step (shape_view nesting.old) (mark_view E.meaning next.mark)
         ≡ Some (shape_view nesting.new))) }
+    ensures value { IfOk result (λ found.
+        next_in (E.compiled engine.now) (E.knows_packages engine.now) kind
+        (shape_view nesting.old) place.now
+        ≡ Ok (option_map (next_view E.meaning (shape_view nesting.new)) found)) }
+    ensures wrong { IfErr result (λ stop. IfMisread stop (λ m.
+        next_in (E.compiled engine.now) (E.knows_packages engine.now) kind
+        (shape_view nesting.old) place.now ≡ Err m)) }
     ensures err { IfErr result (λ stop. IfMisread stop (StandsIn place.now)) }
 {
     if nesting.wants_operand {

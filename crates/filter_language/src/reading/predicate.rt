@@ -1,11 +1,15 @@
 //! Predicates.
 ghost use Rattle.std.specs.Prelude.{◌≡◌, Ok, Err, option_map, IfOk, IfErr, IfSome};
+ghost use Rattle.filter_language.specs.Bodies.{body_view};
+ghost use Rattle.filter_language.specs.Formula.{question_view};
 ghost use Rattle.filter_language.specs.Lexing.{field_in, word_in, opened_in, closed_in, closed_bare_in};
+ghost use Rattle.filter_language.specs.Predicates as predicates;
+ghost use Rattle.filter_language.specs.Predicates.{predicate_view, sign_in, body_behind, platform_in, bare_in, matching_in, worded_in, predicate_in};
 ghost use Rattle.filter_language.specs.Places.{IfMisread, IsBehind, IsPast, StandsIn};
 
 use crate::fault::{FaultKind, Stop};
 use crate::mark::{Match, Question};
-use crate::matchers::Matchers;
+use crate::matchers::{Matchers, PatternFault};
 use crate::reading::argument::{Body, read_regex, read_text};
 use crate::reading::texts::{after, front, skip_blanks, until};
 use crate::words::{Field, Sign, Word};
@@ -127,7 +131,9 @@ fn closed_bare(inside: &str) -> Result<(&str, &str), Stop<'_>>
 }
 
 /// The platform of that name.
-fn platform_named(name: &str) -> Option<BuildPlatform> {
+fn platform_named(name: &str) -> Option<BuildPlatform>
+    ensures { result ≡ predicates.platform_named name.now }
+{
     if name == "host" {
         return Some(BuildPlatform::Host);
     }
@@ -138,7 +144,14 @@ fn platform_named(name: &str) -> Option<BuildPlatform> {
 }
 
 /// The set of what is built for a platform, behind its `(`.
-fn platform<'a, M>(alloc: Global, inside: &'a str) -> Result<Predicate<'a, M>, Stop<'a>>
+fn platform<'a, E: Matchers>(
+    alloc: Global,
+    inside: &'a str,
+) -> Result<Predicate<'a, E::Matcher>, Stop<'a>>
+    ensures value { IfOk result (λ found.
+        platform_in {L = E.Meaning} inside.now ≡ Ok (predicate_view E.meaning found)) }
+    ensures wrong { IfErr result (λ stop. IfMisread stop (λ m.
+        platform_in {L = E.Meaning} inside.now ≡ Err m)) }
     ensures ok { IfOk result (λ found. IsPast found.rest.now found.close.now
         × IsBehind found.close.now found.inside.now × IsBehind found.inside.now inside.now) }
     ensures err { IfErr result (λ stop. IfMisread stop (StandsIn inside.now)) }
@@ -158,7 +171,8 @@ fn platform<'a, M>(alloc: Global, inside: &'a str) -> Result<Predicate<'a, M>, S
 
 /// The sign that an argument begins with, whether it is the field's own, and what follows it.
 fn signed(field: Field, argument: &str) -> (Sign, bool, &str)
-    ensures { IsBehind result.2.now argument.now }
+    ensures value { sign_in field argument.now ≡ (result.0, result.1, result.2.now) }
+    ensures place { IsBehind result.2.now argument.now }
 {
     if let Some(body) = after("=", argument) {
         return (Sign::Equal, false, body);
@@ -177,6 +191,8 @@ fn signed(field: Field, argument: &str) -> (Sign, bool, &str)
 
 /// The text or regex behind a sign.
 fn read_body<'a>(alloc: Global, sign: Sign, start: &'a str) -> Result<Body<'a>, Stop<'a>>
+    ensures value { IfOk result (λ body. body_behind sign start.now ≡ Ok (body_view body)) }
+    ensures wrong { IfErr result (λ stop. IfMisread stop (λ m. body_behind sign start.now ≡ Err m)) }
     ensures ok { IfOk result
         (λ body. IsBehind body.behind.now body.end.now × IsBehind body.end.now start.now) }
     ensures err { IfErr result (λ stop. IfMisread stop (StandsIn start.now)) }
@@ -187,12 +203,15 @@ fn read_body<'a>(alloc: Global, sign: Sign, start: &'a str) -> Result<Body<'a>, 
     }
 }
 
-/// What is wrong with a pattern that an engine doesn't compile.
-fn malformed(sign: Sign) -> FaultKind {
-    match sign {
-        Sign::Regex => FaultKind::InvalidRegex,
-        Sign::Glob => FaultKind::InvalidGlob,
-        Sign::Equal | Sign::Contains => FaultKind::InvalidString,
+/// What is wrong with a pattern that an engine does not compile.
+fn malformed(sign: Sign, fault: PatternFault) -> FaultKind
+    ensures { result ≡ predicates.malformed sign fault }
+{
+    match (sign, fault) {
+        (_, PatternFault::NotBrought) => FaultKind::NotBrought,
+        (Sign::Regex, PatternFault::Malformed) => FaultKind::InvalidRegex,
+        (Sign::Glob, PatternFault::Malformed) => FaultKind::InvalidGlob,
+        (Sign::Equal | Sign::Contains, PatternFault::Malformed) => FaultKind::InvalidString,
     }
 }
 
@@ -204,14 +223,20 @@ fn matching<'a, E: Matchers>(
     start: &'a str,
     inside: &'a str,
 ) -> Result<Predicate<'a, E::Matcher>, Stop<'a>>
+    ensures value { IfOk result (λ found.
+        matching_in (E.compiled engine.now) field start.now inside.now
+        ≡ Ok (predicate_view E.meaning found)) }
+    ensures wrong { IfErr result (λ stop. IfMisread stop (λ m.
+        matching_in (E.compiled engine.now) field start.now inside.now ≡ Err m)) }
     ensures ok { IfOk result (λ found. IsPast found.rest.now found.close.now
         × IsBehind found.close.now found.inside.now × IsBehind found.inside.now inside.now) }
     ensures err { IfErr result (λ stop. IfMisread stop (StandsIn inside.now)) }
 {
     let (sign, is_default, pattern) = signed(field, skip_blanks(inside));
     let Body { text, end, behind } = read_body(alloc, sign, pattern)?;
-    let Some(matcher) = engine.compile(alloc, field, sign, text.as_str())? else {
-        return Err(Stop::between(malformed(sign), pattern, end));
+    let matcher = match engine.compile(alloc, field, sign, text.as_str())? {
+        Ok(matcher) => matcher,
+        Err(fault) => return Err(Stop::between(malformed(sign, fault), pattern, end)),
     };
     let (close, rest) = closed(behind)?;
     let written = String::from_str(alloc, front(start, rest))?;
@@ -231,9 +256,15 @@ fn matching<'a, E: Matchers>(
 }
 
 /// A set without an argument.
-fn bare<'a, M>(question: Question<M>, inside: &'a str) -> Result<Predicate<'a, M>, Stop<'a>>
-where
-    M: Drop,
+fn bare<'a, E: Matchers>(
+    question: Question<E::Matcher>,
+    inside: &'a str,
+) -> Result<Predicate<'a, E::Matcher>, Stop<'a>>
+    ensures value { IfOk result (λ found.
+        bare_in (question_view E.meaning question) inside.now
+        ≡ Ok (predicate_view E.meaning found)) }
+    ensures wrong { IfErr result (λ stop. IfMisread stop (λ m.
+        bare_in (question_view E.meaning question) inside.now ≡ Err m)) }
     ensures ok { IfOk result (λ found. IsPast found.rest.now found.close.now
         × IsBehind found.close.now found.inside.now × IsBehind found.inside.now inside.now) }
     ensures err { IfErr result (λ stop. IfMisread stop (StandsIn inside.now)) }
@@ -255,16 +286,21 @@ pub fn read_predicate<'a, E: Matchers>(
     start: &'a str,
     behind: &'a str,
 ) -> Result<Predicate<'a, E::Matcher>, Stop<'a>>
+    ensures value { IfOk result (λ found.
+        predicate_in (E.compiled engine.now) word start.now behind.now
+        ≡ Ok (predicate_view E.meaning found)) }
+    ensures wrong { IfErr result (λ stop. IfMisread stop (λ m.
+        predicate_in (E.compiled engine.now) word start.now behind.now ≡ Err m)) }
     ensures ok { IfOk result (λ found. IsPast found.rest.now found.close.now
         × IsBehind found.close.now found.inside.now × IsPast found.inside.now behind.now) }
     ensures err { IfErr result (λ stop. IfMisread stop (StandsIn behind.now)) }
 {
     let inside = opened(behind)?;
     match word {
-        Word::All => bare(Question::All, inside),
-        Word::Nothing => bare(Question::Nothing, inside),
-        Word::Default => bare(Question::Default, inside),
-        Word::Platform => platform(alloc, inside),
+        Word::All => bare::<E>(Question::All, inside),
+        Word::Nothing => bare::<E>(Question::Nothing, inside),
+        Word::Default => bare::<E>(Question::Default, inside),
+        Word::Platform => platform::<E>(alloc, inside),
         Word::Matches(field) => matching(engine, alloc, field, start, inside),
     }
 }

@@ -1,6 +1,7 @@
 //! Reads a whole text.
-ghost use Rattle.std.specs.Prelude.{◌≡◌, ◌++◌, ◌∷◌, [], true, IfOk, IfErr, map};
+ghost use Rattle.std.specs.Prelude.{◌≡◌, ◌++◌, ◌∷◌, [], true, Ok, Err, IfOk, IfErr, map};
 ghost use Rattle.filter_language.specs.Grammar.{mark_view, WritesAFilter};
+ghost use Rattle.filter_language.specs.Filters.{marks_in};
 ghost use Rattle.filter_language.specs.Bans.{are_allowed};
 ghost use Rattle.filter_language.specs.Places.{IfMisread, StandsIn};
 
@@ -29,6 +30,11 @@ pub fn read_marks<'a, E: Matchers>(
     text: &'a str,
     kind: FiltersetKind,
 ) -> Result<Vec<Mark<E::Matcher>>, Stop<'a>>
+    ensures value { IfOk result (λ marks.
+        marks_in (E.compiled engine.now) (E.knows_packages engine.now) kind text.now
+        ≡ Ok (map (mark_view E.meaning) marks.items)) }
+    ensures wrong { IfErr result (λ stop. IfMisread stop (λ m.
+        marks_in (E.compiled engine.now) (E.knows_packages engine.now) kind text.now ≡ Err m)) }
     ensures allowed { IfOk result (λ marks. are_allowed kind (E.knows_packages engine.now)
         (map (mark_view E.meaning) marks.items) ≡ true) }
     ensures ok { IfOk result (λ marks. WritesAFilter (map (mark_view E.meaning) marks.items)) }

@@ -1,7 +1,9 @@
 //! Steps on texts.
-ghost use Rattle.std.specs.Prelude.{◌≡◌, ◌+◌, None, Some, true, [], length, take, drop, IfSome, MatchOption};
+ghost use Rattle.std.specs.Prelude.{◌≡◌, ◌+◌, None, Some, true, [], length, take, drop, chars, IfSome, MatchOption};
 ghost use Rattle.std.specs.Str.{IsCharBoundary};
 ghost use Rattle.filter_language.specs.Places.{IsBehind, IsPast};
+ghost use Rattle.filter_language.specs.Arguments.{behind_first};
+ghost use Rattle.filter_language.specs.Predicates.{before_rest};
 ghost use Rattle.filter_language.specs.Texts.{after_prefix, skipped, front_until, rest_until, are_ascii};
 
 /// What follows a prefix of a text, or `None` where the text doesn't begin with it.
@@ -68,7 +70,8 @@ pub fn until<'a>(stops: &[char], text: &'a str) -> (&'a str, &'a str)
 
 /// A text behind its first character.
 pub fn behind_character(text: &str) -> &str
-    ensures { IsBehind result.now text.now }
+    ensures value { result.now ≡ behind_first (chars text.now) text.now }
+    ensures place { IsBehind result.now text.now }
 {
     let mut chars = text.chars();
     let _ = chars.next();
@@ -76,6 +79,8 @@ pub fn behind_character(text: &str) -> &str
 }
 
 /// A text before a rest of it.
-pub fn front<'a>(text: &'a str, rest: &str) -> &'a str {
+pub fn front<'a>(text: &'a str, rest: &str) -> &'a str
+    ensures { result.now ≡ before_rest text.now rest.now }
+{
     text.strip_suffix(rest).unwrap_or(text)
 }
