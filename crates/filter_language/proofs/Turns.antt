@@ -2,7 +2,7 @@
 use Rattle.std.proofs.Common.{◌≡◌, ◌<◌, ◌≤◌, ◌++◌, ℕ, zero, suc, Bool, List, [], ◌∷◌, Option, None, Some, Result, Ok, Err, length, refl, sym, ◌∙◌, ap, arith}
 use Rattle.std.specs.Option.{option_or}
 use Rattle.nextest_engines.specs.declared.queries.FiltersetKind.{FiltersetKind}
-use Rattle.filter_language.specs.Arguments.{Turn, Onward, Over, behind_turn, body_within}
+use Rattle.filter_language.specs.Arguments.{Turn, Onward, Over, behind_turn, body_within, body_in}
 use Rattle.filter_language.specs.Filters.{MarkRead, Objected, next_in, behind_mark, marks_within}
 use Rattle.filter_language.specs.Grammar.{Mark}
 use Rattle.filter_language.specs.Nesting.{Shape}
@@ -12,6 +12,11 @@ use Rattle.filter_language.specs.Predicates.{Compiler}
 -- There are turns enough to read on from a place, and that gives the whole.
 abbrev pub ReadsOn : (List ℕ → List ℕ → Result Turn Misreading) → List ℕ → List ℕ → Result (List ℕ × List ℕ) Misreading → Type 0
 ReadsOn turn before rest whole = (n : ℕ) × (length rest < n) × (body_within turn n before rest ≡ whole)
+
+-- Nothing was read before the start, and that gives the whole.
+pub begins : (turn : List ℕ → List ℕ → Result Turn Misreading) (none text : List ℕ) → none ≡ [] → ReadsOn turn none text (body_in turn text)
+unfolding body_in
+begins turn none text e = (suc (length text), omega arith, ap (λ (b : List ℕ). body_within turn (suc (length text)) b text) e)
 
 pub goes_on : (turn : List ℕ → List ℕ → Result Turn Misreading) (old rest new next : List ℕ) (whole : Result (List ℕ × List ℕ) Misreading)
     → ReadsOn turn old rest whole → turn old rest ≡ Ok (Onward new next) → length next < length rest → ReadsOn turn new next whole

@@ -1,5 +1,6 @@
 -- The members that dependencies reach.
-use Rattle.std.proofs.Common.{◌≡◌, ◌<◌, ◌↔◌, ◌==◌, ◌&&◌, ◌||◌, ◌⊎◌, ℕ, zero, suc, Bool, true, false, List, [], ◌∷◌, Option, None, Some, IsTrue, Decides, length, refl, sym, ◌∙◌, ap, inl, inr, subst, arith, funext}
+use Rattle.std.proofs.Common.{◌≡◌, ◌<◌, ◌↔◌, ◌==◌, ◌&&◌, ◌||◌, ◌⊎◌, ℕ, zero, suc, Bool, true, false, List, [], ◌∷◌, Option, None, Some, IsTrue, Decides, length, refl, sym, ◌∙◌, ap, inl, inr, subst, arith}
+use mathlib.Core.Path.{fun_ext}
 use Rattle.std.specs.Prelude.{Contains, slice_index_or}
 use Rattle.std.specs.List.{list_any, slice_get}
 use Rattle.std.specs.Str.{bytes_eq}
@@ -10,6 +11,7 @@ use Rattle.package_graph.specs.declared.member_set.MemberSet.{MemberSet}
 use Rattle.package_graph.specs.Edges.{DependsOn, Reaches, itself, onward}
 use Rattle.package_graph.specs.Graph.{Graph, IsMemberNamed, IsMatched, IsDependency, IsDependent}
 use Rattle.package_graph.specs.GraphView.{has_member}
+use Rattle.package_graph.proofs.Reaching.{reaches_through}
 use Rattle.nextest_filters.specs.Members.{reaches, name_has, is_named, is_dependency, is_dependent}
 
 both : (a b : Bool) → (a && b) ≡ true → (a ≡ true) × (b ≡ true)
@@ -37,23 +39,20 @@ is_itself : (a : ℕ) → (a == a) ≡ true
 is_itself a = elim (eqb_tells a a) [ inl same ↦ same.0 | inr other ↦ absurd (other.1 refl) ]
 
 -- What is reached over some edges is reached with one more before them.
-more_edges : (e : Edge) (edges : List Edge) (a b : ℕ) → Reaches edges a b → Reaches (e ∷ edges) a b
-more_edges e edges a b (itself c) = itself c
-more_edges e edges a b (onward x y z (k, below, is) rest) = onward x y z (suc k, omega (arith, below), is) (more_edges e edges y z rest)
-
-through : (edges : List Edge) (a b c : ℕ) → Reaches edges a b → Reaches edges b c → Reaches edges a c
-through edges a b c (itself x) more = more
-through edges a b c (onward x y z step rest) more = onward x y c step (through edges y z c rest more)
+more_edges : (e : Edge) (edges : List Edge) {a b : ℕ} → Reaches edges a b → Reaches (e ∷ edges) a b
+more_edges e edges (itself c) = itself c
+more_edges e edges (onward x y z (k, below, is) rest) = onward x y z (suc k, omega (arith, below), is) (more_edges e edges rest)
 
 is_reached : (edges : List Edge) (a b : ℕ) → reaches edges a b ≡ true → Reaches edges a b
-is_reached [] a b e = let same : a ≡ b = same_place a b e in subst (λ x. Reaches [] a x) same (itself a)
+is_reached [] a b e = let same : a ≡ b = same_place a b e in subst (λ (x : ℕ). Reaches [] a x) same (itself a)
 is_reached (e ∷ edges) a b t =
     elim (one_of (reaches edges a b) (reaches edges a e.from && reaches edges e.to b) t) [
-      | inl without ↦ more_edges e edges a b (is_reached edges a b without)
+      | inl without ↦ more_edges e edges (is_reached edges a b without)
       | inr over ↦ (
           let it = both (reaches edges a e.from) (reaches edges e.to b) over in
-          through (e ∷ edges) a e.from b (more_edges e edges a e.from (is_reached edges a e.from it.0))
-          (onward e.from e.to b (0, omega arith, refl) (more_edges e edges e.to b (is_reached edges e.to b it.1)))
+          let first : DependsOn (e ∷ edges) e.from e.to = (0, omega arith, refl) in
+          reaches_through (more_edges e edges (is_reached edges a e.from it.0))
+          (onward e.from e.to b first (more_edges e edges (is_reached edges e.to b it.1)))
           )
     ]
 
@@ -82,9 +81,9 @@ reach_onward (e ∷ edges) a b c (suc k, below, is) t =
           )
     ]
 
-reached_is : (edges : List Edge) (a b : ℕ) → Reaches edges a b → reaches edges a b ≡ true
-reached_is edges a b (itself x) = reach_itself edges x
-reached_is edges a b (onward x y z step rest) = reach_onward edges x y z step (reached_is edges y z rest)
+reached_is : (edges : List Edge) {a b : ℕ} → Reaches edges a b → reaches edges a b ≡ true
+reached_is edges (itself x) = reach_itself edges x
+reached_is edges (onward x y z step rest) = reach_onward edges x y z step (reached_is edges rest)
 
 -- Some element passes a test.
 any_is : (test : ℕ → Bool) (xs : List ℕ) → list_any test xs ≡ true → (x : ℕ) × Contains xs x × (test x ≡ true)
@@ -145,11 +144,11 @@ module _ (graph : Graph) (accepts : List ℕ → Bool) (name : List ℕ) (joins 
 pub dependencies_are : (graph : Graph) (accepts : List ℕ → Bool) (set : MemberSet)
     → ((name : List ℕ) → IsTrue (has_member set name) ↔ IsDependency graph accepts name) → has_member set ≡ is_dependency graph accepts
 dependencies_are graph accepts set h =
-    funext (λ name. same_from_decides (has_member set name) (is_dependency graph accepts name) (h name)
-    (joined_decides graph accepts name (λ a b. reaches graph.edges a b) (λ a b. Reaches graph.edges a b) (is_reached graph.edges) (reached_is graph.edges)))
+    fun_ext (λ name. same_from_decides (has_member set name) (is_dependency graph accepts name) (h name)
+    (joined_decides graph accepts name (λ a b. reaches graph.edges a b) (λ a b. Reaches graph.edges a b) (λ a b. is_reached graph.edges a b) (λ a b r. reached_is graph.edges r)))
 
 pub dependents_are : (graph : Graph) (accepts : List ℕ → Bool) (set : MemberSet)
     → ((name : List ℕ) → IsTrue (has_member set name) ↔ IsDependent graph accepts name) → has_member set ≡ is_dependent graph accepts
 dependents_are graph accepts set h =
-    funext (λ name. same_from_decides (has_member set name) (is_dependent graph accepts name) (h name)
-    (joined_decides graph accepts name (λ a b. reaches graph.edges b a) (λ a b. Reaches graph.edges b a) (λ a b. is_reached graph.edges b a) (λ a b. reached_is graph.edges b a)))
+    fun_ext (λ name. same_from_decides (has_member set name) (is_dependent graph accepts name) (h name)
+    (joined_decides graph accepts name (λ a b. reaches graph.edges b a) (λ a b. Reaches graph.edges b a) (λ a b. is_reached graph.edges b a) (λ a b r. reached_is graph.edges r)))

@@ -1,9 +1,9 @@
 -- Which names have what is asked.
-use Rattle.std.proofs.Common.{◌≡◌, ◌≤◌, ◌↔◌, ◌||◌, ℕ, Bool, true, false, List, [], ◌∷◌, ◌++◌, Option, None, Some, Result, Ok, Err, is_some, IsTrue, Decides, nat_le, refl, sym, ◌∙◌, ap, subst, if◌then◌else◌}
+use Rattle.std.proofs.Common.{◌≡◌, ◌≤◌, ◌↔◌, ◌||◌, ℕ, Bool, true, false, List, [], ◌∷◌, ◌++◌, Option, None, Some, Result, Ok, Err, is_some, IsTrue, Decides, nat_le, le-leb, leb-true, refl, sym, ◌∙◌, ap, subst, if◌then◌else◌}
 use Rattle.std.specs.Prelude.{chars, IsSomeAnd, IsSome}
 use Rattle.std.specs.Str.{bytes_eq}
 use Rattle.std.specs.Str.Iter.{HasSubslice}
-use Rattle.std.proofs.lemmas.Bool.Decides.{same_from_decides, Decides-leb}
+use Rattle.std.proofs.lemmas.Bool.Decides.{same_from_decides}
 use Rattle.std.proofs.lemmas.Slice.Eq.{bytes_eq-Decides}
 use Rattle.regex_hir.specs.Find.{find}
 use Rattle.regex_hir.specs.Re.{Re}
@@ -29,11 +29,11 @@ decided_regex q text e = subst IsDecided (sym e) tt
 -- A regex nests within the bound, and what does is a regex.
 nests : (o : Option (Nested Re × Names)) → IsSomeAnd o (λ (written, names). written.depth ≤ 250) → nests_within o ≡ true
 nests None is = absurd is
-nests (Some p) is = (Decides-leb p.0.depth 250).1 is
+nests (Some p) is = le-leb p.0.depth 250 is
 
 nested : (o : Option (Nested Re × Names)) → nests_within o ≡ true → IsSomeAnd o (λ (written, names). written.depth ≤ 250)
 nested None e = absurd (cc)
-nested (Some p) e = (Decides-leb p.0.depth 250).0 e
+nested (Some p) e = leb-true p.0.depth 250 e
 
 is_nested : (text : List ℕ) → IsRegex text → nests_within (read default_config (chars text)) ≡ true
 unfolding IsRegex

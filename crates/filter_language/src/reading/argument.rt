@@ -171,6 +171,23 @@ fn grow_regex<'a>(text: &mut String, rest: &'a str) -> Result<Progress<'a>, Stop
     Ok(Progress::Ended(end))
 }
 
+/// A regex that ends at a place, where its closing `/` stands.
+fn slashed<'a>(text: String, start: &'a str, end: &'a str) -> Result<Body<'a>, Stop<'a>>
+    ensures value { IfOk result (λ body.
+        slashed_regex start.now (Ok (string_bytes text, end.now)) ≡ Ok (body_view body)) }
+    ensures wrong { IfErr result (λ stop. IfMisread stop (λ m.
+        slashed_regex start.now (Ok (string_bytes text, end.now)) ≡ Err m)) }
+    ensures ok { IfOk result
+        (λ body. body.end.now ≡ end.now × IsBehind body.behind.now end.now) }
+    ensures err { IfErr result (λ stop. IfMisread stop (StandsIn start.now)) }
+{
+    let Some(behind) = after("/", end) else {
+        let (_, close) = until(&[')'], start);
+        return Err(Stop::at(FaultKind::ExpectedCloseRegex, close));
+    };
+    Ok(Body { text, end, behind })
+}
+
 /// A regex behind its `/`, with each `\/` resolved.
 pub fn read_regex<'a>(alloc: Global, start: &'a str) -> Result<Body<'a>, Stop<'a>>
     ensures value { IfOk result (λ body. regex_in start.now ≡ Ok (body_view body)) }
