@@ -1,0 +1,4 @@
+pub mod Names
+pub mod Members
+pub mod Compiling
+pub mod Readings
