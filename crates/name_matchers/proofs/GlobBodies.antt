@@ -4,7 +4,9 @@ use Rattle.std.specs.Prelude.{if◌then◌else◌}
 use Rattle.regex_class.specs.Ranges.{Range, in_range, in_ranges}
 use Rattle.regex_class.proofs.RangesLemmas.{in_ranges-nil, in_ranges-push}
 use Rattle.regex_hir.specs.Re.{Re}
-use Rattle.name_matchers.specs.GlobClasses.{GlobClass, BeginsNegated, EndsClass, WritesItem, WritesItems, WritesBody, WritesNegation, WritesClass, start_behind, in_items, in_class, ClassTakes, ReadsRanges, WritesOneBody, WritesOneClass}
+use Rattle.name_matchers.specs.GlobClasses.{GlobClass, BeginsNegated, EndsClass, WritesItem, WritesItems, WritesBody, WritesNegation, WritesClass, start_behind, in_items, in_class, ClassTakes, ReadsRanges, TakesItem, WritesOneBody, WritesOneClass, NoBody, NoClass}
+use Rattle.name_matchers.specs.declared.glob.GlobFault.{GlobFault}
+use Rattle.name_matchers.specs.declared.glob.GlobFault.TheVariants.{Memory}
 use Rattle.name_matchers.specs.Patterns.{MatchesKind, MeansRanges}
 use Rattle.name_matchers.specs.declared.glob.class.ClassItem.{ClassItem}
 use Rattle.name_matchers.specs.declared.glob.class.ClassItem.TheVariants.{Own, Reach}
@@ -56,7 +58,7 @@ item_behind : (start : ℕ) (text rest : List ℕ) (item : ClassItem) → Writes
     → WritesItems start text items left ↔ ((behind : List ClassItem) × (items ≡ item ∷ behind) × WritesItems (start_behind start item) rest behind left)
 item_behind start text rest item writes [] left = (
   λ w. absurd (no_item start text item rest (left, w) writes),
-  λ (found : (behind : List ClassItem) × ([] ≡ item ∷ behind) × WritesItems (start_behind start item) rest behind left). absurd (let e = found.1 in cc),
+  λ found. absurd (let e = found.1 in cc),
 )
 item_behind start text rest item writes (next ∷ items) left = (
   λ (w : (mid : List ℕ) × WritesItem start text next mid × WritesItems (start_behind start next) mid items left).
@@ -106,12 +108,21 @@ pub reach_done : (first : ℕ) (text : List ℕ) (start end : ℕ) (rest next : 
 reach_done first text start end rest next ranges byte read here =
     item_done first text start end rest next ranges ranges (Reach byte) byte read here (λ behind b. refl)
 
+-- One item more is read, whichever it is.
+pub item_taken : (first : ℕ) (text : List ℕ) (range next_range : Range) (rest next : List ℕ) (old new : List Range) (item : ClassItem)
+    → ReadItems first text range.0 range.1 rest old → WritesItem range.0 rest item next → TakesItem item range old new next_range
+    → ReadItems first text next_range.0 next_range.1 next new
+item_taken first text range next_range rest next old new (Own byte) read here (more, is) =
+    rw is (own_done first text range.0 range.1 rest next old new byte read here more)
+item_taken first text range next_range rest next old new (Reach byte) read here (same, is) =
+    rw (is, same) (reach_done first text range.0 range.1 rest next old byte read here)
+
 -- What is written where the class closes.
 closed : (start : ℕ) (text rest : List ℕ) → text ≡ 93 ∷ rest → (items : List ClassItem) (left : List ℕ)
     → WritesItems start text items left ↔ ((items ≡ []) × (left ≡ rest))
 closed start text rest e [] left = (
   λ (f : text ≡ 93 ∷ left). (refl, cc),
-  λ (same : ([] ≡ []) × (left ≡ rest)). e ∙ ap (λ l. 93 ∷ l) (sym same.1),
+  λ same. e ∙ ap (λ l. 93 ∷ l) (sym same.1),
 )
 closed start text rest e (item ∷ items) left = (
   λ (w : (mid : List ℕ) × WritesItem start text item mid × WritesItems (start_behind start item) mid items left).
@@ -145,20 +156,20 @@ all_done text first behind start end rest last old new is ascii (done, writes, h
 -- Where no item stands, there are none.
 no_items : (start : ℕ) (rest : List ℕ) (items : List ClassItem) (left : List ℕ) → (EndsClass rest → ⊥)
     → ((item : ClassItem) (r : List ℕ) → WritesItem start rest item r → ⊥) → WritesItems start rest items left → ⊥
-no_items start rest [] left open none w = open (left, w)
-no_items start rest (item ∷ items) left open none w = none item w.0 w.1
+no_items start rest [] left goes_on none w = goes_on (left, w)
+no_items start rest (item ∷ items) left goes_on none w = none item w.0 w.1
 
 -- Where no item stands, the text writes no class.
 pub none_behind : (text : List ℕ) (first : ℕ) (behind : List ℕ) (start end : ℕ) (rest : List ℕ) (ranges : List Range)
     → text ≡ first ∷ behind → ReadItems first behind start end rest ranges → (EndsClass rest → ⊥)
     → ((item : ClassItem) (r : List ℕ) → WritesItem start rest item r → ⊥)
     → (byte : ℕ) (items : List ClassItem) (left : List ℕ) → WritesBody text byte items left → ⊥
-none_behind text first behind start end rest ranges is (done, writes, holds) open none byte items left (after, f, ascii, w) =
+none_behind text first behind start end rest ranges is (done, writes, holds) goes_on none byte items left (after, f, ascii, w) =
     let same : byte ≡ first = cc in
     let same_rest : after ≡ behind = cc in
     let here = subst (λ t. WritesItems byte t items left) same_rest w in
     let found = (writes items left).0 (subst (λ b. WritesItems b behind items left) same here) in
-    no_items start rest found.0 left open none found.2
+    no_items start rest found.0 left goes_on none found.2
 
 -- ---- the sign
 
@@ -169,11 +180,14 @@ sign_body text body other one two =
     (λ (e : text ≡ 94 ∷ body). ⊎_elim (λ (f : text ≡ 33 ∷ other). absurd (let g : 33 ≡ 94 = cc in omega arith)) (λ (f : text ≡ 94 ∷ other). cc) two)
     one
 
+sign_begins : (text body : List ℕ) → (text ≡ 33 ∷ body) ⊎ (text ≡ 94 ∷ body) → BeginsNegated text
+sign_begins text body w = ⊎_elim (λ (e : text ≡ 33 ∷ body). inl (body, e)) (λ (e : text ≡ 94 ∷ body). inr (body, e)) w
+
 -- A text has one sign and one body.
 same_sign : (a b : Bool) (text body other : List ℕ) → WritesNegation a text body → WritesNegation b text other → (a ≡ b) × (body ≡ other)
 same_sign true true text body other w v = (refl, sign_body text body other w v)
-same_sign true false text body other w v = absurd (v.1 (body, w))
-same_sign false true text body other w v = absurd (w.1 (other, v))
+same_sign true false text body other w v = absurd (v.1 (sign_begins text body w))
+same_sign false true text body other w v = absurd (w.1 (sign_begins text other v))
 same_sign false false text body other w v = (refl, let e = w.0 in let f = v.0 in cc)
 
 -- Two classes are one where their fields are.
@@ -225,3 +239,19 @@ pub no_class : (negated : Bool) (text body : List ℕ) → WritesNegation negate
 no_class negated text body sign none class rest (other, also_sign, w) =
     let same = same_sign class.negated negated text other body also_sign sign in
     none class.first class.items rest (subst (λ t. WritesBody t class.first class.items rest) same.1 w)
+
+-- Where the body is refused, so is the class.
+pub refused_body : (negated : Bool) (text body : List ℕ) (fault : GlobFault) → WritesNegation negated text body → NoBody body fault → NoClass text fault
+refused_body negated text body fault sign none =
+    ⊎_elim
+    (λ (memory : fault ≡ Memory). inl memory)
+    (λ (none : (first : ℕ) (items : List ClassItem) (rest : List ℕ) → WritesBody body first items rest → ⊥). inr (no_class negated text body sign none))
+    none
+
+-- The sign of a class and its body.
+pub signed : (text : List ℕ) → BeginsNegated text → WritesNegation true text (drop 1 text)
+signed text begins =
+    ⊎_elim
+    (λ (w : (rest : List ℕ) × (text ≡ 33 ∷ rest)). inl (w.1 ∙ ap (λ r. 33 ∷ r) (sym (ap (drop 1) w.1))))
+    (λ (w : (rest : List ℕ) × (text ≡ 94 ∷ rest)). inr (w.1 ∙ ap (λ r. 94 ∷ r) (sym (ap (drop 1) w.1))))
+    begins

@@ -1,7 +1,9 @@
 -- The parts that a text writes are told by the text.
 use Rattle.std.proofs.Common.{◌≡◌, ℕ, ◌<◌, ◌⊎◌, ◌↔◌, Bool, true, false, List, [], ◌∷◌, ◌++◌, length, map, refl, sym, ap, ◌∙◌, subst, ⊎_elim, inl, inr, arith, true≢false}
 use Rattle.std.proofs.lemmas.List.Elements.{All-head, All-tail}
-use Rattle.name_matchers.specs.Globs.{is_special, ends_row, is_whole, is_last, behind, Row, end, part, class, group, WritesFolders, WritesLast, WritesPart, WritesRow, RowTakes, GlobMatches, IsPlain}
+use Rattle.name_matchers.specs.Globs.{is_special, ends_row, opens, is_whole, is_last, folders_part, behind, Row, end, part, class, group, WritesFolders, WritesLast, WritesPart, WritesRow, RowTakes, GlobMatches, IsPlain}
+use Rattle.name_matchers.specs.GlobReading.{BeginsFolders, BeginsLast}
+use Rattle.std.specs.Prelude.{if◌then◌else◌}
 use Rattle.name_matchers.specs.declared.glob.place.Place.{Place}
 use Rattle.name_matchers.specs.declared.glob.place.Place.TheVariants.{Start, BehindFolders, BehindSlash, Elsewhere}
 use Rattle.name_matchers.specs.declared.glob.part.GlobPart.{GlobPart}
@@ -75,7 +77,7 @@ module _ (inside : Bool) (place : Place) where
   same_folders text r s e f = cc
 
   whole_twice : (r s : List ℕ) → r ≡ s → is_whole inside place r ≡ true → is_whole inside place s ≡ false → ⊥
-  whole_twice r s same yes no = true≢false (sym yes ∙ ap (is_whole inside place) same ∙ no)
+  whole_twice r s same is not_so = true≢false (sym is ∙ ap (is_whole inside place) same ∙ not_so)
 
   folders_last : (text r s : List ℕ) → text ≡ 42 ∷ 42 ∷ 47 ∷ r → WritesLast inside place text s → ⊥
   folders_last text r s e w =
@@ -116,6 +118,17 @@ module _ (inside : Bool) (place : Place) where
       (λ (one : (text ≡ 42 ∷ r) × ((other : List ℕ) → WritesFolders inside place text other → ⊥)
           × ((other : List ℕ) → WritesLast inside place text other → ⊥)). one.2 s v)
       w
+
+  folders_by : (whole : Bool) (text rest : List ℕ) → is_whole inside place rest ≡ whole → text ≡ 42 ∷ 42 ∷ 47 ∷ rest → opens place ≡ true
+      → WritesPart inside place text (if whole then AnyBytes else Folders) rest
+  folders_by true text rest is e opened = inl ((e, opened), is)
+  folders_by false text rest is e opened = ((e, opened), is)
+
+  -- A star that begins neither folders nor the last stars of a branch is any bytes.
+  pub star_written : (text rest : List ℕ) → text ≡ 42 ∷ rest → (BeginsFolders place text → ⊥) → (BeginsLast inside place text → ⊥)
+      → WritesPart inside place text AnyBytes rest
+  star_written text rest e no_folders no_last =
+      inr (e, λ other w. no_folders (other, w.0, w.1), λ other w. no_last (other, w.0, w.1))
 
   byte_star : (text : List ℕ) (b : ℕ) (r s : List ℕ) → WritesPart inside place text (Byte b) r → text ≡ 42 ∷ s → ⊥
   byte_star text b r s w e = byte_not text b r 42 s w e refl (star_escape 42 refl)
@@ -160,6 +173,11 @@ module _ (inside : Bool) (place : Place) where
   no_part text c s e special no_question no_star no_escape Folders r w = no_star (heads text c 42 s (42 ∷ 47 ∷ r) e w.0.0).0
   no_part text c s e special no_question no_star no_escape Nothing r w = no_star (heads text c 42 s (42 ∷ r) e w.0).0
 
+  -- Folders are written as the part that they are.
+  pub folders_written : (text rest : List ℕ) → text ≡ 42 ∷ 42 ∷ 47 ∷ rest → opens place ≡ true
+      → WritesPart inside place text (folders_part inside place rest) rest
+  folders_written text rest e opened = folders_by (is_whole inside place rest) text rest refl e opened
+
 bracket : (c : ℕ) → c ≡ 91 → (is_special c ≡ true) × (c ≡ 63 → ⊥) × (c ≡ 42 → ⊥) × (c ≡ 92 → ⊥)
 bracket c e = (ap is_special e, λ f. omega arith, λ f. omega arith, λ f. omega arith)
 
@@ -191,19 +209,19 @@ writes_plain levels place (b ∷ text) plain = (
 only_plain : (row : Row) (levels : ℕ) (place : Place) (text : List ℕ) → IsPlain text → WritesRow false levels place text row [] → row ≡ bytes_row text
 only_plain end levels place text plain w = rw w.0 refl
 only_plain (part p row) levels place [] plain w = absurd (true≢false w.0)
-only_plain (part p row) levels place (b ∷ text) plain (go, mid, here, later) =
+only_plain (part p row) levels place (b ∷ text) plain (go, (mid, here, later)) =
     let special = All-head (λ byte. is_special byte ≡ false) b text plain in
     let same = same_part false place (b ∷ text) p (Byte b) mid text here (inl (refl, special)) in
     let next = subst (λ q. WritesRow false levels (behind place q) mid row []) same.0 later in
     let tail = only_plain row levels (behind place (Byte b)) text (All-tail (λ byte. is_special byte ≡ false) b text plain)
         (subst (λ m. WritesRow false levels (behind place (Byte b)) m row []) same.1 next) in
     cc
-only_plain (class c row) levels place [] plain (inner, mid, e, rest) = absurd (let f : [] ≡ 91 ∷ inner = e in cc)
-only_plain (class c row) levels place (b ∷ text) plain (inner, mid, e, rest) =
-    absurd (special_apart b 91 (All-head (λ byte. is_special byte ≡ false) b text plain) refl (heads (b ∷ text) b 91 text inner refl e).0)
-only_plain (group bs row) levels place [] plain (inner, mid, below, e, rest) = absurd (let f : [] ≡ 123 ∷ inner = e in cc)
-only_plain (group bs row) levels place (b ∷ text) plain (inner, mid, below, e, rest) =
-    absurd (special_apart b 123 (All-head (λ byte. is_special byte ≡ false) b text plain) refl (heads (b ∷ text) b 123 text inner refl e).0)
+only_plain (class c row) levels place [] plain w = absurd (let f = w.2 in cc)
+only_plain (class c row) levels place (b ∷ text) plain w =
+    absurd (special_apart b 91 (All-head (λ byte. is_special byte ≡ false) b text plain) refl (heads (b ∷ text) b 91 text w.0 refl w.2).0)
+only_plain (group bs row) levels place [] plain w = absurd (let f = w.3 in cc)
+only_plain (group bs row) levels place (b ∷ text) plain w =
+    absurd (special_apart b 123 (All-head (λ byte. is_special byte ≡ false) b text plain) refl (heads (b ∷ text) b 123 text w.0 refl w.3).0)
 
 -- Bytes take themselves.
 takes_itself : (text name : List ℕ) → RowTakes (bytes_row text) name ↔ (name ≡ text)

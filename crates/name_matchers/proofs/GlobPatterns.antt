@@ -1,5 +1,5 @@
 -- Patterns match what the parts of a glob take.
-use Rattle.std.proofs.Common.{◌≡◌, ℕ, zero, suc, ◌+◌, ◌-◌, ◌<◌, ◌≤◌, ◌⊎◌, true, not, List, [], ◌∷◌, ◌++◌, Some, None, map, length, take, drop, get_or, min, refl, sym, ap, ◌∙◌, subst, ⊎_elim, inl, inr, arith, append_assoc, true≢false, append-nil, false, Bool, nat_le, ◌&&◌}
+use Rattle.std.proofs.Common.{◌≡◌, ℕ, zero, suc, ◌+◌, ◌-◌, ◌<◌, ◌≤◌, ◌⊎◌, ◌↔◌, true, not, List, [], ◌∷◌, ◌++◌, Some, None, map, length, take, drop, get_or, min, refl, sym, ap, ◌∙◌, subst, ⊎_elim, inl, inr, arith, append_assoc, true≢false, append-nil, false, Bool, nat_le, ◌&&◌}
 use Rattle.std.specs.Prelude.{All, IfOk, Ok, Err, Result, slice_get, is_some}
 use Rattle.std.specs.declared.alloc.AllocError.{AllocError}
 use Rattle.std.proofs.Math.Seq.{drop-append_seam}
@@ -321,11 +321,10 @@ whole_found Kind re means name bytes = (
       kind_whole Kind re means name bytes 0 value.0.trace.end refl
       (subst (λ k. Matches name (cat_all (re ∷ look End ∷ [])) k value.0.trace.end) place sound.2),
   λ takes.
-      let all = length name in
-      find_complete (cat_all (look Start ∷ re ∷ look End ∷ [])) name 0 0 all (omega arith) (omega arith)
+      find_complete (cat_all (look Start ∷ re ∷ look End ∷ [])) name 0 0 (length name) (omega arith) (omega arith)
       (0, (start_holds name, refl),
-      (all, (means name bytes 0 all (omega arith)).1 (name, [], sym (append-nil name), omega arith, takes),
-      (all, (left_end name all (nil_from_length (drop all name) (length-drop all name ∙ omega arith)), refl), refl))),
+      (length name, (means name bytes 0 (length name) (omega arith)).1 (name, [], sym (append-nil name), omega arith, takes),
+      (length name, (left_end name (length name) (nil_from_length (drop (length name) name) (length-drop (length name) name ∙ omega arith)), refl), refl))),
 )
 
 -- The pattern of a byte, if memory lasted.

@@ -1,5 +1,5 @@
 -- The rows and groups that a text writes are told by the text.
-use Rattle.std.proofs.Common.{◌≡◌, ℕ, zero, suc, ◌+◌, ◌<◌, ◌≤◌, ◌⊎◌, ◌↔◌, Bool, true, false, ◌||◌, ◌&&◌, ◌==◌, List, [], ◌∷◌, ◌++◌, Option, Some, None, length, map, drop, refl, sym, ap, ◌∙◌, subst, ⊎_elim, inl, inr, arith, true≢false, append_assoc, append-nil}
+use Rattle.std.proofs.Common.{◌≡◌, ℕ, zero, suc, ◌+◌, ◌<◌, ◌≤◌, ◌⊎◌, ◌↔◌, Bool, true, false, ◌&&◌, ◌||◌, ◌==◌, eqb-true, List, [], ◌∷◌, ◌++◌, Option, Some, None, length, map, drop, refl, sym, ap, ◌∙◌, subst, ⊎_elim, inl, inr, arith, true≢false, append_assoc, append-nil}
 use Rattle.std.specs.Prelude.{All, MatchOption, is_some}
 use Rattle.std.proofs.lemmas.List.{map-append}
 use Rattle.regex_hir.specs.Re.{Re, empty, look, byte_in, cat, alt}
@@ -9,9 +9,11 @@ use Rattle.regex_hir.specs.declared.hir.Hir.{Hir}
 use Rattle.regex_hir.specs.declared.look.Look.TheVariants.{Start, End}
 use Rattle.regex_nfa.specs.declared.nfa.Nfa.{Nfa}
 use Rattle.name_matchers.specs.Runs.{finds}
-use Rattle.name_matchers.specs.GlobClasses.{GlobClass, WritesClass, ClassTakes, WritesOneClass}
+use Rattle.name_matchers.specs.GlobClasses.{GlobClass, WritesClass, ClassTakes, WritesOneClass, NoClass}
+use Rattle.name_matchers.specs.declared.glob.GlobFault.{GlobFault}
+use Rattle.name_matchers.specs.declared.glob.GlobFault.TheVariants.{Memory}
 use Rattle.name_matchers.specs.Globs.{ends_row, behind, Row, end, part, class, group, Branches, only, also, WritesPart, WritesRow, WritesBranches, PartTakes, RowTakes, SomeTakes, is_empty, are_empty, IsGlob, GlobMatches, IsGlobMachine, Joins}
-use Rattle.name_matchers.specs.GlobReading.{IsSkipped, IsMatched, ReadsPiece, WritesOneRow, RowPatterns, ReadsRow, WritesOneGroup, GroupPattern, ReadsGroup, AddsPattern, AddsBranch, MatchesAny}
+use Rattle.name_matchers.specs.GlobReading.{IsSkipped, IsMatched, ReadsPiece, WritesOneRow, RowPatterns, ReadsRow, WritesOneGroup, GroupPattern, ReadsGroup, AddsPattern, AddsBranch, MatchesAny, NoRow, NoGroup, is_nil}
 use Rattle.name_matchers.specs.Patterns.{MatchesKind, Means}
 use Rattle.name_matchers.specs.declared.glob.place.Place.{Place}
 use Rattle.name_matchers.specs.declared.glob.place.Place.TheVariants as place
@@ -32,8 +34,12 @@ and_parts : (a b : Bool) → (a && b) ≡ true → (a ≡ true) × (b ≡ true)
 and_parts true b e = (refl, e)
 and_parts false b e = absurd (true≢false (sym e))
 
+or_cases : (a b : Bool) → (a || b) ≡ true → (a ≡ true) ⊎ (b ≡ true)
+or_cases true b e = inl refl
+or_cases false b e = inr e
+
 -- Behind patterns with one more there are some.
-no_pattern : (hirs : List Hir) (hir : Hir) → (length (hirs ++ hir ∷ []) == 0) ≡ false
+no_pattern : (hirs : List Hir) (hir : Hir) → is_nil (hirs ++ hir ∷ []) ≡ false
 no_pattern [] hir = refl
 no_pattern (h ∷ hirs) hir = refl
 
@@ -60,24 +66,24 @@ module _ (inside : Bool) (levels : ℕ) (at : Place) where
   -- What stands behind a part.
   part_behind : (text mid : List ℕ) (this : GlobPart) → ends_row inside text ≡ false → WritesPart inside at text this mid → (row : Row) (left : List ℕ)
       → WritesRow inside levels at text row left ↔ ((next : Row) × (row ≡ part this next) × WritesRow inside levels (behind at this) mid next left)
-  part_behind text mid this open here end left = (
-    λ (w : (text ≡ left) × (ends_row inside text ≡ true)). absurd (true≢false (sym w.1 ∙ open)),
+  part_behind text mid this goes_on here end left = (
+    λ (w : (text ≡ left) × (ends_row inside text ≡ true)). absurd (true≢false (sym w.1 ∙ goes_on)),
     λ (found : (next : Row) × (end ≡ part this next) × WritesRow inside levels (behind at this) mid next left). absurd (let e = found.1 in cc),
   )
-  part_behind text mid this open here (part other row) left = (
+  part_behind text mid this goes_on here (part other row) left = (
     λ (w : (ends_row inside text ≡ false) × ((m : List ℕ) × WritesPart inside at text other m × WritesRow inside levels (behind at other) m row left)).
         let same = same_part inside at text other this w.1.0 mid w.1.1 here in
         let later = subst (λ p. WritesRow inside levels (behind at p) w.1.0 row left) same.0 w.1.2 in
         (row, ap (λ p. part p row) same.0, subst (λ m. WritesRow inside levels (behind at this) m row left) same.1 later),
     λ (found : (next : Row) × (part other row ≡ part this next) × WritesRow inside levels (behind at this) mid next left).
-        subst (λ r. WritesRow inside levels at text r left) (sym found.1) (open, (mid, here, found.2)),
+        subst (λ r. WritesRow inside levels at text r left) (sym found.1) (goes_on, (mid, here, found.2)),
   )
-  part_behind text mid this open here (class other row) left = (
+  part_behind text mid this goes_on here (class other row) left = (
     λ (w : (inner : List ℕ) × (m : List ℕ) × (text ≡ 91 ∷ inner) × WritesClass inner other m × WritesRow inside levels place.Elsewhere m row left).
         absurd (no_part_at_class inside at text w.0 w.2 this mid here),
     λ (found : (next : Row) × (class other row ≡ part this next) × WritesRow inside levels (behind at this) mid next left). absurd (let e = found.1 in cc),
   )
-  part_behind text mid this open here (group other row) left = (
+  part_behind text mid this goes_on here (group other row) left = (
     λ (w : (inner : List ℕ) × (m : List ℕ) × (below : ℕ) × (text ≡ 123 ∷ inner) × (levels ≡ below + 1) × WritesBranches below inner other m
         × WritesRow inside levels place.Elsewhere m row left).
         absurd (no_part_at_group inside at text w.0 w.3 this mid here),
@@ -148,10 +154,10 @@ module _ (inside : Bool) (levels : ℕ) (at : Place) where
   pub no_piece : (text : List ℕ) → ends_row inside text ≡ false → ((p : GlobPart) (r : List ℕ) → WritesPart inside at text p r → ⊥)
       → ((inner : List ℕ) → text ≡ 91 ∷ inner → ⊥) → ((inner : List ℕ) (below : ℕ) → text ≡ 123 ∷ inner → levels ≡ below + 1 → ⊥)
       → (row : Row) (rest : List ℕ) → WritesRow inside levels at text row rest → ⊥
-  no_piece text open none no_class no_group end rest w = true≢false (sym w.1 ∙ open)
-  no_piece text open none no_class no_group (part p row) rest w = none p w.1.0 w.1.1
-  no_piece text open none no_class no_group (class c row) rest w = no_class w.0 w.2
-  no_piece text open none no_class no_group (group b row) rest w = no_group w.0 w.2 w.3 w.4
+  no_piece text goes_on none no_class no_group end rest w = true≢false (sym w.1 ∙ goes_on)
+  no_piece text goes_on none no_class no_group (part p row) rest w = none p w.1.0 w.1.1
+  no_piece text goes_on none no_class no_group (class c row) rest w = no_class w.0 w.2
+  no_piece text goes_on none no_class no_group (group b row) rest w = no_group w.0 w.2 w.3 w.4
 
   -- Where no class stands behind a bracket, the text writes no row.
   pub no_class_row : (text inner : List ℕ) → text ≡ 91 ∷ inner → ((c : GlobClass) (r : List ℕ) → WritesClass inner c r → ⊥)
@@ -177,9 +183,9 @@ module _ (inside : Bool) (levels : ℕ) (at : Place) where
   -- A part is read.
   pub part_read : (text mid : List ℕ) (this : GlobPart) (hir : Hir) → ends_row inside text ≡ false → WritesPart inside at text this mid
       → Means this (meaning hir) → ReadsPiece inside levels at text (Some hir) (behind at this) mid
-  part_read text mid this hir open here means = (
+  part_read text mid this hir goes_on here means = (
     λ row. part this row,
-    part_behind text mid this open here,
+    part_behind text mid this goes_on here,
     λ row. (refl, λ tail more. cat_means (PartTakes this) (RowTakes row) (meaning hir) tail means more),
   )
 
@@ -195,7 +201,7 @@ module _ (inside : Bool) (levels : ℕ) (at : Place) where
   -- A group is read, of which some branch takes something or none does.
   group_piece : (this : Branches) (pattern : Option Hir) → GroupPattern this pattern
       → MatchOption pattern (IsSkipped (λ row. group this row)) (λ hir. IsMatched (λ row. group this row) (meaning hir))
-  group_piece this None none row = (
+  group_piece this None none = λ row. (
     ap (λ b. b && is_empty row) none,
     λ bytes. (
       λ (t : (front : List ℕ) × (rest : List ℕ) × (bytes ≡ front ++ rest) × (SomeTakes this front ⊎ ((are_empty this ≡ true) × (front ≡ []))) × RowTakes row rest).
@@ -206,7 +212,7 @@ module _ (inside : Bool) (levels : ℕ) (at : Place) where
       λ (t : RowTakes row bytes). ([], bytes, refl, inr (none, refl), t),
     ),
   )
-  group_piece this (Some hir) (full, means) row = (
+  group_piece this (Some hir) (full, means) = λ row. (
     ap (λ b. b && is_empty row) full,
     λ tail more.
         cat_means (λ front. SomeTakes this front ⊎ ((are_empty this ≡ true) × (front ≡ []))) (RowTakes row) (meaning hir) tail
@@ -228,6 +234,23 @@ module _ (inside : Bool) (levels : ℕ) (at : Place) where
     group_piece this pattern means,
   )
 
+  -- Where a class is refused, so is the row that it begins.
+  pub refused_class : (text inner : List ℕ) (fault : GlobFault) → text ≡ 91 ∷ inner → NoClass inner fault → NoRow inside levels at text fault
+  refused_class text inner fault e none =
+      ⊎_elim
+      (λ (memory : fault ≡ Memory). inl memory)
+      (λ (none : (c : GlobClass) (r : List ℕ) → WritesClass inner c r → ⊥). inr (no_class_row text inner e none))
+      none
+
+  -- Where a group is refused, so is the row that it begins.
+  pub refused_group : (text inner : List ℕ) (below : ℕ) (fault : GlobFault) → text ≡ 123 ∷ inner → levels ≡ below + 1 → NoGroup below inner fault
+      → NoRow inside levels at text fault
+  refused_group text inner below fault e deep none =
+      ⊎_elim
+      (λ (memory : fault ≡ Memory). inl memory)
+      (λ (none : (b : Branches) (r : List ℕ) → WritesBranches below inner b r → ⊥). inr (no_group_row text inner below e deep none))
+      none
+
 -- ---- rows
 
 module _ (inside : Bool) (levels : ℕ) where
@@ -237,7 +260,7 @@ module _ (inside : Bool) (levels : ℕ) where
       (done : Row → Row)
       × ((row : Row) (left : List ℕ) → WritesRow inside levels place.Start text row left
           ↔ ((next : Row) × (row ≡ done next) × WritesRow inside levels at rest next left))
-      × ((next : Row) → is_empty (done next) ≡ ((length hirs == 0) && is_empty next))
+      × ((next : Row) → is_empty (done next) ≡ (is_nil hirs && is_empty next))
       × ((next : Row) (tails : List Re) → MatchesKind (RowTakes next) (cat_all tails)
           → MatchesKind (RowTakes (done next)) (cat_all (map meaning hirs ++ tails)))
 
@@ -274,7 +297,7 @@ module _ (inside : Bool) (levels : ℕ) where
   piece_read text at next_at rest next old new None (done, writes, empties, means) (step, here, skipped) same = (
     λ row. done (step row),
     piece_written text at next_at rest next done step writes here,
-    λ row. rw same (empties (step row) ∙ ap (λ b. (length old == 0) && b) (skipped row).0),
+    λ row. rw same (empties (step row) ∙ ap (λ b. is_nil old && b) (skipped row).0),
     λ row tails tail.
         rw same
         (means (step row) tails
@@ -285,7 +308,7 @@ module _ (inside : Bool) (levels : ℕ) where
   piece_read text at next_at rest next old new (Some hir) (done, writes, empties, means) (step, here, matched) more = (
     λ row. done (step row),
     piece_written text at next_at rest next done step writes here,
-    λ row. rw more (empties (step row) ∙ ap (λ b. (length old == 0) && b) (matched row).0 ∙ and_false (length old == 0)
+    λ row. rw more (empties (step row) ∙ ap (λ b. is_nil old && b) (matched row).0 ∙ and_false is_nil old
         ∙ ap (λ b. b && is_empty row) (sym (no_pattern old hir))),
     λ row tails tail.
         rw (more, map-append meaning old (hir ∷ []), append_assoc (map meaning old) (meaning hir ∷ []) tails)
@@ -328,7 +351,7 @@ module _ (inside : Bool) (levels : ℕ) where
       λ (same : (row ≡ done end) × (left ≡ rest)).
           (writes row left).1 (end, same.0, (row_ends rest at ends end left).1 (refl, same.1)),
     ),
-    (rw (append-nil (map meaning hirs)) at (means end [] empty_means), empties end ∙ and_true (length hirs == 0)),
+    (rw (append-nil (map meaning hirs)) at (means end [] empty_means), empties end ∙ and_true is_nil hirs),
   )
 
   -- Where no piece stands, the text writes no row.
@@ -336,6 +359,15 @@ module _ (inside : Bool) (levels : ℕ) where
       → ((row : Row) (left : List ℕ) → WritesRow inside levels at rest row left → ⊥)
       → (row : Row) (left : List ℕ) → WritesRow inside levels place.Start text row left → ⊥
   no_row text at rest hirs (done, writes, more) none row left w = let found = (writes row left).0 w in none found.0 left found.2
+
+  -- Where a piece is refused, so is the row.
+  pub refused_row : (text : List ℕ) (at : Place) (rest : List ℕ) (hirs : List Hir) (fault : GlobFault) → ReadTo text at rest hirs
+      → NoRow inside levels at rest fault → NoRow inside levels place.Start text fault
+  refused_row text at rest hirs fault read none =
+      ⊎_elim
+      (λ (memory : fault ≡ Memory). inl memory)
+      (λ (none : (row : Row) (left : List ℕ) → WritesRow inside levels at rest row left → ⊥). inr (no_row text at rest hirs read none))
+      none
 
 -- ---- groups
 
@@ -346,7 +378,7 @@ module _ (levels : ℕ) where
       (done : Branches → Branches)
       × ((branches : Branches) (left : List ℕ) → WritesBranches levels text branches left
           ↔ ((next : Branches) × (branches ≡ done next) × WritesBranches levels rest next left))
-      × ((next : Branches) → are_empty (done next) ≡ ((length hirs == 0) && are_empty next))
+      × ((next : Branches) → are_empty (done next) ≡ (is_nil hirs && are_empty next))
       × ((next : Branches) (tails : List Re) → MatchesKind (SomeTakes next) (alt_all tails)
           → MatchesKind (SomeTakes (done next)) (alt_all (map meaning hirs ++ tails)))
 
@@ -421,9 +453,9 @@ module _ (levels : ℕ) where
   )
 
   branch_empty : (row : Row) (hirs : List Hir) → RowPatterns row hirs → (old new : List Hir) → AddsBranch hirs old new → (b : Bool)
-      → ((length old == 0) && (is_empty row && b)) ≡ ((length new == 0) && b)
+      → (is_nil old && (is_empty row && b)) ≡ (is_nil new && b)
   branch_empty row [] (means, none) old new same b = rw (same, none) refl
-  branch_empty row (h ∷ hirs) (means, some) old new (hir, is, is_cat) b = rw (is, some, no_pattern old hir) (and_false (length old == 0))
+  branch_empty row (h ∷ hirs) (means, some) old new (hir, is, is_cat) b = rw (is, some, no_pattern old hir) (and_false is_nil old)
 
   -- One branch more is read.
   pub branch_read : (text rest next : List ℕ) (old new hirs : List Hir) → ReadBranches text rest old → ReadsRow true levels rest hirs (44 ∷ next)
@@ -464,15 +496,16 @@ module _ (levels : ℕ) where
   )
 
   last_empty : (row : Row) (hirs : List Hir) → RowPatterns row hirs → (old new : List Hir) → AddsBranch hirs old new
-      → ((length old == 0) && is_empty row) ≡ (length new == 0)
-  last_empty row [] (means, none) old new same = rw (same, none) (and_true (length old == 0))
-  last_empty row (h ∷ hirs) (means, some) old new (hir, is, is_cat) = rw (is, some, no_pattern old hir) (and_false (length old == 0))
+      → (is_nil old && is_empty row) ≡ is_nil new
+  last_empty row [] (means, none) old new same = rw (same, none) (and_true is_nil old)
+  last_empty row (h ∷ hirs) (means, some) old new (hir, is, is_cat) = rw (is, some, no_pattern old hir) (and_false is_nil old)
 
   -- The pattern of branches that are all read.
-  pattern_of : (branches : Branches) (hirs : List Hir) (pattern : Option Hir) → are_empty branches ≡ (length hirs == 0)
+  pattern_of : (branches : Branches) (hirs : List Hir) (pattern : Option Hir) → are_empty branches ≡ is_nil hirs
       → MatchesKind (SomeTakes branches) (alt_all (map meaning hirs)) → MatchesAny hirs pattern → GroupPattern branches pattern
-  pattern_of branches [] pattern empties means none = rw none empties
-  pattern_of branches (h ∷ hirs) pattern empties means (hir, is, any) = rw is (empties, rw any means)
+  pattern_of branches [] pattern empties means none = subst (GroupPattern branches) (sym none) empties
+  pattern_of branches (h ∷ hirs) pattern empties means (hir, is, any) =
+      subst (GroupPattern branches) (sym is) (empties, subst (MatchesKind (SomeTakes branches)) (sym any) means)
 
   -- Where the last branch ends, the group is read.
   pub last_read : (text rest next : List ℕ) (old new hirs : List Hir) (pattern : Option Hir) → ReadBranches text rest old
@@ -505,6 +538,29 @@ module _ (levels : ℕ) where
       let found = (writes branches left).0 w in
       let first = first_row rest found.0 left found.2 in
       none first.0 first.1 first.2
+
+  -- Where a branch is refused, so is the group.
+  pub refused_branch : (text rest : List ℕ) (hirs : List Hir) (fault : GlobFault) → ReadBranches text rest hirs
+      → NoRow true levels place.Start rest fault → NoGroup levels text fault
+  refused_branch text rest hirs fault read none =
+      ⊎_elim
+      (λ (memory : fault ≡ Memory). inl memory)
+      (λ (none : (row : Row) (left : List ℕ) → WritesRow true levels place.Start rest row left → ⊥). inr (no_group text rest hirs read none))
+      none
+
+-- A branch ends before a comma or a brace.
+pub branch_ends : (text : List ℕ) → ends_row true text ≡ true → ((rest : List ℕ) × (text ≡ 44 ∷ rest)) ⊎ ((rest : List ℕ) × (text ≡ 125 ∷ rest))
+branch_ends [] e = absurd (true≢false (sym e))
+branch_ends (b ∷ rest) e =
+    ⊎_elim
+    (λ (comma : (b == 44) ≡ true). inl (rest, ap (λ c. c ∷ rest) (eqb-true b 44 comma)))
+    (λ (brace : (b == 125) ≡ true). inr (rest, ap (λ c. c ∷ rest) (eqb-true b 125 brace)))
+    (or_cases (b == 44) (b == 125) e)
+
+-- A branch's end takes a byte.
+pub branch_room : (text : List ℕ) → ends_row true text ≡ true → 0 < length text
+branch_room [] e = absurd (true≢false (sym e))
+branch_room (b ∷ rest) e = omega arith
 
 -- ---- whole globs
 

@@ -1,5 +1,5 @@
 -- Classes of globs: the bytes that a text in brackets writes.
-use Rattle.std.specs.Prelude.{◌≡◌, ◌≢◌, ℕ, ◌<◌, ◌≤◌, ◌⊎◌, ◌↔◌, Bool, true, false, not, ◌||◌, if◌then◌else◌, List, [], ◌∷◌, drop, MatchResult, Result}
+use Rattle.std.specs.Prelude.{◌≡◌, ◌≢◌, ℕ, ◌<◌, ◌≤◌, ◌⊎◌, ◌↔◌, Bool, true, false, not, ◌||◌, if◌then◌else◌, List, [], ◌∷◌, ◌++◌, drop, MatchResult, Result}
 use Rattle.regex_class.specs.Ranges.{Range, in_range, in_ranges}
 use Rattle.name_matchers.specs.declared.glob.GlobFault.{GlobFault}
 use Rattle.name_matchers.specs.declared.glob.GlobFault.TheVariants.{Memory}
@@ -12,13 +12,17 @@ pub record GlobClass : Type 0 where
   pub first : ℕ
   pub items : List ClassItem
 
+-- The text begins with the byte.
+abbrev pub Begins : ℕ → List ℕ → Type 0
+Begins byte text = (rest : List ℕ) × (text ≡ byte ∷ rest)
+
 -- The text begins with the sign of a negated class.
 abbrev pub BeginsNegated : List ℕ → Type 0
-BeginsNegated text = (body : List ℕ) × ((text ≡ 33 ∷ body) ⊎ (text ≡ 94 ∷ body))
+BeginsNegated text = Begins 33 text ⊎ Begins 94 text
 
 -- The text begins with a closing bracket.
 abbrev pub EndsClass : List ℕ → Type 0
-EndsClass text = (rest : List ℕ) × (text ≡ 93 ∷ rest)
+EndsClass text = Begins 93 text
 
 -- The text writes the item and the rest, where a range that starts at this byte stands in front. A
 -- dash is a byte of its own only before the closing bracket.
@@ -104,3 +108,8 @@ NoBody text fault =
 abbrev pub NoClass : List ℕ → GlobFault → Type 0
 NoClass text fault =
     (fault ≡ Memory) ⊎ ((class : GlobClass) (rest : List ℕ) → WritesClass text class rest → ⊥)
+
+-- The item leaves this range open, and adds the one that was to the ranges if it starts one.
+abbrev pub TakesItem : ClassItem → Range → List Range → List Range → Range → Type 0
+TakesItem (Own byte) range old new next = (new ≡ old ++ range ∷ []) × (next ≡ (byte, byte))
+TakesItem (Reach byte) range old new next = (new ≡ old) × (next ≡ (range.0, byte))

@@ -1,15 +1,23 @@
 -- What the functions say that read globs.
-use Rattle.std.specs.Prelude.{◌≡◌, ℕ, ◌⊎◌, ◌↔◌, Bool, true, false, ◌==◌, List, [], ◌∷◌, ◌++◌, Some, None, drop, length, map, MatchOption, MatchResult, Option, Result}
+use Rattle.std.specs.Prelude.{◌≡◌, ℕ, ◌⊎◌, ◌↔◌, Bool, true, false, List, [], ◌∷◌, ◌++◌, Some, None, drop, map, MatchOption, MatchResult, Option, Result}
 use Rattle.regex_hir.specs.Re.{Re, cat}
 use Rattle.regex_hir.specs.Meaning.{meaning, cat_all, alt_all}
 use Rattle.regex_hir.specs.declared.hir.Hir.{Hir}
-use Rattle.name_matchers.specs.Globs.{Row, Branches, WritesPart, WritesRow, WritesBranches, RowTakes, SomeTakes, is_empty, are_empty}
+use Rattle.name_matchers.specs.Globs.{Row, Branches, opens, is_last, WritesPart, WritesRow, WritesBranches, RowTakes, SomeTakes, is_empty, are_empty}
 use Rattle.name_matchers.specs.Patterns.{MatchesKind}
 use Rattle.name_matchers.specs.declared.glob.GlobFault.{GlobFault}
 use Rattle.name_matchers.specs.declared.glob.GlobFault.TheVariants.{Memory}
 use Rattle.name_matchers.specs.declared.glob.place.Place.{Place}
 use Rattle.name_matchers.specs.declared.glob.place.Place.TheVariants.{Start}
 use Rattle.name_matchers.specs.declared.glob.part.GlobPart.{GlobPart}
+
+-- Folders stand at the front of the text, where they may.
+abbrev pub BeginsFolders : Place → List ℕ → Type 0
+BeginsFolders place text = (rest : List ℕ) × (text ≡ 42 ∷ 42 ∷ 47 ∷ rest) × (opens place ≡ true)
+
+-- The last stars of a branch of folders stand at the front of the text.
+abbrev pub BeginsLast : Bool → Place → List ℕ → Type 0
+BeginsLast inside place text = (rest : List ℕ) × (text ≡ 42 ∷ 42 ∷ rest) × (is_last inside place rest ≡ true)
 
 -- The part stands at the front of the text and has so many bytes, or no part does.
 abbrev pub ReadsPart : Bool → Place → List ℕ → Result (GlobPart × ℕ) GlobFault → Type 0
@@ -49,10 +57,15 @@ module _ (inside : Bool) (levels : ℕ) where
   WritesOneRow text row rest =
       (other : Row) (left : List ℕ) → WritesRow inside levels Start text other left ↔ ((other ≡ row) × (left ≡ rest))
 
+-- whether there is no pattern
+abbrev pub is_nil : List Hir → Bool
+is_nil [] = true
+is_nil (hir ∷ hirs) = false
+
 -- The patterns match what the row takes, one behind another. There are none for an empty row.
 abbrev pub RowPatterns : Row → List Hir → Type 0
 RowPatterns row hirs =
-    MatchesKind (RowTakes row) (cat_all (map meaning hirs)) × (is_empty row ≡ (length hirs == 0))
+    MatchesKind (RowTakes row) (cat_all (map meaning hirs)) × (is_empty row ≡ is_nil hirs)
 
 -- The text writes one row before the rest, and the patterns match what it takes.
 abbrev pub ReadsRow : Bool → ℕ → List ℕ → List Hir → List ℕ → Type 0

@@ -1,5 +1,5 @@
 -- Globs: the parts that a text writes, and the names that they take.
-use Rattle.std.specs.Prelude.{◌≡◌, ℕ, ◌+◌, ◌<◌, ◌⊎◌, ◌↔◌, Bool, true, false, ◌||◌, ◌&&◌, ◌==◌, if◌then◌else◌, List, [], ◌∷◌, ◌++◌, length, All, ⊤}
+use Rattle.std.specs.Prelude.{◌≡◌, ℕ, ◌+◌, ◌<◌, ◌⊎◌, ◌↔◌, Bool, true, false, not, ◌||◌, ◌&&◌, ◌==◌, if◌then◌else◌, List, [], ◌∷◌, ◌++◌, length, All, ⊤}
 use Rattle.regex_nfa.specs.declared.nfa.Nfa.{Nfa}
 use Rattle.name_matchers.specs.GlobClasses.{GlobClass, WritesClass, ClassTakes}
 use Rattle.name_matchers.specs.Runs.{finds}
@@ -56,8 +56,7 @@ behind place Nothing = Elsewhere
 
 -- whether folders that end before this rest are the last of a glob of nothing but folders
 abbrev pub is_whole : Bool → Place → List ℕ → Bool
-is_whole true place rest = false
-is_whole false place rest = leads place && ends_row false rest
+is_whole inside place rest = not inside && leads place && ends_row inside rest
 
 -- whether stars that end before this rest are the last of a branch and behind nothing but folders
 abbrev pub is_last : Bool → Place → List ℕ → Bool
@@ -65,6 +64,10 @@ is_last inside BehindFolders rest = inside && ends_row inside rest
 is_last inside Start rest = false
 is_last inside BehindSlash rest = false
 is_last inside Elsewhere rest = false
+
+-- what folders before this rest are
+abbrev pub folders_part : Bool → Place → List ℕ → GlobPart
+folders_part inside place rest = if is_whole inside place rest then AnyBytes else Folders
 
 module _ (inside : Bool) (place : Place) where
   -- The text writes folders, `**/` where they may stand, and the rest.

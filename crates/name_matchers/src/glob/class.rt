@@ -3,7 +3,7 @@ ghost use Rattle.std.specs.Prelude.{◌≡◌, ℕ, ◌<◌, ◌≤◌, ◌↔�
 ghost use Rattle.regex_hir.specs.Meaning.{meaning};
 ghost use Rattle.name_matchers.specs.Patterns.{MatchesKind, MeansRanges};
 ghost use Rattle.name_matchers.specs.GlobClasses as classes;
-ghost use Rattle.name_matchers.specs.GlobClasses.{BeginsNegated, ClassTakes, EndsClass, NoBody, NoClass, ReadsItem, ReadsRanges, WritesOneClass};
+ghost use Rattle.name_matchers.specs.GlobClasses.{Begins, BeginsNegated, ClassTakes, EndsClass, NoBody, NoClass, ReadsItem, ReadsRanges, TakesItem, WritesOneClass};
 
 use crate::glob::GlobFault;
 use regex_class::Class;
@@ -53,7 +53,7 @@ fn class_pattern(ranges: Vec<(u32, u32)>, negated: bool) -> Result<Hir, AllocErr
 fn is_negated(text: &[u8]) -> bool
     ensures { IsTrue result ↔ BeginsNegated text.now }
 {
-    text.len() > 0 && (text[0] == b'!' || text[0] == b'^')
+    begins_with(text, b'!') || begins_with(text, b'^')
 }
 
 // The ranges of the class, its sign left out, at the front of a text, and how many bytes write it.
@@ -65,37 +65,46 @@ fn read_ranges(alloc: Global, text: &[u8]) -> Result<(Vec<(u32, u32)>, usize), G
     if text.len() == 0 || text[0] >= 128 {
         return Err(GlobFault::Malformed);
     }
-    let mut start = text[0];
-    let mut end = start;
+    let mut range = (text[0], text[0]);
     let mut ranges = Vec::new(alloc);
     let mut at = 1;
-    while !ends_class(&text[at..]) {
-        let (item, len) = read_item(&text[at..], start)?;
-        match item {
-            ClassItem::Own(byte) => {
-                add_range(&mut ranges, start, end)?;
-                start = byte;
-                end = byte;
-            }
-            ClassItem::Reach(byte) => end = byte,
-        }
+    while !begins_with(&text[at..], b']') {
+        let (item, len) = read_item(&text[at..], range.0)?;
+        range = take_item(&mut ranges, range, item)?;
         at += len;
     }
-    add_range(&mut ranges, start, end)?;
+    add_range(&mut ranges, range)?;
     Ok((ranges, at + 1))
 }
 
-fn add_range(ranges: &mut Vec<(u32, u32)>, start: u8, end: u8) -> Result<(), AllocError>
-    ensures { IfOk result (λ _. ranges.new.items ≡ ranges.old.items ++ (start, end) ∷ []) }
+// The range that is open behind an item. A byte of its own adds the one that was.
+fn take_item(
+    ranges: &mut Vec<(u32, u32)>,
+    range: (u8, u8),
+    item: ClassItem,
+) -> Result<(u8, u8), AllocError>
+    ensures { IfOk result (λ next. TakesItem item range ranges.old.items ranges.new.items next) }
 {
-    ranges.push((start as u32, end as u32))?;
+    match item {
+        ClassItem::Own(byte) => {
+            add_range(ranges, range)?;
+            Ok((byte, byte))
+        }
+        ClassItem::Reach(byte) => Ok((range.0, byte)),
+    }
+}
+
+fn add_range(ranges: &mut Vec<(u32, u32)>, range: (u8, u8)) -> Result<(), AllocError>
+    ensures { IfOk result (λ _. ranges.new.items ≡ ranges.old.items ++ range ∷ []) }
+{
+    ranges.push((range.0 as u32, range.1 as u32))?;
     Ok(())
 }
 
-fn ends_class(text: &[u8]) -> bool
-    ensures { IsTrue result ↔ EndsClass text.now }
+fn begins_with(text: &[u8], byte: u8) -> bool
+    ensures { IsTrue result ↔ Begins byte text.now }
 {
-    text.len() > 0 && text[0] == b']'
+    text.len() > 0 && text[0] == byte
 }
 
 // The item at the front of a text that begins with no closing bracket, and how many bytes write it,
@@ -108,7 +117,7 @@ fn read_item(text: &[u8], start: u8) -> Result<(ClassItem, usize), GlobFault>
     if text.len() == 0 || text[0] >= 128 {
         return Err(GlobFault::Malformed);
     }
-    if text[0] != b'-' || ends_class(&text[1..]) {
+    if text[0] != b'-' || begins_with(&text[1..], b']') {
         return Ok((ClassItem::Own(text[0]), 1));
     }
     if text.len() < 2 || text[1] >= 128 || text[1] < start {

@@ -1,8 +1,8 @@
 //! The parts of a glob.
-ghost use Rattle.std.specs.Prelude.{◌≡◌, ◌<◌, ◌≤◌, IfOk, Bool, List, ℕ, length, drop, slice_index, false};
+ghost use Rattle.std.specs.Prelude.{◌≡◌, ◌<◌, ◌≤◌, ◌↔◌, IfOk, IsTrue, Bool, length, drop, slice_index};
 ghost use Rattle.name_matchers.specs.Globs as globs;
-ghost use Rattle.name_matchers.specs.GlobReading.{ReadsPart};
-ghost use Rattle.name_matchers.specs.declared.glob.place.Place as place;
+ghost use Rattle.name_matchers.specs.GlobReading.{BeginsFolders, BeginsLast, ReadsPart};
+ghost use Rattle.name_matchers.specs.declared.glob.place.Place as places;
 
 use crate::glob::GlobFault;
 use crate::glob::place::Place;
@@ -72,31 +72,53 @@ fn read_star(text: &[u8], inside: bool, place: Place) -> (GlobPart, usize)
     ensures part { globs.WritesPart inside place text.now result.0 (drop result.1 text.now) }
     ensures len { (0 < result.1) × (result.1 ≤ length text.now) }
 {
-    if begins_folders(text) && place.opens() {
-        if !inside && place.leads() && text.len() == 3 {
-            (GlobPart::AnyBytes, 3)
-        } else {
-            (GlobPart::Folders, 3)
-        }
-    } else if inside && matches!(place, Place::BehindFolders) && ends_branch(text) {
-        (GlobPart::Nothing, 2)
+    if begins_folders(text, place) {
+        return (folders_part(inside, place, &text[3..]), 3);
+    }
+    if begins_last(text, inside, place) {
+        return (GlobPart::Nothing, 2);
+    }
+    (GlobPart::AnyBytes, 1)
+}
+
+// Whether folders stand at the front of a text, where they may.
+fn begins_folders(text: &[u8], place: Place) -> bool
+    ensures { IsTrue result ↔ BeginsFolders place text.now }
+{
+    place.opens() && text.len() >= 3 && text[0] == b'*' && text[1] == b'*' && text[2] == b'/'
+}
+
+// What folders before this rest are.
+fn folders_part(inside: bool, place: Place, rest: &[u8]) -> GlobPart
+    ensures { result ≡ globs.folders_part inside place rest.now }
+{
+    if !inside && place.leads() && ends_row(inside, rest) {
+        GlobPart::AnyBytes
     } else {
-        (GlobPart::AnyBytes, 1)
+        GlobPart::Folders
     }
 }
 
-fn begins_folders(text: &[u8]) -> bool {
-    text.len() >= 3 && text[0] == b'*' && text[1] == b'*' && text[2] == b'/'
+// Whether the last stars of a branch of folders stand at the front of a text.
+fn begins_last(text: &[u8], inside: bool, place: Place) -> bool
+    ensures { IsTrue result ↔ BeginsLast inside place text.now }
+{
+    text.len() >= 2 && text[0] == b'*' && text[1] == b'*' && is_last(inside, place, &text[2..])
 }
 
-fn ends_branch(text: &[u8]) -> bool {
-    text.len() >= 3 && text[0] == b'*' && text[1] == b'*' && ends_row(true, &text[2..])
+fn is_last(inside: bool, place: Place, rest: &[u8]) -> bool
+    ensures { result ≡ globs.is_last inside place rest.now }
+{
+    match place {
+        Place::BehindFolders => inside && ends_row(inside, rest),
+        _ => false,
+    }
 }
 
 fn read_escaped(text: &[u8]) -> Result<(GlobPart, usize), GlobFault>
     requires some { 0 < length text.now }
     requires backslash { slice_index text.now 0 ≡ 92 }
-    ensures part { (inside : Bool) (at : place.Place) → ReadsPart inside at text.now result }
+    ensures part { (inside : Bool) (at : places.Place) → ReadsPart inside at text.now result }
     ensures len { IfOk result (λ read. (0 < read.1) × (read.1 ≤ length text.now)) }
 {
     if text.len() < 2 {

@@ -2,7 +2,7 @@
 ghost use Rattle.std.specs.Prelude.{◌≡◌, ◌<◌, ◌≤◌, ◌+◌, true, false, length, drop, IfOk, IfErr};
 ghost use Rattle.name_matchers.specs.Globs as globs;
 ghost use Rattle.name_matchers.specs.GlobReading.{AddsBranch, AddsPattern, MatchesAny, NoGroup, NoRow, ReadsGroup, ReadsPiece, ReadsRow};
-ghost use Rattle.name_matchers.specs.declared.glob.place.Place.TheVariants as place;
+ghost use Rattle.name_matchers.specs.declared.glob.place.Place.TheVariants as places;
 
 use crate::glob::GlobFault;
 use crate::glob::class::read_class;
@@ -39,7 +39,7 @@ pub fn read_row(
         (λ read. ReadsRow inside levels text.now read.0.items (drop read.1 text.now)) }
     ensures ends { IfOk result (λ read. (read.1 ≤ length text.now)
         × (globs.ends_row inside (drop read.1 text.now) ≡ true)) }
-    ensures refused { IfErr result (NoRow inside levels place.Start text.now) }
+    ensures refused { IfErr result (NoRow inside levels places.Start text.now) }
 {
     let mut patterns = Vec::new(alloc);
     let mut place = Place::Start;
