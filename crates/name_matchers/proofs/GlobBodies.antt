@@ -10,6 +10,7 @@ use Rattle.name_matchers.specs.declared.glob.GlobFault.TheVariants.{Memory}
 use Rattle.name_matchers.specs.Patterns.{MatchesKind, MeansRanges}
 use Rattle.name_matchers.specs.declared.glob.class.ClassItem.{ClassItem}
 use Rattle.name_matchers.specs.declared.glob.class.ClassItem.TheVariants.{Own, Reach}
+use Rattle.name_matchers.proofs.GlobParts.{apart}
 use Rattle.name_matchers.proofs.GlobPatterns.{kind_same}
 
 -- A dash that is a byte of its own is none that a range reaches by.
@@ -33,7 +34,7 @@ same_item start text (Reach a) (Reach b) r s w v = let e = w.0 in let f = v.0 in
 -- No item stands in front of a closing bracket.
 pub no_item : (start : ℕ) (text : List ℕ) (i : ClassItem) (r : List ℕ) → EndsClass text → WritesItem start text i r → ⊥
 no_item start text (Own b) r ends w = let e = ends.1 in let f = w.0 in w.2 (cc)
-no_item start text (Reach b) r ends w = let e = ends.1 in let f = w.0 in absurd (let g : 93 ≡ 45 = cc in omega arith)
+no_item start text (Reach b) r ends w = apart 45 93 (b ∷ r) ends.0 text w.0 ends.1 (omega arith)
 
 -- The text writes items that are read, one behind another, and the rest, which is to be read.
 abbrev pub ReadItems : ℕ → List ℕ → ℕ → ℕ → List ℕ → List Range → Type 0
@@ -176,8 +177,8 @@ none_behind text first behind start end rest ranges is (done, writes, holds) goe
 sign_body : (text body other : List ℕ) → (text ≡ 33 ∷ body) ⊎ (text ≡ 94 ∷ body) → (text ≡ 33 ∷ other) ⊎ (text ≡ 94 ∷ other) → body ≡ other
 sign_body text body other one two =
     ⊎_elim
-    (λ (e : text ≡ 33 ∷ body). ⊎_elim (λ (f : text ≡ 33 ∷ other). cc) (λ (f : text ≡ 94 ∷ other). absurd (let g : 33 ≡ 94 = cc in omega arith)) two)
-    (λ (e : text ≡ 94 ∷ body). ⊎_elim (λ (f : text ≡ 33 ∷ other). absurd (let g : 33 ≡ 94 = cc in omega arith)) (λ (f : text ≡ 94 ∷ other). cc) two)
+    (λ (e : text ≡ 33 ∷ body). ⊎_elim (λ (f : text ≡ 33 ∷ other). cc) (λ (f : text ≡ 94 ∷ other). absurd (apart 33 94 body other text e f (omega arith))) two)
+    (λ (e : text ≡ 94 ∷ body). ⊎_elim (λ (f : text ≡ 33 ∷ other). absurd (apart 33 94 other body text f e (omega arith))) (λ (f : text ≡ 94 ∷ other). cc) two)
     one
 
 sign_begins : (text body : List ℕ) → (text ≡ 33 ∷ body) ⊎ (text ≡ 94 ∷ body) → BeginsNegated text

@@ -13,6 +13,10 @@ use Rattle.name_matchers.specs.declared.glob.part.GlobPart.TheVariants.{Byte, An
 pub heads : (text : List ℕ) (a b : ℕ) (r s : List ℕ) → text ≡ a ∷ r → text ≡ b ∷ s → (a ≡ b) × (r ≡ s)
 heads text a b r s e f = (cc, cc)
 
+-- A text has no two first bytes.
+pub apart : (a b : ℕ) (r s text : List ℕ) → text ≡ a ∷ r → text ≡ b ∷ s → a < b → ⊥
+apart a b r s text e f below = omega (arith, (heads text a b r s e f).0)
+
 -- A byte that is special is none that is not.
 special_apart : (b c : ℕ) → is_special b ≡ false → is_special c ≡ true → b ≡ c → ⊥
 special_apart b c plain special same = true≢false (sym special ∙ ap is_special (sym same) ∙ plain)

@@ -18,7 +18,7 @@ use Rattle.name_matchers.specs.Patterns.{MatchesKind, Means}
 use Rattle.name_matchers.specs.declared.glob.place.Place.{Place}
 use Rattle.name_matchers.specs.declared.glob.place.Place.TheVariants as place
 use Rattle.name_matchers.specs.declared.glob.part.GlobPart.{GlobPart}
-use Rattle.name_matchers.proofs.GlobParts.{same_part, no_part_at_class, no_part_at_group}
+use Rattle.name_matchers.proofs.GlobParts.{apart, same_part, no_part_at_class, no_part_at_group}
 use Rattle.name_matchers.proofs.GlobPatterns.{kind_same, cat_means, alt_means, empty_means, never_means, whole_found}
 
 -- A Boolean beside a constant.
@@ -114,7 +114,7 @@ module _ (inside : Bool) (levels : ℕ) (at : Place) where
   class_behind text inner mid this e one (group other row) left = (
     λ (w : (i : List ℕ) × (m : List ℕ) × (below : ℕ) × (text ≡ 123 ∷ i) × (levels ≡ below + 1) × WritesBranches below i other m
         × WritesRow inside levels place.Elsewhere m row left).
-        absurd (let f = w.3 in let g : 91 ≡ 123 = cc in omega arith),
+        absurd (apart 91 123 inner w.0 text e w.3 (omega arith)),
     λ (found : (next : Row) × (group other row ≡ class this next) × WritesRow inside levels place.Elsewhere mid next left). absurd (let f = found.1 in cc),
   )
 
@@ -133,7 +133,7 @@ module _ (inside : Bool) (levels : ℕ) (at : Place) where
   )
   group_behind text inner mid below this e deep one (class other row) left = (
     λ (w : (i : List ℕ) × (m : List ℕ) × (text ≡ 91 ∷ i) × WritesClass i other m × WritesRow inside levels place.Elsewhere m row left).
-        absurd (let f = w.2 in let g : 91 ≡ 123 = cc in omega arith),
+        absurd (apart 91 123 w.0 inner text w.2 e (omega arith)),
     λ (found : (next : Row) × (class other row ≡ group this next) × WritesRow inside levels place.Elsewhere mid next left). absurd (let f = found.1 in cc),
   )
   group_behind text inner mid below this e deep one (group other row) left = (
@@ -166,7 +166,7 @@ module _ (inside : Bool) (levels : ℕ) (at : Place) where
   no_class_row text inner e none (part p row) rest w = no_part_at_class inside at text inner e p w.1.0 w.1.1
   no_class_row text inner e none (class c row) rest (i, mid, f, here, more) =
       let same : i ≡ inner = cc in none c mid (subst (λ i. WritesClass i c mid) same here)
-  no_class_row text inner e none (group b row) rest (i, mid, below, f, deep, here, more) = absurd (let g : 91 ≡ 123 = cc in omega arith)
+  no_class_row text inner e none (group b row) rest (i, mid, below, f, deep, here, more) = apart 91 123 inner i text e f (omega arith)
 
   -- Where no branches stand behind a brace, the text writes no row.
   pub no_group_row : (text inner : List ℕ) (below : ℕ) → text ≡ 123 ∷ inner → levels ≡ below + 1
@@ -174,7 +174,7 @@ module _ (inside : Bool) (levels : ℕ) (at : Place) where
       → (row : Row) (rest : List ℕ) → WritesRow inside levels at text row rest → ⊥
   no_group_row text inner below e deep none end rest w = no_end inside text 123 inner e (inr refl) w.1
   no_group_row text inner below e deep none (part p row) rest w = no_part_at_group inside at text inner e p w.1.0 w.1.1
-  no_group_row text inner below e deep none (class c row) rest (i, mid, f, here, more) = absurd (let g : 91 ≡ 123 = cc in omega arith)
+  no_group_row text inner below e deep none (class c row) rest (i, mid, f, here, more) = apart 91 123 i inner text f e (omega arith)
   no_group_row text inner below e deep none (group b row) rest (i, mid, l, f, g, here, more) =
       let same : i ≡ inner = cc in
       let level : l ≡ below = omega arith in
@@ -308,7 +308,7 @@ module _ (inside : Bool) (levels : ℕ) where
   piece_read text at next_at rest next old new (Some hir) (done, writes, empties, means) (step, here, matched) more = (
     λ row. done (step row),
     piece_written text at next_at rest next done step writes here,
-    λ row. rw more (empties (step row) ∙ ap (λ b. is_nil old && b) (matched row).0 ∙ and_false is_nil old
+    λ row. rw more (empties (step row) ∙ ap (λ b. is_nil old && b) (matched row).0 ∙ and_false (is_nil old)
         ∙ ap (λ b. b && is_empty row) (sym (no_pattern old hir))),
     λ row tails tail.
         rw (more, map-append meaning old (hir ∷ []), append_assoc (map meaning old) (meaning hir ∷ []) tails)
@@ -351,14 +351,14 @@ module _ (inside : Bool) (levels : ℕ) where
       λ (same : (row ≡ done end) × (left ≡ rest)).
           (writes row left).1 (end, same.0, (row_ends rest at ends end left).1 (refl, same.1)),
     ),
-    (rw (append-nil (map meaning hirs)) at (means end [] empty_means), empties end ∙ and_true is_nil hirs),
+    (rw (append-nil (map meaning hirs)) at (means end [] empty_means), empties end ∙ and_true (is_nil hirs)),
   )
 
   -- Where no piece stands, the text writes no row.
   pub no_row : (text : List ℕ) (at : Place) (rest : List ℕ) (hirs : List Hir) → ReadTo text at rest hirs
       → ((row : Row) (left : List ℕ) → WritesRow inside levels at rest row left → ⊥)
       → (row : Row) (left : List ℕ) → WritesRow inside levels place.Start text row left → ⊥
-  no_row text at rest hirs (done, writes, more) none row left w = let found = (writes row left).0 w in none found.0 left found.2
+  no_row text at rest hirs (done, writes, empties, means) none row left w = let found = (writes row left).0 w in none found.0 left found.2
 
   -- Where a piece is refused, so is the row.
   pub refused_row : (text : List ℕ) (at : Place) (rest : List ℕ) (hirs : List Hir) (fault : GlobFault) → ReadTo text at rest hirs
@@ -397,7 +397,7 @@ module _ (levels : ℕ) where
       → WritesBranches levels rest branches left ↔ ((behind : Branches) × (branches ≡ also row behind) × WritesBranches levels next behind left)
   branch_behind rest next row one (only other) left = (
     λ (w : WritesRow true levels place.Start rest other (125 ∷ left)).
-        let e = ((one other (125 ∷ left)).0 w).1 in absurd (let f : 125 ≡ 44 = cc in omega arith),
+        absurd (apart 44 125 next left (44 ∷ next) refl (sym ((one other (125 ∷ left)).0 w).1) (omega arith)),
     λ (found : (behind : Branches) × (only other ≡ also row behind) × WritesBranches levels next behind left). absurd (let e = found.1 in cc),
   )
   branch_behind rest next row one (also other branches) left = (
@@ -423,7 +423,7 @@ module _ (levels : ℕ) where
   )
   last_behind rest next row one (also other branches) left = (
     λ (w : (after : List ℕ) × WritesRow true levels place.Start rest other (44 ∷ after) × WritesBranches levels after branches left).
-        let e = ((one other (44 ∷ w.0)).0 w.1).1 in absurd (let f : 44 ≡ 125 = cc in omega arith),
+        absurd (apart 44 125 w.0 next (44 ∷ w.0) refl ((one other (44 ∷ w.0)).0 w.1).1 (omega arith)),
     λ (same : (also other branches ≡ only row) × (left ≡ next)). absurd (let e = same.0 in cc),
   )
 
@@ -455,7 +455,7 @@ module _ (levels : ℕ) where
   branch_empty : (row : Row) (hirs : List Hir) → RowPatterns row hirs → (old new : List Hir) → AddsBranch hirs old new → (b : Bool)
       → (is_nil old && (is_empty row && b)) ≡ (is_nil new && b)
   branch_empty row [] (means, none) old new same b = rw (same, none) refl
-  branch_empty row (h ∷ hirs) (means, some) old new (hir, is, is_cat) b = rw (is, some, no_pattern old hir) (and_false is_nil old)
+  branch_empty row (h ∷ hirs) (means, some) old new (hir, is, is_cat) b = rw (is, some, no_pattern old hir) (and_false (is_nil old))
 
   -- One branch more is read.
   pub branch_read : (text rest next : List ℕ) (old new hirs : List Hir) → ReadBranches text rest old → ReadsRow true levels rest hirs (44 ∷ next)
@@ -497,8 +497,8 @@ module _ (levels : ℕ) where
 
   last_empty : (row : Row) (hirs : List Hir) → RowPatterns row hirs → (old new : List Hir) → AddsBranch hirs old new
       → (is_nil old && is_empty row) ≡ is_nil new
-  last_empty row [] (means, none) old new same = rw (same, none) (and_true is_nil old)
-  last_empty row (h ∷ hirs) (means, some) old new (hir, is, is_cat) = rw (is, some, no_pattern old hir) (and_false is_nil old)
+  last_empty row [] (means, none) old new same = rw (same, none) (and_true (is_nil old))
+  last_empty row (h ∷ hirs) (means, some) old new (hir, is, is_cat) = rw (is, some, no_pattern old hir) (and_false (is_nil old))
 
   -- The pattern of branches that are all read.
   pattern_of : (branches : Branches) (hirs : List Hir) (pattern : Option Hir) → are_empty branches ≡ is_nil hirs
@@ -534,7 +534,7 @@ module _ (levels : ℕ) where
   pub no_group : (text rest : List ℕ) (hirs : List Hir) → ReadBranches text rest hirs
       → ((row : Row) (left : List ℕ) → WritesRow true levels place.Start rest row left → ⊥)
       → (branches : Branches) (left : List ℕ) → WritesBranches levels text branches left → ⊥
-  no_group text rest hirs (done, writes, more) none branches left w =
+  no_group text rest hirs (done, writes, empties, means) none branches left w =
       let found = (writes branches left).0 w in
       let first = first_row rest found.0 left found.2 in
       none first.0 first.1 first.2
