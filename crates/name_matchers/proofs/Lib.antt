@@ -8,4 +8,5 @@ pub mod Turns
 pub mod RegexTexts
 pub mod GlobParts
 pub mod GlobPatterns
-pub mod GlobMachines
+pub mod GlobBodies
+pub mod GlobRows
