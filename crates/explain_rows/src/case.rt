@@ -4,30 +4,87 @@ use nextest_explain::FileReader;
 use std::alloc::{AllocError, Global};
 use thiserror::Error;
 
-/// A file of a case. Reading it may also meet want of memory.
+/// What is there at the path of a file.
+#[derive(Drop)]
+enum Stored {
+    Text(String),
+    Missing,
+    NotADirectory,
+    Unreadable,
+    OutOfMemory,
+}
+
+impl Stored {
+    /// What comes of reading it, where no more than some bytes of a text are there.
+    fn read(&self, alloc: Global, limit: usize) -> Result<ReadOutcome, AllocError> {
+        match self {
+            Stored::Text(text) => beginning_of(alloc, text.as_str(), limit),
+            Stored::Missing => Ok(ReadOutcome::NotFound),
+            Stored::NotADirectory => Ok(ReadOutcome::NotADirectory),
+            Stored::Unreadable => Ok(ReadOutcome::Failed(String::from_str(alloc, "a disk fault")?)),
+            Stored::OutOfMemory => Err(AllocError),
+        }
+    }
+}
+
+/// What comes of reading the first bytes of a text, which may end within a character.
+fn beginning_of(alloc: Global, text: &str, limit: usize) -> Result<ReadOutcome, AllocError> {
+    let bytes: Vec<u8> = text.bytes().take(limit).collect(alloc)?;
+    match String::from_utf8(bytes) {
+        Ok(text) => Ok(ReadOutcome::Text(text)),
+        Err(_) => Ok(ReadOutcome::Failed(String::from_str(alloc, "no UTF-8")?)),
+    }
+}
+
+/// A file of a case.
 #[derive(Drop)]
 struct StoredFile<'a> {
     path: &'a str,
-    outcome: Result<ReadOutcome, AllocError>,
+    stored: Stored,
 }
 
 /// The files of a case. There are no others.
 #[derive(Drop)]
 pub struct StoredFiles<'a>(Vec<StoredFile<'a>>);
 
-impl FileReader for StoredFiles<'_> {
-    fn read(&self, _alloc: Global, path: &str) -> Result<ReadOutcome, AllocError> {
-        match self.0.iter().find(|file| file.path == path) {
+impl StoredFiles<'_> {
+    /// How many bytes the text of the last file has.
+    pub fn last_length(&self) -> usize {
+        match self.0.last() {
             Some(
                 StoredFile {
-                    outcome: Ok(outcome),
+                    stored: Stored::Text(text),
                     ..
                 },
-            ) => outcome.clone(),
-            Some(_) => Err(AllocError),
+            ) => text.len(),
+            _ => 0,
+        }
+    }
+}
+
+/// The files of a case, where no more than some bytes of a text are there.
+#[derive(Clone, Copy)]
+pub struct Beginnings<'a> {
+    pub files: &'a StoredFiles<'a>,
+    /// The number of bytes, of the last file's text.
+    pub limit: usize,
+}
+
+impl FileReader for Beginnings<'_> {
+    fn read(&self, alloc: Global, path: &str) -> Result<ReadOutcome, AllocError> {
+        match self.files.0.iter().find(|file| file.path == path) {
+            Some(file) => file.stored.read(alloc, self.limit),
             None => Ok(ReadOutcome::NotFound),
         }
     }
+}
+
+/// The command line of a run.
+#[derive(Drop)]
+pub struct Run<'a> {
+    pub words: &'a str,
+    /// Whether each file is cut after each byte of the last one's text, with a run for each cut.
+    pub is_cut: bool,
 }
 
 /// Files, the runs over them, and what is printed of each run.
@@ -40,8 +97,7 @@ pub struct Case<'a> {
     pub shown: Option<&'a str>,
     /// Whether no line of standard error is printed that begins with two spaces.
     pub hides_details: bool,
-    /// The words of each run.
-    pub runs: Vec<&'a str>,
+    pub runs: Vec<Run<'a>>,
 }
 
 /// Why a text is no list of cases.
@@ -76,50 +132,95 @@ impl<'a> Case<'a> {
     fn take_line(&mut self, alloc: Global, line: &'a str) -> Result<(), CaseError<'a>> {
         let (word, rest) = line.split_once(' ').unwrap_or((line, ""));
         match word {
-            "" => self.add_text(line)?,
-            "file" => self.add_file(rest, Ok(ReadOutcome::Text(String::new(alloc))))?,
-            "missing" => self.add_file(rest, Ok(ReadOutcome::NotFound))?,
-            "not-a-directory" => self.add_file(rest, Ok(ReadOutcome::NotADirectory))?,
-            "unreadable" => {
-                let message = String::from_str(alloc, "a disk fault")?;
-                self.add_file(rest, Ok(ReadOutcome::Failed(message)))?;
-            }
-            "out-of-memory" => self.add_file(rest, Err(AllocError))?,
+            "" => self.add_line(line)?,
+            "part" => self.last_text(line)?.push_str(rest)?,
+            "times" => self.add_times(alloc, line, rest)?,
+            "char" => self.add_char(line, rest)?,
+            "file" => self.add_file(rest, Stored::Text(String::new(alloc)))?,
+            "missing" => self.add_file(rest, Stored::Missing)?,
+            "not-a-directory" => self.add_file(rest, Stored::NotADirectory)?,
+            "unreadable" => self.add_file(rest, Stored::Unreadable)?,
+            "out-of-memory" => self.add_file(rest, Stored::OutOfMemory)?,
             "show" => self.shown = Some(rest),
             "without-details" => self.hides_details = true,
-            "args" => self.runs.push(rest).map_err(AllocError::from)?,
+            "args" => self.add_run(rest, false)?,
+            "cuts" => self.add_run(rest, true)?,
             _ => return Err(CaseError::Line(line)),
         }
         Ok(())
     }
 
-    fn add_file(
-        &mut self,
-        path: &'a str,
-        outcome: Result<ReadOutcome, AllocError>,
-    ) -> Result<(), AllocError> {
-        self.files.0.push(StoredFile { path, outcome })?;
+    fn add_file(&mut self, path: &'a str, stored: Stored) -> Result<(), AllocError> {
+        self.files.0.push(StoredFile { path, stored })?;
         Ok(())
     }
 
+    fn add_run(&mut self, words: &'a str, is_cut: bool) -> Result<(), AllocError> {
+        self.runs.push(Run { words, is_cut })?;
+        Ok(())
+    }
+
+    /// The text of the last file. `line` asks for it.
+    fn last_text(&mut self, line: &'a str) -> Result<&mut String, CaseError<'a>> {
+        match self.files.0.last_mut() {
+            Some(
+                StoredFile {
+                    stored: Stored::Text(text),
+                    ..
+                },
+            ) => Ok(text),
+            _ => Err(CaseError::Line(line)),
+        }
+    }
+
     /// Takes a line of the text of the last file.
-    fn add_text(&mut self, line: &'a str) -> Result<(), CaseError<'a>> {
-        let Some(
-            StoredFile {
-                outcome: Ok(ReadOutcome::Text(text)),
-                ..
-            },
-        ) = self.files.0.last_mut()
-        else {
+    fn add_line(&mut self, line: &'a str) -> Result<(), CaseError<'a>> {
+        let Some(written) = line.strip_prefix("  ") else {
             return Err(CaseError::Line(line));
         };
-        let Some(line) = line.strip_prefix("  ") else {
-            return Err(CaseError::Line(line));
-        };
-        text.push_str(line)?;
+        let text = self.last_text(line)?;
+        text.push_str(written)?;
         text.push_str("\n")?;
         Ok(())
     }
+
+    /// Takes a part of a text that stands many times, in which `{}` is the number of the time.
+    fn add_times(
+        &mut self,
+        alloc: Global,
+        line: &'a str,
+        rest: &'a str,
+    ) -> Result<(), CaseError<'a>> {
+        let (count, part) = rest.split_once(' ').unwrap_or((rest, ""));
+        let Ok(count) = count.parse::<u32>() else {
+            return Err(CaseError::Line(line));
+        };
+        let text = self.last_text(line)?;
+        for number in 0..count {
+            match part.split_once("{}") {
+                Some((before, after)) => {
+                    let numbered = format!(in alloc; "{before}{number}{after}\n")?;
+                    text.push_str(numbered.as_str())?;
+                }
+                None => text.push_str(part)?,
+            }
+        }
+        Ok(())
+    }
+
+    /// Takes a character of a text, by its number in hexadecimal digits.
+    fn add_char(&mut self, line: &'a str, digits: &'a str) -> Result<(), CaseError<'a>> {
+        let Some(c) = char_of(digits) else {
+            return Err(CaseError::Line(line));
+        };
+        self.last_text(line)?.push(c)?;
+        Ok(())
+    }
+}
+
+/// The character of a number in hexadecimal digits.
+fn char_of(digits: &str) -> Option<char> {
+    char::from_u32(u32::from_str_radix(digits, 16).ok()?)
 }
 
 /// The cases of a text.

@@ -13,6 +13,10 @@
 //! | `out-of-memory PATH` | there is no memory to read the file |
 //! | `show WORD ..` | of standard output, only lines with one of these words are printed, with a count of the lines |
 //! | `without-details` | of standard error, lines that begin with two spaces aren't printed |
+//! | `part TEXT` | the last file's text goes on with this, without a line's end |
+//! | `times N TEXT` | it goes on with this, N times; with `{}` in it, that is the number of the time, from 0, and a line ends behind each |
+//! | `char HEX` | it goes on with the character of this number |
+//! | `cuts WORD ..` | a run over each beginning of the last file's text, of which those are counted that answer neither a configuration nor one refusal by name |
 //! | `args WORD ..` | the command line of a run over the case's files, its words parted by one space |
 //!
 //! For each run it prints the case's name, the words, the status, and what was written to the two
@@ -39,8 +43,8 @@ fn main(rt: HostRuntime) -> io::Result<ExitCode> {
         }
     };
     for case in &cases {
-        for words in &case.runs {
-            let report = report_of(alloc, case, words)?;
+        for run in &case.runs {
+            let report = report_of(alloc, case, run)?;
             print!(rt; "{report}")?;
         }
     }

@@ -1,28 +1,101 @@
 //! What is printed of a run.
-use crate::case::Case;
+use crate::case::{Beginnings, Case, Run};
 use nextest_explain::explain;
 use std::alloc::{AllocError, Global};
 
-/// The case's name, the words, the status, and what was written to the two streams.
-pub fn report_of(alloc: Global, case: &Case<'_>, words: &str) -> Result<String, AllocError> {
+/// What a run ended with.
+#[derive(Drop)]
+struct Ending {
+    status: u8,
+    out: String,
+    err: String,
+}
+
+/// Runs over the files of a case, where no more than some bytes of a text are there.
+fn ending_of(
+    alloc: Global,
+    case: &Case<'_>,
+    words: &[String],
+    limit: usize,
+) -> Result<Ending, AllocError> {
+    let files = Beginnings {
+        files: &case.files,
+        limit,
+    };
     let mut out = Vec::new(alloc);
     let mut err = Vec::new(alloc);
-    let split = words_of(alloc, words)?;
-    let status = explain(alloc, &split, &case.files, &mut out, &mut err);
-    let name = case.name;
-    let mut report = format!(in alloc; "case {name}\nargs {words}\nstatus {status}\n")?;
-    let out = text_of(alloc, out)?;
-    let err = text_of(alloc, err)?;
+    let status = explain(alloc, words, &files, &mut out, &mut err);
+    Ok(Ending {
+        status,
+        out: text_of(alloc, out)?,
+        err: text_of(alloc, err)?,
+    })
+}
+
+/// What is printed of a run.
+pub fn report_of(alloc: Global, case: &Case<'_>, run: &Run<'_>) -> Result<String, AllocError> {
+    let words = words_of(alloc, run.words)?;
+    if run.is_cut {
+        report_of_cuts(alloc, case, run.words, &words)
+    } else {
+        report_of_run(alloc, case, run.words, &words)
+    }
+}
+
+/// The case's name, the words, the status, and what was written to the two streams.
+fn report_of_run(
+    alloc: Global,
+    case: &Case<'_>,
+    line: &str,
+    words: &[String],
+) -> Result<String, AllocError> {
+    let ending = ending_of(alloc, case, words, usize::MAX)?;
+    let (name, status) = (case.name, ending.status);
+    let mut report = format!(in alloc; "case {name}\nargs {line}\nstatus {status}\n")?;
     match case.shown {
-        Some(shown) => add_lines_with(alloc, &mut report, out.as_str(), shown)?,
-        None => add_text(&mut report, "stdout\n", out.as_str())?,
+        Some(shown) => add_lines_with(alloc, &mut report, ending.out.as_str(), shown)?,
+        None => add_text(&mut report, "stdout\n", ending.out.as_str())?,
     }
     if case.hides_details {
-        add_without_details(&mut report, err.as_str())?;
+        add_without_details(&mut report, ending.err.as_str())?;
     } else {
-        add_text(&mut report, "stderr\n", err.as_str())?;
+        add_text(&mut report, "stderr\n", ending.err.as_str())?;
     }
     Ok(report)
+}
+
+/// How many texts the last file of a case begins with, and how many of them ended otherwise than
+/// with a configuration or one refusal by name.
+fn report_of_cuts(
+    alloc: Global,
+    case: &Case<'_>,
+    line: &str,
+    words: &[String],
+) -> Result<String, AllocError> {
+    let length = case.files.last_length();
+    let mut others = 0u32;
+    for limit in 0..=length {
+        let ending = ending_of(alloc, case, words, limit)?;
+        if !is_named(&ending) {
+            others = others.saturating_add(1);
+        }
+    }
+    let name = case.name;
+    format!(in alloc; "case {name}\ncuts {line}\n{length} bytes, cuts with another end: {others}\n")
+}
+
+/// Whether a run ended with a configuration, or with one refusal by name.
+fn is_named(ending: &Ending) -> bool {
+    let refusals = ending
+        .err
+        .as_str()
+        .split('\n')
+        .filter(|line| line.starts_with("error: "));
+    match ending.status {
+        0 => ending.out.as_str().split('\n').count() == 16 && refusals.count() == 0,
+        3 | 4 => ending.out.is_empty() && refusals.count() == 1,
+        _ => false,
+    }
 }
 
 /// The words of a line, parted by one space.

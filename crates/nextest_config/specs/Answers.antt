@@ -51,5 +51,6 @@ pub record Answers {M K P : Type 0} (meets : K → P → Option Bool) (matches :
   pub absence :
       IfNoProfile answer (IsMissing (names_in configured.config.profiles) question.profile)
   pub unasked : IfRefused answer (new ≡ old)
-  pub rows : (numbers : List ℕ) × (new ≡ old ++ numbers) × IfOk answer
-      (λ rows. AreAskedRows meets matches configured question rows numbers)
+  pub numbers : List ℕ
+  pub tally : new ≡ old ++ numbers
+  pub rows : IfOk answer (λ rows. AreAskedRows meets matches configured question rows numbers)

@@ -1,5 +1,5 @@
 -- WHAT RESOLVING PROMISES: from the texts of files to the settings of tests.
-use Rattle.std.specs.Prelude.{◌≡◌, ◌++◌, ℕ, Bool, List, Option, IsSome, Result, Ok, Err, IfOk}
+use Rattle.std.specs.Prelude.{◌≡◌, ◌↔◌, ◌≤◌, ◌++◌, ℕ, Bool, List, Contains, length, count_by, is_some, Option, IsSome, IfSome, Result, Ok, Err, IfOk}
 use Rattle.std.specs.Cmp.Lexicographic.{slice_cmp}
 use Rattle.std.specs.List.{AllZip, flat_map}
 use Rattle.std.specs.List.Sorted.{IsStrictlySortedBy}
@@ -12,6 +12,7 @@ use Rattle.nextest_inheritance.specs.Parents.{parents_in, IsChain}
 use Rattle.nextest_load.specs.Accepted.{IsAccepted}
 use Rattle.nextest_load.specs.Closed.{IsClosed}
 use Rattle.nextest_load.specs.Config.{ScriptTables, config_of, config_parents}
+use Rattle.nextest_load.specs.Exact.{IsExact}
 use Rattle.nextest_load.specs.Scripts.{AreScriptsOf}
 use Rattle.nextest_load.specs.Steps.{load_steps}
 use Rattle.nextest_rules.specs.Definitions.{Features}
@@ -23,9 +24,9 @@ use Rattle.nextest_sources.specs.Warnings.{Warning}
 use Rattle.nextest_tables.specs.FileTexts.{names_in, IsIn}
 use Rattle.nextest_tables.specs.Written.{Name}
 use Rattle.nextest_settings.specs.declared.setting.Setting.{Setting}
-use Rattle.nextest_settings.specs.Deciding.{QueryContext, Rising, HasFilterAt}
+use Rattle.nextest_settings.specs.Deciding.{Rising, HasFilterAt}
 use Rattle.nextest_settings.specs.Profile.{Configured, EvaluatableModel, profile_of, profile_on}
-use Rattle.nextest_settings.specs.Queries.{test_query, filters_of, setting_value, Origin, setting_origin, evaluated_for_test}
+use Rattle.nextest_settings.specs.Queries.{query_in, filters_of, setting_value, Origin, setting_origin, evaluated_for_test, IsEvaluatedForTest}
 use Rattle.nextest_settings.specs.Settings.{ValueOf}
 
 -- What is asked: files, features, a profile, the platforms of a build, a mode and tests.
@@ -133,11 +134,6 @@ pub record IsProfileFor {M K P : Type 0} (engines : Readings M K P) (request : R
   pub is_profile : profile ≡ profile_on engines.meets request.platforms
       (profile_of (configured_for engines request scripts) request.profile chain)
 
--- a test in a profile, judged by what filters match
-abbrev pub query_in : {M : Type 0} → (M → Test → M → Bool) → EvaluatableModel M → Test
-    → QueryContext M
-query_in matches profile test = test_query matches profile.default_filter.filter test
-
 -- A row is that of a test: each value by itself is what the first rule writes that holds and sets
 -- it, else the fallback, with its source.
 pub record IsTestRow {M : Type 0} (matches : M → Test → M → Bool) (profile : EvaluatableModel M)
@@ -153,23 +149,36 @@ abbrev pub numbers_for : {M : Type 0} → (M → Test → M → Bool) → Evalua
 numbers_for matches profile mode test =
     evaluated_for_test (query_in matches profile test) mode profile
 
--- Rows are those of tests: the profile is one of the configuration, whose scripts are those that
--- the files define, there is one row for each test, in order, and for each test a strictly rising
--- list of numbers of rules with a filter is evaluated.
+-- Rows are those of the tests that are asked about, and these numbers of rules were evaluated.
 pub record AreRows {M K P : Type 0} (engines : Readings M K P) (request : Request P)
     (rows : List Row) (numbers : List ℕ) : Type 0 where
+  -- The configuration has a profile of the name.
   pub known : IsIn (profile_names engines request) request.profile
+  -- Its scripts are those that the files define, in their order.
   pub scripts : ScriptTables
   pub are_scripts : AreScriptsOf (sources_in request.files) scripts
+  -- The profile is the one of the name, by its chain, on the platforms that are asked for.
   pub profile : EvaluatableModel M
   pub is_profile : IsProfileFor engines request scripts profile
+  -- The configuration is closed: nothing in it names anything undefined.
   pub closure : IsClosed engines.matches_binary (config_of engines (sources_in request.files))
       scripts
+  -- There is one row for each test, in order, with the settings that the profile gives it.
   pub each : AllZip (IsTestRow engines.matches_test profile request.mode) request.tests rows
+  -- The numbers are those of the rules that are evaluated for the tests, one test after another.
   pub evaluated :
       numbers ≡ flat_map (numbers_for engines.matches_test profile request.mode) request.tests
+  -- For each test they rise strictly, and each is that of a rule with a filter.
   pub rising : (test : Test) → Rising (HasFilterAt (filters_of profile)) 0
       (numbers_for engines.matches_test profile request.mode test)
+  -- For each test they are exactly those of the rules that have a filter, whose platforms hold, and
+  -- that write something which no lower rule decides.
+  pub exactly : (test : Test) (n : ℕ)
+      → Contains (numbers_for engines.matches_test profile request.mode test) n
+      ↔ IsEvaluatedForTest (query_in engines.matches_test profile test) request.mode profile n
+  -- For each test there are at most as many as there are rules with a filter.
+  pub count : (test : Test) → length (numbers_for engines.matches_test profile request.mode test)
+      ≤ count_by is_some (filters_of profile)
 
 -- For every list of sources, load answers a configuration exactly where every written rule holds;
 -- then no query of any profile, platforms, mode and test meets an undefined script, group, parent
@@ -183,6 +192,9 @@ pub record Resolves {M K P : Type 0} (engines : Readings M K P) (request : Reque
   -- A configuration is refused only where some rule does not hold, and for the first fault of the
   -- load.
   pub refusal : IfBadConfig run.answer (IsRefused engines request)
+  -- An element that is refused is the least fault of its tree, and refused parents tell exactly its
+  -- cycles.
+  pub exact : IfBadConfig run.answer (λ fault. IfSome fault (IsExact request.files))
   -- A profile is missing only where every rule holds and the configuration has none of that name.
   pub absence : IfNoProfile run.answer (λ name profiles. RulesHold engines request
       × IsMissing (profile_names engines request) request.profile name profiles)
@@ -191,6 +203,8 @@ pub record Resolves {M K P : Type 0} (engines : Readings M K P) (request : Reque
       (warnings_before (steps_for engines request))
   -- Where the configuration is refused or the profile is missing, no rule was evaluated.
   pub unasked : IfRefused run.answer (run.numbers_new ≡ run.numbers_old)
-  -- There is a row for each test, and numbers of evaluated rules go to the tally.
-  pub rows : (numbers : List ℕ) × (run.numbers_new ≡ run.numbers_old ++ numbers)
-      × IfOk run.answer (λ rows. AreRows engines request rows numbers)
+  -- Numbers of rules go to the tally, after those that stood there.
+  pub numbers : List ℕ
+  pub tally : run.numbers_new ≡ run.numbers_old ++ numbers
+  -- Rows are those of the tests, and these numbers are exactly those of the evaluated rules.
+  pub rows : IfOk run.answer (λ rows. AreRows engines request rows numbers)

@@ -4,4 +4,4 @@ pub mod ConfigView
 pub mod ProfileError
 pub mod RowView
 pub mod RunView
-pub mod RowSources
+pub mod Laws

@@ -25,7 +25,7 @@ abbrev pub request_view : {P : Type 0} → Inputs → List ℕ → BuildPlatform
     → List TestQuery → Request P
 request_view inputs profile platforms mode tests = record {
   root = string_bytes inputs.paths.now.workspace_root;
-  files = load_inputs_view inputs.paths.now.shared inputs.selection.config_file inputs.tools.now;
+  files = load_inputs_view inputs.paths.now.shared inputs.selection inputs.tools.now;
   features = features_view inputs.features.now;
   profile = profile;
   platforms = platforms;

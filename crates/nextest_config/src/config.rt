@@ -9,7 +9,7 @@ ghost use Rattle.nextest_load.specs.Meaning.{loaded_meaning};
 ghost use Rattle.nextest_profiles.specs.Profiles.{IsProfileOf};
 ghost use Rattle.nextest_rules.specs.Definitions.{Features};
 ghost use Rattle.nextest_rules.specs.KnownView.{features_view};
-ghost use Rattle.nextest_sources.specs.Inputs.{LoadInputs, load_inputs_view};
+ghost use Rattle.nextest_sources.specs.Inputs.{LoadInputs, load_inputs_view, selecting};
 ghost use Rattle.nextest_sources.specs.Warnings.{Warning};
 ghost use Rattle.nextest_sources.specs.WarningsView.{warnings_view};
 ghost use Rattle.nextest_tables.specs.FileTexts.{names_in, IsIn};
@@ -23,8 +23,8 @@ use nextest_inheritance::{DEFAULT_MIRI_PROFILE, DEFAULT_PROFILE};
 use nextest_load::{LoadedConfig, MergedProfile};
 use nextest_profiles::EarlyProfile;
 use nextest_sources::{
-    ConfigFileSelection, ConfigParseError, ConfigPaths, ConfigWarnings, DefaultConfigWarnings,
-    FileInput, ToolConfigFile,
+    ConfigFileSelection, ConfigInputs, ConfigParseError, ConfigPaths, ConfigWarnings,
+    DefaultConfigWarnings, FileInput, ToolConfigFile,
 };
 use nextest_tables::DEFAULT_CONFIG;
 use std::alloc::{AllocError, Global};
@@ -141,22 +141,20 @@ impl<F: Filters, S: Specs> NextestConfig<F, S> {
         ensures loads { let engines = readings_view F.Filters S.Specs pcx.now in
             (all : List Warning) × IsLoad (loaded_by F.meaning S.spec_meaning) engines
             (features_view experimental.now)
-            (load_inputs_view shared.now config_file.entry tools.now) [] all result
+            (load_inputs_view shared.now (selecting config_file.entry) tools.now) [] all result
             × IfOk result (λ config. config.warnings ≡ all) }
         ensures root { IfOk result (λ config. config.root ≡ workspace_root.now) }
     {
         let root = String::from_str(alloc, workspace_root)?;
         let mut warnings = DefaultConfigWarnings::new(alloc);
         let selection = ConfigFileSelection::new(config_file);
-        let loaded = LoadedConfig::load(
-            alloc,
+        let inputs = ConfigInputs {
             shared,
-            pcx,
             selection,
             tools,
-            experimental,
-            &mut warnings,
-        );
+            features: experimental,
+        };
+        let loaded = LoadedConfig::load(alloc, &inputs, pcx, &mut warnings);
         Self::from_load(root, loaded, warnings)
     }
 
@@ -173,7 +171,7 @@ impl<F: Filters, S: Specs> NextestConfig<F, S> {
     ) -> Result<Self, ConfigParseError>
         ensures loads { let engines = readings_view F.Filters S.Specs pcx.now in
             IsLoad (loaded_by F.meaning S.spec_meaning) engines (features_view experimental.now)
-            (load_inputs_view shared.now config_file.entry tools.now)
+            (load_inputs_view shared.now (selecting config_file.entry) tools.now)
             (W.warnings warnings.old) (W.warnings warnings.new) result }
         ensures root { IfOk result (λ config. config.root ≡ workspace_root.now) }
         ensures kept { IfOk result (λ config. config.warnings ≡ []) }
@@ -204,21 +202,19 @@ impl<F: Filters, S: Specs> NextestConfig<F, S> {
     ) -> Result<Self, ConfigParseError>
         ensures loads { let engines = readings_view F.Filters S.Specs pcx.now in
             IsLoad (loaded_by F.meaning S.spec_meaning) engines (features_view experimental.now)
-            (load_inputs_view shared.now selection.entry.config_file tools.now)
+            (load_inputs_view shared.now selection.entry tools.now)
             (W.warnings warnings.old) (W.warnings warnings.new) result }
         ensures root { IfOk result (λ config. config.root ≡ workspace_root.now) }
         ensures kept { IfOk result (λ config. config.warnings ≡ []) }
     {
         let root = String::from_str(alloc, workspace_root)?;
-        let loaded = LoadedConfig::load(
-            alloc,
+        let inputs = ConfigInputs {
             shared,
-            pcx,
             selection,
             tools,
-            experimental,
-            warnings,
-        );
+            features: experimental,
+        };
+        let loaded = LoadedConfig::load(alloc, &inputs, pcx, warnings);
         Self::from_load(root, loaded, DefaultConfigWarnings::new(alloc))
     }
 
@@ -234,7 +230,7 @@ impl<F: Filters, S: Specs> NextestConfig<F, S> {
     ) -> Result<Self, ConfigParseError>
         ensures loads { let engines = readings_view F.Filters S.Specs pcx.now in
             IsLoad (loaded_by F.meaning S.spec_meaning) engines (features_view experimental.now)
-            (load_inputs_view paths.now.shared selection.entry.config_file tools.now)
+            (load_inputs_view paths.now.shared selection.entry tools.now)
             (W.warnings warnings.old) (W.warnings warnings.new) result }
         ensures root { IfOk result (λ config. config.root ≡ string_bytes paths.now.workspace_root) }
         ensures kept { IfOk result (λ config. config.warnings ≡ []) }

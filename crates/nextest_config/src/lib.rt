@@ -18,13 +18,13 @@
 //!     let (mode, mut warnings) = (NextestRunMode::Test, DefaultConfigWarnings::new(alloc));
 //!     let rows = resolve(
 //!         alloc, &inputs, pcx, profile, platforms, mode, &[test], &mut warnings, tally)?;
-//!     Ok(rows.first().map(|row| row.retries.0))
+//!     Ok(rows.first().map(|row| row.retries))
 //! }
 //! ```
 //!
-//! `Inputs`, `resolve` and `ResolveFault` are those of [`run`]; a row has each value beside its
-//! source. [`NextestConfig`] does the same step by step: it is loaded, gives a profile, and that, on
-//! the platforms of a build, the settings of each test.
+//! `Inputs`, `resolve` and `ResolveFault` are those of [`run`]; a row has each value, and `source`
+//! tells what decides it. [`NextestConfig`] does the same step by step: it is loaded, gives a
+//! profile, and that, on the platforms of a build, the settings of each test.
 #![tactic(auto)]
 
 mod config;
@@ -68,6 +68,16 @@ pub use nextest_tables::{OverrideOutputs, OverrideRuns, OverrideSettings};
 pub use nextest_load::{LoadedConfig, MergedProfile};
 pub use nextest_rules::{CompiledProfile, LayerRules};
 pub use nextest_tables::{ProfileEnds, ProfileFields, ProfileOutputs, ProfileRuns};
+
+// What follows from these definitions, proved once.
+pub use nextest_load::laws::{law_cycles, law_least_element, law_shown};
+pub use nextest_profiles::{
+    law_group_of_settings, law_known_groups, law_last_group, law_settings_of_texts,
+};
+pub use nextest_settings::{
+    law_all_settings, law_evaluated_at_most_once, law_evaluated_exactly, law_first_override,
+    law_first_script_rule, law_rule_order,
+};
 
 // Values and scripts.
 pub use nextest_elements::{

@@ -1,9 +1,9 @@
 //! The lines of a row: each setting with its value and where it comes from.
 use nextest_config::run::{PlainSource, TestRow};
-use nextest_config::{LeakTimeout, RetryPolicy, ScriptId, Setting, SlowTimeout};
+use nextest_config::{LeakTimeout, RetryPolicy, Setting, SlowTimeout};
 use std::fmt;
 
-/// A row, as its fifteen lines show it.
+/// A row, as its lines show it: one for each setting.
 #[derive(Drop)]
 pub struct RowLines<'a>(pub &'a TestRow);
 
@@ -22,72 +22,54 @@ fn write_setting<W: fmt::Write>(
     row: &TestRow,
     setting: Setting,
 ) -> fmt::Result {
-    let name = setting.name();
     match setting {
-        Setting::Priority => write_line(f, name, &row.priority.0.0, &row.priority.1),
-        Setting::ThreadsRequired => write_pair(f, name, &row.threads_required),
-        Setting::RunWrapper => write_run_wrapper(f, name, &row.run_wrapper),
-        Setting::RunExtraArgs => {
-            let arguments = Arguments(&row.run_extra_args.0);
-            write_line(f, name, &arguments, &row.run_extra_args.1)
+        Setting::Priority => write_line(f, row, setting, &row.priority.0),
+        Setting::ThreadsRequired => write_line(f, row, setting, &row.threads_required),
+        Setting::RunWrapper => match &row.run_wrapper {
+            Some(wrapper) => write_line(f, row, setting, wrapper),
+            None => write_line(f, row, setting, &"none"),
+        },
+        Setting::RunExtraArgs => { write_line(f, row, setting, &Arguments(&row.run_extra_args)) }
+        Setting::Retries => write_line(f, row, setting, &Retries(row.retries)),
+        Setting::FlakyResult => write_line(f, row, setting, &row.flaky_result),
+        Setting::SlowTimeout => write_line(f, row, setting, &Slow(row.slow_timeout)),
+        Setting::LeakTimeout => write_line(f, row, setting, &Leak(row.leak_timeout)),
+        Setting::TestGroup => write_line(f, row, setting, &row.test_group),
+        Setting::SuccessOutput => write_line(f, row, setting, &row.success_output),
+        Setting::FailureOutput => write_line(f, row, setting, &row.failure_output),
+        Setting::JunitStoreSuccessOutput => {
+            write_line(f, row, setting, &row.junit_store_success_output)
         }
-        Setting::Retries => write_line(f, name, &Retries(row.retries.0), &row.retries.1),
-        Setting::FlakyResult => write_pair(f, name, &row.flaky_result),
-        Setting::SlowTimeout => {
-            write_line(f, name, &Slow(row.slow_timeout.0), &row.slow_timeout.1)
+        Setting::JunitStoreFailureOutput => {
+            write_line(f, row, setting, &row.junit_store_failure_output)
         }
-        Setting::LeakTimeout => {
-            write_line(f, name, &Leak(row.leak_timeout.0), &row.leak_timeout.1)
+        Setting::JunitReportSkipped => write_line(f, row, setting, &row.junit_report_skipped),
+        Setting::JunitFlakyFailStatus => {
+            write_line(f, row, setting, &row.junit_flaky_fail_status)
         }
-        Setting::TestGroup => write_pair(f, name, &row.test_group),
-        Setting::SuccessOutput => write_pair(f, name, &row.success_output),
-        Setting::FailureOutput => write_pair(f, name, &row.failure_output),
-        Setting::JunitStoreSuccessOutput => write_pair(f, name, &row.junit_store_success_output),
-        Setting::JunitStoreFailureOutput => write_pair(f, name, &row.junit_store_failure_output),
-        Setting::JunitReportSkipped => write_pair(f, name, &row.junit_report_skipped),
-        Setting::JunitFlakyFailStatus => write_pair(f, name, &row.junit_flaky_fail_status),
     }
-}
-
-/// Writes the line of a setting whose value is shown as it is.
-fn write_pair<W: fmt::Write, V: fmt::Display>(
-    f: &mut fmt::Formatter<W>,
-    setting: &str,
-    pair: &(V, PlainSource),
-) -> fmt::Result {
-    write_line(f, setting, &pair.0, &pair.1)
 }
 
 /// Writes the line of a setting, with its value and where it comes from.
 fn write_line<W: fmt::Write, V: fmt::Display>(
     f: &mut fmt::Formatter<W>,
-    setting: &str,
+    row: &TestRow,
+    setting: Setting,
     value: &V,
-    source: &PlainSource,
 ) -> fmt::Result {
-    let source = source_word(source);
-    write!(f, "{setting}: {value} [{source}]\n")
+    let name = setting.name();
+    let source = source_word(row.source(setting));
+    write!(f, "{name}: {value} [{source}]\n")
 }
 
-/// Writes the line of the run wrapper, which may be absent.
-fn write_run_wrapper<W: fmt::Write>(
-    f: &mut fmt::Formatter<W>,
-    setting: &str,
-    wrapper: &Option<(ScriptId, PlainSource)>,
-) -> fmt::Result {
-    match wrapper {
-        Some(pair) => write_pair(f, setting, pair),
-        None => write!(f, "{setting}: none [-]\n"),
-    }
-}
-
-/// Where a value comes from, in one word.
-fn source_word(source: &PlainSource) -> &'static str {
+/// Where a value comes from, in one word, or a dash where there is none.
+fn source_word(source: Option<&PlainSource>) -> &'static str {
     match source {
-        PlainSource::Default => "default",
-        PlainSource::Profile => "profile",
-        PlainSource::Override { .. } => "override",
-        PlainSource::Script => "script",
+        Some(PlainSource::Default) => "default",
+        Some(PlainSource::Profile) => "profile",
+        Some(PlainSource::Override { .. }) => "override",
+        Some(PlainSource::Script) => "script",
+        None => "-",
     }
 }
 

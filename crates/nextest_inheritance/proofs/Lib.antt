@@ -16,3 +16,4 @@ pub mod Gathering
 pub mod Concluding
 pub mod Following
 pub mod Views
+pub mod WithDefault

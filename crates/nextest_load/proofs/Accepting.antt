@@ -1,5 +1,5 @@
 -- A load meets no fault exactly where its files are accepted.
-use Rattle.std.proofs.Common.{◌≡◌, ◌⊎◌, ◌↔◌, inl, inr, List, [], ◌∷◌, ◌++◌, map, Option, None, Some, Result, Ok, Err, IsSome, MatchResult, option_map, nat_cmp, refl, sym, ap, subst, append_assoc, append-nil, ◌∙◌}
+use Rattle.std.proofs.Common.{◌≡◌, ◌⊎◌, ◌↔◌, inl, inr, List, [], ◌∷◌, ◌++◌, map, Bool, true, false, IsTrue, Option, None, Some, Result, Ok, Err, IsSome, if◌then◌else◌, MatchResult, option_map, nat_cmp, refl, sym, ap, subst, append_assoc, append-nil, ◌∙◌}
 use Rattle.std.specs.Cmp.Lexicographic.{slice_cmp}
 use Rattle.std.specs.List.{flat_map}
 use Rattle.std.specs.List.Sorted.{IsStrictlySortedBy}
@@ -12,11 +12,11 @@ use Rattle.nextest_rules.specs.Accepted.{AreAcceptedDefinitions, AreAcceptedRule
 use Rattle.nextest_rules.specs.Definitions.{Features}
 use Rattle.nextest_rules.specs.Known.{KnownNames, known_to, sets_of}
 use Rattle.nextest_rules.specs.Steps.{if_some, warn_if_some, definition_steps, rule_steps, written_parents, parent_cause}
-use Rattle.nextest_sources.specs.Causes.{LoadCause, NameSet, bad_element, bad_parents}
+use Rattle.nextest_sources.specs.Causes.{LoadCause, NameSet, no_text, bad_element, bad_parents}
 use Rattle.nextest_sources.specs.Endings.{Ending, passed, refused, no_memory, malformed, error_view, ending, WentThrough, Ran, IsMemory}
-use Rattle.nextest_sources.specs.InputFaults.{Each, IsReadOrMissing, HaveOneFileEach, missing_cause, outcome_cause, duplicate_fault}
+use Rattle.nextest_sources.specs.InputFaults.{Each, IsReadOrMissing, HaveOneFileEach, missing_cause, outcome_cause, tool_steps}
 use Rattle.nextest_sources.specs.Inputs.{Input, LoadInputs, SourceText, source_texts_of, inputs_of, sources_in, repository_of}
-use Rattle.nextest_sources.specs.Sources.{Source, SourceKind, tool_file, explicit_file, discovered_file, Outcome, text, not_found, not_a_directory, failed, ToolFile}
+use Rattle.nextest_sources.specs.Sources.{Source, SourceKind, may_be_missing, Outcome, text, not_found, not_a_directory, failed, ToolFile}
 use Rattle.nextest_sources.specs.Steps.{LoadStep, check, first_fault}
 use Rattle.nextest_sources.specs.Warnings.{Warning, unknown_keys}
 use Rattle.nextest_sources.specs.declared.error.ConfigParseError.{ConfigParseError}
@@ -27,10 +27,9 @@ use Rattle.nextest_tables.specs.Tables.{a_file}
 use Rattle.nextest_tree.specs.Node.{Node}
 use Rattle.nextest_tree.specs.Schema.{first, faults, unknown}
 use Rattle.nextest_load.specs.Accepted.{IsAcceptedSource, IsAccepted}
-use Rattle.nextest_load.specs.Steps.{document_cause, element_cause, in_byte_order, unknown_steps, own_steps, lower_profiles, profiles_in, file_steps, source_steps, one_input_steps, input_steps, tool_steps, no_profiles, merged_steps, load_steps}
+use Rattle.nextest_load.specs.Steps.{document_cause, element_cause, in_byte_order, unknown_steps, own_steps, lower_profiles, profiles_in, file_steps, source_steps, one_input_steps, input_steps, no_profiles, merged_steps, load_steps}
 use Rattle.nextest_load.specs.Trees.{own_tree, own_file, merged_tree, merged_file}
 use Rattle.nextest_load.proofs.SortedTrees.{own_sorted, whole_sorted, profiles_ascend, parents_ascend}
-use Rattle.nextest_load.proofs.Tools.{tools_fault}
 
 -- steps meet no fault
 abbrev pub Pass : List LoadStep → Type 0
@@ -97,13 +96,15 @@ some_none : {X : Type 0} (cause : List X → LoadCause) (xs : List X) → if_som
 some_none cause [] h = refl
 some_none cause (x ∷ xs) h = cc
 
-missing_from : (kind : SourceKind) (o : Outcome) → missing_cause kind o ≡ None → kind ≡ discovered_file
-missing_from discovered_file o h = refl
-missing_from explicit_file o h = cc
-missing_from (tool_file tool) o h = cc
+may_be : (b : Bool) (o : Outcome) → (if b then None else Some (no_text o)) ≡ None → b ≡ true
+may_be true o h = refl
+may_be false o h = cc
 
-missing_to : (kind : SourceKind) (o : Outcome) → kind ≡ discovered_file → missing_cause kind o ≡ None
-missing_to kind o h = rw h refl
+missing_from : (kind : SourceKind) (o : Outcome) → missing_cause kind o ≡ None → IsTrue (may_be_missing kind)
+missing_from kind o h = may_be (may_be_missing kind) o h
+
+missing_to : (kind : SourceKind) (o : Outcome) → IsTrue (may_be_missing kind) → missing_cause kind o ≡ None
+missing_to kind o h = ap (λ b. if b then None else Some (no_text o)) h
 
 outcome_from : (kind : SourceKind) (o : Outcome) → outcome_cause kind o ≡ None → IsReadOrMissing kind o
 outcome_from kind (text t) h = tt
@@ -128,7 +129,7 @@ RulesLaw engines = (lower : NameSet) (known : KnownNames) (source : Source) (fil
 
 -- the law of tools' files
 abbrev pub ToolsLaw : Type 0
-ToolsLaw = (tools : List ToolFile) → (duplicate_fault [] tools ≡ None) ↔ HaveOneFileEach tools
+ToolsLaw = (tools : List ToolFile) → (first_fault (tool_steps [] tools) ≡ None) ↔ HaveOneFileEach tools
 
 module _ {M K P : Type 0} (engines : Readings M K P) (features : Features) (definitions : DefinitionsLaw features) (rules : RulesLaw engines) where
   source_from : (below : List SourceText) (s : SourceText) → Pass (source_steps engines features below s) → IsAcceptedSource engines features below s
@@ -280,7 +281,7 @@ module _ {M K P : Type 0} (engines : Readings M K P) (features : Features) (defi
         let last = pass_right inputs whole after in
         let written = written_parents (merged_file ss).profiles in
         record {
-          tools = (tools files.tools).0 (sym (tools_fault [] files.tools) ∙ pass_left first_part (inputs ++ whole) h);
+          tools = (tools files.tools).0 (pass_left first_part (inputs ++ whole) h);
           outcomes = fine.outcomes;
           sources = all_over [] ss fine.sources;
           merged_elements = elements_from n (cause_at (repository_of files) (element_cause n) (check (repository_of files) parents ∷ []) last);
@@ -298,7 +299,7 @@ module _ {M K P : Type 0} (engines : Readings M K P) (features : Features) (defi
         let written = written_parents (merged_file ss).profiles in
         let none = (sound_parents (is_known no_profiles written) written (parents_ascend n (whole_sorted ss))).1 h.merged_parents in
         let sound : parents ≡ None = ap (if_some bad_parents) none in
-        pass_both (tool_steps [] files.tools) (inputs ++ whole) (tools_fault [] files.tools ∙ (tools files.tools).1 h.tools)
+        pass_both (tool_steps [] files.tools) (inputs ++ whole) ((tools files.tools).1 h.tools)
         (pass_both inputs whole (inputs_to [] (inputs_of files) h.outcomes (over_all [] ss h.sources))
         (check_passes (repository_of files) (element_cause n) (check (repository_of files) parents ∷ []) (elements_to n h.merged_elements)
         (check_passes (repository_of files) parents [] sound refl)))

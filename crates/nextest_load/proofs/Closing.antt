@@ -36,7 +36,7 @@ use Rattle.nextest_tree.specs.Node as tree
 use Rattle.nextest_tree.specs.Node.{Node, Entries, no_entries, entry}
 use Rattle.nextest_tree.specs.Schema.{faults, is_one_of}
 use Rattle.nextest_load.specs.Accepted.{IsAccepted}
-use Rattle.nextest_load.specs.Closed.{AnswersBinaries, HasDefaults, IsClosed}
+use Rattle.nextest_load.specs.Closed.{EachOverride, AnswersBinaries, HasDefaults, IsClosed}
 use Rattle.nextest_load.specs.Config.{ScriptTables, config_of}
 use Rattle.nextest_load.specs.Loading.{source_layer}
 use Rattle.nextest_load.specs.Merged.{profiles_of}
@@ -51,7 +51,7 @@ each_from : {X : Type 0} {P Q : X → Type 0} → ((x : X) → P x → Q x) → 
 each_from f [] h = tt
 each_from f (x ∷ xs) h = (f x h.0, each_from f xs h.1)
 
-each_mapped : {X Y : Type 0} (P : Y → Type 0) (f : X → Y) (xs : List X) → Each (λ x. P (f x)) xs → Each P (map f xs)
+pub each_mapped : {X Y : Type 0} (P : Y → Type 0) (f : X → Y) (xs : List X) → Each (λ x. P (f x)) xs → Each P (map f xs)
 each_mapped P f [] h = tt
 each_mapped P f (x ∷ xs) h = (h.0, each_mapped P f xs h.1)
 
@@ -59,11 +59,11 @@ each_appended : {X : Type 0} (P : X → Type 0) (xs ys : List X) → Each P xs �
 each_appended P [] ys h k = k
 each_appended P (x ∷ xs) ys h k = (h.0, each_appended P xs ys h.1 k)
 
-each_reversed : {X : Type 0} (P : X → Type 0) (xs : List X) → Each P xs → Each P (reverse xs)
+pub each_reversed : {X : Type 0} (P : X → Type 0) (xs : List X) → Each P xs → Each P (reverse xs)
 each_reversed P [] h = tt
 each_reversed P (x ∷ xs) h = subst (λ ys. Each P ys) (sym (reverse-append (x ∷ []) xs)) (each_appended P (reverse xs) (x ∷ []) (each_reversed P xs h.1) (h.0, tt))
 
-each_split : {X : Type 0} (P : X → Type 0) (before rest : List X) → ((below : List X) (x : X) (above : List X) → before ++ rest ≡ below ++ x ∷ above → P x) → Each P rest
+pub each_split : {X : Type 0} (P : X → Type 0) (before rest : List X) → ((below : List X) (x : X) (above : List X) → before ++ rest ≡ below ++ x ∷ above → P x) → Each P rest
 each_split P before [] h = tt
 each_split P before (x ∷ rest) h = (h before x rest refl, each_split P (before ++ x ∷ []) rest (λ below y above e. h below y above (sym (append_assoc before (x ∷ []) rest) ∙ e)))
 
@@ -113,7 +113,7 @@ names_keys f no_entries = refl
 names_keys f (entry k n es) = ap (λ ks. k ∷ ks) (names_keys f es)
 
 -- sources without fault
-abbrev AllReadable : List SourceText → Type 0
+abbrev pub AllReadable : List SourceText → Type 0
 AllReadable ss = Each (λ t. faults a_file [] (own_tree t) ≡ []) ss
 
 all_lead : (path : KeyPath) → ((n : Node) → faults a_file [] n ≡ [] → LeadsAlong path n) → (ss : List SourceText) → AllReadable ss → AllByRecursion (LeadsAlong path) (map tree_in ss)
@@ -179,13 +179,14 @@ written_more P Q f (Some x) h = f x h
 abbrev pub BinariesLaw : {M K P : Type 0} → Readings M K P → Type 0
 BinariesLaw {M} engines = (t : List ℕ) (m : M) → engines.read_filter DefaultFilter t ≡ Ok m → engines.leaves m ≡ [] → (binary : Binary) (default : M) → IsSome (engines.matches_binary m binary default)
 
+-- the sources of accepted files are without fault
+pub sources_readable : {M K P : Type 0} (engines : Readings M K P) (features : Features) (files : LoadInputs) → IsAccepted engines features files → AllReadable (sources_in files)
+sources_readable engines features files accepted = each_split (λ s. faults a_file [] (own_tree s) ≡ []) [] (sources_in files) (λ below s above e. (accepted.sources below s above e).elements)
+
 -- the merged tree of accepted files is one of files without fault
 pub merged_tree_readable : {M K P : Type 0} (engines : Readings M K P) (features : Features) (files : LoadInputs) → IsAccepted engines features files → IsMergedTree (map tree_in (sources_in files)) (merged_tree (sources_in files))
-merged_tree_readable engines features files accepted = (
-  each_all (λ s. faults a_file [] (own_tree s) ≡ []) IsReadable tree_in (λ s fine. fine) (sources_in files)
-      (each_split (λ s. faults a_file [] (own_tree s) ≡ []) [] (sources_in files) (λ below s above e. (accepted.sources below s above e).elements)),
-  refl,
-)
+merged_tree_readable engines features files accepted =
+    (each_all (λ s. faults a_file [] (own_tree s) ≡ []) IsReadable tree_in (λ s fine. fine) (sources_in files) (sources_readable engines features files accepted), refl)
 
 module _ {M K P : Type 0} (engines : Readings M K P) where
   overrides_closed : (A : Compiled M K (OverrideUse M) → Type 0) (B : OverrideText → Type 0) → ((id : RuleId) (o : OverrideText) → B o → A (override_rule engines id o)) → (source : Source) (profiles : List (Name × ProfileText))
@@ -231,24 +232,39 @@ module _ {M K P : Type 0} (engines : Readings M K P) where
   layers_closed : (A : Layer M K → Type 0) (ss : List SourceText) → ((below : List SourceText) (s : SourceText) (above : List SourceText) → ss ≡ below ++ s ∷ above → A (source_layer engines s)) → Each A (reverse (map (source_layer engines) ss))
   layers_closed A ss h = each_reversed A (map (source_layer engines) ss) (each_mapped A (source_layer engines) ss (each_split (λ s. A (source_layer engines s)) [] ss h))
 
-  module _ (features : Features) (files : LoadInputs) (scripts : ScriptTables) (law : BinariesLaw engines) (accepted : IsAccepted engines features files) (same : HaveScriptIds (merged_file (sources_in files)) scripts) where
+  -- each custom group that an override writes is one of the merged tree
+  module _ (features : Features) (files : LoadInputs) (accepted : IsAccepted engines features files) where
     readable : AllReadable (sources_in files)
-    readable = each_split (λ s. faults a_file [] (own_tree s) ≡ []) [] (sources_in files) (λ below s above e. (accepted.sources below s above e).elements)
+    readable = sources_readable engines features files accepted
 
     known_group : (below above : List SourceText) (s : SourceText) → sources_in files ≡ below ++ s ∷ above → (q : Name) → is_one_of (known_to (map own_file below) (own_file s)).groups q ≡ true → is_one_of (names_in (merged_file (sources_in files)).groups) q ≡ true
     known_group below above s e q h =
         let d = known_by (λ f. names_in f.groups) (sources_in files) below above s q e h in
         groups_kept (sources_in files) d.before d.after d.definer d.splits readable q d.has
 
+    pub groups_closed : EachOverride (λ r. IsAmong (names_in (merged_file (sources_in files)).groups) r.writes.settings.test_group) (config_of engines (sources_in files))
+    groups_closed =
+        let ss = sources_in files in
+        let group_names = names_in (merged_file ss).groups in
+        let Group : Compiled M K (OverrideUse M) → Type 0 = λ r. IsAmong group_names r.writes.settings.test_group in
+        let known = λ (below : List SourceText) (s : SourceText). known_to (map own_file below) (own_file s) in
+        layers_closed (λ (l : Layer M K). Each (λ p. Each Group p.1.overrides) l.profiles) ss (λ below s above e. overrides_closed Group (λ o. IsAmong (known below s).groups o.settings.test_group)
+        (λ id o among. among_more (known below s).groups group_names (known_group below above s e) o.settings.test_group among) s.source (own_file s).profiles
+        (fine_groups (known below s) (own_file s).profiles (accepted.sources below s above e).rules.profiles))
+
+  module _ (features : Features) (files : LoadInputs) (scripts : ScriptTables) (law : BinariesLaw engines) (accepted : IsAccepted engines features files) (same : HaveScriptIds (merged_file (sources_in files)) scripts) where
+    all_readable : AllReadable (sources_in files)
+    all_readable = sources_readable engines features files accepted
+
     known_setup : (below above : List SourceText) (s : SourceText) → sources_in files ≡ below ++ s ∷ above → (q : Name) → IsIn (known_to (map own_file below) (own_file s)).setup_scripts q → IsIn (names_in scripts.setup) q
     known_setup below above s e q h =
         let d = known_by setup_ids_of (sources_in files) below above s q e h in
-        (same.setup q).1 (setup_kept (sources_in files) d.before d.after d.definer d.splits readable q d.has)
+        (same.setup q).1 (setup_kept (sources_in files) d.before d.after d.definer d.splits all_readable q d.has)
 
     known_wrapper : (below above : List SourceText) (s : SourceText) → sources_in files ≡ below ++ s ∷ above → (q : Name) → IsIn (known_to (map own_file below) (own_file s)).wrapper_scripts q → IsIn (names_in scripts.wrapper) q
     known_wrapper below above s e q h =
         let d = known_by (λ f. f.wrapper_scripts) (sources_in files) below above s q e h in
-        (same.wrapper q).1 (wrapper_kept (sources_in files) d.before d.after d.definer d.splits readable q d.has)
+        (same.wrapper q).1 (wrapper_kept (sources_in files) d.before d.after d.definer d.splits all_readable q d.has)
 
     keys_seen : (ps : List (Name × ProfileText)) → names_in (profiles_of ps) ≡ keys_of (written_parents ps)
     keys_seen [] = refl
@@ -270,18 +286,14 @@ module _ {M K P : Type 0} (engines : Readings M K P) where
         (one_chain_each written (is_known no_profiles written) (λ name known. or_false (is_member bytes_eq (keys_of written) name) known) accepted.merged_parents)
         in
         let named_chains : chain written (names_in (profiles_of ps)) = subst (chain written) (sym (keys_seen ps)) written_chains in
-        let group_names = names_in (merged_file ss).groups in
         let known = λ (below : List SourceText) (s : SourceText). known_to (map own_file below) (own_file s) in
-        let Group : Compiled M K (OverrideUse M) → Type 0 = λ r. IsAmong group_names r.writes.settings.test_group in
         let Setup : Compiled M K ScriptUse → Type 0 = λ r. Each (IsIn (names_in scripts.setup)) r.writes.setup in
         let ListWrapper : Compiled M K ScriptUse → Type 0 = λ r. IfWritten r.writes.list_wrapper (IsIn (names_in scripts.wrapper)) in
         let RunWrapper : Compiled M K ScriptUse → Type 0 = λ r. IfWritten r.writes.run_wrapper (IsIn (names_in scripts.wrapper)) in
         let Answers : Compiled M K ScriptUse → Type 0 = AnswersBinaries engines.matches_binary in
-        let in_overrides = λ (A : Compiled M K (OverrideUse M) → Type 0) (l : Layer M K). Each (λ p. Each A p.1.overrides) l.profiles in
         let in_rules = λ (A : Compiled M K ScriptUse → Type 0) (l : Layer M K). Each (λ p. Each A p.1.script_rules) l.profiles in
         record {
-          groups = layers_closed (in_overrides Group) ss (λ below s above e. overrides_closed Group (λ o. IsAmong (known below s).groups o.settings.test_group)
-              (λ id o among. among_more (known below s).groups group_names (known_group below above s e) o.settings.test_group among) s.source (own_file s).profiles (fine_groups (known below s) (own_file s).profiles (profiles below above s e)));
+          groups = groups_closed features files accepted;
           setup_scripts = layers_closed (in_rules Setup) ss (λ below s above e. script_rules_closed Setup (λ r. AreKnownScripts (known below s) r.scripts)
               (λ r are. each_from {P = IsIn (known below s).setup_scripts} {Q = IsIn (names_in scripts.setup)} (known_setup below above s e) r.scripts.setup are.setup) s.source (own_file s).profiles (fine_scripts (known below s) (own_file s).profiles (profiles below above s e)));
           list_wrappers = layers_closed (in_rules ListWrapper) ss (λ below s above e. script_rules_closed ListWrapper (λ r. AreKnownScripts (known below s) r.scripts)

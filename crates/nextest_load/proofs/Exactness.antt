@@ -1,5 +1,5 @@
 -- What a load tells of a tree is exact.
-use Rattle.std.proofs.Common.{◌≡◌, ℕ, arith, List, [], ◌∷◌, ◌++◌, map, flat_map, filter, length, Contains, Bool, true, false, Option, None, Some, option_map, refl, sym, ap, subst, ◌∙◌}
+use Rattle.std.proofs.Common.{◌≡◌, ℕ, arith, List, [], ◌∷◌, ◌++◌, map, flat_map, filter, length, Contains, Bool, true, false, Option, None, Some, option_map, refl, sym, ap, subst, ◌∙◌, if◌then◌else◌}
 use Rattle.std.specs.Option.{option_or}
 use Rattle.std.proofs.lemmas.Bool.{false≢true}
 use Rattle.std.proofs.lemmas.List.Elements.{Contains-append_left, Contains-append_right}
@@ -8,16 +8,16 @@ use Rattle.nextest_engines.specs.Readings.{Readings}
 use Rattle.nextest_inheritance.specs.Faults.{ParentFault, inheritance_faults}
 use Rattle.nextest_inheritance.specs.Names.{default_first}
 use Rattle.nextest_rules.specs.CompileFaults.{compile_faults}
-use Rattle.nextest_rules.specs.Definitions.{Features, is_of_tool}
+use Rattle.nextest_rules.specs.Definitions.{Features, source_class}
 use Rattle.nextest_rules.specs.Known.{KnownSets, known_to, known_scripts, sets_of, with_global}
 use Rattle.nextest_rules.specs.RuleFaults.{names_none, script_faults_in}
 use Rattle.nextest_rules.specs.Rules.{LayerProfile, layer_of}
 use Rattle.nextest_rules.specs.Steps.{if_some, if_true, warn_if_some, written_parents, parent_cause, group_name_cause, script_name_cause, key_cause, feature_cause, kind_cause, compile_cause, group_cause_in, script_cause_in, deprecated_steps, empty_steps_of, empty_steps_in, definition_steps, name_steps, rule_steps}
-use Rattle.nextest_sources.specs.Causes.{NameSet, LoadCause, LoadFault, at_source, duplicate_tool, bad_element, ill_named_groups, ill_named_scripts, both_script_keys, missing_features, both_script_kinds, bad_parents, compile_refusals, unknown_groups, bad_scripts}
+use Rattle.nextest_sources.specs.Causes.{NameSet, LoadCause, LoadFault, at_source, duplicate_tool, no_text, bad_element, ill_named_groups, ill_named_scripts, both_script_keys, missing_features, both_script_kinds, bad_parents, compile_refusals, unknown_groups, bad_scripts}
 use Rattle.nextest_sources.specs.Endings.{Ending, passed, refused, no_memory, malformed, WentThrough, Ran}
-use Rattle.nextest_sources.specs.InputFaults.{first_path, missing_cause, outcome_cause}
+use Rattle.nextest_sources.specs.InputFaults.{first_path, second_cause, missing_cause, outcome_cause, tool_steps}
 use Rattle.nextest_sources.specs.Inputs.{Input, LoadInputs, SourceText, inputs_of, source_texts_of, sources_in, repository_of, tool_source}
-use Rattle.nextest_sources.specs.Sources.{Source, SourceKind, tool_file, explicit_file, discovered_file, Outcome, text, not_found, not_a_directory, failed, ToolFile}
+use Rattle.nextest_sources.specs.Sources.{Source, SourceKind, may_be_missing, Outcome, text, not_found, not_a_directory, failed, ToolFile}
 use Rattle.nextest_sources.specs.Steps.{LoadStep, check, first_fault}
 use Rattle.nextest_sources.specs.Warnings.{Warning, deprecated_scripts, empty_sections, reserved_profiles, unknown_keys}
 use Rattle.nextest_sources.proofs.Runs.{first_fault-append}
@@ -28,7 +28,7 @@ use Rattle.nextest_tree.specs.Node.{Node, IsSorted}
 use Rattle.nextest_tree.specs.Schema.{Fault, first, faults, is_one_of}
 use Rattle.nextest_load.specs.Exact.{Checks, at_own_tree, at_merged_tree, IsExact}
 use Rattle.nextest_load.specs.Laws.{IsLeastFault, TellCycles}
-use Rattle.nextest_load.specs.Steps.{document_cause, element_cause, unknown_steps, own_steps, profiles_in, no_profiles, file_steps, source_steps, one_input_steps, input_steps, tool_steps, merged_steps, load_steps}
+use Rattle.nextest_load.specs.Steps.{document_cause, element_cause, unknown_steps, own_steps, profiles_in, no_profiles, file_steps, source_steps, one_input_steps, input_steps, merged_steps, load_steps}
 use Rattle.nextest_load.specs.Trees.{own_tree, own_file, merged_tree}
 use Rattle.nextest_load.proofs.LeastFaults.{refuses_cycles, refuses_least}
 use Rattle.nextest_load.proofs.SortedTrees.{own_sorted, whole_sorted}
@@ -56,10 +56,12 @@ apart_tool : (tool : List ℕ) (path : Option (List ℕ)) → StaysApart (option
 apart_tool tool None = tt
 apart_tool tool (Some path) = refl
 
+apart_if : (b : Bool) (o : Outcome) → StaysApart (if b then None else Some (no_text o))
+apart_if true o = tt
+apart_if false o = refl
+
 apart_missing : (kind : SourceKind) (o : Outcome) → StaysApart (missing_cause kind o)
-apart_missing discovered_file o = tt
-apart_missing explicit_file o = refl
-apart_missing (tool_file tool) o = refl
+apart_missing kind o = apart_if (may_be_missing kind) o
 
 apart_outcome : (kind : SourceKind) (o : Outcome) → StaysApart (outcome_cause kind o)
 apart_outcome kind (text t) = tt
@@ -146,7 +148,7 @@ module _ (files : LoadInputs) where
 
   definitions : (features : Features) (source : Source) (file : FileText) → AreExact (definition_steps features source file)
   definitions features source file =
-      let by_tool = is_of_tool source.kind in
+      let by_tool = source_class source.kind in
       checked source (group_name_cause source file) _ (apart source _ (apart_list (λ names. ill_named_groups by_tool (is_one_of names)) (λ names. refl) _))
       (checked source (key_cause file) _ (apart source _ (apart_test both_script_keys refl _))
       (both (deprecated_steps source file) _ (warned (λ _. deprecated_scripts source) file.old_setup_scripts)
@@ -208,7 +210,7 @@ module _ (files : LoadInputs) where
 
     of_tools : (before tools : List ToolFile) → AreExact (tool_steps before tools)
     of_tools before [] = no_step
-    of_tools before (t ∷ tools) = checked (tool_source t) (option_map (duplicate_tool t.tool) (first_path t.tool before)) (tool_steps (before ++ t ∷ []) tools)
+    of_tools before (t ∷ tools) = checked (tool_source t) (second_cause before t) (tool_steps (before ++ t ∷ []) tools)
         (apart (tool_source t) _ (apart_tool t.tool (first_path t.tool before))) (of_tools (before ++ t ∷ []) tools)
 
     of_merged : AreExact (merged_steps (repository_of files) (sources_in files))

@@ -15,7 +15,7 @@ use Rattle.nextest_sources.specs.declared.inputs.SourceInput.{SourceInput}
 use Rattle.nextest_sources.proofs.Runs.{ran_first, ran_next, ran_none}
 use Rattle.nextest_load.specs.Loading.{HasLoaded}
 use Rattle.nextest_load.specs.Steps.{one_input_steps, input_steps}
-use Rattle.nextest_load.specs.declared.layers.LoadedLayers.{LoadedLayers}
+use Rattle.nextest_load.specs.declared.load.LoadedLayers.{LoadedLayers}
 
 -- the sources of the inputs before one
 abbrev pub sources_before : ℕ → List SourceInput → List SourceText

@@ -48,16 +48,16 @@ some_below : (o p : Option Node) → IsSome p → IsSome (laid_over o p)
 some_below None p h = h
 some_below (Some n) p h = refl
 
-some_either : (o p : Option Node) → IsSome (laid_over o p) → IsSome o ⊎ IsSome p
+pub some_either : (o p : Option Node) → IsSome (laid_over o p) → IsSome o ⊎ IsSome p
 some_either None p h = inr h
 some_either (Some n) p h = inl refl
 
 -- two tables are united, and any other node replaces what stands below
-data Laid : Node → Node → Type 0 where
+pub data Laid : Node → Node → Type 0 where
   united : {xs ys : Entries} → Laid (table xs) (table ys)
   replaced : {n m : Node} → over n m ≡ n → (IsTable n → IsTable m → ⊥) → Laid n m
 
-laid : (n m : Node) → Laid n m
+pub laid : (n m : Node) → Laid n m
 laid (table xs) (table ys) = united
 laid (table xs) (array ns) = replaced refl (λ a b. b)
 laid (table xs) (text t) = replaced refl (λ a b. b)

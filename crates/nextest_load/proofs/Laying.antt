@@ -24,7 +24,7 @@ use Rattle.nextest_load.specs.Loading.{HasLoaded, source_layer, tree_so_far}
 use Rattle.nextest_load.specs.ScriptNames.{AreScriptNames}
 use Rattle.nextest_load.specs.Steps.{source_steps, one_input_steps}
 use Rattle.nextest_load.specs.Trees.{tree_in, own_tree, own_file, merged_tree}
-use Rattle.nextest_load.specs.declared.layers.LoadedLayers.{LoadedLayers}
+use Rattle.nextest_load.specs.declared.load.LoadedLayers.{LoadedLayers}
 
 -- the highest layer is laid last
 pub merged_last : (base : Node) (layers : List Node) (layer : Node) → merged base (layers ++ layer ∷ []) ≡ over layer (merged base layers)

@@ -9,15 +9,21 @@ mod Parents
 mod NamesInOrder
 mod Placing
 mod Defining
-mod MergedScripts
+pub mod MergedScripts
 mod Merging
 mod Wholes
 mod Tools
 mod Accepting
 mod SortedTrees
-mod Keeping
+pub mod Keeping
 mod Leading
-mod Closing
+pub mod Closing
 mod LeastFaults
 mod Exactness
 mod Loads
+pub mod Under
+pub mod ProfileNodes
+pub mod Agreement
+pub mod RulesOfNode
+pub mod WritesOnlyParent
+pub mod AreScriptsOf

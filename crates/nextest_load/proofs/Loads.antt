@@ -17,7 +17,7 @@ use Rattle.nextest_load.specs.Merged.{MergedText}
 use Rattle.nextest_load.specs.Parts.{AreParts, config_parts}
 use Rattle.nextest_load.specs.Scripts.{AreScriptsOf}
 use Rattle.nextest_load.specs.Steps.{load_steps}
-use Rattle.nextest_load.specs.declared.parts.ConfigParts.{ConfigParts}
+use Rattle.nextest_load.specs.declared.load.ConfigParts.{ConfigParts}
 use Rattle.nextest_load.proofs.Accepting.{DefinitionsLaw, RulesLaw, ToolsLaw, accepted_from, verdict}
 use Rattle.nextest_load.proofs.Closing.{BinariesLaw, closed, merged_tree_readable}
 use Rattle.nextest_load.proofs.Exactness.{exact}

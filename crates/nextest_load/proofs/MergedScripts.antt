@@ -44,7 +44,7 @@ same_names : (names others : List Name) → ((id : Name) → is_one_of names id 
 same_names names others same id = let P : Bool → Type 0 = λ b. IsTrue b in (λ h. subst P (same id) h, λ h. subst P (sym (same id)) h)
 
 -- what stands at a name is there exactly where the name is
-named_at : {X : Type 0} (es : List (Name × X)) (q : Name) → is_some (at_name q es) ≡ is_one_of (names_in es) q
+pub named_at : {X : Type 0} (es : List (Name × X)) (q : Name) → is_some (at_name q es) ≡ is_one_of (names_in es) q
 named_at [] q = refl
 named_at (e ∷ es) q = at_cond (is_at (slice_cmp nat_cmp q) e.0) (bytes_eq e.0 q) e.1 (at_name q es) _ (is_eq-slice_cmp q e.0 ∙ turned q e.0) (named_at es q)
   where

@@ -29,8 +29,8 @@ use Rattle.nextest_load.specs.Merged.{profiles_of}
 use Rattle.nextest_load.specs.Parts.{AreParts, AreTablesOf}
 use Rattle.nextest_load.specs.Steps.{input_steps, merged_steps}
 use Rattle.nextest_load.specs.Trees.{merged_tree}
-use Rattle.nextest_load.specs.declared.layers.LoadedLayers.{LoadedLayers}
-use Rattle.nextest_load.specs.declared.parts.ConfigParts.{ConfigParts}
+use Rattle.nextest_load.specs.declared.load.LoadedLayers.{LoadedLayers}
+use Rattle.nextest_load.specs.declared.load.ConfigParts.{ConfigParts}
 
 -- the tree of all sources is the one so far
 pub whole_is : (ss : List SourceText) (n : Node) → Some n ≡ tree_so_far ss → n ≡ merged_tree ss

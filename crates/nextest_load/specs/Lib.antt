@@ -14,3 +14,4 @@ pub mod Loading
 pub mod Merged
 pub mod Parts
 pub mod Laws
+pub mod Agreement

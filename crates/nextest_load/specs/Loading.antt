@@ -12,7 +12,7 @@ use Rattle.nextest_tree.specs.Node.{Node}
 use Rattle.nextest_tree.specs.View.{tree_view}
 use Rattle.nextest_load.specs.ScriptNames.{AreScriptNames}
 use Rattle.nextest_load.specs.Trees.{own_file, merged_tree}
-use Rattle.nextest_load.specs.declared.layers.LoadedLayers.{LoadedLayers}
+use Rattle.nextest_load.specs.declared.load.LoadedLayers.{LoadedLayers}
 use Rattle.nextest_load.specs.declared.source.SourceFile.{SourceFile}
 
 -- a source with its text

@@ -14,7 +14,7 @@ use Rattle.nextest_load.specs.Merged.{tables_view, tables_of}
 use Rattle.nextest_load.specs.Scripts.{AreScriptsOf}
 use Rattle.nextest_load.specs.Trees.{tree_in, merged_tree, merged_file}
 use Rattle.nextest_load.specs.declared.merged.MergedTables.{MergedTables}
-use Rattle.nextest_load.specs.declared.parts.ConfigParts.{ConfigParts}
+use Rattle.nextest_load.specs.declared.load.ConfigParts.{ConfigParts}
 
 -- What was kept is what the merged tree of sources says.
 pub record AreTablesOf (ss : List SourceText) (tables : MergedTables) : Type 0 where

@@ -7,10 +7,10 @@ use Rattle.nextest_engines.specs.Readings.{Readings}
 use Rattle.nextest_rules.specs.Definitions.{Features}
 use Rattle.nextest_rules.specs.Known.{known_names, known_to, sets_of}
 use Rattle.nextest_rules.specs.Steps.{warn_if_some, definition_steps, parent_cause, rule_steps}
-use Rattle.nextest_sources.specs.Causes.{NameSet, LoadCause, duplicate_tool, no_document, bad_element}
-use Rattle.nextest_sources.specs.InputFaults.{outcome_cause, first_path}
-use Rattle.nextest_sources.specs.Inputs.{LoadInputs, Input, SourceText, tool_source, inputs_of, source_texts_of, sources_in, repository_of}
-use Rattle.nextest_sources.specs.Sources.{Source, ToolFile}
+use Rattle.nextest_sources.specs.Causes.{NameSet, LoadCause, no_document, bad_element}
+use Rattle.nextest_sources.specs.InputFaults.{outcome_cause, tool_steps}
+use Rattle.nextest_sources.specs.Inputs.{LoadInputs, Input, SourceText, inputs_of, source_texts_of, sources_in, repository_of}
+use Rattle.nextest_sources.specs.Sources.{Source}
 use Rattle.nextest_sources.specs.Steps.{LoadStep, check}
 use Rattle.nextest_sources.specs.Warnings.{unknown_keys}
 use Rattle.nextest_tables.specs.FileTexts.{FileText, file_text}
@@ -87,13 +87,6 @@ input_steps engines features below [] = []
 input_steps engines features below (i ∷ above) =
     one_input_steps engines features below i
     ++ input_steps engines features (below ++ source_texts_of i) above
-
--- the steps of tools' files: a file is refused where one before it is of the same tool
-abbrev pub tool_steps : List ToolFile → List ToolFile → List LoadStep
-tool_steps before [] = []
-tool_steps before (t ∷ ts) =
-    check (tool_source t) (option_map (duplicate_tool t.tool) (first_path t.tool before))
-    ∷ tool_steps (before ++ t ∷ []) ts
 
 -- no profile of a lower file
 abbrev pub no_profiles : NameSet

@@ -2,11 +2,9 @@
 #![tactic(auto)]
 
 pub mod laws;
-mod layers;
 mod load;
 mod loaded_config;
 mod merged;
-mod parts;
 mod scripts;
 mod source;
 

@@ -1,45 +1,252 @@
-//! The load: every source over the defaults, then all of them merged.
+//! The load, from top to bottom: every source over the defaults, then all of them merged.
+ghost use Rattle.std.specs.Prelude.{◌≡◌, ◌++◌, ◌∷◌, List, [], IfOk, OnOk, map, option_map, reverse};
+ghost use Rattle.std.specs.List.{flat_map};
 ghost use Rattle.nextest_engines.specs.Readings.{readings_view};
 ghost use Rattle.nextest_load.specs.Load.{IsLoad};
+ghost use Rattle.nextest_load.specs.Loading.{HasLoaded, tree_so_far};
 ghost use Rattle.nextest_load.specs.Meaning.{loaded_meaning};
-ghost use Rattle.nextest_rules.specs.KnownView.{features_view};
-ghost use Rattle.nextest_sources.specs.Inputs.{load_inputs_view};
+ghost use Rattle.nextest_load.specs.Parts.{AreParts, AreTablesOf};
+ghost use Rattle.nextest_load.specs.ScriptNames.{AreScriptNames};
+ghost use Rattle.nextest_load.specs.Scripts.{setup_path, old_setup_path, wrapper_path};
+ghost use Rattle.nextest_load.specs.Steps.{one_input_steps, input_steps, load_steps, merged_steps};
+ghost use Rattle.nextest_load.specs.Trees.{tree_in, own_tree, merged_tree};
+ghost use Rattle.nextest_rules.specs.Known.{known_names, sets_of};
+ghost use Rattle.nextest_rules.specs.KnownView.{known_view, features_view};
+ghost use Rattle.nextest_script_order.specs.Order.{IsOrder};
+ghost use Rattle.nextest_script_order.specs.Standing.{ids_view};
+ghost use Rattle.nextest_sources.specs.Endings.{Ran, ending};
+ghost use Rattle.nextest_sources.specs.Inputs.{SourceText, inputs_view, sources_in, source_texts_of};
+ghost use Rattle.nextest_sources.specs.InputsView.{input_view};
+ghost use Rattle.nextest_sources.specs.Sources.{source_view};
+ghost use Rattle.nextest_sources.specs.Warnings.{Warning};
+ghost use Rattle.nextest_tree.specs.View.{tree_view};
 
 use crate::loaded_config::LoadedConfig;
-use crate::parts::{ConfigParts, load_parts};
+use crate::merged::{MergedTables, read_merged};
+use crate::scripts::ScriptNames;
+use crate::source::{LoadedSource, SourceFile, SourceTrees, read_source};
+use nextest_documents::lay_over;
 use nextest_elements::ConfigExperimental;
 use nextest_engines::{Filters, ParseContext, Specs};
+use nextest_rules::{KnownNames, LayerRules};
 use nextest_sources::laws::law_first_duplicate;
 use nextest_sources::{
-    ConfigFileSelection, ConfigParseError, ConfigWarnings, FileInput, ToolConfigFile,
+    ConfigInputs, ConfigParseError, ConfigSource, ConfigWarnings, SourceInput, collect_inputs,
+    refuse_duplicates, repository_source, text_of,
 };
-use std::alloc::Global;
+use nextest_tables::default_tree;
+use nextest_tree::Tree;
+use std::alloc::{AllocError, Global};
 use std::collections::BTreeSet;
 
 impl<F: Filters, S: Specs> LoadedConfig<F, S> {
-    /// Loads the defaults, the files of tools and the repository's file, in this order, each above
+    /// Loads the defaults, the files of tools and what stands above them, in this order, each above
     /// those before it.
     ///
     /// Of tools' files the first is the highest. Warnings are told as they are met, also before a
     /// refusal.
     pub fn load<W: ConfigWarnings>(
         alloc: Global,
-        shared: &FileInput,
+        inputs: &ConfigInputs<'_>,
         pcx: &ParseContext<'_, F, S>,
-        selection: ConfigFileSelection<'_>,
-        tools: &[ToolConfigFile],
-        experimental: &BTreeSet<ConfigExperimental>,
         warnings: &mut W,
     ) -> Result<LoadedConfig<F, S>, ConfigParseError>
         ensures loads { let engines = readings_view F.Filters S.Specs pcx.now in
             IsLoad (loaded_meaning F.meaning S.spec_meaning) engines
-            (features_view experimental.now)
-            (load_inputs_view shared.now selection.entry.config_file tools.now)
+            (features_view inputs.now.features.now) (inputs_view inputs.now)
             (W.warnings warnings.old) (W.warnings warnings.new) result }
     {
         law_first_duplicate();
-        let parts = load_parts(alloc, shared, pcx, selection, tools, experimental, warnings)?;
+        let parts = read_and_merge(alloc, inputs, pcx, warnings)?;
         let ConfigParts { tables, layers } = parts;
         Ok(LoadedConfig::new(tables, layers, pcx.filters.all()))
+    }
+}
+
+/// The merged tree, and the rules of every source, the highest first.
+#[derive(Drop)]
+pub(crate) struct ConfigParts<F: Filters, S: Specs> {
+    pub(crate) tables: MergedTables,
+    pub(crate) layers: Vec<LayerRules<F, S>>,
+}
+
+/// Reads all inputs, the lowest first, each over those below it, and merges them.
+fn read_and_merge<F: Filters, S: Specs, W: ConfigWarnings>(
+    alloc: Global,
+    inputs: &ConfigInputs<'_>,
+    pcx: &ParseContext<'_, F, S>,
+    warnings: &mut W,
+) -> Result<ConfigParts<F, S>, ConfigParseError>
+    ensures ran { let engines = readings_view F.Filters S.Specs pcx.now in
+        Ran (load_steps engines (features_view inputs.now.features.now) (inputs_view inputs.now))
+        (W.warnings warnings.old) (W.warnings warnings.new) (ending result) }
+    ensures parts { let engines = readings_view F.Filters S.Specs pcx.now in
+        IfOk result (AreParts F.meaning S.spec_meaning engines
+        (sources_in (inputs_view inputs.now))) }
+{
+    refuse_duplicates(alloc, inputs.tools)?;
+    let repository = repository_source(inputs)?;
+    let sources = collect_inputs(alloc, inputs)?;
+    let loaded = read_layers(alloc, pcx, inputs.features, &sources, warnings)?;
+    merge(alloc, &repository, loaded)
+}
+
+/// The sources that were loaded so far, laid over one another.
+#[derive(Drop)]
+pub(crate) struct LoadedLayers<F: Filters, S: Specs> {
+    /// The names that they define.
+    pub(crate) known: KnownNames,
+    /// The tree of all of them over the defaults, if there is one.
+    pub(crate) merged: Option<Tree>,
+    /// Their rules, the lowest first.
+    pub(crate) layers: Vec<LayerRules<F, S>>,
+    /// The ids of their scripts, in order.
+    pub(crate) names: ScriptNames,
+}
+
+/// Reads inputs, the lowest first, each over those below it.
+fn read_layers<F: Filters, S: Specs, W: ConfigWarnings>(
+    alloc: Global,
+    pcx: &ParseContext<'_, F, S>,
+    features: &BTreeSet<ConfigExperimental>,
+    inputs: &[SourceInput<'_>],
+    warnings: &mut W,
+) -> Result<LoadedLayers<F, S>, ConfigParseError>
+    ensures ran { let engines = readings_view F.Filters S.Specs pcx.now in
+        Ran (input_steps engines (features_view features.now) [] (map input_view inputs.now))
+        (W.warnings warnings.old) (W.warnings warnings.new) (ending result) }
+    ensures loaded { let engines = readings_view F.Filters S.Specs pcx.now in
+        IfOk result (HasLoaded F.meaning S.spec_meaning engines
+        (flat_map source_texts_of (map input_view inputs.now))) }
+{
+    let mut loaded = LoadedLayers::new(alloc);
+    for input in inputs {
+        loaded.read_layer(alloc, pcx, features, input, warnings)?;
+    }
+    Ok(loaded)
+}
+
+impl<F: Filters, S: Specs> LoadedLayers<F, S> {
+    /// No source yet.
+    fn new(alloc: Global) -> Self
+        ensures known { known_view result.known ≡ sets_of (known_names []) }
+        ensures merged { result.merged ≡ None }
+        ensures layers { result.layers.items ≡ [] }
+        ensures names { AreScriptNames [] result.names }
+    {
+        LoadedLayers {
+            known: KnownNames::new(alloc),
+            merged: None,
+            layers: Vec::new(alloc),
+            names: ScriptNames::new(alloc),
+        }
+    }
+
+    /// Lays a source over these, and adds its rules.
+    fn add(&mut self, alloc: Global, loaded: LoadedSource<F, S>) -> Result<(), AllocError>
+        ensures known { OnOk result (self.new.known ≡ self.old.known) }
+        ensures merged { (ss : List SourceText) (s : SourceText)
+            → option_map tree_view self.old.merged ≡ tree_so_far ss
+            → tree_view loaded.trees.tree ≡ tree_in s → tree_view loaded.trees.own ≡ own_tree s
+            → OnOk result (option_map tree_view self.new.merged ≡ tree_so_far (ss ++ s ∷ [])) }
+        ensures layers { OnOk result
+            (self.new.layers.items ≡ self.old.layers.items ++ loaded.rules ∷ []) }
+        ensures names { (ss : List SourceText) (s : SourceText)
+            → AreScriptNames ss self.old.names
+            → IsOrder setup_path s.text (ids_view loaded.names.setup)
+            → IsOrder old_setup_path s.text (ids_view loaded.names.old_setup)
+            → IsOrder wrapper_path s.text (ids_view loaded.names.wrapper)
+            → OnOk result (AreScriptNames (ss ++ s ∷ []) self.new.names) }
+    {
+        let LoadedSource {
+            trees,
+            names,
+            rules,
+        } = loaded;
+        self.merged = Some(lay_source(alloc, self.merged.take(), trees)?);
+        self.layers.push(rules)?;
+        self.names.append(names)?;
+        Ok(())
+    }
+
+    /// Reads one more input above these.
+    fn read_layer<W: ConfigWarnings>(
+        &mut self,
+        alloc: Global,
+        pcx: &ParseContext<'_, F, S>,
+        features: &BTreeSet<ConfigExperimental>,
+        input: &SourceInput<'_>,
+        warnings: &mut W,
+    ) -> Result<(), ConfigParseError>
+        ensures ran { let engines = readings_view F.Filters S.Specs pcx.now in
+            (below : List SourceText) → HasLoaded F.meaning S.spec_meaning engines below self.old
+            → Ran (one_input_steps engines (features_view features.now) below
+            (input_view input.now))
+            (W.warnings warnings.old) (W.warnings warnings.new) (ending result) }
+        ensures loaded { let engines = readings_view F.Filters S.Specs pcx.now in
+            (below : List SourceText) → HasLoaded F.meaning S.spec_meaning engines below self.old
+            → OnOk result (HasLoaded F.meaning S.spec_meaning engines
+            (below ++ source_texts_of (input_view input.now)) self.new) }
+    {
+        let Some(text) = text_of(input)? else {
+            return Ok(());
+        };
+        let file = SourceFile {
+            source: &input.source,
+            text,
+        };
+        let loaded = read_source(alloc, pcx, features, &mut self.known, &file, warnings)?;
+        self.add(alloc, loaded)?;
+        Ok(())
+    }
+}
+
+/// Lays a source over those below it. The tree of the lowest one is its file over the defaults.
+fn lay_source(alloc: Global, below: Option<Tree>, trees: SourceTrees) -> Result<Tree, AllocError>
+    ensures { (ss : List SourceText) (s : SourceText)
+        → option_map tree_view below ≡ tree_so_far ss
+        → tree_view trees.tree ≡ tree_in s → tree_view trees.own ≡ own_tree s
+        → IfOk result (λ merged. Some (tree_view merged) ≡ tree_so_far (ss ++ s ∷ [])) }
+{
+    match below {
+        Some(below) => lay_over(alloc, &trees.tree, below),
+        None => Ok(trees.own),
+    }
+}
+
+/// What a configuration keeps of the sources that were read.
+fn merge<F: Filters, S: Specs>(
+    alloc: Global,
+    repository: &ConfigSource,
+    loaded: LoadedLayers<F, S>,
+) -> Result<ConfigParts<F, S>, ConfigParseError>
+    ensures ran { (ss : List SourceText) → option_map tree_view loaded.merged ≡ tree_so_far ss
+        → (before : List Warning)
+        → Ran (merged_steps (source_view repository.now) ss) before before (ending result) }
+    ensures parts { (ss : List SourceText) → option_map tree_view loaded.merged ≡ tree_so_far ss
+        → AreScriptNames ss loaded.names
+        → IfOk result (λ parts. AreTablesOf ss parts.tables) }
+    ensures layers { IfOk result (λ parts. parts.layers.items ≡ reverse loaded.layers.items) }
+{
+    let LoadedLayers {
+        merged,
+        mut layers,
+        names,
+        ..
+    } = loaded;
+    let tree = whole_tree(alloc, merged)?;
+    let tables = read_merged(alloc, repository, names, &tree)?;
+    layers.reverse();
+    Ok(ConfigParts { tables, layers })
+}
+
+/// The tree of all sources, which is that of the defaults where there is none.
+fn whole_tree(alloc: Global, merged: Option<Tree>) -> Result<Tree, AllocError>
+    ensures { (ss : List SourceText) → option_map tree_view merged ≡ tree_so_far ss
+        → IfOk result (λ tree. tree_view tree ≡ merged_tree ss) }
+{
+    match merged {
+        Some(tree) => Ok(tree),
+        None => default_tree(alloc),
     }
 }

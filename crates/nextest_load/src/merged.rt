@@ -136,7 +136,7 @@ fn merged_tables(
 }
 
 /// What a configuration keeps of the merged tree. Its faults are told at the repository's source.
-pub(crate) fn load_merged(
+pub(crate) fn read_merged(
     alloc: Global,
     repository: &ConfigSource,
     names: ScriptNames,

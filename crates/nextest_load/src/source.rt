@@ -151,7 +151,7 @@ fn read_own<W: ConfigWarnings>(
 
 /// The rules of a file over those below it, or its first fault. Its names go to those that are
 /// known.
-fn load_file<F: Filters, S: Specs, W: ConfigWarnings>(
+fn read_rules<F: Filters, S: Specs, W: ConfigWarnings>(
     alloc: Global,
     pcx: &ParseContext<'_, F, S>,
     features: &BTreeSet<ConfigExperimental>,
@@ -186,8 +186,8 @@ pub(crate) struct LoadedSource<F: Filters, S: Specs> {
     pub(crate) rules: LayerRules<F, S>,
 }
 
-/// Loads a source over those below it. Its names go to those that are known.
-pub(crate) fn load_source<F: Filters, S: Specs, W: ConfigWarnings>(
+/// Reads a source over those below it. Its names go to those that are known.
+pub(crate) fn read_source<F: Filters, S: Specs, W: ConfigWarnings>(
     alloc: Global,
     pcx: &ParseContext<'_, F, S>,
     features: &BTreeSet<ConfigExperimental>,
@@ -218,7 +218,7 @@ pub(crate) fn load_source<F: Filters, S: Specs, W: ConfigWarnings>(
         ≡ sets_of (known_to (map own_file below) (own_file (source_text_view file.now)))) }
 {
     let trees = read_trees(alloc, file)?;
-    let rules = load_file(
+    let rules = read_rules(
         alloc,
         pcx,
         features,

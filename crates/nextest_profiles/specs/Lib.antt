@@ -3,4 +3,5 @@ pub mod Junit
 pub mod KnownGroups
 pub mod Known
 pub mod Meaning
+pub mod SettingsOf
 pub mod Memberships

@@ -22,7 +22,7 @@ choice_meaning f c = record { filter = f c.filter; profile = c.profile; section 
 -- what a profile on the platforms of a build means
 abbrev pub profile_meaning : {E M : Type 0} → (E → M) → EvaluatableModel E → EvaluatableModel M
 profile_meaning f p = record {
-  grounds = p.grounds;
+  facts = p.facts;
   overrides = map (evaluated_override_meaning f) p.overrides;
   script_rules = map (evaluated_script_rule_meaning f) p.script_rules;
   default_filter = choice_meaning f p.default_filter;

@@ -1,6 +1,7 @@
 //! Profiles before the platforms of a build are known.
 ghost use Rattle.std.specs.Prelude.{◌≡◌, Some, IfOk, IfErr, is_some};
 ghost use Rattle.nextest_load.specs.ConfigView.{groups_view};
+ghost use Rattle.nextest_settings.specs.Engines.{meets_by};
 ghost use Rattle.nextest_settings.specs.Profile.{profile_on};
 ghost use Rattle.nextest_settings.specs.Settings.{report_path};
 ghost use Rattle.nextest_tables.specs.FileTexts.{names_in, IsIn};
@@ -9,7 +10,7 @@ ghost use Rattle.nextest_profiles.specs.Profiles.{IsProfileOf};
 
 use crate::chain::names_of;
 use crate::evaluatable::EvaluatableProfile;
-use crate::grounds::Grounds;
+use crate::facts::Facts;
 use crate::known_groups::{KnownGroups, names_of_groups};
 use nextest_elements::{CustomTestGroup, TestGroupConfig};
 use nextest_engines::{BuildPlatforms, Filters, Specs};
@@ -22,7 +23,7 @@ use std::marker::Model;
 /// A profile before the platforms of a build are known.
 #[derive(Drop)]
 pub struct EarlyProfile<'cfg, F: Filters, S: Specs> {
-    grounds: Grounds<'cfg>,
+    facts: Facts<'cfg>,
     rules: ChainRules<'cfg, F, S>,
     nearest_filter: Option<CompiledDefaultFilter<'cfg, F>>,
     match_all: &'cfg F::Expr,
@@ -38,7 +39,7 @@ impl<'cfg, F: Filters, S: Specs> Model for EarlyProfile<'cfg, F, S> {
     ghost use Rattle.nextest_settings.specs.View.{override_ref_view, script_rule_ref_view};
 
     ghost view = { λ p. record {
-      grounds = p.grounds;
+      facts = p.facts;
       overrides = map override_ref_view p.rules.overrides.items;
       script_rules = map script_rule_ref_view p.rules.script_rules.items;
       nearest_filter = option_map filter_view p.nearest_filter;
@@ -49,7 +50,7 @@ impl<'cfg, F: Filters, S: Specs> Model for EarlyProfile<'cfg, F, S> {
 
     /// The scripts that rules name are there, and each filter beside a list wrapper answers for
     /// each binary.
-    ghost invariant = { λ p. KnowsScripts p.grounds.scripts
+    ghost invariant = { λ p. KnowsScripts p.facts.scripts
         (map named_use p.rules.script_rules.items)
         × AnswerLists F.meaning S.spec_meaning F.holds_binary p.rules.script_rules.items };
 }
@@ -72,7 +73,7 @@ impl<'cfg, F: Filters, S: Specs> EarlyProfile<'cfg, F, S> {
         let names = names_of(alloc, config.profiles(), name)?;
         let layers = config.layers();
         Ok(EarlyProfile {
-            grounds: Grounds::new(alloc, workspace_root, config, name, &names)?,
+            facts: Facts::new(alloc, workspace_root, config, name, &names)?,
             rules: rules_of(alloc, layers, &names)?,
             nearest_filter: nearest_filter(layers, &names),
             match_all: config.match_all(),
@@ -81,30 +82,30 @@ impl<'cfg, F: Filters, S: Specs> EarlyProfile<'cfg, F, S> {
 
     /// The directory in which the profile stores what it writes.
     pub fn store_dir(&self) -> &str
-        ensures { Some result.now ≡ self.now.grounds.store_dir }
+        ensures { Some result.now ≡ self.now.facts.store_dir }
     {
-        self.grounds.store_dir()
+        self.facts.store_dir()
     }
 
     /// Whether a report is written.
     pub fn has_junit(&self) -> bool
-        ensures { result ≡ is_some (report_path self.now.grounds.fields) }
+        ensures { result ≡ is_some (report_path self.now.facts.fields) }
     {
-        self.grounds.has_junit()
+        self.facts.has_junit()
     }
 
     /// The groups that the configuration defines, by name.
     pub fn test_group_config(&self) -> &'cfg BTreeMap<CustomTestGroup, TestGroupConfig>
-        ensures { groups_view result.now.entries ≡ self.now.grounds.groups }
+        ensures { groups_view result.now.entries ≡ self.now.facts.groups }
     {
-        self.grounds.test_groups()
+        self.facts.test_groups()
     }
 
     /// The groups that filters may name.
     pub fn known_groups(&self, alloc: Global) -> Result<KnownGroups, AllocError>
-        ensures { IfOk result (IsKnownGroups (names_in self.now.grounds.groups)) }
+        ensures { IfOk result (IsKnownGroups (names_in self.now.facts.groups)) }
     {
-        let custom_groups = names_of_groups(alloc, self.grounds.test_groups())?;
+        let custom_groups = names_of_groups(alloc, self.facts.test_groups())?;
         Ok(KnownGroups::Known { custom_groups })
     }
 
@@ -116,7 +117,7 @@ impl<'cfg, F: Filters, S: Specs> EarlyProfile<'cfg, F, S> {
         platforms: &BuildPlatforms<S::Platform>,
     ) -> Result<EvaluatableProfile<'cfg, F, S>, EarlyProfile<'cfg, F, S>>
         ensures ok { IfOk result (λ profile. profile
-            ≡ profile_on (λ spec platform. S.holds_on (S.spec_meaning spec) platform) platforms.now
+            ≡ profile_on (meets_by S.Specs) platforms.now
             self.entry) }
         ensures err { IfErr result (λ profile. profile ≡ self.entry) }
     {
@@ -126,11 +127,11 @@ impl<'cfg, F: Filters, S: Specs> EarlyProfile<'cfg, F, S> {
         {
             Ok(rules) => {
                 let EarlyProfile {
-                    grounds,
+                    facts,
                     rules: _rules,
                     ..
                 } = self;
-                Ok(EvaluatableProfile::new(grounds, rules))
+                Ok(EvaluatableProfile::new(facts, rules))
             }
             Err(_) => Err(self),
         }

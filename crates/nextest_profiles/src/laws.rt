@@ -10,8 +10,9 @@ ghost use Rattle.nextest_load.specs.Closed.{IsClosed};
 ghost use Rattle.nextest_load.specs.Config.{config_of};
 ghost use Rattle.nextest_load.specs.Meaning.{config_meaning};
 ghost use Rattle.nextest_rules.specs.Accepted.{IsAmong};
+ghost use Rattle.nextest_settings.specs.Engines.{meets_by};
 ghost use Rattle.nextest_settings.specs.Profile.{Configured, EarlyModel, EvaluatableModel, profile_of, profile_on};
-ghost use Rattle.nextest_settings.specs.Queries.{test_query, setting_value, custom_group_of, group_of};
+ghost use Rattle.nextest_settings.specs.Queries.{query_in, setting_value, custom_group_of, group_of};
 ghost use Rattle.nextest_settings.specs.declared.setting.Setting.TheVariants.{TestGroup};
 ghost use Rattle.nextest_sources.specs.Inputs.{SourceText};
 ghost use Rattle.nextest_tables.specs.FileTexts.{names_in};
@@ -35,7 +36,7 @@ pub fn law_settings_of_texts<F: Filters, S: Specs>()
         → (meant : EarlyModel F.Meaning S.SpecMeaning)
         × IsProfileOf (with_config configured (config_of engines sources)) name meant
         × (profile_meaning F.meaning (profile_on
-        (λ spec platform. S.holds_on (S.spec_meaning spec) platform) platforms early)
+        (meets_by S.Specs) platforms early)
         ≡ profile_on S.holds_on platforms meant) }
 {}
 
@@ -46,8 +47,8 @@ pub fn law_known_groups<F: Filters, S: Specs>()
         (platforms : BuildPlatforms S.Platform) (mode : NextestRunMode) (test : Test)
         → IsClosed F.holds_binary configured.config configured.scripts
         → let profile = profile_on S.holds_on platforms (profile_of configured name chain) in
-        let query = test_query F.holds profile.default_filter.filter test in
-        IsAmong (names_in profile.grounds.groups) (setting_value query mode profile TestGroup) }
+        let query = query_in F.holds profile test in
+        IsAmong (names_in profile.facts.groups) (setting_value query mode profile TestGroup) }
 {}
 
 /// The group of a name among tests is the last custom group that the tests of that name get; where
@@ -65,7 +66,7 @@ pub fn law_last_group<F: Filters>()
 pub fn law_group_of_settings<F: Filters>()
     ensures { (p : EvaluatableModel F.Meaning) (tests : List Test) (n : ℕ) (test : Test)
         → HaveDistinctIds tests → slice_get tests n ≡ Some test
-        → let query = test_query F.holds p.default_filter.filter test in
+        → let query = query_in F.holds p test in
         setting_value query InTest p TestGroup
         ≡ Some (group_of F.holds p tests test.binary.binary_id test.name) }
 {}

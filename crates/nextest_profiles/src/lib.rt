@@ -4,7 +4,7 @@
 mod chain;
 mod early;
 mod evaluatable;
-mod grounds;
+mod facts;
 mod known_groups;
 mod laws;
 

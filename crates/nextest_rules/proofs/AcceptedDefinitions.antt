@@ -13,7 +13,7 @@ use Rattle.nextest_sources.specs.Warnings.{deprecated_scripts, reserved_profiles
 use Rattle.nextest_tables.specs.FileTexts.{FileText, IsIn, names_in, setup_ids_of, new_ids_of, script_ids_of}
 use Rattle.nextest_tables.specs.Written.{Name}
 use Rattle.nextest_rules.specs.Accepted.{AreAcceptedDefinitions}
-use Rattle.nextest_rules.specs.Definitions.{MayDefine, may_define, Features, forbidden_names, common_names, features_missing, is_nonempty, is_of_tool, needs_feature}
+use Rattle.nextest_rules.specs.Definitions.{MayDefine, may_define, Features, forbidden_names, common_names, features_missing, is_nonempty, source_class, needs_feature}
 use Rattle.nextest_rules.specs.Steps.{definition_steps, deprecated_steps, reserved_steps, group_name_cause, key_cause, feature_cause, kind_cause, script_name_cause, if_some}
 use Rattle.nextest_rules.proofs.Owning.{may_define_law}
 use Rattle.nextest_rules.proofs.Passing.{iff_trans, iff_both, both_pass, check_passes, warnings_pass, if_some_none, if_true_none, each_same, filter_none, not_false, is_false}
@@ -80,8 +80,8 @@ accepted_definitions features source file = (to, from)
 
     to : first_fault (definition_steps features source file) ≡ None → AreAcceptedDefinitions features source file
     to h = let p = parts.0 h in record {
-      group_names = (may_define_all (λ names. ill_named_groups (is_of_tool source.kind) (is_one_of names)) source.kind (names_in file.groups)).0 p.0;
-      script_names = (may_define_all (λ names. ill_named_scripts (is_of_tool source.kind) (is_one_of names)) source.kind (script_ids_of file)).0 p.1.1.1.1;
+      group_names = (may_define_all (λ names. ill_named_groups (source_class source.kind) (is_one_of names)) source.kind (names_in file.groups)).0 p.0;
+      script_names = (may_define_all (λ names. ill_named_scripts (source_class source.kind) (is_one_of names)) source.kind (script_ids_of file)).0 p.1.1.1.1;
       one_key = (one_empty file.old_setup_scripts (new_ids_of file)).0 ((if_true_none both_script_keys (is_nonempty file.old_setup_scripts && is_nonempty (new_ids_of file))).0 p.1.0);
       features_on = (features_are_on features file).0 ((if_some_none missing_features (features_missing features file)).0 p.1.1.0);
       one_kind = (none_common (λ names. both_script_kinds (is_one_of names)) (setup_ids_of file) file.wrapper_scripts).0 p.1.1.1.0;
@@ -89,14 +89,14 @@ accepted_definitions features source file = (to, from)
 
     from : AreAcceptedDefinitions features source file → first_fault (definition_steps features source file) ≡ None
     from a = parts.1 (
-      (may_define_all (λ names. ill_named_groups (is_of_tool source.kind) (is_one_of names)) source.kind (names_in file.groups)).1 a.group_names,
+      (may_define_all (λ names. ill_named_groups (source_class source.kind) (is_one_of names)) source.kind (names_in file.groups)).1 a.group_names,
       (
         (if_true_none both_script_keys (is_nonempty file.old_setup_scripts && is_nonempty (new_ids_of file))).1 ((one_empty file.old_setup_scripts (new_ids_of file)).1 a.one_key),
         (
           (if_some_none missing_features (features_missing features file)).1 ((features_are_on features file).1 a.features_on),
           (
             (none_common (λ names. both_script_kinds (is_one_of names)) (setup_ids_of file) file.wrapper_scripts).1 a.one_kind,
-            (may_define_all (λ names. ill_named_scripts (is_of_tool source.kind) (is_one_of names)) source.kind (script_ids_of file)).1 a.script_names,
+            (may_define_all (λ names. ill_named_scripts (source_class source.kind) (is_one_of names)) source.kind (script_ids_of file)).1 a.script_names,
           ),
         ),
       ),

@@ -15,3 +15,4 @@ pub mod Ordering
 pub mod Owning
 pub mod Passing
 pub mod Telling
+pub mod AtName

@@ -1,32 +1,24 @@
 -- Which names a source may define, and what its definitions need.
-use Rattle.std.specs.Prelude.{ℕ, List, [], ◌∷◌, Bool, true, false, not, ◌&&◌, filter}
-use Rattle.std.specs.Str.{bytes_eq}
+use Rattle.std.specs.Prelude.{◌≡◌, List, [], ◌∷◌, Bool, true, false, not, ◌&&◌, filter}
 use Rattle.nextest_tree.specs.Schema.{is_one_of}
 use Rattle.nextest_elements.specs.declared.experimental.ConfigExperimental.{ConfigExperimental}
 use Rattle.nextest_elements.specs.declared.experimental.ConfigExperimental.TheVariants.{SetupScripts, WrapperScripts}
-use Rattle.nextest_texts.specs.Identifier.{HasToolParts, IsToolIdentifier, is_tool_identifier, tool_of}
+use Rattle.nextest_texts.specs.Owner.{OwnerClass, owner_class, owner_of_name, is_same_owner}
 use Rattle.nextest_tables.specs.FileTexts.{FileText, setup_ids_of}
 use Rattle.nextest_tables.specs.Written.{Name}
-use Rattle.nextest_sources.specs.Sources.{SourceKind, tool_file, explicit_file, discovered_file}
+use Rattle.nextest_sources.specs.Sources.{SourceKind, owner_of_source}
 
--- A source may define a name: a tool's file only identifiers of that tool, the repository's file
--- only identifiers of no tool.
+-- A source may define a name exactly where the name's owner is the source's.
 abbrev pub MayDefine : SourceKind → Name → Type 0
-MayDefine (tool_file tool) name = (part : List ℕ) × HasToolParts name tool part
-MayDefine explicit_file name = ¬ IsToolIdentifier name
-MayDefine discovered_file name = ¬ IsToolIdentifier name
+MayDefine kind name = owner_of_name name ≡ owner_of_source kind
 
--- whether a source may define a name that is an identifier
+-- whether a source may define a name
 abbrev pub may_define : SourceKind → Name → Bool
-may_define (tool_file tool) name = is_tool_identifier name && bytes_eq (tool_of name) tool
-may_define explicit_file name = not (is_tool_identifier name)
-may_define discovered_file name = not (is_tool_identifier name)
+may_define kind name = is_same_owner (owner_of_name name) (owner_of_source kind)
 
--- whether a source is a tool's file
-abbrev pub is_of_tool : SourceKind → Bool
-is_of_tool (tool_file tool) = true
-is_of_tool explicit_file = false
-is_of_tool discovered_file = false
+-- the class of the owner of a source
+abbrev pub source_class : SourceKind → OwnerClass
+source_class kind = owner_class (owner_of_source kind)
 
 -- the names that a source may not define
 abbrev pub forbidden_names : SourceKind → List Name → List Name

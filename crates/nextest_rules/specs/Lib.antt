@@ -9,3 +9,4 @@ pub mod Accepted
 pub mod View
 pub mod KnownView
 pub mod Refusals
+pub mod IllNamed

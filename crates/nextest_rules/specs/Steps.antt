@@ -12,7 +12,7 @@ use Rattle.nextest_sources.specs.Sources.{Source}
 use Rattle.nextest_sources.specs.Steps.{LoadStep, warn, check}
 use Rattle.nextest_sources.specs.Warnings.{Warning, reserved_profiles, deprecated_scripts, empty_sections}
 use Rattle.nextest_rules.specs.CompileFaults.{compile_faults}
-use Rattle.nextest_rules.specs.Definitions.{is_of_tool, forbidden_names, common_names, Features, is_nonempty, features_missing}
+use Rattle.nextest_rules.specs.Definitions.{source_class, forbidden_names, common_names, Features, is_nonempty, features_missing}
 use Rattle.nextest_rules.specs.Known.{KnownSets, with_global, known_scripts}
 use Rattle.nextest_rules.specs.RuleFaults.{group_faults_in, script_faults_in, names_none}
 use Rattle.nextest_rules.specs.Rules.{LayerProfile, layer_of}
@@ -34,13 +34,13 @@ if_true cause b = if b then Some cause else None
 -- groups that a source may not define
 abbrev pub group_name_cause : Source → FileText → Option LoadCause
 group_name_cause source file =
-    if_some (λ names. ill_named_groups (is_of_tool source.kind) (is_one_of names))
+    if_some (λ names. ill_named_groups (source_class source.kind) (is_one_of names))
     (forbidden_names source.kind (names_in file.groups))
 
 -- scripts that a source may not define
 abbrev pub script_name_cause : Source → FileText → Option LoadCause
 script_name_cause source file =
-    if_some (λ names. ill_named_scripts (is_of_tool source.kind) (is_one_of names))
+    if_some (λ names. ill_named_scripts (source_class source.kind) (is_one_of names))
     (forbidden_names source.kind (script_ids_of file))
 
 -- scripts under `script` and under `scripts`

@@ -17,8 +17,8 @@ mod rules;
 mod texts;
 
 use crate::compile::profile::compile_profile;
-use crate::default_first::DefaultFirst;
 use crate::overrides::{CompiledProfile, LayerRules};
+use crate::profile_order::DefaultFirst;
 use nextest_engines::{Filters, ParseContext, Specs};
 use nextest_sources::{ConfigCompileError, ConfigParseError, ConfigParseErrorKind, ConfigSource};
 use nextest_tables::ProfileTable;

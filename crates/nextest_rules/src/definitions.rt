@@ -38,7 +38,7 @@ fn check_groups_and_keys(
 }
 
 /// Checks the features that scripts need, their kinds and their names.
-fn check_scripts(
+fn check_defined_scripts(
     alloc: Global,
     features: &BTreeSet<ConfigExperimental>,
     source: &ConfigSource,
@@ -119,6 +119,6 @@ pub fn check_definitions<W: ConfigWarnings>(
 {
     check_groups_and_keys(alloc, source, file)?;
     warn_of_old_key(alloc, source, file, warnings)?;
-    check_scripts(alloc, features, source, file)?;
+    check_defined_scripts(alloc, features, source, file)?;
     warn_of_reserved(alloc, source, file, warnings)
 }

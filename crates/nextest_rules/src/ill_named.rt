@@ -1,6 +1,5 @@
 //! Names that a source may not define.
 ghost use Rattle.std.specs.Prelude.{◌≡◌, ◌||◌, map, ℕ, List, Some, IfOk, OnOk};
-ghost use Rattle.nextest_sources.specs.Causes.{ill_named_groups, ill_named_scripts};
 ghost use Rattle.nextest_sources.specs.Endings.{ending, Found};
 ghost use Rattle.nextest_sources.specs.Errors.{cause_view, group_names_view, script_names_view};
 ghost use Rattle.nextest_sources.specs.InputFaults.{fault_at_source};
@@ -8,9 +7,12 @@ ghost use Rattle.nextest_sources.specs.Sources.{source_view, source_kind_view};
 ghost use Rattle.nextest_tables.specs.FileTexts.{names_in, script_ids_of};
 ghost use Rattle.nextest_tables.specs.View.{file_table_view};
 ghost use Rattle.nextest_texts.specs.IdentifierText.{identifier_text};
+ghost use Rattle.nextest_texts.specs.Owner.{owner_class};
+ghost use Rattle.nextest_texts.specs.OwnerView.{owner_view};
 ghost use Rattle.nextest_tree.specs.Schema.{is_one_of};
 ghost use Rattle.nextest_rules.specs.Definitions as defs;
 ghost use Rattle.nextest_rules.specs.Definitions.{forbidden_names};
+ghost use Rattle.nextest_rules.specs.IllNamed.{ill_named_cause};
 ghost use Rattle.nextest_rules.specs.Steps.{group_name_cause, script_name_cause};
 
 use crate::names::IdentifierKey;
@@ -18,24 +20,15 @@ use nextest_elements::CustomTestGroup;
 use nextest_scripts::ScriptId;
 use nextest_sources::{ConfigParseError, ConfigParseErrorKind, ConfigSource, ConfigSourceKind};
 use nextest_tables::FileTable;
-use nextest_texts::ConfigIdentifier;
+use nextest_texts::{ConfigIdentifier, IdentifierOwner};
 use std::alloc::{AllocError, Global};
 use std::collections::{BTreeMap, BTreeSet};
 
-/// Whether a source may define a name: a tool's file its own names, the repository's file names of
-/// no tool.
+/// Whether a source may define a name: it has the name's owner.
 fn may_define(kind: &ConfigSourceKind, name: &ConfigIdentifier) -> bool
     ensures { result ≡ defs.may_define (source_kind_view kind.now) (identifier_text name.now) }
 {
-    match kind {
-        ConfigSourceKind::Tool(tool) => match name.tool_components() {
-            Some((owner, _)) => owner == tool.as_str(),
-            None => false,
-        },
-        ConfigSourceKind::ExplicitRepository | ConfigSourceKind::DiscoveredRepository => {
-            !name.is_tool_identifier()
-        }
-    }
+    name.owner() == kind.owner()
 }
 
 /// Adds the names of a table that a source may not define.
@@ -90,28 +83,29 @@ fn forbidden_scripts(
     Ok(ids)
 }
 
-/// The refusal of groups that a source may not define.
-fn groups_kind(source: &ConfigSource, groups: BTreeSet<CustomTestGroup>) -> ConfigParseErrorKind
-    ensures { cause_view result ≡ Some (ill_named_groups
-        (defs.is_of_tool (source_view source.now).kind) (group_names_view groups)) }
-{
-    match source.kind() {
-        ConfigSourceKind::Tool(_) => ConfigParseErrorKind::InvalidTestGroupsDefinedByTool(groups),
-        ConfigSourceKind::ExplicitRepository | ConfigSourceKind::DiscoveredRepository => {
-            ConfigParseErrorKind::InvalidTestGroupsDefined(groups)
-        }
-    }
+/// Names that a source may not define.
+#[derive(Drop)]
+enum IllNamed {
+    Groups(BTreeSet<CustomTestGroup>),
+    Scripts(BTreeSet<ScriptId>),
 }
 
-/// The refusal of scripts that a source may not define.
-fn scripts_kind(source: &ConfigSource, ids: BTreeSet<ScriptId>) -> ConfigParseErrorKind
-    ensures { cause_view result ≡ Some (ill_named_scripts
-        (defs.is_of_tool (source_view source.now).kind) (script_names_view ids)) }
+/// The refusal of names that a source of this owner may not define.
+fn ill_named_kind(owner: IdentifierOwner<'_>, names: IllNamed) -> ConfigParseErrorKind
+    ensures { cause_view result ≡ Some (ill_named_cause (owner_class (owner_view owner.entry)) names) }
 {
-    match source.kind() {
-        ConfigSourceKind::Tool(_) => ConfigParseErrorKind::InvalidConfigScriptsDefinedByTool(ids),
-        ConfigSourceKind::ExplicitRepository | ConfigSourceKind::DiscoveredRepository => {
+    match (names, owner) {
+        (IllNamed::Groups(groups), IdentifierOwner::Nobody) => {
+            ConfigParseErrorKind::InvalidTestGroupsDefined(groups)
+        }
+        (IllNamed::Groups(groups), IdentifierOwner::Tool(_)) => {
+            ConfigParseErrorKind::InvalidTestGroupsDefinedByTool(groups)
+        }
+        (IllNamed::Scripts(ids), IdentifierOwner::Nobody) => {
             ConfigParseErrorKind::InvalidConfigScriptsDefined(ids)
+        }
+        (IllNamed::Scripts(ids), IdentifierOwner::Tool(_)) => {
+            ConfigParseErrorKind::InvalidConfigScriptsDefinedByTool(ids)
         }
     }
 }
@@ -129,7 +123,8 @@ pub(crate) fn check_group_names(
     if groups.is_empty() {
         return Ok(());
     }
-    Err(ConfigParseError::at(source, groups_kind(source, groups)))
+    let kind = ill_named_kind(source.kind().owner(), IllNamed::Groups(groups));
+    Err(ConfigParseError::at(source, kind))
 }
 
 /// Refuses scripts that a source may not define, with all of them.
@@ -145,5 +140,6 @@ pub(crate) fn check_script_names(
     if ids.is_empty() {
         return Ok(());
     }
-    Err(ConfigParseError::at(source, scripts_kind(source, ids)))
+    let kind = ill_named_kind(source.kind().owner(), IllNamed::Scripts(ids));
+    Err(ConfigParseError::at(source, kind))
 }

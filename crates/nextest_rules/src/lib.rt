@@ -5,7 +5,6 @@
 
 mod check;
 mod compile;
-mod default_first;
 mod definitions;
 mod empty_sections;
 mod features;

@@ -70,6 +70,6 @@ abbrev pub nearest_filter : {M K : Type 0} → List (Layer M K) → List Name �
 nearest_filter layers names = first_of (filter_of_profile layers) names
 
 -- the filter that matches everything, as the default filter of `default`
-abbrev pub filter_of_nothing : {M : Type 0} → M → FilterChoice M
-filter_of_nothing match_all =
+abbrev pub match_all_filter : {M : Type 0} → M → FilterChoice M
+match_all_filter match_all =
     record { filter = match_all; profile = default_name; section = at_profile }

@@ -1,5 +1,5 @@
 -- Which rule decides something, and which filters are evaluated for that.
-use Rattle.std.specs.Prelude.{◌≡◌, ◌≤◌, ◌<◌, ◌+◌, ◌&&◌, slice_get, ℕ, List, [], ◌∷◌, ◌++◌, length, Bool, true, false, Option, None, Some, is_some, is_none, find, if◌then◌else◌}
+use Rattle.std.specs.Prelude.{◌≡◌, ◌≤◌, ◌<◌, ◌+◌, ◌&&◌, slice_get, ℕ, List, [], ◌∷◌, ◌++◌, length, Bool, true, false, Option, None, Some, IsSome, IsTrue, is_some, is_none, find, if◌then◌else◌}
 use Rattle.std.specs.List.{list_any}
 use Rattle.nextest_engines.specs.declared.queries.BuildPlatform.{BuildPlatform}
 use Rattle.nextest_settings.specs.Platforms.{EvaluatedRule, is_on}
@@ -43,6 +43,19 @@ asked_from things first query before [] = []
 asked_from things first query before (rule ∷ rest) =
     (if is_asked things query before rule then (first + length before) ∷ [] else [])
     ++ asked_from things first query (before ++ rule ∷ []) rest
+
+-- A rule is evaluated for things: it has a filter, its platforms hold, and it writes one of the
+-- things which no rule below its place decides.
+pub record IsEvaluated {T M W : Type 0} (writes : T → W → Bool) (query : QueryContext M)
+    (rules : List (EvaluatedRule M W)) (place : ℕ) : Type 0 where
+  pub rule : EvaluatedRule M W
+  pub stands : slice_get rules place ≡ Some rule
+  pub has_filter : IsSome rule.filter
+  pub platforms_hold : IsTrue (is_on rule query.platform)
+  pub thing : T
+  pub written : IsTrue (writes thing rule.writes)
+  pub undecided : (n : ℕ) (lower : EvaluatedRule M W) → n < place
+      → slice_get rules n ≡ Some lower → decides query (writes thing) lower ≡ false
 
 -- a strictly rising list of numbers from the least one on, of each of which P holds
 abbrev pub Rising : (ℕ → Type 0) → ℕ → List ℕ → Type 0

@@ -5,6 +5,7 @@ pub mod Values
 pub mod Settings
 pub mod Deciding
 pub mod Queries
+pub mod Engines
 pub mod View
 pub mod FilterView
 pub mod ChainValues

@@ -11,7 +11,7 @@ use Rattle.nextest_settings.specs.declared.setting.Setting.TheVariants as at
 use Rattle.nextest_settings.specs.Deciding.{QueryContext, filter_holds, winner}
 use Rattle.nextest_settings.specs.Platforms.{EvaluatedRule, is_on}
 use Rattle.nextest_settings.specs.Settings.{is_set, settings}
-use Rattle.nextest_settings.specs.View.{held_override_meaning}
+use Rattle.nextest_settings.specs.View.{meant_override}
 
 -- an override on the platforms of a build, by what its filters mean
 abbrev pub Override : Type 0 → Type 0
@@ -20,7 +20,7 @@ Override M = EvaluatedRule M (OverrideUse M)
 -- what slots hold, by what the filters mean
 abbrev pub slots_view : {F S E T N P M : Type 0} → (E → M)
     → List (Option (EvaluatedRule' (CompiledOverride F S E T N P))) → List (Option (Override M))
-slots_view meaning slots = map (option_map (held_override_meaning meaning)) slots
+slots_view meaning slots = map (option_map (meant_override meaning)) slots
 
 -- whether overrides write a setting at all: none names a wrapper
 abbrev pub is_overridable : Setting → Bool

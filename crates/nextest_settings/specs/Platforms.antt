@@ -47,6 +47,15 @@ rule_on meets platforms rule = record {
   writes = rule.writes;
 }
 
+-- What a rule says beside its platforms: its filter, and what it writes.
+pub record RuleText (M W : Type 0) : Type 0 where
+  pub filter : Option M
+  pub writes : W
+
+-- what a rule on the platforms of a build says beside them
+abbrev pub rule_text : {M W : Type 0} → EvaluatedRule M W → RuleText M W
+rule_text rule = record { filter = rule.filter; writes = rule.writes }
+
 -- an answer for binaries of the host, and one for those of the target
 abbrev pub by_platform : Bool → Bool → BuildPlatform → Bool
 by_platform for_host for_target Host = for_host
@@ -72,5 +81,5 @@ filter_of_override rule =
 -- hold, else that of the nearest profile, else the one that matches everything.
 abbrev pub default_filter_of : {M : Type 0} → List (EvaluatedRule M (OverrideUse M))
     → Option (FilterChoice M) → FilterChoice M → FilterChoice M
-default_filter_of overrides nearest nothing =
-    unwrap_or (option_or (first_of filter_of_override overrides) nearest) nothing
+default_filter_of overrides nearest all =
+    unwrap_or (option_or (first_of filter_of_override overrides) nearest) all

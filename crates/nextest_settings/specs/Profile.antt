@@ -8,7 +8,7 @@ use Rattle.nextest_rules.specs.Rules.{Compiled, OverrideUse, at_name}
 use Rattle.nextest_scripts.specs.Paths.{joined_path}
 use Rattle.nextest_tables.specs.FileTexts.{ScriptUse}
 use Rattle.nextest_tables.specs.Written.{Name, WrittenFields}
-use Rattle.nextest_settings.specs.Chains.{overrides_of, script_rules_of, fields_of, FilterChoice, nearest_filter, filter_of_nothing}
+use Rattle.nextest_settings.specs.Chains.{overrides_of, script_rules_of, fields_of, FilterChoice, nearest_filter, match_all_filter}
 use Rattle.nextest_settings.specs.Platforms.{EvaluatedRule, rule_on, default_filter_of}
 
 -- A configuration as its calls have it: the workspace's root, what was loaded, and its scripts.
@@ -19,7 +19,7 @@ pub record Configured (M K : Type 0) : Type 0 where
 
 -- what a profile says whatever the platforms: its name, parent, directory, groups and scripts, and
 -- what the profiles of its chain write, the nearest first
-pub record ProfileGrounds : Type 0 where
+pub record ProfileFacts : Type 0 where
   pub name : Name
   pub parent : Option Name
   pub store_dir : Option (List ℕ)
@@ -27,10 +27,10 @@ pub record ProfileGrounds : Type 0 where
   pub scripts : ScriptTables
   pub fields : List WrittenFields
 
--- A profile: its grounds, the rules of its chain in order, and the default filter of the nearest
+-- A profile: its facts, the rules of its chain in order, and the default filter of the nearest
 -- profile that has one.
 pub record EarlyModel (M K : Type 0) : Type 0 where
-  pub grounds : ProfileGrounds
+  pub facts : ProfileFacts
   pub overrides : List (Compiled M K (OverrideUse M))
   pub script_rules : List (Compiled M K ScriptUse)
   pub nearest_filter : Option (FilterChoice M)
@@ -41,8 +41,8 @@ abbrev pub store_dir_of : List ℕ → Option (List ℕ) → Name → Option (Li
 store_dir_of root dir name = option_map (λ d. joined_path (joined_path root d) name) dir
 
 -- what a profile of this chain says whatever the platforms
-abbrev pub grounds_of : {M K : Type 0} → Configured M K → Name → List Name → ProfileGrounds
-grounds_of configured name chain = record {
+abbrev pub facts_of : {M K : Type 0} → Configured M K → Name → List Name → ProfileFacts
+facts_of configured name chain = record {
   name = name;
   parent = option_and_then (λ p. p.parent) (at_name name configured.config.profiles);
   store_dir = store_dir_of configured.root configured.config.store_dir name;
@@ -54,17 +54,17 @@ grounds_of configured name chain = record {
 -- the profile of this name and chain
 abbrev pub profile_of : {M K : Type 0} → Configured M K → Name → List Name → EarlyModel M K
 profile_of configured name chain = record {
-  grounds = grounds_of configured name chain;
+  facts = facts_of configured name chain;
   overrides = overrides_of configured.config.layers (with_default chain);
   script_rules = script_rules_of configured.config.layers (with_default chain);
   nearest_filter = nearest_filter configured.config.layers (with_default chain);
   match_all = configured.config.match_all;
 }
 
--- A profile on the platforms of a build: its grounds, its rules, and the default filter that
+-- A profile on the platforms of a build: its facts, its rules, and the default filter that
 -- counts.
 pub record EvaluatableModel (M : Type 0) : Type 0 where
-  pub grounds : ProfileGrounds
+  pub facts : ProfileFacts
   pub overrides : List (EvaluatedRule M (OverrideUse M))
   pub script_rules : List (EvaluatedRule M ScriptUse)
   pub default_filter : FilterChoice M
@@ -75,9 +75,9 @@ abbrev pub profile_on : {M K P : Type 0} → (K → P → Option Bool) → Build
 profile_on meets platforms p =
     let overrides = map (rule_on meets platforms) p.overrides in
     record {
-      grounds = p.grounds;
+      facts = p.facts;
       overrides = overrides;
       script_rules = map (rule_on meets platforms) p.script_rules;
       default_filter =
-          default_filter_of overrides p.nearest_filter (filter_of_nothing p.match_all);
+          default_filter_of overrides p.nearest_filter (match_all_filter p.match_all);
     }

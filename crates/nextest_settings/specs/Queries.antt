@@ -1,5 +1,5 @@
 -- What profiles answer: the settings of tests with their sources, wrappers, setup scripts, groups.
-use Rattle.std.specs.Prelude.{ℕ, List, [], ◌∷◌, ◌++◌, map, reverse, length, Bool, false, ◌&&◌, Option, None, Some, option_map, option_and_then, unwrap_or, is_some, IsSome, filter}
+use Rattle.std.specs.Prelude.{◌≡◌, ◌⊎◌, ◌+◌, ℕ, List, [], ◌∷◌, ◌++◌, map, reverse, length, Bool, false, ◌&&◌, Option, None, Some, option_map, option_and_then, unwrap_or, is_some, IsSome, filter}
 use Rattle.std.specs.List.{list_any}
 use Rattle.std.specs.Option.{option_or}
 use Rattle.std.specs.Str.{bytes_eq}
@@ -19,7 +19,7 @@ use Rattle.nextest_tree.specs.Schema.{is_one_of}
 use Rattle.nextest_settings.specs.declared.setting.Setting.{Setting}
 use Rattle.nextest_settings.specs.declared.setting.Setting.TheVariants as at
 use Rattle.nextest_settings.specs.Chains.{first_of}
-use Rattle.nextest_settings.specs.Deciding.{QueryContext, rule_holds, winner, asked_from}
+use Rattle.nextest_settings.specs.Deciding.{QueryContext, rule_holds, winner, asked_from, IsEvaluated}
 use Rattle.nextest_settings.specs.Platforms.{EvaluatedRule}
 use Rattle.nextest_settings.specs.Profile.{EvaluatableModel}
 use Rattle.nextest_settings.specs.Settings.{ValueOf, sets, is_set, settings, fallback_of}
@@ -37,6 +37,11 @@ binary_query holds default binary = record {
   platform = binary.platform;
   matches = λ m. unwrap_or (holds m binary default) false;
 }
+
+-- a test in a profile, judged by what filters match
+abbrev pub query_in : {M : Type 0} → (M → Test → M → Bool) → EvaluatableModel M → Test
+    → QueryContext M
+query_in matches profile test = test_query matches profile.default_filter.filter test
 
 -- the first override that holds and sets a setting
 abbrev pub deciding_override : {M : Type 0} → QueryContext M → NextestRunMode
@@ -68,11 +73,11 @@ value_by query mode overrides script_rules fields s =
 abbrev pub setting_value : {M : Type 0} → QueryContext M → NextestRunMode → EvaluatableModel M
     → (s : Setting) → Option (ValueOf s)
 setting_value query mode p s =
-    value_by query mode p.overrides p.script_rules p.grounds.fields s
+    value_by query mode p.overrides p.script_rules p.facts.fields s
 
 -- where a value comes from: nothing that is written, the profile, an override, a script rule
 pub data Origin : Type 0 where
-  by_default : Origin
+  unwritten : Origin
   by_profile : Origin
   by_override : RuleId → Origin
   by_script : Origin
@@ -80,7 +85,7 @@ pub data Origin : Type 0 where
 -- the origin of a fallback: nothing that is written for the priority, none for the run wrapper,
 -- and else the profile
 abbrev pub fallback_origin : Setting → Option Origin
-fallback_origin at.Priority = Some by_default
+fallback_origin at.Priority = Some unwritten
 fallback_origin at.RunWrapper = None
 fallback_origin _ = Some by_profile
 
@@ -117,6 +122,15 @@ evaluated_by query mode overrides script_rules =
 abbrev pub evaluated_for_test : {M : Type 0} → QueryContext M → NextestRunMode
     → EvaluatableModel M → List ℕ
 evaluated_for_test query mode p = evaluated_by query mode p.overrides p.script_rules
+
+-- A number is evaluated for the settings of a test: it is that of an override that is evaluated for
+-- a setting, or, counted on from the overrides, that of a script rule for the run wrapper.
+abbrev pub IsEvaluatedForTest : {M : Type 0} → QueryContext M → NextestRunMode
+    → EvaluatableModel M → ℕ → Type 0
+IsEvaluatedForTest query mode p n =
+    IsEvaluated (λ (s : Setting) w. is_set w.settings mode s) query p.overrides n
+    ⊎ ((k : ℕ) × (n ≡ length p.overrides + k)
+    × IsEvaluated (λ (wrapper : Unit {0}) w. is_some w.run_wrapper) query p.script_rules k)
 
 -- the first script rule that holds and names a list wrapper
 abbrev pub listing_rule : {M : Type 0} → QueryContext M → List (EvaluatedRule M ScriptUse)
@@ -156,6 +170,12 @@ listed_by query first script_rules =
 abbrev pub evaluated_for_list : {M : Type 0} → QueryContext M → EvaluatableModel M → List ℕ
 evaluated_for_list query p = listed_by query (length p.overrides) p.script_rules
 
+-- A number is evaluated for the list wrapper of a binary: counted on from the overrides, it is that
+-- of a script rule which is evaluated for the wrapper.
+abbrev pub IsEvaluatedForList : {M : Type 0} → QueryContext M → EvaluatableModel M → ℕ → Type 0
+IsEvaluatedForList query p n = (k : ℕ) × (n ≡ length p.overrides + k)
+    × IsEvaluated (λ (wrapper : Unit {0}) w. is_some w.list_wrapper) query p.script_rules k
+
 -- whether a script rule that names a setup script holds
 abbrev pub is_enabled_for : {M : Type 0} → QueryContext M → List (EvaluatedRule M ScriptUse)
     → Name → Bool
@@ -172,7 +192,7 @@ enabled_by queries rules scripts =
 -- some of them.
 abbrev pub enabled_scripts : {M : Type 0} → List (QueryContext M) → EvaluatableModel M
     → List (Name × SetupScriptText)
-enabled_scripts queries p = enabled_by queries p.script_rules p.grounds.scripts.setup
+enabled_scripts queries p = enabled_by queries p.script_rules p.facts.scripts.setup
 
 -- a custom group, and nothing of the global one
 abbrev pub custom_group : TestGroup → Option TestGroup
@@ -201,7 +221,7 @@ last_group f tests binary_id name =
 abbrev pub custom_group_of : {M : Type 0} → (M → Test → M → Bool) → EvaluatableModel M → Test
     → Option TestGroup
 custom_group_of holds p test = option_and_then custom_group
-    (setting_value (test_query holds p.default_filter.filter test) InTest p at.TestGroup)
+    (setting_value (query_in holds p test) InTest p at.TestGroup)
 
 -- The group of a name among tests: the custom group of the last test of that name that gets one,
 -- else the global group.

@@ -3,6 +3,7 @@ use Rattle.std.specs.Prelude.{List, Option, None, Some, option_map, option_and_t
 use Rattle.std.specs.Option.{option_or}
 use Rattle.nextest_elements.specs.declared.run_mode.NextestRunMode.{NextestRunMode}
 use Rattle.nextest_elements.specs.declared.test_group.TestGroup.{TestGroup}
+use Rattle.nextest_rules.specs.Rules.{Compiled, OverrideUse}
 use Rattle.nextest_scripts.specs.ScriptTexts.{WrapperScriptText, wrapper_script_view}
 use Rattle.nextest_settings.specs.ChainValues.{stored_in, slow_timeout_of}
 use Rattle.nextest_settings.specs.Queries.{Origin, by_override, by_script, fallback_origin}
@@ -62,6 +63,11 @@ written_origin_at t s =
 abbrev pub origin_at : {F S Src E T N P : Type 0} → TestSettings F S Src E T N P → Setting
     → Option Origin
 origin_at t s = option_or (written_origin_at t s) (fallback_origin s)
+
+-- the override that decides a setting, if one does: as code holds it, with its platforms
+abbrev pub override_at : {F S Src E T N P : Type 0} → TestSettings F S Src E T N P → Setting
+    → Option (Compiled E N (OverrideUse E))
+override_at t s = option_map (λ r. override_ref_view r.rule) (slot_at t.winners.slots s)
 
 -- what the script rule writes that gives the test its wrapper, if one does
 abbrev pub wrapping_use_at : {F S Src E T N P : Type 0} → TestSettings F S Src E T N P

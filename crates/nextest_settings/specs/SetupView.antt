@@ -5,7 +5,7 @@ use Rattle.nextest_scripts.specs.ScriptTexts.{SetupScriptText, setup_script_view
 use Rattle.nextest_tables.specs.FileTexts.{ScriptUse}
 use Rattle.nextest_tables.specs.Written.{Name}
 use Rattle.nextest_settings.specs.Platforms.{EvaluatedRule}
-use Rattle.nextest_settings.specs.View.{held_script_rule_meaning}
+use Rattle.nextest_settings.specs.View.{meant_script_rule}
 use Rattle.nextest_settings.specs.declared.setup_scripts.NamedSetupScript.{NamedSetupScript}
 use Rattle.nextest_settings.specs.declared.setup_scripts.NumberedRule.{NumberedRule}
 use Rattle.nextest_settings.specs.declared.setup_scripts.SetupScript.{SetupScript}
@@ -15,7 +15,7 @@ use Rattle.nextest_settings.specs.declared.setup_scripts.SetupScriptIter.{SetupS
 -- a rule, by what its filter means
 abbrev pub numbered_rule_view : {F S E T N P M : Type 0} → (E → M) → NumberedRule F S E T N P
     → EvaluatedRule M ScriptUse
-numbered_rule_view meaning r = held_script_rule_meaning meaning r.rule
+numbered_rule_view meaning r = meant_script_rule meaning r.rule
 
 -- a setup script by its id
 abbrev pub named_setup_script_view : NamedSetupScript → Name × SetupScriptText

@@ -1,14 +1,15 @@
 -- What contracts see of the source of a setting.
 use Rattle.std.specs.Prelude.{Option, None, Some}
+use Rattle.nextest_rules.specs.Rules.{Compiled, OverrideUse}
 use Rattle.nextest_rules.specs.View.{override_rule_view, script_rule_view}
 use Rattle.nextest_tables.specs.FileTexts.{ScriptUse}
-use Rattle.nextest_settings.specs.Queries.{Origin, by_default, by_profile, by_override, by_script}
+use Rattle.nextest_settings.specs.Queries.{Origin, unwritten, by_profile, by_override, by_script}
 use Rattle.nextest_settings.specs.declared.source.SettingSource.{SettingSource}
 use Rattle.nextest_settings.specs.declared.source.SettingSource.TheVariants.{Default, Profile, Override, Script}
 
 -- the origin that a source tells
 abbrev pub setting_source_view : {F S E T N P : Type 0} → SettingSource F S E T N P → Origin
-setting_source_view Default = by_default
+setting_source_view Default = unwritten
 setting_source_view Profile = by_profile
 setting_source_view (Override rule) = by_override (override_rule_view rule.now).writes.id
 setting_source_view (Script rule) = by_script
@@ -20,6 +21,14 @@ source_use Default = None
 source_use Profile = None
 source_use (Override rule) = None
 
+-- the override that a source tells, if it tells one
+abbrev pub source_override : {F S E T N P : Type 0} → SettingSource F S E T N P
+    → Option (Compiled E N (OverrideUse E))
+source_override (Override rule) = Some (override_rule_view rule.now)
+source_override Default = None
+source_override Profile = None
+source_override (Script rule) = None
+
 -- a mark is there exactly where an origin is, and is right for it
 abbrev pub MarksOrigin : {Source : Type 0} → (Source → Origin → Type 0) → Option Source
     → Option Origin → Type 0
@@ -27,6 +36,13 @@ MarksOrigin shows None None = Unit {0}
 MarksOrigin shows (Some source) (Some origin) = shows source origin
 MarksOrigin shows None (Some origin) = ⊥
 MarksOrigin shows (Some source) None = ⊥
+
+-- where an override decides, a mark is there and is right for it
+abbrev pub MarksOverride : {Source R : Type 0} → (Source → R → Type 0) → Option R
+    → Option Source → Type 0
+MarksOverride shows None mark = Unit {0}
+MarksOverride shows (Some rule) (Some source) = shows source rule
+MarksOverride shows (Some rule) None = ⊥
 
 -- a mark is there exactly where a script rule is, and is right for what the rule writes
 abbrev pub MarksScriptRule : {Source : Type 0} → (Source → ScriptUse → Type 0) → Option Source

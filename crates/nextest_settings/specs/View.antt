@@ -14,7 +14,7 @@ use Rattle.nextest_tables.specs.View.{fields_view}
 use Rattle.nextest_tables.specs.Written.{WrittenFields}
 use Rattle.nextest_tables.specs.declared.profile_table.ProfileFields.{ProfileFields}
 use Rattle.nextest_settings.specs.declared.platforms.EvaluatedRule.{EvaluatedRule as EvaluatedRule'}
-use Rattle.nextest_settings.specs.Platforms.{EvaluatedRule}
+use Rattle.nextest_settings.specs.Platforms.{EvaluatedRule, RuleText}
 
 -- an override behind a reference
 abbrev pub override_ref_view : {F S E T N P : Type 0} → Bor (CompiledOverride F S E T N P)
@@ -71,15 +71,21 @@ abbrev pub evaluated_script_rule_meaning : {E M : Type 0} → (E → M) → Eval
 evaluated_script_rule_meaning f r = evaluated_meaning f (λ u. u) r
 
 -- an override that code holds, by what its filters mean
-abbrev pub held_override_meaning : {F S E T N P M : Type 0} → (E → M)
+abbrev pub meant_override : {F S E T N P M : Type 0} → (E → M)
     → EvaluatedRule' (CompiledOverride F S E T N P) → EvaluatedRule M (OverrideUse M)
-held_override_meaning meaning r = evaluated_override_meaning meaning (evaluated_override_view r)
+meant_override meaning r = evaluated_override_meaning meaning (evaluated_override_view r)
 
 -- a script rule that code holds, by what its filter means
-abbrev pub held_script_rule_meaning : {F S E T N P M : Type 0} → (E → M)
+abbrev pub meant_script_rule : {F S E T N P M : Type 0} → (E → M)
     → EvaluatedRule' (CompiledProfileScripts F S E T N P) → EvaluatedRule M ScriptUse
-held_script_rule_meaning meaning r =
+meant_script_rule meaning r =
     evaluated_script_rule_meaning meaning (evaluated_script_rule_view r)
+
+-- what an override says beside its platforms, by what its filters mean
+abbrev pub override_text_meaning : {E N M : Type 0} → (E → M) → Compiled E N (OverrideUse E)
+    → RuleText M (OverrideUse M)
+override_text_meaning f rule =
+    record { filter = option_map f rule.filter; writes = use_meaning f rule.writes }
 
 -- each run wrapper that script rules name is a wrapper script of a configuration
 abbrev pub KnowsRunWrappers : {F S E T N P : Type 0} → ScriptTables

@@ -2,7 +2,7 @@
 ghost use Rattle.std.specs.Prelude.{◌≡◌, map, option_map, option_and_then, IfOk, string_bytes};
 ghost use Rattle.nextest_rules.specs.Rules.{at_name};
 ghost use Rattle.nextest_rules.specs.View.{layer_view};
-ghost use Rattle.nextest_settings.specs.Chains.{first_of, filter_of_profile, nearest_filter, filter_of_nothing, display_of};
+ghost use Rattle.nextest_settings.specs.Chains.{first_of, filter_of_profile, nearest_filter, match_all_filter, display_of};
 ghost use Rattle.nextest_settings.specs.Platforms.{filter_of_override, default_filter_of};
 ghost use Rattle.nextest_settings.specs.View.{evaluated_override_view};
 ghost use Rattle.nextest_settings.specs.FilterView.{filter_view};
@@ -164,7 +164,7 @@ pub fn default_filter_of<'cfg, F: Filters, S: Specs>(
 ) -> CompiledDefaultFilter<'cfg, F>
     ensures { filter_view result
         ≡ default_filter_of (map evaluated_override_view overrides.now)
-        (option_map filter_view nearest.entry) (filter_of_nothing match_all.now) }
+        (option_map filter_view nearest.entry) (match_all_filter match_all.now) }
 {
     match first_filter(overrides) {
         Some(filter) => filter,

@@ -1,6 +1,7 @@
 //! The rules of a profile on the platforms of a build, and what they answer.
 ghost use Rattle.std.specs.Prelude.{◌≡◌, ◌++◌, map, option_map, IfOk};
-ghost use Rattle.nextest_settings.specs.Chains.{filter_of_nothing};
+ghost use Rattle.nextest_settings.specs.Chains.{match_all_filter};
+ghost use Rattle.nextest_settings.specs.Engines.{meets_by};
 ghost use Rattle.nextest_settings.specs.FilterView.{filter_view};
 ghost use Rattle.nextest_settings.specs.Platforms.{rule_on, default_filter_of};
 ghost use Rattle.nextest_settings.specs.View.{override_ref_view, script_rule_ref_view, evaluated_override_view, evaluated_script_rule_view};
@@ -34,16 +35,16 @@ impl<'cfg, F: Filters, S: Specs> ChainRules<'cfg, F, S> {
     ) -> Result<EvaluatedRules<'cfg, F, S>, AllocError>
         ensures overrides { IfOk result (λ rules. map evaluated_override_view rules.overrides.items
             ≡ map (rule_on
-            (λ spec platform. S.holds_on (S.spec_meaning spec) platform) platforms.now)
+            (meets_by S.Specs) platforms.now)
             (map override_ref_view self.now.overrides.items)) }
         ensures script_rules { IfOk result (λ rules.
             map evaluated_script_rule_view rules.script_rules.items
             ≡ map (rule_on
-            (λ spec platform. S.holds_on (S.spec_meaning spec) platform) platforms.now)
+            (meets_by S.Specs) platforms.now)
             (map script_rule_ref_view self.now.script_rules.items)) }
         ensures default_filter { IfOk result (λ rules. filter_view rules.default_filter
             ≡ default_filter_of (map evaluated_override_view rules.overrides.items)
-            (option_map filter_view nearest.entry) (filter_of_nothing match_all.now)) }
+            (option_map filter_view nearest.entry) (match_all_filter match_all.now)) }
     {
         let overrides = evaluate_overrides(alloc, &self.overrides, platforms)?;
         let default_filter = default_filter_of(&overrides, nearest, match_all);

@@ -10,7 +10,7 @@ ghost use Rattle.nextest_engines.specs.Engines.{test_view};
 ghost use Rattle.nextest_settings.specs.GroupView.{custom_group_in, membership_group};
 ghost use Rattle.nextest_settings.specs.Queries.{custom_group, custom_group_by, is_of_name, last_group};
 ghost use Rattle.nextest_settings.specs.SettingsView.{slot_at};
-ghost use Rattle.nextest_settings.specs.View.{held_override_meaning};
+ghost use Rattle.nextest_settings.specs.View.{meant_override};
 ghost use Rattle.nextest_settings.specs.declared.setting.Setting.{Setting};
 ghost use Rattle.nextest_tables.specs.View.{settings_view};
 
@@ -165,7 +165,7 @@ impl<'cfg, F: Filters, S: Specs> EvaluatedRules<'cfg, F, S> {
     ) -> Option<&'cfg CustomTestGroup>
         ensures group { option_map (λ group. Custom group.now) result
             ≡ custom_group_by F.holds (F.meaning cx.now.default_filter.now)
-            (map (held_override_meaning F.meaning) self.now.overrides.items) (test_view query.now) }
+            (map (meant_override F.meaning) self.now.overrides.items) (test_view query.now) }
         ensures tally { (added : List ℕ)
             × (F.Tally.numbers tally.new ≡ F.Tally.numbers tally.old ++ added) }
     {
@@ -187,7 +187,7 @@ impl<'cfg, F: Filters, S: Specs> EvaluatedRules<'cfg, F, S> {
         ensures groups { IfOk result (λ found. (binary_id name : List ℕ)
             → membership_group found binary_id name ≡ last_group
             (custom_group_by F.holds (F.meaning self.now.default_filter.expr.now)
-            (map (held_override_meaning F.meaning) self.now.overrides.items))
+            (map (meant_override F.meaning) self.now.overrides.items))
             (map test_view queries.now) binary_id name) }
         ensures tally { (added : List ℕ)
             × (F.Tally.numbers tally.new ≡ F.Tally.numbers tally.old ++ added) }

@@ -1,5 +1,5 @@
 //! Laws of what decides a setting, of what is evaluated for it, and of the order of rules.
-ghost use Rattle.std.specs.Prelude.{◌≡◌, List, ℕ, Bool, None, Some, IfSome, false, length, slice_get};
+ghost use Rattle.std.specs.Prelude.{◌≡◌, ◌≤◌, ◌↔◌, List, ℕ, Bool, None, Some, IfSome, Contains, false, count_by, is_some, length, map, slice_get};
 ghost use Rattle.nextest_elements.specs.declared.run_mode.NextestRunMode.{NextestRunMode};
 ghost use Rattle.nextest_rules.specs.Rules.{Layer, OverrideUse};
 ghost use Rattle.nextest_settings.specs.Chains.{overrides_of, script_rules_of};
@@ -7,7 +7,7 @@ ghost use Rattle.nextest_settings.specs.Deciding.{QueryContext, Rising, HasFilte
 ghost use Rattle.nextest_settings.specs.Order.{RulesAreInOrder};
 ghost use Rattle.nextest_settings.specs.Platforms.{EvaluatedRule};
 ghost use Rattle.nextest_settings.specs.Profile.{EvaluatableModel};
-ghost use Rattle.nextest_settings.specs.Queries.{filters_of, evaluated_for_test, evaluated_for_list};
+ghost use Rattle.nextest_settings.specs.Queries.{filters_of, evaluated_for_test, evaluated_for_list, IsEvaluatedForTest, IsEvaluatedForList};
 ghost use Rattle.nextest_settings.specs.Settings.{StandsOnce, settings};
 ghost use Rattle.nextest_settings.specs.declared.setting.Setting.{Setting};
 ghost use Rattle.nextest_tables.specs.FileTexts.{ScriptUse};
@@ -16,20 +16,36 @@ ghost use Rattle.nextest_tables.specs.Written.{Name};
 use crate::setting::Setting;
 use nextest_engines::{Filters, Specs};
 
-/// All settings are the fifteen in the order of rows, and each stands there once.
+/// All settings stand in the order of rows, and each stands there once.
 pub fn law_all_settings()
     ensures order { Setting.ALL ≡ settings }
     ensures once { (s : Setting) → StandsOnce settings s }
 {}
 
-/// The rules that are evaluated are a strictly rising list of numbers of rules that have a filter:
-/// so there are never more evaluations than rules with a filter.
+/// The rules that are evaluated are a strictly rising list of numbers of rules that have a filter.
 pub fn law_evaluated_at_most_once<F: Filters>()
     ensures test { (query : QueryContext F.Meaning) (mode : NextestRunMode)
         (p : EvaluatableModel F.Meaning)
         → Rising (HasFilterAt (filters_of p)) 0 (evaluated_for_test query mode p) }
     ensures list { (query : QueryContext F.Meaning) (p : EvaluatableModel F.Meaning)
         → Rising (HasFilterAt (filters_of p)) (length p.overrides) (evaluated_for_list query p) }
+{}
+
+/// The rules that are evaluated are exactly those that have a filter, whose platforms hold, and
+/// that write something which no lower rule decides: an override a setting, a script rule a
+/// wrapper. And there are at most as many as there are rules with a filter.
+pub fn law_evaluated_exactly<F: Filters>()
+    ensures test { (query : QueryContext F.Meaning) (mode : NextestRunMode)
+        (p : EvaluatableModel F.Meaning) (n : ℕ)
+        → Contains (evaluated_for_test query mode p) n ↔ IsEvaluatedForTest query mode p n }
+    ensures test_count { (query : QueryContext F.Meaning) (mode : NextestRunMode)
+        (p : EvaluatableModel F.Meaning)
+        → length (evaluated_for_test query mode p) ≤ count_by is_some (filters_of p) }
+    ensures list { (query : QueryContext F.Meaning) (p : EvaluatableModel F.Meaning) (n : ℕ)
+        → Contains (evaluated_for_list query p) n ↔ IsEvaluatedForList query p n }
+    ensures list_count { (query : QueryContext F.Meaning) (p : EvaluatableModel F.Meaning)
+        → length (evaluated_for_list query p)
+        ≤ count_by is_some (map (λ r. r.filter) p.script_rules) }
 {}
 
 /// The override that decides something is the one at the least number that holds and writes it, and

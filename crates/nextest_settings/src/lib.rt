@@ -24,8 +24,8 @@ pub use evaluated::EvaluatedRules;
 pub use gather::{ChainRules, fields_of, rules_of};
 pub use groups::{GroupLookup, PrecomputedGroupMembership};
 pub use laws::{
-    law_all_settings, law_evaluated_at_most_once, law_first_override, law_first_script_rule,
-    law_rule_order,
+    law_all_settings, law_evaluated_at_most_once, law_evaluated_exactly, law_first_override,
+    law_first_script_rule, law_rule_order,
 };
 pub use list_settings::ListSettings;
 pub use platforms::{

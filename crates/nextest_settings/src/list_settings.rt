@@ -1,12 +1,12 @@
 //! The settings that a profile gives to a binary which lists its tests.
 ghost use Rattle.std.specs.Prelude.{◌≡◌, ◌++◌, map, length, option_map, Some, None};
-ghost use Rattle.nextest_engines.specs.Engines.{binary_view};
 ghost use Rattle.nextest_load.specs.ConfigView.{scripts_view};
 ghost use Rattle.nextest_rules.specs.Rules.{at_name};
 ghost use Rattle.nextest_scripts.specs.ScriptTexts.{wrapper_script_view};
+ghost use Rattle.nextest_settings.specs.Engines.{binary_query_by};
 ghost use Rattle.nextest_settings.specs.ListView.{list_wrapper_at};
-ghost use Rattle.nextest_settings.specs.Queries.{binary_query, AnswerForBinaries, list_wrapper_by, listed_by};
-ghost use Rattle.nextest_settings.specs.View.{held_script_rule_meaning, KnowsListWrappers};
+ghost use Rattle.nextest_settings.specs.Queries.{AnswerForBinaries, list_wrapper_by, listed_by};
+ghost use Rattle.nextest_settings.specs.View.{meant_script_rule, KnowsListWrappers};
 
 use crate::evaluated::EvaluatedRules;
 use crate::wrappers::list_wrapper;
@@ -63,18 +63,18 @@ impl<'cfg, F: Filters, S: Specs> EvaluatedRules<'cfg, F, S> {
         requires known { KnowsListWrappers (scripts_view scripts.now)
             self.now.script_rules.items }
         requires answers { AnswerForBinaries F.holds_binary
-            (map (held_script_rule_meaning F.meaning) self.now.script_rules.items) }
-        ensures wrapper { let query = binary_query F.holds_binary
-            (F.meaning self.now.default_filter.expr.now) (binary_view query.now) in
+            (map (meant_script_rule F.meaning) self.now.script_rules.items) }
+        ensures wrapper { let query = binary_query_by F.Filters
+            self.now.default_filter.expr.now query.now in
             option_map Some (list_wrapper_at result)
             ≡ option_map (λ id. at_name id (scripts_view scripts.now).wrapper)
             (list_wrapper_by query
-            (map (held_script_rule_meaning F.meaning) self.now.script_rules.items)) }
-        ensures tally { let query = binary_query F.holds_binary
-            (F.meaning self.now.default_filter.expr.now) (binary_view query.now) in
+            (map (meant_script_rule F.meaning) self.now.script_rules.items)) }
+        ensures tally { let query = binary_query_by F.Filters
+            self.now.default_filter.expr.now query.now in
             F.Tally.numbers tally.new ≡ F.Tally.numbers tally.old
             ++ listed_by query (length self.now.overrides.items)
-            (map (held_script_rule_meaning F.meaning) self.now.script_rules.items) }
+            (map (meant_script_rule F.meaning) self.now.script_rules.items) }
     {
         let cx = EvalContext {
             default_filter: self.default_filter.expr,

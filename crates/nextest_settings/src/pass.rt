@@ -1,12 +1,11 @@
 //! One pass over the overrides: for each setting the first rule that holds and writes it.
 ghost use Rattle.std.specs.Prelude.{◌≡◌, ◌++◌, ◌∷◌, [], length, map, option_map, is_some, if◌then◌else◌};
 ghost use Rattle.std.specs.Option.{option_or};
-ghost use Rattle.nextest_engines.specs.Engines.{test_view};
 ghost use Rattle.nextest_settings.specs.Deciding.{asked_from, filter_holds};
+ghost use Rattle.nextest_settings.specs.Engines.{test_query_by};
 ghost use Rattle.nextest_settings.specs.Pass.{slots_view, slots_with_rule, is_open, is_overridable, after_rule, asked_one, winners_of, wanted_settings};
-ghost use Rattle.nextest_settings.specs.Queries.{test_query};
 ghost use Rattle.nextest_settings.specs.Settings.{is_set, settings};
-ghost use Rattle.nextest_settings.specs.View.{held_override_meaning};
+ghost use Rattle.nextest_settings.specs.View.{meant_override};
 ghost use Rattle.nextest_tables.specs.View.{settings_view};
 
 use crate::platforms::EvaluatedOverride;
@@ -80,8 +79,7 @@ pub(crate) fn matches_test<F: Filters>(
     cx: &EvalContext<'_, F::Expr>,
     tally: &mut F::Tally,
 ) -> bool
-    ensures answer { let query = test_query F.holds (F.meaning cx.now.default_filter.now)
-        (test_view query.now) in
+    ensures answer { let query = test_query_by F.Filters cx.now.default_filter.now query.now in
         result ≡ filter_holds query.matches (option_map (λ expr. F.meaning expr.now) filter.entry) }
     ensures tally { F.Tally.numbers tally.new
         ≡ F.Tally.numbers tally.old ++ (if is_some filter.entry then number ∷ [] else []) }
@@ -104,15 +102,13 @@ fn consider<'cfg, F: Filters, S: Specs>(
     tally: &mut F::Tally,
 )
     requires { length slots.old ≡ length settings }
-    ensures slots { let query = test_query F.holds (F.meaning cx.now.default_filter.now)
-        (test_view query.now) in
+    ensures slots { let query = test_query_by F.Filters cx.now.default_filter.now query.now in
         slots_view F.meaning slots.new
-        ≡ after_rule query mode (held_override_meaning F.meaning rule.now)
+        ≡ after_rule query mode (meant_override F.meaning rule.now)
         (slots_view F.meaning slots.old) }
-    ensures tally { let query = test_query F.holds (F.meaning cx.now.default_filter.now)
-        (test_view query.now) in
+    ensures tally { let query = test_query_by F.Filters cx.now.default_filter.now query.now in
         F.Tally.numbers tally.new ≡ F.Tally.numbers tally.old
-        ++ asked_one query mode (held_override_meaning F.meaning rule.now) number
+        ++ asked_one query mode (meant_override F.meaning rule.now) number
         (slots_view F.meaning slots.old) }
 {
     let written = rule.rule.settings();
@@ -134,15 +130,13 @@ pub(crate) fn winners<'cfg, F: Filters, S: Specs>(
     cx: &EvalContext<'_, F::Expr>,
     tally: &mut F::Tally,
 ) -> [Option<EvaluatedOverride<'cfg, F, S>>; SETTING_COUNT]
-    ensures winners { let query = test_query F.holds (F.meaning cx.now.default_filter.now)
-        (test_view query.now) in
+    ensures winners { let query = test_query_by F.Filters cx.now.default_filter.now query.now in
         slots_view F.meaning result
-        ≡ winners_of query mode (map (held_override_meaning F.meaning) overrides.now) settings }
-    ensures tally { let query = test_query F.holds (F.meaning cx.now.default_filter.now)
-        (test_view query.now) in
+        ≡ winners_of query mode (map (meant_override F.meaning) overrides.now) settings }
+    ensures tally { let query = test_query_by F.Filters cx.now.default_filter.now query.now in
         F.Tally.numbers tally.new ≡ F.Tally.numbers tally.old
         ++ asked_from (wanted_settings mode) 0 query []
-        (map (held_override_meaning F.meaning) overrides.now) }
+        (map (meant_override F.meaning) overrides.now) }
 {
     let mut slots = [None; SETTING_COUNT];
     for (number, rule) in overrides.iter().enumerate() {

@@ -1,6 +1,7 @@
 //! Rules on the platforms of a build: whether these hold is found out once for all tests.
 ghost use Rattle.std.specs.Prelude.{◌≡◌, map, IfOk};
 ghost use Rattle.nextest_rules.specs.View.{override_rule_view, script_rule_view};
+ghost use Rattle.nextest_settings.specs.Engines.{meets_by};
 ghost use Rattle.nextest_settings.specs.Platforms.{spec_holds, specs_hold, rule_on};
 ghost use Rattle.nextest_settings.specs.View.{override_ref_view, script_rule_ref_view, evaluated_override_view, evaluated_script_rule_view};
 
@@ -39,7 +40,7 @@ impl<R> EvaluatedRule<'_, R> {
 /// Whether a platform meets a spec: none and an unknown answer count as met.
 fn spec_holds<S: Specs>(spec: &Option<S::Spec>, platform: &S::Platform) -> bool
     ensures { result
-        ≡ spec_holds (λ spec platform. S.holds_on (S.spec_meaning spec) platform) spec.now
+        ≡ spec_holds (meets_by S.Specs) spec.now
         platform.now }
 {
     match spec {
@@ -55,7 +56,7 @@ fn platforms_hold<S: Specs>(
     build: BuildPlatform,
 ) -> bool
     ensures { result
-        ≡ specs_hold (λ spec platform. S.holds_on (S.spec_meaning spec) platform) platforms.now
+        ≡ specs_hold (meets_by S.Specs) platforms.now
         build specs.now.host specs.now.target }
 {
     let runs_on = match build {
@@ -71,7 +72,7 @@ fn evaluate_override<'cfg, F: Filters, S: Specs>(
     platforms: &BuildPlatforms<S::Platform>,
 ) -> EvaluatedOverride<'cfg, F, S>
     ensures { evaluated_override_view result
-        ≡ rule_on (λ spec platform. S.holds_on (S.spec_meaning spec) platform) platforms.now
+        ≡ rule_on (meets_by S.Specs) platforms.now
         (override_rule_view rule.now) }
 {
     EvaluatedRule {
@@ -87,7 +88,7 @@ fn evaluate_script_rule<'cfg, F: Filters, S: Specs>(
     platforms: &BuildPlatforms<S::Platform>,
 ) -> EvaluatedScriptRule<'cfg, F, S>
     ensures { evaluated_script_rule_view result
-        ≡ rule_on (λ spec platform. S.holds_on (S.spec_meaning spec) platform) platforms.now
+        ≡ rule_on (meets_by S.Specs) platforms.now
         (script_rule_view rule.now) }
 {
     EvaluatedRule {
@@ -104,7 +105,7 @@ pub fn evaluate_overrides<'cfg, F: Filters, S: Specs>(
     platforms: &BuildPlatforms<S::Platform>,
 ) -> Result<Vec<EvaluatedOverride<'cfg, F, S>>, AllocError>
     ensures { IfOk result (λ evaluated. map evaluated_override_view evaluated.items
-        ≡ map (rule_on (λ spec platform. S.holds_on (S.spec_meaning spec) platform) platforms.now)
+        ≡ map (rule_on (meets_by S.Specs) platforms.now)
         (map override_ref_view rules.now)) }
 {
     let mut evaluated = Vec::with_capacity(alloc, rules.len())?;
@@ -121,7 +122,7 @@ pub fn evaluate_script_rules<'cfg, F: Filters, S: Specs>(
     platforms: &BuildPlatforms<S::Platform>,
 ) -> Result<Vec<EvaluatedScriptRule<'cfg, F, S>>, AllocError>
     ensures { IfOk result (λ evaluated. map evaluated_script_rule_view evaluated.items
-        ≡ map (rule_on (λ spec platform. S.holds_on (S.spec_meaning spec) platform) platforms.now)
+        ≡ map (rule_on (meets_by S.Specs) platforms.now)
         (map script_rule_ref_view rules.now)) }
 {
     let mut evaluated = Vec::with_capacity(alloc, rules.len())?;

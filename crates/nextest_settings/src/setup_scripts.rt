@@ -1,13 +1,13 @@
 //! The setup scripts that tests enable.
 ghost use Rattle.std.specs.Prelude.{◌≡◌, ◌++◌, ◌<◌, ◌+◌, ◌^◌, ◌↔◌, ℕ, List, [], IfOk, IsTrue, map, length};
 ghost use Rattle.std.specs.List.{list_any};
-ghost use Rattle.nextest_engines.specs.Engines.{test_view};
 ghost use Rattle.nextest_load.specs.ConfigView.{scripts_view};
 ghost use Rattle.nextest_scripts.specs.ScriptId.{script_text};
 ghost use Rattle.nextest_scripts.specs.ScriptTexts.{setup_script_view};
-ghost use Rattle.nextest_settings.specs.Queries.{test_query, is_enabled_for, enabled_by};
+ghost use Rattle.nextest_settings.specs.Engines.{test_query_by};
+ghost use Rattle.nextest_settings.specs.Queries.{is_enabled_for, enabled_by};
 ghost use Rattle.nextest_settings.specs.SetupView.{numbered_rule_view, named_setup_script_view, script_id_view, setup_rules_view, setup_scripts_rules_view, setup_scripts_view, scripts_left_view};
-ghost use Rattle.nextest_settings.specs.View.{held_script_rule_meaning};
+ghost use Rattle.nextest_settings.specs.View.{meant_script_rule};
 ghost use Rattle.nextest_tree.specs.Schema.{is_one_of};
 
 use crate::evaluated::EvaluatedRules;
@@ -52,8 +52,7 @@ fn is_enabled<F: Filters, S: Specs>(
     cx: &EvalContext<'_, F::Expr>,
     tally: &mut F::Tally,
 ) -> bool
-    ensures answer { let query = test_query F.holds (F.meaning cx.now.default_filter.now)
-        (test_view query.now) in
+    ensures answer { let query = test_query_by F.Filters cx.now.default_filter.now query.now in
         result ≡ is_enabled_for query (map (numbered_rule_view F.meaning) rules.now)
         (script_text id.now) }
     ensures tally { (added : List ℕ)
@@ -78,8 +77,8 @@ fn is_enabled_by_some<F: Filters, S: Specs>(
 ) -> bool
     ensures answer { result
         ≡ list_any (λ query. is_enabled_for query (map (numbered_rule_view F.meaning) rules.now)
-        (script_text id.now)) (map (λ query. test_query F.holds
-        (F.meaning cx.now.default_filter.now) (test_view query)) queries.now) }
+        (script_text id.now))
+        (map (test_query_by F.Filters cx.now.default_filter.now) queries.now) }
     ensures tally { (added : List ℕ)
         × (F.Tally.numbers tally.new ≡ F.Tally.numbers tally.old ++ added) }
 {
@@ -120,8 +119,7 @@ impl<'cfg, F: Filters, S: Specs> SetupScript<'_, 'cfg, F, S> {
         cx: &EvalContext<'_, F::Expr>,
         tally: &mut F::Tally,
     ) -> bool
-        ensures answer { let query = test_query F.holds (F.meaning cx.now.default_filter.now)
-            (test_view query.now) in
+        ensures answer { let query = test_query_by F.Filters cx.now.default_filter.now query.now in
             result ≡ is_enabled_for query (setup_rules_view F.meaning self.now)
             (script_id_view self.now) }
         ensures tally { (added : List ℕ)
@@ -204,7 +202,7 @@ fn numbered_rules<'cfg, F: Filters, S: Specs>(
 ) -> Result<Vec<NumberedRule<'cfg, F, S>>, AllocError>
     requires { first + length rules.now < 2 ^ 64 }
     ensures { IfOk result (λ found. map (numbered_rule_view F.meaning) found.items
-        ≡ map (held_script_rule_meaning F.meaning) rules.now) }
+        ≡ map (meant_script_rule F.meaning) rules.now) }
 {
     let mut found = Vec::with_capacity(alloc, rules.len())?;
     for (index, rule) in rules.iter().enumerate() {
@@ -226,8 +224,7 @@ fn enabled_scripts<'cfg, F: Filters, S: Specs>(
     tally: &mut F::Tally,
 ) -> Result<Vec<NamedSetupScript<'cfg>>, AllocError>
     ensures scripts { IfOk result (λ found. map named_setup_script_view found.items
-        ≡ enabled_by (map (λ query. test_query F.holds (F.meaning cx.now.default_filter.now)
-        (test_view query)) queries.now)
+        ≡ enabled_by (map (test_query_by F.Filters cx.now.default_filter.now) queries.now)
         (map (numbered_rule_view F.meaning) rules.now) (scripts_view scripts.now).setup) }
     ensures tally { (added : List ℕ)
         × (F.Tally.numbers tally.new ≡ F.Tally.numbers tally.old ++ added) }
@@ -252,12 +249,12 @@ impl<'cfg, F: Filters, S: Specs> EvaluatedRules<'cfg, F, S> {
         tally: &mut F::Tally,
     ) -> Result<SetupScripts<'cfg, F, S>, AllocError>
         ensures scripts { IfOk result (λ found. setup_scripts_view found
-            ≡ enabled_by (map (λ query. test_query F.holds
-            (F.meaning self.now.default_filter.expr.now) (test_view query)) queries.now)
-            (map (held_script_rule_meaning F.meaning) self.now.script_rules.items)
+            ≡ enabled_by
+            (map (test_query_by F.Filters self.now.default_filter.expr.now) queries.now)
+            (map (meant_script_rule F.meaning) self.now.script_rules.items)
             (scripts_view scripts.now).setup) }
         ensures rules { IfOk result (λ found. setup_scripts_rules_view F.meaning found
-            ≡ map (held_script_rule_meaning F.meaning) self.now.script_rules.items) }
+            ≡ map (meant_script_rule F.meaning) self.now.script_rules.items) }
         ensures tally { (added : List ℕ)
             × (F.Tally.numbers tally.new ≡ F.Tally.numbers tally.old ++ added) }
     {

@@ -1,8 +1,9 @@
 //! What decides a setting.
 ghost use Rattle.std.specs.Prelude.{◌≡◌, ⊤, Some};
+ghost use Rattle.nextest_rules.specs.Rules.{Compiled, OverrideUse};
 ghost use Rattle.nextest_rules.specs.View.{id_view, override_rule_view, script_rule_view};
-ghost use Rattle.nextest_settings.specs.Queries.{Origin, by_default, by_profile, by_override, by_script, fallback_origin};
-ghost use Rattle.nextest_settings.specs.SourceView.{setting_source_view, source_use, MarksOrigin};
+ghost use Rattle.nextest_settings.specs.Queries.{Origin, unwritten, by_profile, by_override, by_script, fallback_origin};
+ghost use Rattle.nextest_settings.specs.SourceView.{setting_source_view, source_override, source_use, MarksOrigin};
 ghost use Rattle.nextest_tables.specs.FileTexts.{ScriptUse};
 
 use crate::setting::Setting;
@@ -14,12 +15,15 @@ pub trait TrackSource<'p, F: Filters, S: Specs> {
     /// Whether a mark is right for an origin.
     ghost shows: { Self → Origin → Type 0 };
 
+    /// Whether a mark is right for an override.
+    ghost shows_override: { Self → Compiled F.Expr S.Spec (OverrideUse F.Expr) → Type 0 };
+
     /// Whether a mark is right for a script rule that writes this.
     ghost shows_use: { Self → ScriptUse → Type 0 };
 
     /// Nothing that is written decides it.
     fn default_mark() -> Self
-        ensures { shows result by_default };
+        ensures { shows result unwritten };
 
     /// The profile decides it.
     fn profile_mark() -> Self
@@ -27,7 +31,8 @@ pub trait TrackSource<'p, F: Filters, S: Specs> {
 
     /// An override decides it.
     fn override_mark(rule: &'p CompiledOverride<F, S>) -> Self
-        ensures { shows result (by_override (override_rule_view rule.now).writes.id) };
+        ensures origin { shows result (by_override (override_rule_view rule.now).writes.id) }
+        ensures rule { shows_override result (override_rule_view rule.now) };
 
     /// A script rule decides it.
     fn script_mark(rule: &'p CompiledProfileScripts<F, S>) -> Self
@@ -37,6 +42,8 @@ pub trait TrackSource<'p, F: Filters, S: Specs> {
 
 impl<'p, F: Filters, S: Specs> TrackSource<'p, F, S> for () {
     ghost shows = { λ _ _. ⊤ };
+
+    ghost shows_override = { λ _ _. ⊤ };
 
     ghost shows_use = { λ _ _. ⊤ };
 
@@ -68,6 +75,8 @@ pub enum SettingSource<'p, F: Filters, S: Specs> {
 
 impl<'p, F: Filters, S: Specs> TrackSource<'p, F, S> for SettingSource<'p, F, S> {
     ghost shows = { λ source origin. setting_source_view source ≡ origin };
+
+    ghost shows_override = { λ source rule. source_override source ≡ Some rule };
 
     ghost shows_use = { λ source uses. source_use source ≡ Some uses };
 

@@ -1,6 +1,5 @@
 //! The settings that a profile gives to a test, each at the first rule that holds and sets it.
-ghost use Rattle.std.specs.Prelude.{◌≡◌, ◌++◌, ◌<◌, ◌+◌, ◌^◌, ℕ, List, map, length, option_map, option_and_then, Some, string_bytes};
-ghost use Rattle.nextest_engines.specs.Engines.{test_view};
+ghost use Rattle.std.specs.Prelude.{◌≡◌, ◌≢◌, ◌++◌, ◌<◌, ◌+◌, ◌^◌, ℕ, List, map, length, option_map, option_and_then, Some, string_bytes};
 ghost use Rattle.nextest_load.specs.ConfigView.{scripts_view};
 ghost use Rattle.nextest_rules.specs.Accepted.{IfWritten};
 ghost use Rattle.nextest_rules.specs.Rules.{at_name};
@@ -8,11 +7,13 @@ ghost use Rattle.nextest_rules.specs.View.{override_rule_view};
 ghost use Rattle.nextest_scripts.specs.ScriptId.{script_text};
 ghost use Rattle.nextest_scripts.specs.ScriptTexts.{wrapper_script_view};
 ghost use Rattle.nextest_settings.specs.ChainValues.{AreValues, stored_in};
-ghost use Rattle.nextest_settings.specs.Queries.{test_query, value_by, origin_by, wrapping_rule, evaluated_by, fallback_origin, by_profile};
+ghost use Rattle.nextest_settings.specs.Engines.{test_query_by};
+ghost use Rattle.nextest_settings.specs.Queries.{value_by, origin_by, deciding_override, wrapping_rule, evaluated_by, fallback_origin, by_profile};
+ghost use Rattle.nextest_settings.specs.Platforms.{rule_text};
 ghost use Rattle.nextest_settings.specs.Settings.{index_of};
-ghost use Rattle.nextest_settings.specs.SettingsView.{slot_at, value_at, origin_at, wrapping_use_at, wrapper_at};
-ghost use Rattle.nextest_settings.specs.SourceView.{MarksOrigin, MarksScriptRule};
-ghost use Rattle.nextest_settings.specs.View.{override_ref_view, held_override_meaning, held_script_rule_meaning, KnowsRunWrappers};
+ghost use Rattle.nextest_settings.specs.SettingsView.{slot_at, value_at, origin_at, override_at, wrapping_use_at, wrapper_at};
+ghost use Rattle.nextest_settings.specs.SourceView.{MarksOrigin, MarksOverride, MarksScriptRule};
+ghost use Rattle.nextest_settings.specs.View.{override_ref_view, override_text_meaning, meant_override, meant_script_rule, KnowsRunWrappers};
 ghost use Rattle.nextest_settings.specs.declared.setting.Setting.{Setting};
 ghost use Rattle.nextest_sources.specs.InputFaults.{Each};
 ghost use Rattle.nextest_tables.specs.FileTexts.{names_in, IsIn};
@@ -67,29 +68,33 @@ impl<'cfg, F: Filters, S: Specs> EvaluatedRules<'cfg, F, S> {
     ) -> TestSettings<'cfg, F, S, Source>
         requires { KnowsRunWrappers (scripts_view scripts.now) self.now.script_rules.items }
         ensures values { (fields : List WrittenFields) → AreValues fields values.entry
-            → let query = test_query F.holds (F.meaning self.now.default_filter.expr.now)
-            (test_view query.now) in
+            → let query = test_query_by F.Filters self.now.default_filter.expr.now query.now in
             (s : Setting) → value_at result s ≡ value_by query mode
-            (map (held_override_meaning F.meaning) self.now.overrides.items)
-            (map (held_script_rule_meaning F.meaning) self.now.script_rules.items) fields s }
-        ensures origins { let query = test_query F.holds
-            (F.meaning self.now.default_filter.expr.now) (test_view query.now) in
+            (map (meant_override F.meaning) self.now.overrides.items)
+            (map (meant_script_rule F.meaning) self.now.script_rules.items) fields s }
+        ensures origins { let query = test_query_by F.Filters
+            self.now.default_filter.expr.now query.now in
             (s : Setting) → origin_at result s ≡ origin_by query mode
-            (map (held_override_meaning F.meaning) self.now.overrides.items)
-            (map (held_script_rule_meaning F.meaning) self.now.script_rules.items) s }
-        ensures rule { let query = test_query F.holds
-            (F.meaning self.now.default_filter.expr.now) (test_view query.now) in
+            (map (meant_override F.meaning) self.now.overrides.items)
+            (map (meant_script_rule F.meaning) self.now.script_rules.items) s }
+        ensures overrides { let query = test_query_by F.Filters
+            self.now.default_filter.expr.now query.now in
+            (s : Setting) → option_map (override_text_meaning F.meaning) (override_at result s)
+            ≡ option_map rule_text (deciding_override query mode
+            (map (meant_override F.meaning) self.now.overrides.items) s) }
+        ensures script_rule { let query = test_query_by F.Filters
+            self.now.default_filter.expr.now query.now in
             wrapping_use_at result ≡ option_map (λ r. r.writes)
             (wrapping_rule query
-            (map (held_script_rule_meaning F.meaning) self.now.script_rules.items)) }
+            (map (meant_script_rule F.meaning) self.now.script_rules.items)) }
         ensures wrapper { option_map Some (wrapper_at result)
             ≡ option_map (λ id. at_name id (scripts_view scripts.now).wrapper)
             (value_at result Setting.RunWrapper) }
-        ensures tally { let query = test_query F.holds (F.meaning self.now.default_filter.expr.now)
-            (test_view query.now) in
+        ensures tally { let query = test_query_by F.Filters
+            self.now.default_filter.expr.now query.now in
             F.Tally.numbers tally.new ≡ F.Tally.numbers tally.old ++ evaluated_by query mode
-            (map (held_override_meaning F.meaning) self.now.overrides.items)
-            (map (held_script_rule_meaning F.meaning) self.now.script_rules.items) }
+            (map (meant_override F.meaning) self.now.overrides.items)
+            (map (meant_script_rule F.meaning) self.now.script_rules.items) }
     {
         let cx = EvalContext {
             default_filter: self.default_filter.expr,
@@ -304,7 +309,9 @@ impl<'p, F: Filters, S: Specs, Source: TrackSource<'p, F, S>> TestSettings<'p, F
     /// What decides a setting that the profile decides where no rule does.
     fn rule_or_profile(&self, setting: Setting) -> Source
         requires { fallback_origin setting ≡ Some by_profile }
-        ensures { MarksOrigin Source.shows (Some result) (origin_at self.now setting) }
+        ensures origin { MarksOrigin Source.shows (Some result) (origin_at self.now setting) }
+        ensures decider { MarksOverride Source.shows_override (override_at self.now setting)
+            (Some result) }
     {
         match self.winner(setting) {
             Some(winner) => Source::override_mark(winner.rule),
@@ -317,6 +324,8 @@ impl<'p, F: Filters, S: Specs, Source: TrackSource<'p, F, S>> TestSettings<'p, F
         ensures value { Some result.0 ≡ value_at self.now Setting.ThreadsRequired }
         ensures source { MarksOrigin Source.shows (Some result.1)
             (origin_at self.now Setting.ThreadsRequired) }
+        ensures decider { MarksOverride Source.shows_override
+            (override_at self.now Setting.ThreadsRequired) (Some result.1) }
     {
         (
             self.threads_required(),
@@ -329,6 +338,8 @@ impl<'p, F: Filters, S: Specs, Source: TrackSource<'p, F, S>> TestSettings<'p, F
         ensures value { Some result.0 ≡ value_at self.now Setting.Retries }
         ensures source { MarksOrigin Source.shows (Some result.1)
             (origin_at self.now Setting.Retries) }
+        ensures decider { MarksOverride Source.shows_override
+            (override_at self.now Setting.Retries) (Some result.1) }
     {
         (self.retries(), self.rule_or_profile(Setting::Retries))
     }
@@ -338,6 +349,8 @@ impl<'p, F: Filters, S: Specs, Source: TrackSource<'p, F, S>> TestSettings<'p, F
         ensures value { Some result.0 ≡ value_at self.now Setting.SlowTimeout }
         ensures source { MarksOrigin Source.shows (Some result.1)
             (origin_at self.now Setting.SlowTimeout) }
+        ensures decider { MarksOverride Source.shows_override
+            (override_at self.now Setting.SlowTimeout) (Some result.1) }
     {
         (
             self.slow_timeout(),
@@ -350,6 +363,8 @@ impl<'p, F: Filters, S: Specs, Source: TrackSource<'p, F, S>> TestSettings<'p, F
         ensures value { Some result.0 ≡ value_at self.now Setting.LeakTimeout }
         ensures source { MarksOrigin Source.shows (Some result.1)
             (origin_at self.now Setting.LeakTimeout) }
+        ensures decider { MarksOverride Source.shows_override
+            (override_at self.now Setting.LeakTimeout) (Some result.1) }
     {
         (
             self.leak_timeout(),
@@ -362,6 +377,8 @@ impl<'p, F: Filters, S: Specs, Source: TrackSource<'p, F, S>> TestSettings<'p, F
         ensures value { Some result.0.now ≡ value_at self.now Setting.TestGroup }
         ensures source { MarksOrigin Source.shows (Some result.1)
             (origin_at self.now Setting.TestGroup) }
+        ensures decider { MarksOverride Source.shows_override
+            (override_at self.now Setting.TestGroup) (Some result.1) }
     {
         (self.test_group(), self.rule_or_profile(Setting::TestGroup))
     }
@@ -369,7 +386,9 @@ impl<'p, F: Filters, S: Specs, Source: TrackSource<'p, F, S>> TestSettings<'p, F
     /// What decides a setting, if it has a value: only an absent run wrapper has none.
     pub fn source_of(&self, setting: Setting) -> Option<Source>
         ensures origin { MarksOrigin Source.shows result (origin_at self.now setting) }
-        ensures rule { setting ≡ Setting.RunWrapper
+        ensures decider { setting ≢ Setting.RunWrapper
+            → MarksOverride Source.shows_override (override_at self.now setting) result }
+        ensures script_rule { setting ≡ Setting.RunWrapper
             → MarksScriptRule Source.shows_use result (wrapping_use_at self.now) }
     {
         if matches!(setting, Setting::RunWrapper) {

@@ -1,14 +1,14 @@
 //! Wrapper scripts: the first script rule that holds and names one.
 ghost use Rattle.std.specs.Prelude.{◌≡◌, ℕ, IfSome, IsSome, IsTrue, slice_get, ◌++◌, ◌∷◌, ◌<◌, ◌+◌, ◌^◌, ◌&&◌, [], length, map, option_map, option_and_then, is_some, if◌then◌else◌, Some};
-ghost use Rattle.nextest_engines.specs.Engines.{test_view, binary_view};
 ghost use Rattle.nextest_load.specs.ConfigView.{scripts_view};
 ghost use Rattle.nextest_rules.specs.Rules.{at_name};
 ghost use Rattle.nextest_scripts.specs.ScriptId.{script_text};
 ghost use Rattle.nextest_scripts.specs.ScriptTexts.{wrapper_script_view};
 ghost use Rattle.nextest_settings.specs.Deciding.{asked_from, filter_holds, rule_holds, winner};
+ghost use Rattle.nextest_settings.specs.Engines.{test_query_by, binary_query_by};
 ghost use Rattle.nextest_settings.specs.Pass.{asked_alone};
-ghost use Rattle.nextest_settings.specs.Queries.{test_query, binary_query, HasBinaryAnswers, AnswerForBinaries, wrapping_rule, list_wrapper_by, listed_by};
-ghost use Rattle.nextest_settings.specs.View.{held_script_rule_meaning, script_rule_ref_view, KnowsRunWrappers, KnowsListWrappers};
+ghost use Rattle.nextest_settings.specs.Queries.{binary_query, HasBinaryAnswers, AnswerForBinaries, wrapping_rule, list_wrapper_by, listed_by};
+ghost use Rattle.nextest_settings.specs.View.{meant_script_rule, script_rule_ref_view, KnowsRunWrappers, KnowsListWrappers};
 ghost use Rattle.nextest_tables.specs.FileTexts.{names_in, IsIn};
 
 use crate::pass::matches_test;
@@ -28,8 +28,7 @@ fn matches_binary<F: Filters>(
 ) -> bool
     requires { HasBinaryAnswers F.holds_binary
         (option_map (λ expr. F.meaning expr.now) filter) }
-    ensures answer { let query = binary_query F.holds_binary (F.meaning cx.now.default_filter.now)
-        (binary_view query.now) in
+    ensures answer { let query = binary_query_by F.Filters cx.now.default_filter.now query.now in
         result ≡ filter_holds query.matches (option_map (λ expr. F.meaning expr.now) filter.entry) }
     ensures tally { F.Tally.numbers tally.new
         ≡ F.Tally.numbers tally.old ++ (if is_some filter.entry then number ∷ [] else []) }
@@ -53,13 +52,11 @@ pub(crate) fn holds_for_test<F: Filters, S: Specs>(
     cx: &EvalContext<'_, F::Expr>,
     tally: &mut F::Tally,
 ) -> bool
-    ensures answer { let query = test_query F.holds (F.meaning cx.now.default_filter.now)
-        (test_view query.now) in
-        result ≡ (rule_holds query (held_script_rule_meaning F.meaning rule.now) && is_wanted) }
-    ensures tally { let query = test_query F.holds (F.meaning cx.now.default_filter.now)
-        (test_view query.now) in
+    ensures answer { let query = test_query_by F.Filters cx.now.default_filter.now query.now in
+        result ≡ (rule_holds query (meant_script_rule F.meaning rule.now) && is_wanted) }
+    ensures tally { let query = test_query_by F.Filters cx.now.default_filter.now query.now in
         F.Tally.numbers tally.new ≡ F.Tally.numbers tally.old
-        ++ asked_alone query is_wanted (held_script_rule_meaning F.meaning rule.now) number }
+        ++ asked_alone query is_wanted (meant_script_rule F.meaning rule.now) number }
 {
     rule.is_on(query.binary_query.platform)
         && is_wanted
@@ -77,14 +74,12 @@ fn holds_for_binary<F: Filters, S: Specs>(
     tally: &mut F::Tally,
 ) -> bool
     requires { IsTrue is_wanted
-        → HasBinaryAnswers F.holds_binary (held_script_rule_meaning F.meaning rule.now).filter }
-    ensures answer { let query = binary_query F.holds_binary (F.meaning cx.now.default_filter.now)
-        (binary_view query.now) in
-        result ≡ (rule_holds query (held_script_rule_meaning F.meaning rule.now) && is_wanted) }
-    ensures tally { let query = binary_query F.holds_binary (F.meaning cx.now.default_filter.now)
-        (binary_view query.now) in
+        → HasBinaryAnswers F.holds_binary (meant_script_rule F.meaning rule.now).filter }
+    ensures answer { let query = binary_query_by F.Filters cx.now.default_filter.now query.now in
+        result ≡ (rule_holds query (meant_script_rule F.meaning rule.now) && is_wanted) }
+    ensures tally { let query = binary_query_by F.Filters cx.now.default_filter.now query.now in
         F.Tally.numbers tally.new ≡ F.Tally.numbers tally.old
-        ++ asked_alone query is_wanted (held_script_rule_meaning F.meaning rule.now) number }
+        ++ asked_alone query is_wanted (meant_script_rule F.meaning rule.now) number }
 {
     rule.is_on(query.platform)
         && is_wanted
@@ -101,16 +96,14 @@ pub(crate) fn run_wrapper_rule<'cfg, F: Filters, S: Specs>(
     tally: &mut F::Tally,
 ) -> Option<EvaluatedScriptRule<'cfg, F, S>>
     requires { first + length rules.now < 2 ^ 64 }
-    ensures rule { let query = test_query F.holds (F.meaning cx.now.default_filter.now)
-        (test_view query.now) in
-        option_map (held_script_rule_meaning F.meaning) result
+    ensures rule { let query = test_query_by F.Filters cx.now.default_filter.now query.now in
+        option_map (meant_script_rule F.meaning) result
         ≡ winner query (λ w. is_some w.run_wrapper)
-        (map (held_script_rule_meaning F.meaning) rules.now) }
-    ensures tally { let query = test_query F.holds (F.meaning cx.now.default_filter.now)
-        (test_view query.now) in
+        (map (meant_script_rule F.meaning) rules.now) }
+    ensures tally { let query = test_query_by F.Filters cx.now.default_filter.now query.now in
         F.Tally.numbers tally.new ≡ F.Tally.numbers tally.old
         ++ asked_from ((λ w. is_some w.run_wrapper) ∷ []) first query []
-        (map (held_script_rule_meaning F.meaning) rules.now) }
+        (map (meant_script_rule F.meaning) rules.now) }
     ensures member { IfSome result (λ r. (n : ℕ) × (slice_get rules.now n ≡ Some r)) }
     ensures named { IfSome result (λ r. IsSome (script_rule_ref_view r.rule).writes.run_wrapper) }
 {
@@ -134,17 +127,15 @@ pub(crate) fn list_wrapper_rule<'cfg, F: Filters, S: Specs>(
 ) -> Option<EvaluatedScriptRule<'cfg, F, S>>
     requires room { first + length rules.now < 2 ^ 64 }
     requires answers { AnswerForBinaries F.holds_binary
-        (map (held_script_rule_meaning F.meaning) rules.now) }
-    ensures rule { let query = binary_query F.holds_binary (F.meaning cx.now.default_filter.now)
-        (binary_view query.now) in
-        option_map (held_script_rule_meaning F.meaning) result
+        (map (meant_script_rule F.meaning) rules.now) }
+    ensures rule { let query = binary_query_by F.Filters cx.now.default_filter.now query.now in
+        option_map (meant_script_rule F.meaning) result
         ≡ winner query (λ w. is_some w.list_wrapper)
-        (map (held_script_rule_meaning F.meaning) rules.now) }
-    ensures tally { let query = binary_query F.holds_binary (F.meaning cx.now.default_filter.now)
-        (binary_view query.now) in
+        (map (meant_script_rule F.meaning) rules.now) }
+    ensures tally { let query = binary_query_by F.Filters cx.now.default_filter.now query.now in
         F.Tally.numbers tally.new ≡ F.Tally.numbers tally.old
         ++ asked_from ((λ w. is_some w.list_wrapper) ∷ []) first query []
-        (map (held_script_rule_meaning F.meaning) rules.now) }
+        (map (meant_script_rule F.meaning) rules.now) }
     ensures member { IfSome result (λ r. (n : ℕ) × (slice_get rules.now n ≡ Some r)) }
     ensures named { IfSome result (λ r. IsSome (script_rule_ref_view r.rule).writes.list_wrapper) }
 {
@@ -191,19 +182,17 @@ pub(crate) fn run_wrapper<'cfg, F: Filters, S: Specs>(
 ) -> Option<RunWrapper<'cfg, F, S>>
     requires room { first + length rules.now < 2 ^ 64 }
     requires known { KnowsRunWrappers (scripts_view scripts.now) rules.now }
-    ensures id { let query = test_query F.holds (F.meaning cx.now.default_filter.now)
-        (test_view query.now) in
+    ensures id { let query = test_query_by F.Filters cx.now.default_filter.now query.now in
         option_map (λ w. (script_rule_ref_view w.rule).writes) result
         ≡ option_map (λ r. r.writes)
-        (wrapping_rule query (map (held_script_rule_meaning F.meaning) rules.now)) }
+        (wrapping_rule query (map (meant_script_rule F.meaning) rules.now)) }
     ensures script { option_map (λ w. Some (wrapper_script_view w.script.now)) result
         ≡ option_map (λ id. at_name id (scripts_view scripts.now).wrapper)
         (option_and_then (λ w. (script_rule_ref_view w.rule).writes.run_wrapper) result) }
-    ensures tally { let query = test_query F.holds (F.meaning cx.now.default_filter.now)
-        (test_view query.now) in
+    ensures tally { let query = test_query_by F.Filters cx.now.default_filter.now query.now in
         F.Tally.numbers tally.new ≡ F.Tally.numbers tally.old
         ++ asked_from ((λ w. is_some w.run_wrapper) ∷ []) first query []
-        (map (held_script_rule_meaning F.meaning) rules.now) }
+        (map (meant_script_rule F.meaning) rules.now) }
 {
     match run_wrapper_rule(rules, first, query, cx, tally) {
         Some(found) => Some(RunWrapper {
@@ -227,16 +216,14 @@ pub(crate) fn list_wrapper<'cfg, F: Filters, S: Specs>(
     requires room { first + length rules.now < 2 ^ 64 }
     requires known { KnowsListWrappers (scripts_view scripts.now) rules.now }
     requires answers { AnswerForBinaries F.holds_binary
-        (map (held_script_rule_meaning F.meaning) rules.now) }
-    ensures script { let query = binary_query F.holds_binary (F.meaning cx.now.default_filter.now)
-        (binary_view query.now) in
+        (map (meant_script_rule F.meaning) rules.now) }
+    ensures script { let query = binary_query_by F.Filters cx.now.default_filter.now query.now in
         option_map (λ script. Some (wrapper_script_view script.now)) result
         ≡ option_map (λ id. at_name id (scripts_view scripts.now).wrapper)
-        (list_wrapper_by query (map (held_script_rule_meaning F.meaning) rules.now)) }
-    ensures tally { let query = binary_query F.holds_binary (F.meaning cx.now.default_filter.now)
-        (binary_view query.now) in
+        (list_wrapper_by query (map (meant_script_rule F.meaning) rules.now)) }
+    ensures tally { let query = binary_query_by F.Filters cx.now.default_filter.now query.now in
         F.Tally.numbers tally.new ≡ F.Tally.numbers tally.old
-        ++ listed_by query first (map (held_script_rule_meaning F.meaning) rules.now) }
+        ++ listed_by query first (map (meant_script_rule F.meaning) rules.now) }
 {
     match list_wrapper_rule(rules, first, query, cx, tally) {
         Some(found) => Some(wrapper_at(scripts, found.rule.list_wrapper().unwrap())),

@@ -4,10 +4,27 @@ use Rattle.std.specs.List.{find}
 use Rattle.std.specs.Option.{option_or}
 use Rattle.std.specs.Str.{bytes_eq}
 use Rattle.std.proofs.lemmas.Slice.Eq.{bytes_eq-Decides}
-use Rattle.nextest_sources.specs.InputFaults.{Each, HaveOneFileEach, IsFirstDuplicate, duplicate_fault}
-use Rattle.nextest_sources.specs.Causes.{LoadFault, duplicate_tool, at_source}
+use Rattle.nextest_sources.specs.InputFaults.{Each, HaveOneFileEach, IsFirstDuplicate, fault_at_source, second_cause, tool_steps}
+use Rattle.nextest_sources.specs.Causes.{LoadCause, LoadFault, duplicate_tool, at_source}
 use Rattle.nextest_sources.specs.Inputs.{tool_source}
-use Rattle.nextest_sources.specs.Sources.{ToolFile}
+use Rattle.nextest_sources.specs.Sources.{Source, ToolFile}
+use Rattle.nextest_sources.specs.Steps.{LoadStep, check, first_fault}
+
+-- the first file of some that has an earlier one of its tool, and its fault
+abbrev pub duplicate_fault : (before : List ToolFile) → List ToolFile → Option LoadFault
+duplicate_fault before [] = None
+duplicate_fault before (t ∷ files) =
+    option_or (fault_at_source (tool_source t) (second_cause before t)) (duplicate_fault (before ++ t ∷ []) files)
+
+fault_first : (source : Source) (cause : Option LoadCause) (steps : List LoadStep) (rest : Option LoadFault) → first_fault steps ≡ rest
+    → first_fault (check source cause ∷ steps) ≡ option_or (fault_at_source source cause) rest
+fault_first source None steps rest h = h
+fault_first source (Some cause) steps rest h = refl
+
+-- it is the first fault of the steps of tools' files
+pub tools_fault : (before tools : List ToolFile) → first_fault (tool_steps before tools) ≡ duplicate_fault before tools
+tools_fault before [] = refl
+tools_fault before (t ∷ tools) = fault_first (tool_source t) (second_cause before t) (tool_steps (before ++ t ∷ []) tools) (duplicate_fault (before ++ t ∷ []) tools) (tools_fault (before ++ t ∷ []) tools)
 
 each_at : {X : Type 0} (P : X → Type 0) (below : List X) (x : X) (above : List X) → Each P (below ++ x ∷ above) → P x
 each_at P [] x above h = h.0
@@ -76,7 +93,7 @@ none_at tool (t ∷ ts) h = none_step tool t ts (bytes_eq t.tool tool) refl h (n
 
 -- the fault of a file whose tool has this earlier one, or of a later file
 abbrev fault_at : ToolFile → Option ToolFile → Option LoadFault → Option LoadFault
-fault_at t earlier later = option_or (option_map (λ first. at_source (tool_source t) (duplicate_tool t.tool first)) (option_map (λ x. x.file.path) earlier)) later
+fault_at t earlier later = option_or (option_map (at_source (tool_source t)) (option_map (duplicate_tool t.tool) (option_map (λ x. x.file.path) earlier))) later
 
 some_at : (before : List ToolFile) (t : ToolFile) (ts : List ToolFile) (fault : LoadFault) → HaveOneFileEach before → (o : Option ToolFile) → find (λ x. bytes_eq x.tool t.tool) before ≡ o → fault_at t o (duplicate_fault (before ++ t ∷ []) ts) ≡ Some fault → (HaveOneFileEach (before ++ t ∷ []) → duplicate_fault (before ++ t ∷ []) ts ≡ Some fault → IsFirstDuplicate ((before ++ t ∷ []) ++ ts) fault) → IsFirstDuplicate (before ++ t ∷ ts) fault
 some_at before t ts fault one (Some f) is h next =
@@ -111,21 +128,21 @@ none_after before [] one h = subst (λ xs. HaveOneFileEach xs) (sym (append-nil 
 none_after before (t ∷ ts) one h = none_more before t ts one (find (λ x. bytes_eq x.tool t.tool) before) refl h (none_after (before ++ t ∷ []) ts)
 
 -- the fault that is told is that of the first duplicate
-pub first_duplicate : (ts : List ToolFile) (fault : LoadFault) → duplicate_fault [] ts ≡ Some fault → IsFirstDuplicate ts fault
-first_duplicate ts fault h = some_after [] ts fault none_twice h
+pub first_duplicate : (ts : List ToolFile) (fault : LoadFault) → first_fault (tool_steps [] ts) ≡ Some fault → IsFirstDuplicate ts fault
+first_duplicate ts fault h = some_after [] ts fault none_twice (sym (tools_fault [] ts) ∙ h)
 
 -- none is told exactly where no tool has two files
-pub duplicates_from : (ts : List ToolFile) → duplicate_fault [] ts ≡ None → HaveOneFileEach ts
-duplicates_from ts h = none_after [] ts none_twice h
+pub duplicates_from : (ts : List ToolFile) → first_fault (tool_steps [] ts) ≡ None → HaveOneFileEach ts
+duplicates_from ts h = none_after [] ts none_twice (sym (tools_fault [] ts) ∙ h)
 
-absent : (ts : List ToolFile) → HaveOneFileEach ts → (o : Option LoadFault) → duplicate_fault [] ts ≡ o → o ≡ None
+absent : (ts : List ToolFile) → HaveOneFileEach ts → (o : Option LoadFault) → first_fault (tool_steps [] ts) ≡ o → o ≡ None
 absent ts one None is = refl
 absent ts one (Some fault) is =
     let d = first_duplicate ts fault is in
     absurd (one d.before d.between d.after d.first d.second d.splits d.same)
 
-pub duplicates_to : (ts : List ToolFile) → HaveOneFileEach ts → duplicate_fault [] ts ≡ None
-duplicates_to ts one = absent ts one (duplicate_fault [] ts) refl
+pub duplicates_to : (ts : List ToolFile) → HaveOneFileEach ts → first_fault (tool_steps [] ts) ≡ None
+duplicates_to ts one = absent ts one (first_fault (tool_steps [] ts)) refl
 
 apart : (p q : List ℕ) (b : Bool) → bytes_eq p q ≡ b → (p ≡ q → ⊥) → b ≡ false
 apart p q true is h = absurd (h ((bytes_eq-Decides p q).0 is))
@@ -150,10 +167,11 @@ passed_over done (x ∷ xs) ys one =
     ∙ ap (λ d. duplicate_fault d ys) (append_assoc done (x ∷ []) xs)
 
 -- the first duplicate is what is told
-pub duplicate_is : (ts : List ToolFile) (fault : LoadFault) → IsFirstDuplicate ts fault → duplicate_fault [] ts ≡ Some fault
+pub duplicate_is : (ts : List ToolFile) (fault : LoadFault) → IsFirstDuplicate ts fault → first_fault (tool_steps [] ts) ≡ Some fault
 duplicate_is ts fault d =
     let before = d.before ++ d.first ∷ d.between in
-    ap (duplicate_fault []) d.splits
+    tools_fault [] ts
+    ∙ ap (duplicate_fault []) d.splits
     ∙ passed_over [] before (d.second ∷ d.after) d.least
     ∙ ap (λ o. fault_at d.second o (duplicate_fault (before ++ d.second ∷ []) d.after)) (is_found d.second.tool d.before d.first d.between d.earliest d.same)
     ∙ ap (λ f. Some f) (sym d.tells)

@@ -30,22 +30,8 @@ not_passed_at source None h = cc
 
 not_passed_with : (o : Option Source) (k : ConfigParseErrorKind) → ending_with o k ≡ passed → ⊥
 not_passed_with (Some source) k h = not_passed_at source (cause_view k) h
-not_passed_with None (kinds.DuplicateToolConfigFile tool first) h = cc
-not_passed_with None (kinds.ReadError outcome) h = cc
-not_passed_with None (kinds.BuildError message) h = cc
-not_passed_with None (kinds.DeserializeError fault) h = cc
-not_passed_with None (kinds.InvalidTestGroupsDefined groups) h = cc
-not_passed_with None (kinds.InvalidTestGroupsDefinedByTool groups) h = cc
-not_passed_with None kinds.BothScriptAndScriptsDefined h = cc
-not_passed_with None (kinds.ExperimentalFeaturesNotEnabled features) h = cc
-not_passed_with None (kinds.DuplicateConfigScriptNames ids) h = cc
-not_passed_with None (kinds.InvalidConfigScriptsDefined ids) h = cc
-not_passed_with None (kinds.InvalidConfigScriptsDefinedByTool ids) h = cc
-not_passed_with None (kinds.InheritanceErrors errors) h = cc
-not_passed_with None (kinds.CompileErrors errors) h = cc
-not_passed_with None (kinds.UnknownTestGroups errors known) h = cc
-not_passed_with None (kinds.ProfileScriptErrors errors known) h = cc
 not_passed_with None kinds.Memory h = cc
+not_passed_with None k h = cc
 
 -- a refusal doesn't say that a call passed
 pub not_passed : (e : ConfigParseError) → error_view e ≡ passed → ⊥

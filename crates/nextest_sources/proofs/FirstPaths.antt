@@ -9,7 +9,9 @@ use Rattle.std.specs.Str.{bytes_eq}
 use Rattle.std.proofs.lemmas.List.Folds.{find-append}
 use Rattle.std.proofs.lemmas.Map.Text.{btree_map_updates_str}
 use Rattle.std.proofs.lemmas.Slice.Eq.{bytes_eq-Decides}
-use Rattle.nextest_sources.specs.InputFaults.{second_file, first_path}
+use Rattle.nextest_sources.specs.InputFaults.{fault_at_source, second_cause, first_path}
+use Rattle.nextest_sources.specs.Causes.{at_source, duplicate_tool}
+use Rattle.nextest_sources.specs.Inputs.{tool_source}
 use Rattle.nextest_sources.specs.Sources.{ToolFile, path_view}
 use Rattle.nextest_sources.specs.declared.sources.ConfigPath.{ConfigPath}
 
@@ -22,8 +24,8 @@ no_path f None h = refl
 no_path f (Some x) h = cc
 
 -- a file that is not refused has no earlier one of its tool
-pub not_second : (before : List ToolFile) (t : ToolFile) → second_file before t ≡ None → first_path t.tool before ≡ None
-not_second before t h = no_path _ (first_path t.tool before) h
+pub not_second : (before : List ToolFile) (t : ToolFile) → fault_at_source (tool_source t) (second_cause before t) ≡ None → first_path t.tool before ≡ None
+not_second before t h = no_path (duplicate_tool t.tool) (first_path t.tool before) (no_path (at_source (tool_source t)) (second_cause before t) h)
 
 last_of : (o : Option ToolFile) → option_or o None ≡ o
 last_of None = refl

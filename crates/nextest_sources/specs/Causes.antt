@@ -5,6 +5,7 @@ use Rattle.nextest_elements.specs.declared.experimental.ConfigExperimental.{Conf
 use Rattle.nextest_inheritance.specs.Faults.{ParentFault}
 use Rattle.nextest_scripts.specs.declared.script_type.ScriptType.{ScriptType}
 use Rattle.nextest_scripts.specs.declared.script_type.ProfileScriptType.{ProfileScriptType}
+use Rattle.nextest_texts.specs.Owner.{OwnerClass}
 use Rattle.nextest_sources.specs.Sources.{Source, Outcome}
 
 -- a set of names, as the test of being one of them
@@ -71,9 +72,9 @@ pub data LoadCause : Type 0 where
   no_document : LoadCause
   -- a value is not what may stand there
   bad_element : Fault → LoadCause
-  -- groups and scripts that the source may not define, and whether it is a tool's file
-  ill_named_groups : (by_tool : Bool) → NameSet → LoadCause
-  ill_named_scripts : (by_tool : Bool) → NameSet → LoadCause
+  -- groups and scripts that the source may not define, and the class of its owner
+  ill_named_groups : OwnerClass → NameSet → LoadCause
+  ill_named_scripts : OwnerClass → NameSet → LoadCause
   -- scripts under `script` and under `scripts`
   both_script_keys : LoadCause
   -- features that it needs and that are not switched on

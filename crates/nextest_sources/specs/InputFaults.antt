@@ -1,22 +1,22 @@
 -- What is asked of the files that a load is given, before their texts: one file a tool, and which
 -- files may be missing.
-use Rattle.std.specs.Prelude.{◌≡◌, ℕ, List, [], ◌∷◌, ◌++◌, Option, None, Some, option_map, find}
-use Rattle.std.specs.Option.{option_or}
+use Rattle.std.specs.Prelude.{◌≡◌, ℕ, IsTrue, List, [], ◌∷◌, ◌++◌, Option, None, Some, option_map, find, if◌then◌else◌}
 use Rattle.std.specs.Str.{bytes_eq}
 use Rattle.nextest_sources.specs.Causes.{LoadCause, duplicate_tool, no_text, LoadFault, at_source}
 use Rattle.nextest_sources.specs.Inputs.{tool_source}
-use Rattle.nextest_sources.specs.Sources.{Source, SourceKind, tool_file, explicit_file, discovered_file, Outcome, text, not_found, not_a_directory, failed, ToolFile}
+use Rattle.nextest_sources.specs.Sources.{Source, SourceKind, may_be_missing, Outcome, text, not_found, not_a_directory, failed, ToolFile}
+use Rattle.nextest_sources.specs.Steps.{LoadStep, check}
 
 -- a fact of each element of a list
 abbrev pub Each : {X : Type 0} → (X → Type 0) → List X → Type 0
 Each P [] = Unit {0}
 Each P (x ∷ xs) = P x × Each P xs
 
--- a file is read; or it is missing, and it was only looked for
+-- a file is read; or it is missing, and it may be
 abbrev pub IsReadOrMissing : SourceKind → Outcome → Type 0
 IsReadOrMissing kind (text t) = Unit {0}
-IsReadOrMissing kind not_found = kind ≡ discovered_file
-IsReadOrMissing kind not_a_directory = kind ≡ discovered_file
+IsReadOrMissing kind not_found = IsTrue (may_be_missing kind)
+IsReadOrMissing kind not_a_directory = IsTrue (may_be_missing kind)
 IsReadOrMissing kind (failed message) = ⊥
 
 -- no tool has two files
@@ -40,11 +40,9 @@ pub record IsFirstDuplicate (files : List ToolFile) (fault : LoadFault) : Type 0
   pub least : HaveOneFileEach (before ++ first ∷ between)
   pub tells : fault ≡ at_source (tool_source second) (duplicate_tool second.tool first.file.path)
 
--- a file that is missing is refused, unless it is only looked for
+-- a file that is missing is refused, unless it may be missing
 abbrev pub missing_cause : SourceKind → Outcome → Option LoadCause
-missing_cause discovered_file o = None
-missing_cause explicit_file o = Some (no_text o)
-missing_cause (tool_file tool) o = Some (no_text o)
+missing_cause kind o = if may_be_missing kind then None else Some (no_text o)
 
 -- why the outcome of a file is refused
 abbrev pub outcome_cause : SourceKind → Outcome → Option LoadCause
@@ -61,14 +59,13 @@ fault_at_source source cause = option_map (at_source source) cause
 abbrev pub first_path : List ℕ → List ToolFile → Option (List ℕ)
 first_path tool files = option_map (λ t. t.file.path) (find (λ t. bytes_eq t.tool tool) files)
 
--- a tool's file is refused where one of the files before it is of the same tool
-abbrev pub second_file : (before : List ToolFile) → ToolFile → Option LoadFault
-second_file before t =
-    option_map (λ path. at_source (tool_source t) (duplicate_tool t.tool path))
-    (first_path t.tool before)
+-- why a tool's file is refused: one of the files before it is of the same tool
+abbrev pub second_cause : (before : List ToolFile) → ToolFile → Option LoadCause
+second_cause before t = option_map (duplicate_tool t.tool) (first_path t.tool before)
 
--- the first file of some that has an earlier one of its tool is refused
-abbrev pub duplicate_fault : (before : List ToolFile) → List ToolFile → Option LoadFault
-duplicate_fault before [] = None
-duplicate_fault before (t ∷ files) =
-    option_or (second_file before t) (duplicate_fault (before ++ t ∷ []) files)
+-- The steps of tools' files over those before them: each is looked at for an earlier one of its
+-- tool.
+abbrev pub tool_steps : (before : List ToolFile) → List ToolFile → List LoadStep
+tool_steps before [] = []
+tool_steps before (t ∷ files) =
+    check (tool_source t) (second_cause before t) ∷ tool_steps (before ++ t ∷ []) files

@@ -2,6 +2,8 @@
 use Rattle.std.specs.Prelude.{ℕ, List, [], ◌∷◌, ◌++◌, Option, Some, None, map, reverse, option_map}
 use Rattle.std.specs.Borrow.{Bor}
 use Rattle.std.specs.List.{flat_map}
+use Rattle.nextest_sources.specs.declared.sources.ConfigFileSelection.{ConfigFileSelection}
+use Rattle.nextest_sources.specs.declared.sources.ConfigInputs.{ConfigInputs}
 use Rattle.nextest_sources.specs.declared.sources.FileInput.{FileInput}
 use Rattle.nextest_sources.specs.declared.sources.ToolConfigFile.{ToolConfigFile}
 use Rattle.nextest_sources.specs.Sources.{Source, tool_file, explicit_file, discovered_file, Outcome, text, not_found, not_a_directory, failed, InputFile, file_view, ToolFile, tool_file_view}
@@ -13,13 +15,21 @@ pub record LoadInputs : Type 0 where
   pub explicit : Option InputFile
   pub tools : List ToolFile
 
+-- the choice of a file of the repository that a user names, if any, and of nothing else
+abbrev pub selecting : Option (Bor FileInput) → ConfigFileSelection
+selecting config_file = record { config_file = config_file }
+
 -- what contracts see of the files that a load is given
-abbrev pub load_inputs_view : FileInput → Option (Bor FileInput) → List ToolConfigFile → LoadInputs
-load_inputs_view shared config_file tools = record {
+abbrev pub load_inputs_view : FileInput → ConfigFileSelection → List ToolConfigFile → LoadInputs
+load_inputs_view shared selection tools = record {
   shared = file_view shared;
-  explicit = option_map (λ f. file_view f.now) config_file;
+  explicit = option_map (λ f. file_view f.now) selection.config_file;
   tools = map tool_file_view tools;
 }
+
+-- the files among all that a load is given
+abbrev pub inputs_view : ConfigInputs → LoadInputs
+inputs_view i = load_inputs_view i.shared.now i.selection i.tools.now
 
 -- a source, and what came of reading its file
 pub record Input : Type 0 where
@@ -47,11 +57,14 @@ repository_input shared None = record {
 abbrev pub repository_of : LoadInputs → Source
 repository_of files = (repository_input files.shared files.explicit).source
 
+-- what stands above the files of tools, the lowest first: the repository's file
+abbrev pub selected_inputs : LoadInputs → List Input
+selected_inputs files = repository_input files.shared files.explicit ∷ []
+
 -- What a load reads, the lowest first: the files of tools from the last argument to the first, and
--- then the repository's.
+-- then what stands above them.
 abbrev pub inputs_of : LoadInputs → List Input
-inputs_of files =
-    reverse (map tool_input files.tools) ++ repository_input files.shared files.explicit ∷ []
+inputs_of files = reverse (map tool_input files.tools) ++ selected_inputs files
 
 -- a source with the text of its file
 pub record SourceText : Type 0 where

@@ -1,6 +1,7 @@
 -- What contracts see of files, outcomes and sources.
-use Rattle.std.specs.Prelude.{ℕ, List, Option, Some, None, string_bytes}
+use Rattle.std.specs.Prelude.{ℕ, List, Bool, true, false, Option, string_bytes}
 use Rattle.nextest_texts.specs.IdentifierText.{tool_name_text}
+use Rattle.nextest_texts.specs.Owner.{Owner, nobody, a_tool, tool_of_owner}
 use Rattle.nextest_sources.specs.declared.sources.ConfigPath.{ConfigPath}
 use Rattle.nextest_sources.specs.declared.sources.ReadOutcome.{ReadOutcome}
 use Rattle.nextest_sources.specs.declared.sources.ReadOutcome.TheVariants as outcomes
@@ -26,11 +27,20 @@ source_kind_view (kinds.Tool tool) = tool_file (tool_name_text tool)
 source_kind_view kinds.ExplicitRepository = explicit_file
 source_kind_view kinds.DiscoveredRepository = discovered_file
 
+-- The owner of a source: a tool owns its file, and nobody the repository's.
+abbrev pub owner_of_source : SourceKind → Owner
+owner_of_source (tool_file tool) = a_tool tool
+owner_of_source explicit_file = nobody
+owner_of_source discovered_file = nobody
+
+-- Whether a file may be missing: it may where it is only looked for.
+abbrev pub may_be_missing : SourceKind → Bool
+may_be_missing discovered_file = true
+may_be_missing _ = false
+
 -- the tool of a source, where it is one of a tool
 abbrev pub tool_of_source : SourceKind → Option (List ℕ)
-tool_of_source (tool_file tool) = Some tool
-tool_of_source explicit_file = None
-tool_of_source discovered_file = None
+tool_of_source kind = tool_of_owner (owner_of_source kind)
 
 -- a source: the path of a file, and what kind of source it is
 pub record Source : Type 0 where

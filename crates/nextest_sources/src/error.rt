@@ -84,66 +84,61 @@ pub enum ConfigParseErrorKind {
 impl ConfigParseErrorKind {
     ghost use Rattle.nextest_sources.specs.KindNames.{kind_number, kind_name};
 
+    /// The kind's number and name.
+    fn label(&self) -> (u8, &'static str)
+        ensures number { result.0 ≡ kind_number self.now }
+        ensures name { result.1.now ≡ kind_name self.now }
+    {
+        match self {
+            ConfigParseErrorKind::DuplicateToolConfigFile { .. } => (1, "DuplicateToolConfigFile"),
+            ConfigParseErrorKind::ReadError(_) => (2, "ReadError"),
+            ConfigParseErrorKind::BuildError(_) => (3, "BuildError"),
+            ConfigParseErrorKind::DeserializeError(_) => (4, "DeserializeError"),
+            ConfigParseErrorKind::InvalidTestGroupsDefined(_) => (5, "InvalidTestGroupsDefined"),
+            ConfigParseErrorKind::InvalidTestGroupsDefinedByTool(_) => {
+                (6, "InvalidTestGroupsDefinedByTool")
+            }
+            ConfigParseErrorKind::BothScriptAndScriptsDefined => (7, "BothScriptAndScriptsDefined"),
+            ConfigParseErrorKind::ExperimentalFeaturesNotEnabled { .. } => {
+                (8, "ExperimentalFeaturesNotEnabled")
+            }
+            ConfigParseErrorKind::DuplicateConfigScriptNames(_) => (
+                9,
+                "DuplicateConfigScriptNames",
+            ),
+            ConfigParseErrorKind::InvalidConfigScriptsDefined(_) => {
+                (10, "InvalidConfigScriptsDefined")
+            }
+            ConfigParseErrorKind::InvalidConfigScriptsDefinedByTool(_) => {
+                (11, "InvalidConfigScriptsDefinedByTool")
+            }
+            ConfigParseErrorKind::InheritanceErrors(_) => (12, "InheritanceErrors"),
+            ConfigParseErrorKind::CompileErrors(_) => (13, "CompileErrors"),
+            ConfigParseErrorKind::UnknownTestGroups { .. } => (14, "UnknownTestGroups"),
+            ConfigParseErrorKind::ProfileScriptErrors { .. } => (15, "ProfileScriptErrors"),
+            ConfigParseErrorKind::Memory => (16, "Memory"),
+        }
+    }
+
     /// The kind's number, as the program prints it.
     pub fn number(&self) -> u8
         ensures { result ≡ kind_number self.now }
     {
-        match self {
-            ConfigParseErrorKind::DuplicateToolConfigFile { .. } => 1,
-            ConfigParseErrorKind::ReadError(_) => 2,
-            ConfigParseErrorKind::BuildError(_) => 3,
-            ConfigParseErrorKind::DeserializeError(_) => 4,
-            ConfigParseErrorKind::InvalidTestGroupsDefined(_) => 5,
-            ConfigParseErrorKind::InvalidTestGroupsDefinedByTool(_) => 6,
-            ConfigParseErrorKind::BothScriptAndScriptsDefined => 7,
-            ConfigParseErrorKind::ExperimentalFeaturesNotEnabled { .. } => 8,
-            ConfigParseErrorKind::DuplicateConfigScriptNames(_) => 9,
-            ConfigParseErrorKind::InvalidConfigScriptsDefined(_) => 10,
-            ConfigParseErrorKind::InvalidConfigScriptsDefinedByTool(_) => 11,
-            ConfigParseErrorKind::InheritanceErrors(_) => 12,
-            ConfigParseErrorKind::CompileErrors(_) => 13,
-            ConfigParseErrorKind::UnknownTestGroups { .. } => 14,
-            ConfigParseErrorKind::ProfileScriptErrors { .. } => 15,
-            ConfigParseErrorKind::Memory => 16,
-        }
+        self.label().0
     }
 
     /// The kind's name, as the program prints it.
     pub fn name(&self) -> &'static str
         ensures { result.now ≡ kind_name self.now }
     {
-        match self {
-            ConfigParseErrorKind::DuplicateToolConfigFile { .. } => "DuplicateToolConfigFile",
-            ConfigParseErrorKind::ReadError(_) => "ReadError",
-            ConfigParseErrorKind::BuildError(_) => "BuildError",
-            ConfigParseErrorKind::DeserializeError(_) => "DeserializeError",
-            ConfigParseErrorKind::InvalidTestGroupsDefined(_) => "InvalidTestGroupsDefined",
-            ConfigParseErrorKind::InvalidTestGroupsDefinedByTool(_) => {
-                "InvalidTestGroupsDefinedByTool"
-            }
-            ConfigParseErrorKind::BothScriptAndScriptsDefined => "BothScriptAndScriptsDefined",
-            ConfigParseErrorKind::ExperimentalFeaturesNotEnabled { .. } => {
-                "ExperimentalFeaturesNotEnabled"
-            }
-            ConfigParseErrorKind::DuplicateConfigScriptNames(_) => "DuplicateConfigScriptNames",
-            ConfigParseErrorKind::InvalidConfigScriptsDefined(_) => "InvalidConfigScriptsDefined",
-            ConfigParseErrorKind::InvalidConfigScriptsDefinedByTool(_) => {
-                "InvalidConfigScriptsDefinedByTool"
-            }
-            ConfigParseErrorKind::InheritanceErrors(_) => "InheritanceErrors",
-            ConfigParseErrorKind::CompileErrors(_) => "CompileErrors",
-            ConfigParseErrorKind::UnknownTestGroups { .. } => "UnknownTestGroups",
-            ConfigParseErrorKind::ProfileScriptErrors { .. } => "ProfileScriptErrors",
-            ConfigParseErrorKind::Memory => "Memory",
-        }
+        self.label().1
     }
 }
 
 /// Writes a message as details: each of its lines behind two spaces.
 fn write_details<W: fmt::Write>(f: &mut fmt::Formatter<W>, message: &str) -> fmt::Result {
     for line in message.lines() {
-        begin_detail(f)?;
-        f.write_str(line)?;
+        write_detail(f, &line)?;
     }
     Ok(())
 }

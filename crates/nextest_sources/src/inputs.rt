@@ -1,16 +1,16 @@
 //! What a load reads: the files that it is given, as sources in their order.
-ghost use Rattle.std.specs.Prelude.{◌≡◌, ◌++◌, ◌∷◌, [], List, IfOk, MatchOption, map, reverse, option_map};
+ghost use Rattle.std.specs.Prelude.{◌≡◌, ◌++◌, ◌∷◌, [], List, IfOk, OnOk, MatchOption, map, option_map};
 ghost use Rattle.nextest_texts.specs.IdentifierText.{tool_name_text};
 ghost use Rattle.nextest_sources.specs.Endings.{Found, ending};
-ghost use Rattle.nextest_sources.specs.InputFaults.{fault_at_source, outcome_cause, first_path, second_file, duplicate_fault};
+ghost use Rattle.nextest_sources.specs.InputFaults.{fault_at_source, outcome_cause, first_path, second_cause, tool_steps};
 ghost use Rattle.nextest_sources.specs.InputsView.{input_view};
-ghost use Rattle.nextest_sources.specs.Inputs.{tool_input, repository_input, source_texts_of};
-ghost use Rattle.nextest_sources.specs.Sources.{ToolFile, path_view, source_view, file_view, tool_file_view};
+ghost use Rattle.nextest_sources.specs.Inputs.{inputs_of, inputs_view, repository_input, repository_of, selected_inputs, source_texts_of, tool_input, tool_source};
+ghost use Rattle.nextest_sources.specs.Sources.{ToolFile, outcome_view, path_view, source_view, tool_file_view};
+ghost use Rattle.nextest_sources.specs.Steps.{first_fault};
 
 use crate::error::{ConfigParseError, ConfigParseErrorKind};
 use crate::sources::{
-    ConfigFileSelection, ConfigPath, ConfigSource, ConfigSourceKind, FileInput, ReadOutcome,
-    ToolConfigFile,
+    ConfigInputs, ConfigPath, ConfigSource, ConfigSourceKind, ReadOutcome, ToolConfigFile,
 };
 use nextest_texts::ToolName;
 use std::alloc::{AllocError, Global};
@@ -39,18 +39,13 @@ fn tool_source_input(file: &ToolConfigFile) -> Result<SourceInput<'_>, AllocErro
 }
 
 /// The repository's file: the one that a user named, and else the one that is looked for.
-pub fn repository_file<'a>(
-    shared: &'a FileInput,
-    selection: ConfigFileSelection<'a>,
-) -> Result<SourceInput<'a>, AllocError>
-    ensures { IfOk result
-        (λ input. input_view input
-        ≡ repository_input (file_view shared.now)
-        (option_map (λ f. file_view f.now) selection.entry.config_file)) }
+fn repository_file<'a>(files: &ConfigInputs<'a>) -> Result<SourceInput<'a>, AllocError>
+    ensures { let given = inputs_view files.now in
+        IfOk result (λ input. input_view input ≡ repository_input given.shared given.explicit) }
 {
-    let (file, kind) = match selection.config_file {
+    let (file, kind) = match files.selection.config_file {
         Some(file) => (file, ConfigSourceKind::ExplicitRepository),
-        None => (shared, ConfigSourceKind::DiscoveredRepository),
+        None => (files.shared, ConfigSourceKind::DiscoveredRepository),
     };
     Ok(SourceInput {
         source: ConfigSource::new(file.path.clone()?, kind),
@@ -58,24 +53,41 @@ pub fn repository_file<'a>(
     })
 }
 
+/// The repository's source, where faults of what all sources make together are told.
+pub fn repository_source(files: &ConfigInputs<'_>) -> Result<ConfigSource, AllocError>
+    ensures { IfOk result (λ source. source_view source ≡ repository_of (inputs_view files.now)) }
+{
+    let SourceInput { source, .. } = repository_file(files)?;
+    Ok(source)
+}
+
+/// Adds what stands above the files of tools, the lowest first.
+fn add_selected<'a>(
+    inputs: &mut Vec<SourceInput<'a>>,
+    files: &ConfigInputs<'a>,
+) -> Result<(), AllocError>
+    ensures { OnOk result (map input_view inputs.new.items
+        ≡ map input_view inputs.old.items ++ selected_inputs (inputs_view files.now)) }
+{
+    inputs.push(repository_file(files)?)?;
+    Ok(())
+}
+
 /// All inputs, the lowest first: the files of tools from the last argument to the first, and then
-/// the repository's.
-pub fn gather<'a>(
+/// what stands above them.
+pub fn collect_inputs<'a>(
     alloc: Global,
-    repository: SourceInput<'a>,
-    tools: &'a [ToolConfigFile],
+    files: &ConfigInputs<'a>,
 ) -> Result<Vec<SourceInput<'a>>, AllocError>
     ensures { IfOk result
-        (λ inputs. map input_view inputs.items
-        ≡ reverse (map tool_input (map tool_file_view tools.now))
-        ++ input_view repository.entry ∷ []) }
+        (λ inputs. map input_view inputs.items ≡ inputs_of (inputs_view files.now)) }
 {
     let mut inputs = Vec::new(alloc);
-    for file in tools {
+    for file in files.tools {
         inputs.push(tool_source_input(file)?)?;
     }
     inputs.reverse();
-    inputs.push(repository)?;
+    add_selected(&mut inputs, files)?;
     Ok(inputs)
 }
 
@@ -84,7 +96,8 @@ fn refuse_second(file: &ToolConfigFile, first: Option<&ConfigPath>) -> Result<()
     ensures { (before : List ToolFile)
         → option_map (λ p. path_view p.now) first.entry
         ≡ first_path (tool_name_text file.now.tool) before
-        → Found (second_file before (tool_file_view file.now)) (ending result) }
+        → let t = tool_file_view file.now in
+        Found (fault_at_source (tool_source t) (second_cause before t)) (ending result) }
 {
     let Some(first) = first else {
         return Ok(());
@@ -99,7 +112,7 @@ fn refuse_second(file: &ToolConfigFile, first: Option<&ConfigPath>) -> Result<()
 
 /// Refuses the first file of a tool that has an earlier one. No outcome is looked at.
 pub fn refuse_duplicates(alloc: Global, tools: &[ToolConfigFile]) -> Result<(), ConfigParseError>
-    ensures { Found (duplicate_fault [] (map tool_file_view tools.now)) (ending result) }
+    ensures { Found (first_fault (tool_steps [] (map tool_file_view tools.now))) (ending result) }
 {
     let mut first_path_by_tool: BTreeMap<&ToolName, &ConfigPath> = BTreeMap::new(alloc);
     for file in tools {
@@ -113,8 +126,20 @@ pub fn refuse_duplicates(alloc: Global, tools: &[ToolConfigFile]) -> Result<(), 
     Ok(())
 }
 
-/// The text of an input. There is none where the file is missing and was only looked for; any
-/// other outcome is refused.
+/// A copy of an outcome, for its refusal.
+fn copied_outcome(outcome: &ReadOutcome) -> Result<ReadOutcome, AllocError>
+    ensures { IfOk result (λ copy. outcome_view copy ≡ outcome_view outcome.now) }
+{
+    match outcome {
+        ReadOutcome::Text(text) => Ok(ReadOutcome::Text(text.clone()?)),
+        ReadOutcome::NotFound => Ok(ReadOutcome::NotFound),
+        ReadOutcome::NotADirectory => Ok(ReadOutcome::NotADirectory),
+        ReadOutcome::Failed(message) => Ok(ReadOutcome::Failed(message.clone()?)),
+    }
+}
+
+/// The text of an input. There is none where the file is missing and may be; any other outcome is
+/// refused.
 pub fn text_of<'a>(input: &SourceInput<'a>) -> Result<Option<&'a str>, ConfigParseError>
     ensures found { let read = input_view input.now in
         Found (fault_at_source read.source (outcome_cause read.source.kind read.outcome))
@@ -125,15 +150,15 @@ pub fn text_of<'a>(input: &SourceInput<'a>) -> Result<Option<&'a str>, ConfigPar
         (source_texts_of read ≡ [])
         (λ t. source_texts_of read ≡ record { source = read.source; text = t.now } ∷ [])) }
 {
-    match (input.outcome, input.source.kind()) {
-        (ReadOutcome::Text(text), _) => Ok(Some(text.as_str())),
-        (
-            ReadOutcome::NotFound | ReadOutcome::NotADirectory,
-            ConfigSourceKind::DiscoveredRepository,
-        ) => Ok(None),
-        (outcome, _) => {
-            let kind = ConfigParseErrorKind::ReadError(outcome.clone()?);
-            Err(ConfigParseError::at(&input.source, kind))
+    match input.outcome {
+        ReadOutcome::Text(text) => return Ok(Some(text.as_str())),
+        ReadOutcome::NotFound | ReadOutcome::NotADirectory => {
+            if input.source.kind().may_be_missing() {
+                return Ok(None);
+            }
         }
+        ReadOutcome::Failed(_) => (),
     }
+    let kind = ConfigParseErrorKind::ReadError(copied_outcome(input.outcome)?);
+    Err(ConfigParseError::at(&input.source, kind))
 }

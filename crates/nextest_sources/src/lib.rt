@@ -16,10 +16,10 @@ pub use error::{
     ConfigParseErrorKind, ProfileListScriptUsesRunFiltersError, ProfileScriptErrors,
     ProfileUnknownScriptError, ProfileWrongConfigScriptTypeError, UnknownTestGroupError,
 };
-pub use inputs::{SourceInput, gather, refuse_duplicates, repository_file, text_of};
+pub use inputs::{SourceInput, collect_inputs, refuse_duplicates, repository_source, text_of};
 pub use one_line::OneLine;
 pub use sources::{
-    ConfigFileSelection, ConfigPath, ConfigPaths, ConfigSource, ConfigSourceKind, FileInput,
-    ReadOutcome, ToolConfigFile,
+    ConfigFileSelection, ConfigInputs, ConfigPath, ConfigPaths, ConfigSource, ConfigSourceKind,
+    FileInput, ReadOutcome, ToolConfigFile,
 };
 pub use warnings::{ConfigWarning, ConfigWarnings, DefaultConfigWarnings};

@@ -3,12 +3,15 @@
 //!
 //! Nothing here reads a file. A caller reads them and hands the outcomes in.
 ghost use Rattle.std.specs.Prelude.{◌≡◌, IfOk, option_map};
-ghost use Rattle.nextest_sources.specs.Sources.{path_view, outcome_view, source_view, source_kind_view, tool_of_source};
+ghost use Rattle.nextest_sources.specs.Inputs.{selecting};
+ghost use Rattle.nextest_sources.specs.Sources.{path_view, source_view, source_kind_view, tool_of_source};
 ghost use Rattle.nextest_texts.specs.IdentifierText.{tool_name_text};
 
 use crate::one_line::OneLine;
-use nextest_texts::ToolName;
+use nextest_elements::ConfigExperimental;
+use nextest_texts::{IdentifierOwner, ToolName};
 use std::alloc::{AllocError, Global};
+use std::collections::BTreeSet;
 use std::fmt;
 
 /// The resolved path of a configuration file, as it was handed in.
@@ -58,19 +61,6 @@ pub enum ReadOutcome {
     Failed(String),
 }
 
-impl Clone for ReadOutcome {
-    ghost is_clone = { λ outcome copy. outcome_view copy ≡ outcome_view outcome };
-
-    fn clone(&self) -> Result<Self, AllocError> {
-        match self {
-            ReadOutcome::Text(text) => Ok(ReadOutcome::Text(text.clone()?)),
-            ReadOutcome::NotFound => Ok(ReadOutcome::NotFound),
-            ReadOutcome::NotADirectory => Ok(ReadOutcome::NotADirectory),
-            ReadOutcome::Failed(message) => Ok(ReadOutcome::Failed(message.clone()?)),
-        }
-    }
-}
-
 /// A file that was read, or not.
 #[derive(Debug, Drop)]
 pub struct FileInput {
@@ -99,7 +89,7 @@ pub struct ConfigFileSelection<'a> {
 impl<'a> ConfigFileSelection<'a> {
     /// The file that a user named, if there is one, and else the one that is looked for.
     pub fn new(config_file: Option<&'a FileInput>) -> ConfigFileSelection<'a>
-        ensures { result.config_file ≡ config_file.entry }
+        ensures { result ≡ selecting config_file.entry }
     {
         ConfigFileSelection { config_file }
     }
@@ -121,6 +111,19 @@ pub struct ConfigPaths {
     pub shared: FileInput,
 }
 
+/// All that a load is given: files with their outcomes, and the features that are switched on.
+#[derive(Clone, Copy)]
+pub struct ConfigInputs<'a> {
+    /// The repository's file where it is looked for, which may be missing.
+    pub shared: &'a FileInput,
+    /// The files that are read beside those of tools.
+    pub selection: ConfigFileSelection<'a>,
+    /// The files that tools provide, in the order of the arguments: the first is the highest.
+    pub tools: &'a [ToolConfigFile],
+    /// The experimental features that are switched on.
+    pub features: &'a BTreeSet<ConfigExperimental>,
+}
+
 /// What kind of source a file is.
 #[derive(Clone, Debug, Drop, PartialEq, Eq, Hash)]
 pub enum ConfigSourceKind {
@@ -130,6 +133,31 @@ pub enum ConfigSourceKind {
     ExplicitRepository,
     /// The repository's file where it is looked for, as nobody named another.
     DiscoveredRepository,
+}
+
+impl ConfigSourceKind {
+    ghost use Rattle.nextest_texts.specs.OwnerView.{owner_view};
+    ghost use Rattle.nextest_sources.specs.Sources.{owner_of_source};
+    ghost use Rattle.nextest_sources.specs.Sources as specs;
+
+    /// Who owns the source. It may define the names that its owner owns, and no others.
+    pub fn owner(&self) -> IdentifierOwner<'_>
+        ensures { owner_view result ≡ owner_of_source (source_kind_view self.now) }
+    {
+        match self {
+            ConfigSourceKind::Tool(tool) => IdentifierOwner::Tool(tool.as_str()),
+            ConfigSourceKind::ExplicitRepository | ConfigSourceKind::DiscoveredRepository => {
+                IdentifierOwner::Nobody
+            }
+        }
+    }
+
+    /// Whether the file may be missing, as one that is only looked for.
+    pub fn may_be_missing(&self) -> bool
+        ensures { result ≡ specs.may_be_missing (source_kind_view self.now) }
+    {
+        matches!(self, ConfigSourceKind::DiscoveredRepository)
+    }
 }
 
 /// A source: a file, and what kind of source it is.
@@ -173,7 +201,7 @@ impl ConfigSource {
     {
         match &self.kind {
             ConfigSourceKind::Tool(tool) => Some(tool),
-            ConfigSourceKind::ExplicitRepository | ConfigSourceKind::DiscoveredRepository => None,
+            _ => None,
         }
     }
 
@@ -189,9 +217,9 @@ impl ConfigSource {
 impl fmt::Display for ConfigSource {
     fn fmt<W: fmt::Write>(&self, f: &mut fmt::Formatter<W>) -> fmt::Result {
         let path = OneLine(self.path.absolute_path());
-        match self.tool() {
-            Some(tool) => write!(f, "{path} provided by tool `{tool}`"),
-            None => write!(f, "{path}"),
+        match self.kind.owner() {
+            IdentifierOwner::Tool(tool) => write!(f, "{path} provided by tool `{tool}`"),
+            IdentifierOwner::Nobody => write!(f, "{path}"),
         }
     }
 }

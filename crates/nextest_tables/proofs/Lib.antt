@@ -11,3 +11,4 @@ pub mod Kept
 pub mod Free
 pub mod Form
 pub mod Completing
+pub mod SpellByName

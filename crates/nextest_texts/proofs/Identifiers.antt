@@ -1,6 +1,6 @@
 -- The tests of texts say what the grammar of identifiers says.
 use native.Mathlib.Numerals.{unary_clauses}
-use Rattle.std.proofs.Common.{◌≡◌, ◌≢◌, ◌↔◌, ℕ, ◌+◌, ◌<◌, ◌≤◌, Bool, true, false, ◌||◌, ◌&&◌, eqb, IsTrue, Option, Some, None, Result, Ok, Err, IfErr, IfNone, IfSome, Bor, List, [], ◌∷◌, ◌++◌, All, length, take, drop, get_or, Contains, codes, encode_utf8_all, refl, sym, ◌∙◌, ap, subst, inl, inr, ⊎_elim, arith, append_assoc}
+use Rattle.std.proofs.Common.{◌≡◌, ◌≢◌, ◌↔◌, ℕ, ◌+◌, ◌<◌, ◌≤◌, Bool, true, false, ◌||◌, ◌&&◌, eqb, IsTrue, Option, Some, None, Result, Ok, Err, IfErr, IfNone, IfSome, Bor, List, [], ◌∷◌, ◌++◌, All, length, take, drop, get_or, Contains, codes, encode_utf8_all, refl, sym, ◌∙◌, ap, subst, inl, inr, ⊎_elim, is_some, arith, append_assoc, if◌then◌else◌}
 use Rattle.std.proofs.Math.Seq.{take-append_seam, drop-append-add, get_or-append_seam}
 use Rattle.std.proofs.Math.Bool.{or-false}
 use Rattle.std.proofs.lemmas.Bool.{cases_Bool, false≢true, and_parts, and_from, and_right, or_cases, or_left, or_right, eqb-true, eq-eqb, ne_eqb, cases_lt, false_from_ne_true}
@@ -13,10 +13,11 @@ use Rattle.std.proofs.lemmas.Str.{IsUtf8-from_is_utf8, is_utf8-from_IsUtf8, enco
 use Rattle.std.proofs.lemmas.Str.Pattern.{NoCharPasses-char}
 use Rattle.std.specs.Char.{encode_utf8}
 use Rattle.std.specs.List.{list_all, before_first, after_first, position_or_len}
+use Rattle.std.specs.Option.{option_or}
 use Rattle.std.specs.Str.{IsUtf8, NonePass, chars, is_utf8, all_scalars}
 use Rattle.unicode_ident.specs.Ident.{is_xid_start, is_xid_continue}
 use Rattle.unicode_ident.proofs.IdentLemmas.{is_xid_start-ascii, is_xid_continue-ascii}
-use Rattle.nextest_texts.specs.Identifier.{ContinuesPart, IsPart, HasToolParts, IsToolIdentifier, IsIdentifier, are_part_characters, is_part, has_tool_prefix, tool_of, name_of, is_tool_identifier, is_identifier, StartsBadly, HasBadCharacter, HasPartFlaw, HasFlaw}
+use Rattle.nextest_texts.specs.Identifier.{ContinuesPart, IsPart, HasToolParts, IsToolIdentifier, Form, plain, of_tool, HasForm, IsIdentifier, are_part_characters, is_part, has_tool_prefix, tool_of, name_of, has_tool_form, form_of, is_tool_form, is_tool_identifier, is_identifier, StartsBadly, HasBadCharacter, HasPartFlaw, HasFlaw}
 use Rattle.nextest_texts.specs.declared.identifier.InvalidIdentifier.{InvalidIdentifier}
 use Rattle.nextest_texts.specs.declared.identifier.InvalidIdentifier.TheVariants as causes
 
@@ -156,9 +157,35 @@ no_colon_no_name text past =
     let none : name_of text ≡ [] = drop_all (position_or_len (λ b. eqb b 58) (drop 6 text) + 1) (drop 6 text) (omega arith) in
     subst (λ t. is_part t ≡ false) (sym none) empty_is_no_part
 
-tool_parts_by_test : (text : List ℕ) → is_tool_identifier text ≡ true → HasToolParts text (tool_of text) (name_of text)
-unfolding is_tool_identifier
-tool_parts_by_test text h =
+-- the form of a text by two tests: that it is a part, and that it is a tool's identifier
+abbrev form_by : Bool → Bool → (tool name : List ℕ) → Option Form
+form_by part tool t n = option_or (if part then Some plain else None) (if tool then Some (of_tool t n) else None)
+
+by_tool_form : (part tool : Bool) (t n : List ℕ) → (tool ≡ true → part ≡ false) → is_tool_form (form_by part tool t n) ≡ tool
+by_tool_form true true t n apart = absurd (false≢true (sym (apart refl)))
+by_tool_form true false t n apart = refl
+by_tool_form false true t n apart = refl
+by_tool_form false false t n apart = refl
+
+by_some_form : (part tool : Bool) (t n : List ℕ) → is_some (form_by part tool t n) ≡ (part || tool)
+by_some_form true tool t n = refl
+by_some_form false true t n = refl
+by_some_form false false t n = refl
+
+-- a text of a tool's form is no part
+tool_form_is_no_part : (text : List ℕ) → has_tool_form text ≡ true → is_part text ≡ false
+tool_form_is_no_part text h = prefix_is_no_part text (and_parts (has_tool_prefix text) _ h).0
+
+tool_test : (text : List ℕ) → is_tool_identifier text ≡ has_tool_form text
+unfolding is_tool_identifier form_of
+tool_test text = by_tool_form (is_part text) (has_tool_form text) (tool_of text) (name_of text) (tool_form_is_no_part text)
+
+identifier_test : (text : List ℕ) → is_identifier text ≡ (is_part text || has_tool_form text)
+unfolding is_identifier form_of
+identifier_test text = by_some_form (is_part text) (has_tool_form text) (tool_of text) (name_of text)
+
+tool_parts_by_form : (text : List ℕ) → has_tool_form text ≡ true → HasToolParts text (tool_of text) (name_of text)
+tool_parts_by_form text h =
     let prefixed = and_parts (has_tool_prefix text) _ h in
     let parts = and_parts (is_part (tool_of text)) (is_part (name_of text)) prefixed.1 in
     let at : ℕ = position_or_len (λ b. eqb b 58) (drop 6 text) in
@@ -173,9 +200,8 @@ tool_parts_by_test text h =
       name_is_part = IsPart-from_is_part (name_of text) parts.1;
     }
 
-test_by_tool_parts : (text tool name : List ℕ) → HasToolParts text tool name → is_tool_identifier text ≡ true
-unfolding is_tool_identifier
-test_by_tool_parts text tool name parts =
+form_by_tool_parts : (text tool name : List ℕ) → HasToolParts text tool name → has_tool_form text ≡ true
+form_by_tool_parts text tool name parts =
     and_from (has_tool_prefix text) _ (prefix_of text (tool ++ 58 ∷ name) (parts.spelled ∙ regroup tool name))
     (and_from (is_part (tool_of text)) _
     (subst (λ t. is_part t ≡ true) (sym (tool_of_parts text tool name parts)) (is_part-from_IsPart tool parts.tool_is_part))
@@ -183,29 +209,60 @@ test_by_tool_parts text tool name parts =
 
 -- A text passes the test of tools' identifiers exactly where it is one.
 pub is_tool_identifier_law : (text : List ℕ) → IsTrue (is_tool_identifier text) ↔ IsToolIdentifier text
-is_tool_identifier_law text =
-    (λ h. (tool_of text, name_of text, tool_parts_by_test text h), λ tool. test_by_tool_parts text tool.0 tool.1 tool.2)
+is_tool_identifier_law text = (
+  λ h. (tool_of text, name_of text, tool_parts_by_form text (sym (tool_test text) ∙ h)),
+  λ tool. tool_test text ∙ form_by_tool_parts text tool.0 tool.1 tool.2,
+)
 
 -- A text passes the test of identifiers exactly where it is one.
 pub is_identifier_law : (text : List ℕ) → IsTrue (is_identifier text) ↔ IsIdentifier text
-unfolding is_identifier
 is_identifier_law text = (
-  λ h. ⊎_elim (λ part. inl (IsPart-from_is_part text part)) (λ tool. inr ((is_tool_identifier_law text).0 tool)) (or_cases (is_part text) (is_tool_identifier text) h),
-  ⊎_elim (λ part. or_left _ (is_tool_identifier text) (is_part-from_IsPart text part)) (λ tool. or_right (is_part text) _ ((is_tool_identifier_law text).1 tool)),
+  λ h. ⊎_elim (λ part. (plain, IsPart-from_is_part text part)) (λ tool. (of_tool (tool_of text) (name_of text), tool_parts_by_form text tool))
+      (or_cases (is_part text) (has_tool_form text) (sym (identifier_test text) ∙ h)),
+  λ identifier. identifier_test text ∙ by_form identifier.0 identifier.1,
 )
+  where
+    by_form : (form : Form) → HasForm text form → (is_part text || has_tool_form text) ≡ true
+    by_form plain part = or_left _ (has_tool_form text) (is_part-from_IsPart text part)
+    by_form (of_tool tool name) parts = or_right (is_part text) _ (form_by_tool_parts text tool name parts)
+
+-- ---- the form of a text
+
+form_at : (text : List ℕ) (form : Form) (part tool : Bool) → is_part text ≡ part → has_tool_form text ≡ tool → form_by part tool (tool_of text) (name_of text) ≡ Some form → HasForm text form
+form_at text form true tool is_plain is_tool h =
+    let same : plain ≡ form = cc in
+    subst (λ f. HasForm text f) same (IsPart-from_is_part text is_plain)
+form_at text form false true is_plain is_tool h =
+    let same : of_tool (tool_of text) (name_of text) ≡ form = cc in
+    subst (λ f. HasForm text f) same (tool_parts_by_form text is_tool)
+form_at text form false false is_plain is_tool h = cc
+
+-- The form of a text is one that it has.
+pub form_to : (text : List ℕ) (form : Form) → form_of text ≡ Some form → HasForm text form
+unfolding form_of
+form_to text form h = form_at text form (is_part text) (has_tool_form text) refl refl h
+
+-- A form that a text has is its form.
+pub form_from : (text : List ℕ) (form : Form) → HasForm text form → form_of text ≡ Some form
+unfolding form_of
+form_from text plain part = ap (λ b. form_by b (has_tool_form text) (tool_of text) (name_of text)) (is_part-from_IsPart text part)
+form_from text (of_tool tool name) parts =
+    let is : has_tool_form text ≡ true = form_by_tool_parts text tool name parts in
+    ap (λ b. form_by b (has_tool_form text) (tool_of text) (name_of text)) (tool_form_is_no_part text is)
+    ∙ ap (λ b. form_by false b (tool_of text) (name_of text)) is
+    ∙ ap (λ t. Some (of_tool t (name_of text))) (tool_of_parts text tool name parts)
+    ∙ ap (λ n. Some (of_tool tool n)) (name_of_parts text tool name parts)
 
 -- ---- what the code finds
 
 -- Without the prefix of tools only a part is an identifier.
 pub plain_identifier : (text : List ℕ) → has_tool_prefix text ≡ false → is_part text ≡ is_identifier text
-unfolding is_identifier is_tool_identifier
-plain_identifier text h = sym (ap (λ b. is_part text || (b && (is_part (tool_of text) && is_part (name_of text)))) h ∙ or-false (is_part text))
+plain_identifier text h = sym (identifier_test text ∙ ap (λ b. is_part text || (b && (is_part (tool_of text) && is_part (name_of text)))) h ∙ or-false (is_part text))
 
 -- With it only two parts around the first colon are one.
 pub prefixed_identifier : (text : List ℕ) → has_tool_prefix text ≡ true → (is_part (tool_of text) && is_part (name_of text)) ≡ is_identifier text
-unfolding is_identifier is_tool_identifier
 prefixed_identifier text h =
-    sym (ap (λ b. b || (has_tool_prefix text && (is_part (tool_of text) && is_part (name_of text)))) (prefix_is_no_part text h)
+    sym (identifier_test text ∙ ap (λ b. b || (has_tool_prefix text && (is_part (tool_of text) && is_part (name_of text)))) (prefix_is_no_part text h)
     ∙ ap (λ b. b && (is_part (tool_of text) && is_part (name_of text))) h)
 
 -- With it and no colon a text is no identifier.
@@ -230,9 +287,8 @@ part_after_first text rest first utf8 e = part_by_characters text (first ∷ cha
 
 -- A tool's identifier begins with the prefix, and a colon follows.
 tool_identifier_splits : (text : List ℕ) → IsToolIdentifier text → (has_tool_prefix text ≡ true) × (position_or_len (λ b. eqb b 58) (drop 6 text) < length (drop 6 text))
-unfolding is_tool_identifier
 tool_identifier_splits text tool =
-    let prefixed = and_parts (has_tool_prefix text) _ (test_by_tool_parts text tool.0 tool.1 tool.2) in
+    let prefixed = and_parts (has_tool_prefix text) _ (form_by_tool_parts text tool.0 tool.1 tool.2) in
     let parts = and_parts (is_part (tool_of text)) (is_part (name_of text)) prefixed.1 in (
       prefixed.0,
       ⊎_elim (λ l. l) (λ past. absurd (false≢true (sym (no_colon_no_name text past) ∙ parts.1)))
@@ -240,9 +296,11 @@ tool_identifier_splits text tool =
     )
 
 parts_of_prefixed : (text : List ℕ) → IsIdentifier text → has_tool_prefix text ≡ true → HasToolParts text (tool_of text) (name_of text)
-parts_of_prefixed text identifier prefix =
-    ⊎_elim (λ part. absurd (false≢true (sym (prefix_is_no_part text prefix) ∙ is_part-from_IsPart text part)))
-    (λ parts. tool_parts_by_test text (test_by_tool_parts text parts.0 parts.1 parts.2)) identifier
+parts_of_prefixed text identifier prefix = by_form identifier.0 identifier.1
+  where
+    by_form : (form : Form) → HasForm text form → HasToolParts text (tool_of text) (name_of text)
+    by_form plain part = absurd (false≢true (sym (prefix_is_no_part text prefix) ∙ is_part-from_IsPart text part))
+    by_form (of_tool tool name) parts = tool_parts_by_form text (form_by_tool_parts text tool name parts)
 
 -- Where nothing is split off, the text is no tool's identifier.
 pub unsplit_is_no_tool : (text : List ℕ) (r : Option (Bor (List ℕ) × Bor (List ℕ)))
@@ -305,14 +363,14 @@ name_no_part text name e h parts =
 
 -- What keeps a text without the prefix from being a part keeps it from being an identifier.
 pub flaw_of_part : (text : List ℕ) (cause : InvalidIdentifier) → has_tool_prefix text ≡ false → HasPartFlaw text cause → HasFlaw text cause
-flaw_of_part text causes.Empty plain flaw = (plain, flaw)
-flaw_of_part text causes.BadStart plain flaw = (plain, flaw)
-flaw_of_part text causes.BadCharacter plain flaw = (plain, flaw)
-flaw_of_part text causes.BadToolForm plain flaw = absurd flaw
-flaw_of_part text causes.Memory plain flaw = absurd flaw
+flaw_of_part text causes.Empty unprefixed flaw = (unprefixed, flaw)
+flaw_of_part text causes.BadStart unprefixed flaw = (unprefixed, flaw)
+flaw_of_part text causes.BadCharacter unprefixed flaw = (unprefixed, flaw)
+flaw_of_part text causes.BadToolForm unprefixed flaw = absurd flaw
+flaw_of_part text causes.Memory unprefixed flaw = absurd flaw
 
 -- The same of what a test answers.
 pub flaws_of_part : {X : Type 0} (text : List ℕ) (r : Result X InvalidIdentifier) → has_tool_prefix text ≡ false
     → IfErr r (HasPartFlaw text) → IfErr r (HasFlaw text)
-flaws_of_part text (Ok x) plain flaw = flaw
-flaws_of_part text (Err e) plain flaw = flaw_of_part text e plain flaw
+flaws_of_part text (Ok x) unprefixed flaw = flaw
+flaws_of_part text (Err e) unprefixed flaw = flaw_of_part text e unprefixed flaw

@@ -1,3 +1,4 @@
 pub mod DurationGrammar
 pub mod Durations
 pub mod Identifiers
+pub mod Owners

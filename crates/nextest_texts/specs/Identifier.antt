@@ -1,6 +1,7 @@
 -- Which texts are identifiers.
-use Rattle.std.specs.Prelude.{◌≡◌, ℕ, ◌==◌, Bool, false, ◌||◌, ◌&&◌, IsTrue, IsFalse, Contains, List, [], ◌∷◌, ◌++◌, ◌⊎◌, All, codes, drop, nat_eq, encode_utf8_all}
+use Rattle.std.specs.Prelude.{◌≡◌, ℕ, ◌==◌, Bool, true, false, ◌||◌, ◌&&◌, IsTrue, IsFalse, Contains, List, [], ◌∷◌, ◌++◌, ◌⊎◌, All, Option, Some, None, is_some, codes, drop, nat_eq, encode_utf8_all, if◌then◌else◌}
 use Rattle.std.specs.List.{list_all, starts_with, before_first, after_first}
+use Rattle.std.specs.Option.{option_or}
 use Rattle.std.specs.Str.{all_scalars, chars, is_utf8}
 use Rattle.unicode_ident.specs.Ident.{is_xid_start, is_xid_continue}
 use Rattle.nextest_texts.specs.declared.identifier.InvalidIdentifier.{InvalidIdentifier}
@@ -29,9 +30,19 @@ pub record HasToolParts (text tool name : List ℕ) : Type 0 where
 abbrev pub IsToolIdentifier : List ℕ → Type 0
 IsToolIdentifier text = (tool : List ℕ) × (name : List ℕ) × HasToolParts text tool name
 
--- An identifier is a part, or an identifier of a tool.
+-- The form of an identifier: a plain name, or a tool and a name.
+pub data Form : Type 0 where
+  plain : Form
+  of_tool : (tool name : List ℕ) → Form
+
+-- A text has a form: it is a part, or it has the parts of a tool's identifier.
+abbrev pub HasForm : List ℕ → Form → Type 0
+HasForm text plain = IsPart text
+HasForm text (of_tool tool name) = HasToolParts text tool name
+
+-- An identifier is a text that has some form.
 abbrev pub IsIdentifier : List ℕ → Type 0
-IsIdentifier text = IsPart text ⊎ IsToolIdentifier text
+IsIdentifier text = (form : Form) × HasForm text form
 
 -- The characters begin with an XID_Start character, and the others continue a part.
 abbrev pub are_part_characters : List ℕ → Bool
@@ -55,13 +66,34 @@ name_of text = after_first (λ byte. byte == 58) (drop 6 text)
 abbrev pub has_tool_prefix : List ℕ → Bool
 has_tool_prefix text = starts_with nat_eq text (codes "@tool:")
 
+-- Whether a text has the prefix of tools, and parts around the first colon that follows it.
+abbrev pub has_tool_form : List ℕ → Bool
+has_tool_form text = has_tool_prefix text && (is_part (tool_of text) && is_part (name_of text))
+
+-- The plain form, if a text is a part.
+abbrev pub plain_form : List ℕ → Option Form
+plain_form text = if is_part text then Some plain else None
+
+-- The form of a tool's identifier, if a text is one.
+abbrev pub tool_form : List ℕ → Option Form
+tool_form text = if has_tool_form text then Some (of_tool (tool_of text) (name_of text)) else None
+
+-- The form of a text, if it is an identifier.
+unfoldable pub form_of : List ℕ → Option Form
+form_of text = option_or (plain_form text) (tool_form text)
+
+-- Whether a form is that of a tool's identifier.
+abbrev pub is_tool_form : Option Form → Bool
+is_tool_form (Some (of_tool tool name)) = true
+is_tool_form _ = false
+
 -- Whether a text is an identifier of some tool.
 unfoldable pub is_tool_identifier : List ℕ → Bool
-is_tool_identifier text = has_tool_prefix text && (is_part (tool_of text) && is_part (name_of text))
+is_tool_identifier text = is_tool_form (form_of text)
 
 -- Whether a text is an identifier.
 unfoldable pub is_identifier : List ℕ → Bool
-is_identifier text = is_part text || is_tool_identifier text
+is_identifier text = is_some (form_of text)
 
 -- The first character of the text is no XID_Start character.
 pub record StartsBadly (text : List ℕ) : Type 0 where

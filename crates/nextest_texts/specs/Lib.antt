@@ -6,3 +6,6 @@ pub mod Identifier
 pub mod IdentifierText
 pub mod NameText
 pub mod IdentifierReader
+pub mod Owner
+pub mod OwnerView
+pub mod OwnerEquality

@@ -8,10 +8,12 @@ use std::marker::Model;
 use thiserror::Error;
 
 mod name_text;
+mod owner;
 mod tool_name;
 mod traits;
 
 use name_text::NameText;
+pub use owner::IdentifierOwner;
 pub use tool_name::ToolName;
 
 /// Why a text is no identifier, or no name of a tool.
@@ -59,6 +61,8 @@ impl Model for ConfigIdentifier {
 
 impl ConfigIdentifier {
     ghost use Rattle.nextest_texts.specs.IdentifierText.{identifier_text};
+    ghost use Rattle.nextest_texts.specs.Owner.{owner_of_name};
+    ghost use Rattle.nextest_texts.specs.OwnerView.{owner_view};
 
     /// Makes an identifier of a text.
     ///
@@ -102,6 +106,16 @@ impl ConfigIdentifier {
             (λ parts. HasToolParts (identifier_text self.now) parts.0.now parts.1.now) }
     {
         split_tool(self.as_str())
+    }
+
+    /// Who owns the name.
+    pub fn owner(&self) -> IdentifierOwner<'_>
+        ensures { owner_view result ≡ owner_of_name (identifier_text self.now) }
+    {
+        match self.tool_components() {
+            Some((tool, _)) => IdentifierOwner::Tool(tool),
+            None => IdentifierOwner::Nobody,
+        }
     }
 }
 

@@ -7,8 +7,9 @@
 mod duration;
 mod identifier;
 mod identifier_reader;
+pub mod laws;
 mod nanoseconds;
 
 pub use duration::{DurationError, parse_duration};
-pub use identifier::{ConfigIdentifier, InvalidIdentifier, ToolName};
+pub use identifier::{ConfigIdentifier, IdentifierOwner, InvalidIdentifier, ToolName};
 pub use nanoseconds::Nanoseconds;

@@ -24,7 +24,7 @@ pub struct PackageGraph {
 }
 
 impl PackageGraph {
-    ghost use Rattle.std.specs.Prelude.{◌≡◌, ◌≢◌, ◌↔◌, ℕ, List, IfOk, IfErr, IsTrue, Ok, Err, Contains, map, vec_len};
+    ghost use Rattle.std.specs.Prelude.{◌≡◌, ◌≢◌, ◌↔◌, ℕ, List, IfOk, IfErr, IsTrue, Ok, Err, map, vec_len};
     ghost use Rattle.serde_json.specs.View.{view};
     ghost use Rattle.package_graph.specs.declared.fault.MetadataFault.TheVariants.{Memory};
     ghost use Rattle.package_graph.specs.Edges.{Reaches, oriented};

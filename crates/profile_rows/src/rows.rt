@@ -5,6 +5,7 @@ use crate::report::ENGINES;
 use nextest_config::run::{Inputs, PlainSource, ResolveFault, TestRow, resolve};
 use nextest_config::{
     BuildPlatforms, ConfigExperimental, ConfigFileSelection, DefaultConfigWarnings, NextestRunMode,
+    Setting,
 };
 use std::alloc::{AllocError, Global};
 use std::collections::BTreeSet;
@@ -33,31 +34,34 @@ pub fn add_rows(
 
 /// Adds two settings of a row with their sources.
 fn add_row(alloc: Global, lines: &mut Lines<'_>, row: &TestRow) -> Result<(), AllocError> {
-    let (threads, source) = &row.threads_required;
+    let source = row.source(Setting::ThreadsRequired);
     lines.add(
         alloc,
         "row-threads",
-        &(*threads, source_text(alloc, source)?),
+        &(row.threads_required, source_text(alloc, source)?),
     )?;
-    let (retries, source) = &row.retries;
+    let source = row.source(Setting::Retries);
     lines.add(
         alloc,
         "row-retries",
-        &(*retries, source_text(alloc, source)?),
+        &(row.retries, source_text(alloc, source)?),
     )
 }
 
 /// What decides a setting of a row.
-fn source_text(alloc: Global, source: &PlainSource) -> Result<String, AllocError> {
+fn source_text(alloc: Global, source: Option<&PlainSource>) -> Result<String, AllocError> {
     match source {
-        PlainSource::Default => String::from_str(alloc, "default"),
-        PlainSource::Profile => String::from_str(alloc, "profile"),
-        PlainSource::Script => String::from_str(alloc, "script"),
-        PlainSource::Override {
-            source,
-            profile,
-            index,
-        } => override_text(alloc, source, profile.as_str(), *index),
+        None => String::from_str(alloc, "none"),
+        Some(PlainSource::Default) => String::from_str(alloc, "default"),
+        Some(PlainSource::Profile) => String::from_str(alloc, "profile"),
+        Some(PlainSource::Script) => String::from_str(alloc, "script"),
+        Some(
+            PlainSource::Override {
+                source,
+                profile,
+                index,
+            },
+        ) => override_text(alloc, source, profile.as_str(), *index),
     }
 }
 

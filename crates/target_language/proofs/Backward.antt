@@ -1,19 +1,19 @@
 -- Where marks are read to an expression, they spell it.
-use Rattle.std.proofs.Common.{◌≡◌, ◌⊎◌, inl, inr, ℕ, zero, suc, ◌+◌, ◌<◌, ltb, Bool, true, false, List, [], ◌∷◌, ◌++◌, Option, None, Some, Result, Ok, Err, length, if◌then◌else◌, refl, sym, ◌∙◌, ap, subst, arith}
+use Rattle.std.proofs.Common.{◌≡◌, inl, inr, ℕ, zero, suc, ◌+◌, ◌<◌, ltb, Bool, true, false, List, [], ◌∷◌, ◌++◌, Option, None, Some, Result, Ok, Err, length, if◌then◌else◌, refl, sym, subst, arith}
 use Rattle.std.proofs.lemmas.Bool.{ltb-true}
 use Rattle.target_language.specs.declared.expression.Function.{Function}
 use Rattle.target_language.specs.declared.expression.Function.TheVariants.{All, Any, Not}
 use Rattle.target_language.specs.declared.fault.Place.{Place}
 use Rattle.target_language.specs.declared.fault.BodyFault.{BodyFault}
-use Rattle.target_language.specs.Expressions.{Leaf, Expression, Asks, Every, Some_of, Negated, Expressions, no_parts, part, parts_of}
+use Rattle.target_language.specs.Expressions.{Leaf, Expression, Asks, Every, Some_of, Negated, parts_of}
 use Rattle.target_language.specs.Faults.{fault_at, and_then, map_ok}
 use Rattle.target_language.specs.declared.fault.FaultKind.TheVariants.{TooDeep}
 use Rattle.target_language.specs.Grammar.{BeginsSomewhere, BeginsCall, Spells, SpellsParts}
 use Rattle.target_language.specs.Leaves.{Piece, leaf_alone, leaf_with}
 use Rattle.target_language.specs.Marks.{Mark, OpenMark, CloseMark, CommaMark, EqualsMark, FunctionMark, NameMark, ValueMark, Placed}
-use Rattle.target_language.specs.Reading.{Before, Nothing, AfterFunction, AfterOpen, AfterComma, AfterKey, AfterEquals, AfterValue, AfterClose, Level, Reading, with_leaf, count_parts, refuses, call, behind, entered, opened_by, separated, not_one, ended, closed, value_piece, begun_by, ended_by, step_behind, step}
+use Rattle.target_language.specs.Reading.{Before, Nothing, AfterFunction, AfterOpen, AfterComma, AfterKey, AfterEquals, AfterValue, AfterClose, Level, Reading, with_leaf, count_parts, refuses, call, behind, opened_by, not_one, ended, closed, value_piece, begun_by, ended_by, step_behind, step}
 use Rattle.target_language.proofs.Endings.{Behind, Fresh, Comma, Part, Closes, put, part_fresh, close_fresh, fresh_comma, comma_comma, comma_behind, close_behind}
-use Rattle.target_language.proofs.Points.{Judged, AwaitsValue, AwaitsOpen, At, HasRoom, Room}
+use Rattle.target_language.proofs.Points.{Judged, At, Room}
 
 -- What follows behind a mark follows, with the mark, behind the one before.
 abbrev pub Came : ℕ → Before → List Expression → List Level → Mark → Place → Reading → Type 0

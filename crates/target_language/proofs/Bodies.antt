@@ -1,19 +1,19 @@
 -- A body is read to an expression exactly where it writes one.
-use Rattle.std.proofs.Common.{◌≡◌, ◌⊎◌, inl, inr, ℕ, zero, suc, ◌+◌, ◌<◌, ◌≤◌, List, [], ◌∷◌, ◌++◌, Option, Some, Result, Ok, Err, length, refl, sym, ◌∙◌, ap, subst, arith, append-nil, length-append}
+use Rattle.std.proofs.Common.{◌≡◌, inl, inr, ℕ, zero, suc, ◌+◌, ◌≤◌, List, [], ◌∷◌, ◌++◌, Result, Ok, Err, length, refl, sym, ◌∙◌, ap, subst, arith, append-nil, length-append}
 use Rattle.std.specs.Str.{IsUtf8, trim_start}
 use Rattle.target_language.specs.declared.fault.Place.{Place}
 use Rattle.target_language.specs.declared.fault.BodyFault.{BodyFault}
-use Rattle.target_language.specs.Expressions.{Leaf, Expression, Asks, Every, Some_of, Negated, Expressions, no_parts, part, parts_of}
+use Rattle.target_language.specs.Expressions.{Leaf, Expression, Asks, Every, Some_of, Negated}
 use Rattle.target_language.specs.Faults.{place, and_then, map_ok}
-use Rattle.target_language.specs.Grammar.{Spells, BeginsCommas, BeginsAnyCommas, SpellsBody, IsBody}
-use Rattle.target_language.specs.Leaves.{Piece, leaf_alone, leaf_with}
-use Rattle.target_language.specs.Marks.{Mark, AreBlanks, SpellsMark, Placed, Writes, Front, FrontMark, UnclosedFront, ForeignFront, front}
-use Rattle.target_language.specs.Reading.{Before, Nothing, AfterFunction, AfterOpen, AfterComma, AfterKey, AfterEquals, AfterValue, AfterClose, Level, Reading, with_leaf, step, only_root, complete, finished_behind, finished, advanced_by, advanced, read_on, start, read_body}
+use Rattle.target_language.specs.Grammar.{Spells, BeginsAnyCommas, IsBody}
+use Rattle.target_language.specs.Leaves.{leaf_alone, leaf_with}
+use Rattle.target_language.specs.Marks.{Mark, AreBlanks, Placed, Writes, Front, FrontMark, UnclosedFront, ForeignFront, front}
+use Rattle.target_language.specs.Reading.{Before, Nothing, AfterFunction, AfterOpen, AfterComma, AfterKey, AfterEquals, AfterValue, AfterClose, Level, Reading, with_leaf, step, only_root, complete, finished, advanced_by, advanced, read_on, start, read_body}
 use Rattle.target_language.proofs.Blanks.{split_blanks, all_skipped, blanks_skipped}
 use Rattle.target_language.proofs.Endings.{Behind, Fresh, Comma, Part, put, behind_end, end_behind}
 use Rattle.target_language.proofs.Points.{Judged, At, HasRoom, Room}
-use Rattle.target_language.proofs.Forward.{Goes, step_goes}
-use Rattle.target_language.proofs.Backward.{Came, step_came}
+use Rattle.target_language.proofs.Forward.{step_goes}
+use Rattle.target_language.proofs.Backward.{step_came}
 use Rattle.target_language.proofs.Fronts.{spelled_fronts, front_begun}
 
 abbrev reading_of : Before → List Expression → List Level → Reading

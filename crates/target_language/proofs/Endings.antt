@@ -1,8 +1,8 @@
 -- What marks still have to spell, at a point among the parts of what stands open.
-use Rattle.std.proofs.Common.{◌≡◌, ◌⊎◌, inl, inr, ℕ, zero, suc, List, [], ◌∷◌, ◌++◌, Option, Some, refl, sym, ◌∙◌, ap, subst, append_assoc, append-nil}
+use Rattle.std.proofs.Common.{◌≡◌, ◌⊎◌, inl, inr, ℕ, zero, suc, List, [], ◌∷◌, ◌++◌, Some, refl, sym, ◌∙◌, ap, subst, append_assoc, append-nil}
 use Rattle.target_language.specs.declared.fault.Place.{Place}
-use Rattle.target_language.specs.Expressions.{Expression, Expressions, no_parts, part, parts_of}
-use Rattle.target_language.specs.Grammar.{Begins, BeginsSomewhere, BeginsCommas, BeginsAnyCommas, Spells, SpellsParts, SpellsFurther}
+use Rattle.target_language.specs.Expressions.{Expression, parts_of}
+use Rattle.target_language.specs.Grammar.{BeginsSomewhere, BeginsCommas, BeginsAnyCommas, Spells, SpellsParts, SpellsFurther}
 use Rattle.target_language.specs.Marks.{Mark, CommaMark, CloseMark, Placed}
 use Rattle.target_language.specs.Reading.{Level, call}
 

@@ -1,5 +1,5 @@
 -- Where marks spell an expression, each is read.
-use Rattle.std.proofs.Common.{◌≡◌, ◌⊎◌, inl, inr, ℕ, zero, suc, ◌+◌, ◌<◌, ◌==◌, Bool, true, false, not, List, [], ◌∷◌, ◌++◌, Option, None, Some, Result, Ok, Err, length, if◌then◌else◌, refl, sym, ◌∙◌, ap, subst, arith, length-append}
+use Rattle.std.proofs.Common.{◌≡◌, inl, inr, ℕ, zero, suc, ◌+◌, ◌<◌, false, List, [], ◌∷◌, ◌++◌, Some, Result, Ok, Err, length, if◌then◌else◌, refl, sym, ◌∙◌, ap, subst, arith, length-append}
 use Rattle.std.proofs.lemmas.Bool.{lt-ltb}
 use Rattle.target_language.specs.declared.expression.Function.{Function}
 use Rattle.target_language.specs.declared.expression.Function.TheVariants.{All, Any, Not}
@@ -7,12 +7,12 @@ use Rattle.target_language.specs.declared.fault.Place.{Place}
 use Rattle.target_language.specs.declared.fault.BodyFault.{BodyFault}
 use Rattle.target_language.specs.Expressions.{Leaf, Expression, Asks, Every, Some_of, Negated, Expressions, no_parts, part, parts_of}
 use Rattle.target_language.specs.Faults.{and_then, map_ok}
-use Rattle.target_language.specs.Grammar.{BeginsSomewhere, BeginsCall, Spells, SpellsParts}
-use Rattle.target_language.specs.Leaves.{Piece, leaf_alone, leaf_with}
+use Rattle.target_language.specs.Grammar.{BeginsSomewhere, BeginsCall, SpellsParts}
+use Rattle.target_language.specs.Leaves.{leaf_alone, leaf_with}
 use Rattle.target_language.specs.Marks.{Mark, OpenMark, CloseMark, CommaMark, EqualsMark, FunctionMark, NameMark, ValueMark, Placed}
-use Rattle.target_language.specs.Reading.{Before, Nothing, AfterFunction, AfterOpen, AfterComma, AfterKey, AfterEquals, AfterValue, AfterClose, Level, Reading, with_leaf, ends_leaf, count_parts, refuses, call, behind, entered, opened_by, separated, not_one, ended, closed, value_piece, step_behind, step}
-use Rattle.target_language.proofs.Endings.{Behind, Fresh, Comma, Part, Closes, put, heads, tails, fresh_cases, comma_cases, behind_cases}
-use Rattle.target_language.proofs.Points.{Judged, AwaitsValue, At, Room, as_put}
+use Rattle.target_language.specs.Reading.{Before, Nothing, AfterFunction, AfterOpen, AfterComma, AfterKey, AfterEquals, AfterValue, AfterClose, Level, Reading, with_leaf, count_parts, refuses, call, behind, entered, opened_by, separated, not_one, ended, closed, value_piece, step_behind, step}
+use Rattle.target_language.proofs.Endings.{Behind, Fresh, Comma, Part, Closes, put, fresh_cases, comma_cases, behind_cases}
+use Rattle.target_language.proofs.Points.{At, Room, as_put}
 
 -- A mark is read, and what follows it follows.
 abbrev pub Goes : Result Reading BodyFault → List Placed → Expression → Type 0

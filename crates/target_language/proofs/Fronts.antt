@@ -1,5 +1,5 @@
 -- A text begins with a mark exactly where it spells one in front.
-use Rattle.std.proofs.Common.{◌≡◌, ◌⊎◌, inl, inr, ℕ, suc, ◌+◌, ◌<◌, ◌==◌, ◌&&◌, ◌||◌, Bool, true, false, not, List, [], ◌∷◌, ◌++◌, Option, None, Some, option_map, length, take, drop, codes, bytes_eq, if◌then◌else◌, refl, sym, ◌∙◌, ap, subst, arith, append_assoc, lit<, get_or, length-append}
+use Rattle.std.proofs.Common.{◌≡◌, ◌⊎◌, inl, inr, ℕ, suc, ◌+◌, ◌<◌, ◌==◌, ◌&&◌, Bool, true, false, not, List, [], ◌∷◌, ◌++◌, Option, None, Some, option_map, length, take, drop, codes, bytes_eq, if◌then◌else◌, refl, sym, ◌∙◌, ap, subst, arith, append_assoc, lit<, get_or, length-append}
 use Rattle.std.proofs.lemmas.Bool.{eqb-true}
 use Rattle.std.proofs.lemmas.Bool.Decides.{nat_tests}
 use Rattle.std.proofs.lemmas.List.{take-append-drop}
@@ -9,7 +9,7 @@ use Rattle.std.specs.List.{list_all}
 use Rattle.std.specs.Str.{IsUtf8}
 use Rattle.target_language.specs.declared.expression.Function.{Function}
 use Rattle.target_language.specs.declared.expression.Function.TheVariants.{All, Any, Not}
-use Rattle.target_language.specs.Marks.{Mark, OpenMark, CloseMark, CommaMark, EqualsMark, FunctionMark, NameMark, ValueMark, is_word_start, is_word_byte, word_mark, IsWord, EndsWord, is_inside_quotes, SpellsMark, Front, FrontMark, UnclosedFront, ForeignFront, word_len, word_front, cut, value_behind, value_front, front}
+use Rattle.target_language.specs.Marks.{Mark, OpenMark, CloseMark, CommaMark, EqualsMark, FunctionMark, NameMark, ValueMark, is_word_start, is_word_byte, word_mark, IsWord, EndsWord, is_inside_quotes, SpellsMark, Front, FrontMark, word_len, word_front, cut, value_behind, front}
 use Rattle.target_language.proofs.Words.{take_own, drop_own, word_is, word_stops, own_word_len, longer, word_ascii, byte_off}
 
 first : (a b : Bool) → (a && b) ≡ true → a ≡ true

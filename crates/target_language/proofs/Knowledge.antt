@@ -1,9 +1,8 @@
 -- Which values are known, and that features change no known value.
-use Rattle.std.proofs.Common.{◌≡◌, ℕ, ◌⊎◌, inl, inr, Bool, true, false, not, ◌||◌, ◌&&◌, List, [], ◌∷◌, Option, None, Some, IsSome, option_map, bytes_eq, codes, Contains, if◌then◌else◌, refl, sym, ◌∙◌, ap, arith}
-use Rattle.std.specs.List.{list_any}
-use Rattle.target_platforms.specs.Platforms.{Line, PlatformData}
-use Rattle.target_language.specs.Expressions.{Leaf, Has, Feature, Nowhere, Expression, Asks, Every, Some_of, Negated, Expressions, no_parts, part, Spec, OfTriple, OfExpression}
-use Rattle.target_language.specs.Values.{lesser, greater, mirror, least, greatest, has, line_of, leaf_value, value, values, spec_value}
+use Rattle.std.proofs.Common.{◌≡◌, ℕ, ◌⊎◌, inl, inr, Bool, true, false, ◌||◌, List, Option, None, Some, IsSome, codes, if◌then◌else◌, refl, ◌∙◌, ap}
+use Rattle.target_platforms.specs.Platforms.{PlatformData}
+use Rattle.target_language.specs.Expressions.{Leaf, Has, Feature, Nowhere, Expression, Asks, Every, Some_of, Negated, Expressions, no_parts, part, OfTriple, OfExpression}
+use Rattle.target_language.specs.Values.{lesser, greater, mirror, least, greatest, has, line_of, leaf_value, value, values}
 use Rattle.target_language.specs.Laws.{asks_feature, some_asks_feature, ValuesAreKnown, given, FeaturesChangeNothingKnown}
 
 abbrev Value : Type 0
@@ -66,7 +65,8 @@ mutual
       greater_known (value p e) (greatest (values p es)) (known p e (first p _ _ fits)) (known_greatest p es (rest p _ _ fits))
 
 pub values_are_known : ValuesAreKnown
-values_are_known p e fits = known p e fits
+values_are_known p (OfTriple triple) fits = refl
+values_are_known p (OfExpression e) fits = known p e fits
 
 -- One value knows no more than another.
 abbrev Below : Value → Value → Type 0

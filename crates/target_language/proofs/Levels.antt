@@ -1,5 +1,5 @@
 -- The functions that are open.
-use Rattle.std.proofs.Common.{◌≡◌, ◌+◌, ℕ, suc, List, [], ◌∷◌, length, refl, ◌∙◌, ap, arith}
+use Rattle.std.proofs.Common.{◌≡◌, ◌+◌, List, [], ◌∷◌, length, ◌∙◌, arith}
 use Rattle.std.specs.List.{fold}
 use Rattle.target_language.specs.declared.reading.Level as level
 use Rattle.target_language.specs.Reading.{Level, level_view, levels_view}

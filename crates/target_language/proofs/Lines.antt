@@ -1,11 +1,11 @@
 -- A platform has a line exactly where it is among its lines.
-use Rattle.std.proofs.Common.{◌≡◌, ℕ, ◌<◌, ◌⊎◌, inl, inr, Bool, true, false, ◌||◌, ◌&&◌, List, [], ◌∷◌, Option, None, Some, bytes_eq, Contains, refl, sym, ◌∙◌, ap, subst, arith}
+use Rattle.std.proofs.Common.{◌≡◌, ℕ, inl, inr, Bool, true, false, ◌||◌, ◌&&◌, List, [], ◌∷◌, Option, None, Some, bytes_eq, Contains, refl, sym, ◌∙◌, ap, subst, arith}
 use Rattle.std.specs.List.{list_any}
 use Rattle.std.specs.Cmp.Lexicographic.{same_text}
 use Rattle.std.proofs.lemmas.Slice.Eq.{bytes_eq-Decides}
 use Rattle.std.proofs.lemmas.List.Elements.{Contains-append_right, Contains-append_cases, Contains-push_cases}
-use Rattle.target_platforms.specs.Platforms.{Line, PlatformData}
-use Rattle.target_language.specs.Values.{same_value, same_line, has}
+use Rattle.target_platforms.specs.Platforms.{Line}
+use Rattle.target_language.specs.Values.{same_value, same_line}
 use Rattle.target_language.specs.Laws.{LinesAreAmong}
 
 first : (a b : Bool) → (a && b) ≡ true → a ≡ true

@@ -1,6 +1,5 @@
 -- Reading a body, as its loop sees it.
-use Rattle.std.proofs.Common.{◌≡◌, ◌≢◌, ◌==◌, ◌-◌, ◌<◌, ℕ, zero, suc, Bool, true, false, List, [], ◌∷◌, Result, Ok, Err, length, refl, sym, ◌∙◌, ap, arith, inl, inr}
-use Rattle.std.proofs.lemmas.Bool.Decides.{eqb_tells}
+use Rattle.std.proofs.Common.{◌≡◌, ◌-◌, ◌<◌, ℕ, zero, suc, List, [], ◌∷◌, Result, Ok, Err, length, refl, ◌∙◌, ap, arith}
 use Rattle.target_language.specs.declared.fault.BodyFault.{BodyFault}
 use Rattle.target_language.specs.Expressions.{Expression}
 use Rattle.target_language.specs.declared.fault.Stop.{Stop}

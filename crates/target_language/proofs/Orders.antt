@@ -1,9 +1,9 @@
 -- The least and the greatest of values, and what follows of their order.
-use Rattle.std.proofs.Common.{◌≡◌, ℕ, ◌<◌, ◌⊎◌, inl, inr, Bool, true, false, not, List, [], ◌∷◌, ◌++◌, map, length, Option, None, Some, option_map, Contains, IsPermutation, refl, sym, ◌∙◌, ap, arith}
-use Rattle.std.proofs.lemmas.List.Elements.{Contains-append_right, Contains-append_cases, Contains-push, Contains-push_cases}
+use Rattle.std.proofs.Common.{◌≡◌, ◌⊎◌, inl, inr, Bool, true, false, List, [], ◌∷◌, map, Option, None, Some, Contains, refl, sym, ◌∙◌, ap, arith}
+use Rattle.std.proofs.lemmas.List.Elements.{Contains-append_right, Contains-append_cases, Contains-push_cases}
 use Rattle.std.proofs.lemmas.List.Sorted.{IsPermutation-sym, IsPermutation-map, Contains-permutation}
 use Rattle.target_platforms.specs.Platforms.{PlatformData}
-use Rattle.target_language.specs.Expressions.{Expression, Every, Some_of, Negated, parts_of}
+use Rattle.target_language.specs.Expressions.{Expression, Negated, parts_of}
 use Rattle.target_language.specs.Values.{lesser, greater, mirror, least, greatest, value, values}
 use Rattle.target_language.specs.Laws.{at_most, IsLeast, IsGreatest, AllIsLeast, AnyIsGreatest, OrderIsFree, OppositesChangePlaces}
 

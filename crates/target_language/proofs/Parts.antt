@@ -2,7 +2,7 @@
 use Rattle.std.proofs.Common.{◌≡◌, ℕ, zero, suc, ◌+◌, ◌<◌, Bool, true, false, List, [], ◌∷◌, map, take, length, get_or, Option, None, Some, refl, sym, ◌∙◌, ap, arith}
 use Rattle.target_platforms.specs.Platforms.{PlatformData}
 use Rattle.target_language.specs.declared.expression.Expression as expression
-use Rattle.target_language.specs.Expressions.{Expression, expression_view, parts_of, parts_view}
+use Rattle.target_language.specs.Expressions.{expression_view, parts_view}
 use Rattle.target_language.specs.Values.{lesser, greater, least, greatest, value, values}
 
 -- what a part in memory says of a platform

@@ -1,5 +1,5 @@
 -- What marks still have to spell, behind a mark that was read.
-use Rattle.std.proofs.Common.{◌≡◌, ◌⊎◌, ℕ, suc, ◌+◌, ◌<◌, List, [], ◌∷◌, ◌++◌, Option, Some, Result, Ok, length, sym, subst}
+use Rattle.std.proofs.Common.{◌≡◌, ◌⊎◌, ℕ, suc, ◌+◌, ◌<◌, List, [], ◌∷◌, ◌++◌, Result, Ok, length, sym, subst}
 use Rattle.target_language.specs.declared.fault.Place.{Place}
 use Rattle.target_language.specs.declared.fault.BodyFault.{BodyFault}
 use Rattle.target_language.specs.Expressions.{Leaf, Expression, Asks}
@@ -7,7 +7,7 @@ use Rattle.target_language.specs.Grammar.{Begins, BeginsSomewhere}
 use Rattle.target_language.specs.Leaves.{Piece, leaf_alone, leaf_with}
 use Rattle.target_language.specs.Marks.{OpenMark, EqualsMark, ValueMark, Placed}
 use Rattle.target_language.specs.Reading.{Before, Nothing, AfterFunction, AfterOpen, AfterComma, AfterKey, AfterEquals, AfterValue, AfterClose, Level, Reading, value_piece}
-use Rattle.target_language.proofs.Endings.{Behind, Fresh, Comma, Part, put, heads, tails}
+use Rattle.target_language.proofs.Endings.{Behind, Fresh, Comma, Part, heads, tails}
 
 -- A leaf is judged to be one, and stands as one more part.
 abbrev pub Judged : Result Leaf BodyFault → ℕ → List Expression → List Level → List Placed → Expression → Type 0

@@ -1,23 +1,22 @@
 -- The spans of faults lie in their texts.
-use Rattle.std.proofs.Common.{◌≡◌, ℕ, zero, suc, ◌+◌, ◌-◌, ◌<◌, ◌≤◌, ◌==◌, ◌||◌, ltb, cond, Bool, true, false, not, List, [], ◌∷◌, ◌++◌, Option, None, Some, Result, Ok, Err, IfErr, length, codes, bytes_eq, position, if◌then◌else◌, refl, sym, ◌∙◌, ap, subst, arith, length-append}
+use Rattle.std.proofs.Common.{◌≡◌, ℕ, zero, suc, ◌+◌, ◌<◌, ◌≤◌, ◌==◌, ◌||◌, ltb, cond, Bool, true, false, not, List, [], ◌∷◌, ◌++◌, Option, None, Some, Result, Ok, Err, IfErr, length, codes, bytes_eq, if◌then◌else◌, refl, ◌∙◌, ap, subst, arith, length-append}
 use Rattle.std.proofs.lemmas.Bool.{ltb-true}
 use Rattle.std.specs.List.{position_or_len}
 use Rattle.std.specs.Result.{result_map_both}
 use Rattle.std.specs.Str.{IsUtf8, trim_start}
-use Rattle.target_language.specs.declared.expression.Function.{Function}
 use Rattle.target_language.specs.declared.fault.Place.{Place}
 use Rattle.target_language.specs.declared.fault.BodyFault.{BodyFault}
 use Rattle.target_language.specs.declared.fault.TargetSpecFault.{TargetSpecFault}
 use Rattle.target_language.specs.declared.fault.FaultKind.TheVariants.{EmptyText, TooDeep, EmptyFeature, BadEndian, BadWidth, BadAtomic}
 use Rattle.target_language.specs.declared.keys.KeyKind.{KeyKind}
 use Rattle.target_language.specs.declared.keys.KeyKind.TheVariants.{Family, Never, CrateFeature, Free, Endian, Width, Atomic, TargetFeature, UnknownTarget, Other}
-use Rattle.target_language.specs.Expressions.{Leaf, Feature, Expression, Asks, Spec, OfTriple, OfExpression}
+use Rattle.target_language.specs.Expressions.{Leaf, Feature, Expression, Asks, Spec, OfExpression}
 use Rattle.target_language.specs.Faults.{place, fault_at, and_then, map_ok, in_text}
 use Rattle.target_language.specs.Keys.{key_kind}
 use Rattle.target_language.specs.Leaves.{Piece, has_line, plain_to, number_leaf, kind_alone, kind_with, leaf_alone, leaf_with}
 use Rattle.target_language.specs.Marks.{Mark, OpenMark, CloseMark, CommaMark, EqualsMark, FunctionMark, NameMark, ValueMark, Front, FrontMark, UnclosedFront, ForeignFront, front}
-use Rattle.target_language.specs.Reading.{Before, Nothing, AfterFunction, AfterOpen, AfterComma, AfterKey, AfterEquals, AfterValue, AfterClose, Level, Reading, with_leaf, count_parts, refuses, call, behind, entered, separated, not_one, ended, closed, value_piece, begun_by, ended_by, step_behind, step, only_root, complete, finished, advanced_by, advanced, read_on, start, read_body}
-use Rattle.target_language.specs.Texts.{text_fault, is_triple_byte, after_prefix, before_close, first_bad, triple_but, triple_in, expression_in, spec_behind, spec_in, LiesIn, IfRefused}
+use Rattle.target_language.specs.Reading.{Before, Nothing, AfterFunction, AfterOpen, AfterComma, AfterKey, AfterEquals, AfterValue, AfterClose, Level, Reading, with_leaf, count_parts, refuses, call, behind, separated, not_one, ended, closed, value_piece, begun_by, ended_by, step_behind, step, only_root, complete, finished, advanced_by, advanced, read_on, start, read_body}
+use Rattle.target_language.specs.Texts.{text_fault, is_triple_byte, after_prefix, before_close, triple_but, triple_in, expression_in, spec_behind, spec_in, LiesIn, IfRefused}
 use Rattle.target_language.specs.declared.expression.TargetSpec.{TargetSpec}
 use Rattle.target_language.specs.declared.spec.TargetSpecError.{TargetSpecError}
 use Rattle.target_language.specs.declared.spec.TargetSpecError.TheVariants.{Refused, Memory}

@@ -1,5 +1,5 @@
 -- A text is read to a spec exactly where it writes one.
-use Rattle.std.proofs.Common.{◌≡◌, ◌⊎◌, inl, inr, ℕ, suc, ◌+◌, ◌<◌, ◌==◌, ◌&&◌, ltb, Bool, true, false, not, cond, List, [], ◌∷◌, ◌++◌, Option, None, Some, Result, Ok, Err, IfOk, IfErr, length, get_or, take, codes, position, if◌then◌else◌, refl, sym, ◌∙◌, ap, subst, arith, lit<, length-append}
+use Rattle.std.proofs.Common.{◌≡◌, ◌⊎◌, inl, inr, ℕ, suc, ◌+◌, ◌<◌, ◌==◌, ltb, Bool, true, false, not, cond, List, [], ◌∷◌, ◌++◌, Option, None, Some, Result, Ok, Err, IfOk, IfErr, length, get_or, codes, if◌then◌else◌, refl, sym, ◌∙◌, ap, subst, arith, lit<, length-append}
 use Rattle.std.proofs.lemmas.Bool.{ltb-true, lt-ltb}
 use Rattle.std.proofs.lemmas.Bool.Decides.{eqb_tells}
 use Rattle.std.proofs.lemmas.Str.{IsUtf8-take, IsCharBoundary-before_ascii}
@@ -15,7 +15,7 @@ use Rattle.target_language.specs.declared.spec.TargetSpecError.TheVariants.{Refu
 use Rattle.target_language.specs.Expressions.{Expression, Spec, OfTriple, OfExpression, spec_view}
 use Rattle.target_language.specs.Faults.{in_text}
 use Rattle.target_language.specs.Reading.{read_body}
-use Rattle.target_language.specs.Texts.{is_triple_byte, IsSpec, text_fault, after_prefix, before_close, first_bad, triple_but, triple_in, expression_in, spec_behind, spec_in, IfRefused}
+use Rattle.target_language.specs.Texts.{is_triple_byte, IsSpec, text_fault, after_prefix, before_close, first_bad, triple_but, expression_in, spec_behind, spec_in, IfRefused}
 use Rattle.target_language.proofs.Bodies.{body_is_read, read_is_body}
 use Rattle.target_language.proofs.Prefixes.{after_own, after_is}
 use Rattle.target_language.proofs.Suffixes.{own_front, front_is}

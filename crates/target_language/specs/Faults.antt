@@ -1,5 +1,5 @@
 -- Faults, and what comes of reading where one may come.
-use Rattle.std.specs.Prelude.{◌≡◌, ℕ, ◌-◌, Option, None, Some, Result, Ok, Err}
+use Rattle.std.specs.Prelude.{ℕ, ◌-◌, None, Some, Result, Ok, Err}
 use Rattle.target_language.specs.declared.fault.FaultKind.{FaultKind}
 use Rattle.target_language.specs.declared.fault.Expected.{Expected}
 use Rattle.target_language.specs.declared.fault.Place.{Place}

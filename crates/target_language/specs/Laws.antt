@@ -1,7 +1,7 @@
 -- What holds of the values of all specs.
-use Rattle.std.specs.Prelude.{◌≡◌, ℕ, ◌⊎◌, ◌↔◌, ◌||◌, Bool, true, false, List, [], ◌∷◌, map, Option, None, Some, IsSome, Contains, IsPermutation}
+use Rattle.std.specs.Prelude.{◌≡◌, ◌⊎◌, ◌↔◌, ◌||◌, Bool, true, false, List, map, Option, None, Some, IsSome, Contains, IsPermutation}
 use Rattle.target_platforms.specs.Platforms.{Line, PlatformData}
-use Rattle.target_language.specs.Expressions.{Leaf, Has, Feature, Nowhere, Expression, Asks, Every, Some_of, Negated, Expressions, no_parts, part, parts_of, Spec, OfTriple, OfExpression}
+use Rattle.target_language.specs.Expressions.{Feature, Expression, Asks, Every, Some_of, Negated, Expressions, no_parts, part, parts_of, Spec, OfTriple, OfExpression}
 use Rattle.target_language.specs.Values.{least, greatest, has, value, spec_value}
 
 -- whether a value is at most another: false is at most unknown, and unknown at most true
@@ -49,10 +49,16 @@ abbrev mutual
   some_asks_feature no_parts = false
   some_asks_feature (part e es) = asks_feature e || some_asks_feature es
 
--- Where features are given, or none is asked for, a value is known.
+-- whether a spec does; a triple asks for none
+abbrev pub spec_asks_feature : Spec → Bool
+spec_asks_feature (OfTriple triple) = false
+spec_asks_feature (OfExpression e) = asks_feature e
+
+-- Where features are given, or none is asked for, the value of a spec is known.
 abbrev pub ValuesAreKnown : Type 0
-ValuesAreKnown = (platform : PlatformData) (e : Expression)
-    → (platform.features_given ≡ true) ⊎ (asks_feature e ≡ false) → IsSome (value platform e)
+ValuesAreKnown = (platform : PlatformData) (spec : Spec)
+    → (platform.features_given ≡ true) ⊎ (spec_asks_feature spec ≡ false)
+    → IsSome (spec_value platform spec)
 
 -- the platform with its features given
 abbrev pub given : PlatformData → PlatformData

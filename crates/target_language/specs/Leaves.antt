@@ -1,8 +1,7 @@
 -- The leaves that keys and values write.
-use Rattle.std.specs.Prelude.{ℕ, leb, ◌==◌, ◌||◌, ◌&&◌, Bool, not, List, Option, None, Some, Result, Ok, Err, length, codes, bytes_eq, decimal, option_map, option_and_then, if◌then◌else◌}
+use Rattle.std.specs.Prelude.{ℕ, leb, ◌==◌, ◌||◌, ◌&&◌, Bool, not, List, Option, None, Some, Result, Ok, Err, length, codes, bytes_eq, decimal, option_and_then, if◌then◌else◌}
 use Rattle.std.specs.Str.{all_ascii_digits}
 use Rattle.std.specs.Str.Parse.{digits_value, without_leading_plus}
-use Rattle.target_platforms.specs.Platforms.{Line}
 use Rattle.target_language.specs.declared.fault.Place.{Place}
 use Rattle.target_language.specs.declared.fault.FaultKind.TheVariants.{ValueWanted, UnknownTargetKey, ValueNotAllowed, EmptyFeature, BadEndian, BadWidth, BadAtomic}
 use Rattle.target_language.specs.declared.fault.BodyFault.{BodyFault}

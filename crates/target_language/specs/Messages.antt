@@ -1,5 +1,5 @@
 -- What is told of faults.
-use Rattle.std.specs.Prelude.{ℕ, List, ◌++◌, Option, None, Some, Result, codes, decimal}
+use Rattle.std.specs.Prelude.{ℕ, List, ◌++◌, Option, Some, Result, codes, decimal}
 use Rattle.std.specs.Result.{result_map_both}
 use Rattle.target_language.specs.declared.fault.FaultKind.{FaultKind}
 use Rattle.target_language.specs.declared.fault.FaultKind.TheVariants as kind

@@ -1,5 +1,5 @@
 -- Reading a body, mark by mark, with what stands open on a stack.
-use Rattle.std.specs.Prelude.{◌≡◌, nat_lt, ℕ, zero, suc, ◌+◌, ◌-◌, ◌==◌, Bool, true, false, not, List, [], ◌∷◌, ◌++◌, Option, None, Some, Result, Ok, Err, length, map, if◌then◌else◌}
+use Rattle.std.specs.Prelude.{nat_lt, ℕ, zero, suc, ◌+◌, ◌-◌, ◌==◌, Bool, true, false, not, List, [], ◌∷◌, ◌++◌, Option, None, Some, Result, Ok, Err, length, map, if◌then◌else◌}
 use Rattle.std.specs.List.{fold}
 use Rattle.std.specs.Str.{trim_start}
 use Rattle.target_language.specs.declared.expression.Function.{Function}
@@ -13,7 +13,7 @@ use Rattle.target_language.specs.declared.reading.Before as before
 use Rattle.target_language.specs.declared.reading.Before.TheVariants as last
 use Rattle.target_language.specs.declared.reading.Level as level
 use Rattle.target_language.specs.declared.reading.Reader as reader
-use Rattle.target_language.specs.Expressions.{Expression, Asks, Every, Some_of, Negated, Expressions, parts_of, expression_view}
+use Rattle.target_language.specs.Expressions.{Expression, Asks, Every, Some_of, Negated, parts_of, expression_view}
 use Rattle.target_language.specs.Faults.{place, fault_at, expecting_at, and_then, map_ok}
 use Rattle.target_language.specs.Leaves.{Piece, piece_view, leaf_alone, leaf_with}
 use Rattle.target_language.specs.Marks.{Mark, OpenMark, CloseMark, CommaMark, EqualsMark, FunctionMark, NameMark, ValueMark, Front, FrontMark, UnclosedFront, ForeignFront, front}

@@ -1,1 +1,2 @@
 pub mod CfgLineLemmas
+pub mod Triples

@@ -1,6 +1,6 @@
 // Platforms that are read from what `rustc --print cfg` prints.
 
-ghost use Rattle.std.specs.Prelude.{◌≡◌, ◌≢◌, ℕ, List, map, IfOk, IfErr, OnOk, MatchOption, MatchResult, codes};
+ghost use Rattle.std.specs.Prelude.{◌≡◌, ◌≢◌, ℕ, List, map, IfOk, IfErr, OnOk, MatchOption};
 ghost use Rattle.std.specs.Str.Lines.{lines};
 ghost use Rattle.target_platforms.specs.Platforms.{Line, line_view, line_of, platform_view};
 ghost use Rattle.target_platforms.specs.CfgLines.{is_word, starts_word, continues_word, quoted, WritesLine, WritesLines, IsNoLine};

@@ -9,6 +9,7 @@ ghost use Rattle.target_platforms.specs.Platforms.{platform_view};
 mod builtin;
 mod cfg_list;
 mod fault;
+pub mod laws;
 mod lines;
 mod row;
 mod table;

@@ -1,11 +1,9 @@
 //! Rows: the settings of tests as values of their own, each with its source.
-ghost use Rattle.std.specs.Prelude.{◌≡◌, Some, IfOk, IsSome, map, option_map, string_bytes};
+ghost use Rattle.std.specs.Prelude.{◌≡◌, Some, IfOk, map, option_map, string_bytes};
 ghost use Rattle.nextest_scripts.specs.ScriptId.{script_text};
-ghost use Rattle.nextest_settings.specs.Queries.{fallback_origin};
-ghost use Rattle.nextest_settings.specs.SettingsView.{value_at, origin_at};
+ghost use Rattle.nextest_settings.specs.SettingsView.{slot_at, value_at, origin_at};
 ghost use Rattle.nextest_settings.specs.declared.setting.Setting.{Setting};
 ghost use Rattle.nextest_config.specs.RowView.{origin_view, row_value, row_source};
-ghost use Rattle.nextest_config.specs.RowSources.{AreRunSources, AreEndSources, AreReportSources};
 
 mod sources;
 
@@ -17,7 +15,7 @@ use nextest_engines::{Filters, Specs};
 use nextest_scripts::ScriptId;
 use nextest_settings::{Setting, SettingSource, TestSettings};
 use nextest_sources::ConfigSource;
-use sources::{end_sources, plain_source, report_sources, run_sources};
+use sources::sources_of;
 use std::alloc::{AllocError, Global};
 
 /// What decides a setting.
@@ -43,22 +41,51 @@ pub enum PlainSource {
 /// The settings of a test, each with what decides it.
 #[derive(Drop)]
 pub struct TestRow {
-    pub priority: (TestPriority, PlainSource),
-    pub threads_required: (ThreadsRequired, PlainSource),
-    /// The id of the script that wraps the run of the test, if there is one.
-    pub run_wrapper: Option<(ScriptId, PlainSource)>,
-    pub run_extra_args: (Vec<String>, PlainSource),
-    pub retries: (RetryPolicy, PlainSource),
-    pub flaky_result: (FlakyResult, PlainSource),
-    pub slow_timeout: (SlowTimeout, PlainSource),
-    pub leak_timeout: (LeakTimeout, PlainSource),
-    pub test_group: (TestGroup, PlainSource),
-    pub success_output: (TestOutputDisplay, PlainSource),
-    pub failure_output: (TestOutputDisplay, PlainSource),
-    pub junit_store_success_output: (bool, PlainSource),
-    pub junit_store_failure_output: (bool, PlainSource),
-    pub junit_report_skipped: (ReportSkipPolicy, PlainSource),
-    pub junit_flaky_fail_status: (JunitFlakyFailStatus, PlainSource),
+    /// When the test runs, among those of its run: a higher one runs earlier.
+    pub priority: TestPriority,
+    /// How many threads it takes.
+    pub threads_required: ThreadsRequired,
+    /// The id of the script that wraps its run, if there is one.
+    pub run_wrapper: Option<ScriptId>,
+    /// The arguments that it is given.
+    pub run_extra_args: Vec<String>,
+    /// How often it is tried again, and how long after.
+    pub retries: RetryPolicy,
+    /// What comes of it where it passes at a later try.
+    pub flaky_result: FlakyResult,
+    /// When it counts as slow, and when it is ended.
+    pub slow_timeout: SlowTimeout,
+    /// How long what it started may outlive it.
+    pub leak_timeout: LeakTimeout,
+    /// The group that it belongs to.
+    pub test_group: TestGroup,
+    /// When its output is shown where it passes.
+    pub success_output: TestOutputDisplay,
+    /// When its output is shown where it fails.
+    pub failure_output: TestOutputDisplay,
+    /// Whether a report stores its output where it passes.
+    pub junit_store_success_output: bool,
+    /// Whether a report stores its output where it fails.
+    pub junit_store_failure_output: bool,
+    /// Whether a report lists it where it is skipped.
+    pub junit_report_skipped: ReportSkipPolicy,
+    /// How a report marks it where it is flaky and counts as failed.
+    pub junit_flaky_fail_status: JunitFlakyFailStatus,
+    /// What decides each setting, in the order of `Setting::ALL`.
+    sources: Vec<Option<PlainSource>>,
+}
+
+impl TestRow {
+    /// What decides a setting, if it has a value: only an absent run wrapper has none.
+    pub fn source(&self, setting: Setting) -> Option<&PlainSource>
+        ensures { option_map (λ source. origin_view source.now) result
+            ≡ row_source self.now setting }
+    {
+        match self.sources.get(setting as usize) {
+            Some(Some(source)) => Some(source),
+            _ => None,
+        }
+    }
 }
 
 /// Copies of texts.
@@ -72,23 +99,17 @@ fn copied_texts(alloc: Global, texts: &[String]) -> Result<Vec<String>, AllocErr
     Ok(copies)
 }
 
-/// The id of the script that wraps the run of a test, and what decides it, if there is one.
+/// The id of the script that wraps the run of a test, if there is one.
 fn run_wrapper_of<'cfg, F: Filters, S: Specs>(
-    alloc: Global,
     settings: &TestSettings<'cfg, F, S, SettingSource<'cfg, F, S>>,
-) -> Result<Option<(ScriptId, PlainSource)>, AllocError>
-    requires { IsSome (origin_at settings.now Setting.RunWrapper)
-        → IsSome (value_at settings.now Setting.RunWrapper) }
-    ensures value { IfOk result (λ wrapper. option_map (λ w. script_text w.0) wrapper
+) -> Result<Option<ScriptId>, AllocError>
+    ensures { IfOk result (λ wrapper. option_map script_text wrapper
         ≡ value_at settings.now Setting.RunWrapper) }
-    ensures source { IfOk result (λ wrapper. option_map (λ w. origin_view w.1) wrapper
-        ≡ origin_at settings.now Setting.RunWrapper) }
 {
-    let Some(source) = settings.source_of(Setting::RunWrapper) else {
-        return Ok(None);
-    };
-    let id = settings.run_wrapper_id().unwrap();
-    Ok(Some((id.clone()?, plain_source(alloc, source)?)))
+    match settings.run_wrapper_id() {
+        Some(id) => Ok(Some(id.clone()?)),
+        None => Ok(None),
+    }
 }
 
 /// The row of the settings of a test.
@@ -96,40 +117,27 @@ pub(super) fn row_of<'cfg, F: Filters, S: Specs>(
     alloc: Global,
     settings: &TestSettings<'cfg, F, S, SettingSource<'cfg, F, S>>,
 ) -> Result<TestRow, AllocError>
-    requires { IsSome (origin_at settings.now Setting.RunWrapper)
-        → IsSome (value_at settings.now Setting.RunWrapper) }
     ensures values { IfOk result (λ row. (s : Setting)
         → row_value row s ≡ value_at settings.now s) }
     ensures sources { IfOk result (λ row. (s : Setting)
         → row_source row s ≡ origin_at settings.now s) }
 {
-    let run_wrapper = run_wrapper_of(alloc, settings)?;
-    let run_extra_args = copied_texts(alloc, settings.run_extra_args())?;
-    let test_group = settings.test_group().clone()?;
-    let runs = run_sources(alloc, settings)?;
-    let ends = end_sources(alloc, settings)?;
-    let report = report_sources(alloc, settings)?;
     Ok(TestRow {
-        priority: (settings.priority(), runs.priority),
-        threads_required: (settings.threads_required(), runs.threads_required),
-        run_wrapper,
-        run_extra_args: (run_extra_args, runs.run_extra_args),
-        retries: (settings.retries(), runs.retries),
-        flaky_result: (settings.flaky_result(), runs.flaky_result),
-        slow_timeout: (settings.slow_timeout(), ends.slow_timeout),
-        leak_timeout: (settings.leak_timeout(), ends.leak_timeout),
-        test_group: (test_group, ends.test_group),
-        success_output: (settings.success_output(), ends.success_output),
-        failure_output: (settings.failure_output(), ends.failure_output),
-        junit_store_success_output: (
-            settings.junit_store_success_output(),
-            report.store_success_output,
-        ),
-        junit_store_failure_output: (
-            settings.junit_store_failure_output(),
-            report.store_failure_output,
-        ),
-        junit_report_skipped: (settings.junit_report_skipped(), report.report_skipped),
-        junit_flaky_fail_status: (settings.junit_flaky_fail_status(), report.flaky_fail_status),
+        priority: settings.priority(),
+        threads_required: settings.threads_required(),
+        run_wrapper: run_wrapper_of(settings)?,
+        run_extra_args: copied_texts(alloc, settings.run_extra_args())?,
+        retries: settings.retries(),
+        flaky_result: settings.flaky_result(),
+        slow_timeout: settings.slow_timeout(),
+        leak_timeout: settings.leak_timeout(),
+        test_group: settings.test_group().clone()?,
+        success_output: settings.success_output(),
+        failure_output: settings.failure_output(),
+        junit_store_success_output: settings.junit_store_success_output(),
+        junit_store_failure_output: settings.junit_store_failure_output(),
+        junit_report_skipped: settings.junit_report_skipped(),
+        junit_flaky_fail_status: settings.junit_flaky_fail_status(),
+        sources: sources_of(alloc, settings)?,
     })
 }

@@ -1,5 +1,5 @@
 //! What does not compile: default filters, overrides and script rules.
-use crate::error::message::write_message;
+use crate::one_line::OneLine;
 use std::fmt;
 use thiserror::Error;
 
@@ -63,10 +63,7 @@ fn write_refusal<W: fmt::Write>(
     what: &str,
     message: &str,
 ) -> fmt::Result {
-    f.write_str("; ")?;
-    f.write_str(what)?;
-    f.write_str(": ")?;
-    write_message(f, message)
+    write!(f, "; {what}: {}", OneLine(message))
 }
 
 /// Writes all refusals of engines, in the order of host, target and filters.

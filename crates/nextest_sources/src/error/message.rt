@@ -1,27 +1,14 @@
 //! Messages and names among the lines of a refusal.
+use crate::one_line::OneLine;
 use std::collections::BTreeSet;
 use std::fmt::{self, Write};
-
-/// Writes a message without the end of its last line.
-pub(crate) fn write_message<W: fmt::Write>(
-    f: &mut fmt::Formatter<W>,
-    message: &str,
-) -> fmt::Result {
-    for (index, line) in message.lines().enumerate() {
-        if index > 0 {
-            f.write_str("\n")?;
-        }
-        f.write_str(line)?;
-    }
-    Ok(())
-}
 
 /// Begins a detail of a refusal: a line of its own, behind two spaces.
 pub(crate) fn begin_detail<W: fmt::Write>(f: &mut fmt::Formatter<W>) -> fmt::Result {
     f.write_str("\n  ")
 }
 
-/// Passes text on, with four spaces behind each line feed: no text leaves the lines of its detail.
+/// Passes text on as it is shown on one line: no text leaves the line of its detail.
 #[derive(Drop)]
 struct DetailWriter<'a, W> {
     formatter: &'a mut fmt::Formatter<W>,
@@ -29,17 +16,11 @@ struct DetailWriter<'a, W> {
 
 impl<W: fmt::Write> fmt::Write for DetailWriter<'_, W> {
     fn write_str(&mut self, text: &str) -> fmt::Result {
-        for (index, line) in text.split('\n').enumerate() {
-            if index > 0 {
-                self.formatter.write_str("\n    ")?;
-            }
-            self.formatter.write_str(line)?;
-        }
-        Ok(())
+        write!(self.formatter, "{}", OneLine(text))
     }
 }
 
-/// Writes a value as a detail. Its further lines, if it has any, stand behind four spaces.
+/// Writes a value as a detail, on one line.
 pub(crate) fn write_detail<W: fmt::Write, D: fmt::Display>(
     f: &mut fmt::Formatter<W>,
     detail: &D,

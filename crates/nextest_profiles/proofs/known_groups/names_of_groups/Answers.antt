@@ -2,7 +2,7 @@ use Rattle.std.proofs.Common.{◌||◌, map, sym, ap, ◌∙◌}
 use Rattle.std.specs.BTreeSet.{contains_text}
 use Rattle.nextest_elements.specs.TestGroup.{custom_group_text}
 use Rattle.nextest_tree.specs.Schema.{is_one_of}
-use Rattle.nextest_profiles.proofs.Sets.{next_name, or-false, names_of_entries}
+use Rattle.nextest_profiles.proofs.IsKnownGroups.{next_name, or-false, names_of_entries}
 use Rattle.nextest_profiles.proofs.known_groups.names_of_groups.Goals as goal
 
 pub loop-group-preserved : goal.loop-group-preserved

@@ -1,10 +1,10 @@
 use Rattle.nextest_settings.specs.Profile.{profile_of, profile_on}
-use Rattle.nextest_settings.specs.Queries.{test_query}
-use Rattle.nextest_profiles.proofs.Groups.{group_known}
+use Rattle.nextest_settings.specs.Queries.{query_in}
+use Rattle.nextest_profiles.proofs.IsAmong.{group_known}
 use Rattle.nextest_profiles.proofs.laws.law_known_groups.Goals as goal
 
 pub returns : goal.returns
 returns g c = λ configured name chain platforms mode test closed.
     let meets = g.S.Specs.holds_on in
     let profile = profile_on meets platforms (profile_of configured name chain) in
-    group_known g.F.Filters.holds_binary meets platforms configured name chain closed (test_query g.F.Filters.holds profile.default_filter.filter test) mode
+    group_known meets platforms configured name chain closed.groups (query_in g.F.Filters.holds profile test) mode

@@ -1,5 +1,5 @@
 use Rattle.nextest_settings.specs.Queries.{custom_group_of}
-use Rattle.nextest_profiles.proofs.Last.{group_is_last}
+use Rattle.nextest_profiles.proofs.IsLastGroup.{group_is_last}
 use Rattle.nextest_profiles.proofs.laws.law_last_group.Goals as goal
 
 pub returns : goal.returns

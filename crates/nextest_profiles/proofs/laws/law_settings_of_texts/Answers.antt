@@ -1,5 +1,5 @@
 use Rattle.nextest_load.specs.Config.{config_of}
-use Rattle.nextest_profiles.proofs.Natural.{means_texts}
+use Rattle.nextest_profiles.proofs.MeaningOfTexts.{means_texts}
 use Rattle.nextest_profiles.proofs.laws.law_settings_of_texts.Goals as goal
 
 pub returns : goal.returns

@@ -1,9 +1,11 @@
-use Rattle.std.proofs.Common.{◌≡◌, map, length, ap}
+use Rattle.std.proofs.Common.{◌≡◌, Some, map, length, ap, ◌∙◌}
 use Rattle.nextest_scripts.specs.ScriptId.{script_text}
 use Rattle.nextest_sources.specs.Causes.{ill_named_scripts}
 use Rattle.nextest_sources.specs.InputFaults.{fault_at_source}
-use Rattle.nextest_sources.specs.Sources.{source_view}
-use Rattle.nextest_rules.specs.Definitions.{is_of_tool}
+use Rattle.nextest_sources.specs.Errors.{script_names_view}
+use Rattle.nextest_sources.specs.Sources.{source_view, owner_of_source}
+use Rattle.nextest_texts.specs.Owner.{owner_class}
+use Rattle.nextest_rules.specs.Definitions.{source_class}
 use Rattle.nextest_rules.proofs.Gathering.{gathered_none, gathered_some, none_mapped, some_mapped}
 use Rattle.nextest_rules.proofs.Telling.{told}
 use Rattle.nextest_rules.proofs.ill_named.check_script_names.Goals as goal
@@ -14,7 +16,7 @@ returns-then-is_empty c =
     let keys = c.in_ok-ids.ids.keys in
     let none : length keys ≡ 0 = c.is_empty.ensures.0 c.if-is_empty.true in
     ap (fault_at_source source)
-    (gathered_none (ill_named_scripts (is_of_tool source.kind)) (map script_text keys) _ c.in_ok-ids.ensures (none_mapped script_text keys none))
+    (gathered_none (ill_named_scripts (source_class source.kind)) (map script_text keys) _ c.in_ok-ids.ensures (none_mapped script_text keys none))
 
 pub returns : goal.returns
 returns c =
@@ -22,6 +24,6 @@ returns c =
     let keys = c.in_ok-ids.ids.keys in
     let some : map script_text keys ≡ _ → ⊥ =
     some_mapped script_text keys (λ none. let empty = c.is_empty.ensures.1 none in let full = c.if-is_empty.false in cc) in
-    told source _ _ c.scripts_kind.result c.at.result
-    (gathered_some (ill_named_scripts (is_of_tool source.kind)) (map script_text keys) _ c.in_ok-ids.ensures some)
-    c.scripts_kind.ensures c.at.ensures
+    told source _ _ c.ill_named_kind-kind.result c.at.result
+    (gathered_some (ill_named_scripts (source_class source.kind)) (map script_text keys) _ c.in_ok-ids.ensures some)
+    (c.ill_named_kind-kind.ensures ∙ ap (λ o. Some (ill_named_scripts (owner_class o) (script_names_view c.in_ok-ids.ids))) (c.owner.ensures ∙ ap owner_of_source c.kind.ensures)) c.at.ensures

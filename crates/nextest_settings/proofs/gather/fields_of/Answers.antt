@@ -5,7 +5,7 @@ use Rattle.nextest_load.specs.ConfigView.{merged_profile_view}
 use Rattle.nextest_rules.specs.Rules.{at_name}
 use Rattle.nextest_tables.specs.View.{by_name}
 use Rattle.nextest_settings.specs.View.{fields_ref_view}
-use Rattle.nextest_settings.proofs.Gathering.{filter_turn}
+use Rattle.nextest_settings.proofs.FilterMap.{filter_turn}
 use Rattle.nextest_settings.proofs.gather.fields_of.Goals as goal
 use Rattle.nextest_settings.proofs.gather.fields_of.Goals.{in-Some+in_ok-push, in_default}
 

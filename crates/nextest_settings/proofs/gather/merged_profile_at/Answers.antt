@@ -1,5 +1,5 @@
 use Rattle.nextest_load.specs.ConfigView.{merged_profile_view}
-use Rattle.nextest_settings.proofs.Named.{got_at}
+use Rattle.nextest_settings.proofs.AtName.{got_at}
 use Rattle.nextest_settings.proofs.gather.merged_profile_at.Goals as goal
 
 pub returns : goal.returns

@@ -1,5 +1,5 @@
 use Rattle.nextest_rules.specs.View.{layer_profile_view}
-use Rattle.nextest_settings.proofs.Named.{got_at}
+use Rattle.nextest_settings.proofs.AtName.{got_at}
 use Rattle.nextest_settings.proofs.gather.profile_at.Goals as goal
 
 pub returns : goal.returns

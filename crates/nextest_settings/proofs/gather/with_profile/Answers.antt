@@ -1,5 +1,5 @@
 use Rattle.nextest_rules.specs.View.{override_rule_view, script_rule_view}
-use Rattle.nextest_settings.proofs.Gathering.{more_refs}
+use Rattle.nextest_settings.proofs.FilterMap.{more_refs}
 use Rattle.nextest_settings.proofs.gather.with_profile.Goals as goal
 
 pub returns-clause-overrides : goal.returns-clause-overrides

@@ -1,7 +1,7 @@
 use Rattle.std.proofs.Common.{map, ◌∷◌, [], is_some}
 use Rattle.nextest_tables.specs.FileTexts.{ScriptUse}
 use Rattle.nextest_settings.specs.Settings.{settings, is_set}
-use Rattle.nextest_settings.proofs.Few.{all_rise, others_rise}
+use Rattle.nextest_settings.proofs.Rising.{all_rise, others_rise}
 use Rattle.nextest_settings.proofs.laws.law_evaluated_at_most_once.Goals as goal
 
 pub returns-clause-test : goal.returns-clause-test

@@ -1,5 +1,5 @@
 use Rattle.nextest_settings.specs.Deciding.{decides}
-use Rattle.nextest_settings.proofs.Least.{find-least, find-none}
+use Rattle.nextest_settings.proofs.StandsFirst.{find-least, find-none}
 use Rattle.nextest_settings.proofs.laws.law_first_override.Goals as goal
 
 pub returns-clause-some : goal.returns-clause-some

@@ -1,4 +1,4 @@
-use Rattle.nextest_settings.proofs.Places.{in_place_order}
+use Rattle.nextest_settings.proofs.RulesAreInOrder.{in_place_order}
 use Rattle.nextest_settings.proofs.laws.law_rule_order.Goals as goal
 
 pub returns-clause-overrides : goal.returns-clause-overrides

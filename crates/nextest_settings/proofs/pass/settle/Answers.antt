@@ -1,7 +1,7 @@
 use Rattle.std.proofs.Common.{◌≡◌, length}
 use Rattle.nextest_settings.specs.Settings.{is_set, settings}
 use Rattle.nextest_tables.specs.View.{settings_view}
-use Rattle.nextest_settings.proofs.Slots.{slots_with_rule_step}
+use Rattle.nextest_settings.proofs.SlotsWithRule.{slots_with_rule_step}
 use Rattle.nextest_settings.proofs.pass.settle.Goals as goal
 
 pub loop-k-preserved : goal.loop-k-preserved

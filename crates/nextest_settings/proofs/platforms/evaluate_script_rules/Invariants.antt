@@ -1,4 +1,5 @@
 use Rattle.std.proofs.Common.{◌≡◌, map, take}
+use Rattle.nextest_settings.specs.Engines.{meets_by}
 use Rattle.nextest_settings.specs.Platforms.{rule_on}
 use Rattle.nextest_settings.specs.View.{script_rule_ref_view, evaluated_script_rule_view}
 use Rattle.nextest_settings.proofs.platforms.evaluate_script_rules.Given as goal
@@ -6,5 +7,5 @@ use Rattle.nextest_settings.proofs.platforms.evaluate_script_rules.Given as goal
 abbrev pub invariant-loop-rule : goal.invariant-loop-rule
 invariant-loop-rule g l =
     map evaluated_script_rule_view l.evaluated.items
-    ≡ map (rule_on (λ spec platform. g.S.Specs.holds_on (g.S.Specs.spec_meaning spec) platform) l.platforms)
+    ≡ map (rule_on (meets_by g.S.Specs) l.platforms)
     (map script_rule_ref_view (take l.rule-index l.rules))

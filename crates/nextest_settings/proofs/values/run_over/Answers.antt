@@ -1,4 +1,4 @@
-use Rattle.nextest_settings.proofs.Nearer.{nearer}
+use Rattle.nextest_settings.proofs.AreValues.{nearer}
 use Rattle.nextest_settings.proofs.values.run_over.Goals as goal
 
 pub returns : goal.returns

@@ -1,5 +1,5 @@
 use Rattle.std.proofs.Common.{map, string_bytes, option_map}
-use Rattle.nextest_settings.proofs.Nearer.{nearer}
+use Rattle.nextest_settings.proofs.AreValues.{nearer}
 use Rattle.nextest_settings.proofs.values.tests_over.Goals as goal
 
 pub returns : goal.returns

@@ -1,6 +1,6 @@
 use Rattle.std.proofs.Common.{◌≡◌, ◌-◌, arith, length, map, drop}
 use Rattle.nextest_settings.specs.View.{fields_ref_view}
-use Rattle.nextest_settings.proofs.Nearer.{last_complete, not_empty, at_last, one_nearer}
+use Rattle.nextest_settings.proofs.AreValues.{last_complete, not_empty, at_last, one_nearer}
 use Rattle.nextest_settings.proofs.values.values_of.Goals as goal
 
 pub values_in-values-requires : goal.values_in-values-requires

@@ -3,7 +3,7 @@ use Rattle.nextest_load.specs.ConfigView.{scripts_view}
 use Rattle.nextest_rules.specs.Rules.{at_name}
 use Rattle.nextest_scripts.specs.ScriptId.{script_text}
 use Rattle.nextest_scripts.specs.ScriptTexts.{wrapper_script_view}
-use Rattle.nextest_settings.proofs.Scripts.{at_script_ref, is_there}
+use Rattle.nextest_settings.proofs.ScriptTables.{at_script_ref, is_there}
 use Rattle.nextest_settings.proofs.wrappers.wrapper_at.Goals as goal
 
 pub unreachable-requires : goal.unreachable-requires

@@ -1,6 +1,7 @@
 use Rattle.std.proofs.Common.{◌≡◌, ℕ, List, [], map, take, drop}
-use Rattle.nextest_sources.specs.InputFaults.{first_path, duplicate_fault}
+use Rattle.nextest_sources.specs.InputFaults.{first_path}
 use Rattle.nextest_sources.specs.Sources.{tool_file_view}
+use Rattle.nextest_sources.proofs.Duplicates.{duplicate_fault}
 use Rattle.nextest_sources.proofs.FirstPaths.{path_in}
 use Rattle.nextest_sources.proofs.inputs.refuse_duplicates.Given as goal
 

@@ -3,7 +3,7 @@ use Rattle.nextest_engines.specs.Readings.{readings_view}
 use Rattle.nextest_rules.specs.KnownView.{features_view}
 use Rattle.nextest_sources.specs.Inputs.{load_inputs_view}
 use Rattle.nextest_config.specs.ConfigView.{loaded_by}
-use Rattle.nextest_config.proofs.Loading.{memory_load}
+use Rattle.nextest_config.proofs.IsLoad.{memory_load}
 use Rattle.nextest_config.proofs.config.NextestConfig.from_sources_with_selection.Goals as goal
 
 pub returns-in_err-root-clause-loads : goal.returns-in_err-root-clause-loads
@@ -11,10 +11,10 @@ returns-in_err-root-clause-loads g c =
     let engines = readings_view g.F.Filters g.S.Specs c.args.pcx.now in
     let p = err_from_is_err_and c.from_residual.result c.from_residual.ensures.1 in
     rw p.1 (memory_load (loaded_by g.F.Filters.meaning g.S.Specs.spec_meaning) engines (features_view c.args.experimental.now)
-    (load_inputs_view c.args.shared.now c.args.selection.config_file c.args.tools.now) _ p.0 p.2)
+    (load_inputs_view c.args.shared.now c.args.selection c.args.tools.now) _ p.0 p.2)
 
 pub returns-clause-loads : goal.returns-clause-loads
 returns-clause-loads g c =
     let engines = readings_view g.F.Filters g.S.Specs c.args.pcx.now in
     c.from_load.ensures.loads engines (features_view c.args.experimental.now)
-    (load_inputs_view c.args.shared.now c.args.selection.config_file c.args.tools.now) _ _ c.load-loaded.ensures.loads
+    (load_inputs_view c.args.shared.now c.args.selection c.args.tools.now) _ _ c.load-loaded.ensures.loads

@@ -4,8 +4,8 @@ use Rattle.nextest_load.specs.ConfigView.{merged_profile_view}
 use Rattle.nextest_tables.specs.FileTexts.{names_in}
 use Rattle.nextest_tables.specs.View.{by_name}
 use Rattle.nextest_tree.specs.Schema.{is_one_of}
-use Rattle.nextest_config.proofs.Known.{known_in, names_of_view, some_found}
-use Rattle.nextest_config.proofs.Moving.{moved}
+use Rattle.nextest_config.proofs.IsNotFound.{known_in, names_of_view, some_found}
+use Rattle.nextest_config.proofs.IsProfileOf.{moved}
 use Rattle.nextest_config.proofs.config.NextestConfig.profile.Goals as goal
 
 pub new-requires : goal.new-requires

@@ -1,25 +1,13 @@
-use Rattle.std.proofs.Common.{◌≡◌, ◌++◌, arith, map, take, sym, refl, subst, IsSome}
+use Rattle.std.proofs.Common.{◌≡◌, ◌++◌, map, take, refl, subst}
 use Rattle.std.proofs.lemmas.List.{take_all}
 use Rattle.std.specs.List.{AllZip, flat_map}
 use Rattle.nextest_engines.specs.Engines.{test_view}
 use Rattle.nextest_profiles.specs.Meaning.{profile_meaning}
 use Rattle.nextest_settings.specs.SettingsView.{value_at, origin_at}
-use Rattle.nextest_settings.specs.declared.setting.Setting.TheVariants as at
-use Rattle.nextest_config.specs.Headline.{query_in, IsTestRow, numbers_for}
+use Rattle.nextest_config.specs.Headline.{IsTestRow, numbers_for}
 use Rattle.nextest_config.specs.RowView.{row_view}
-use Rattle.nextest_config.proofs.Rows.{rows_more, numbers_more, row_is}
-use Rattle.nextest_config.proofs.Wrapping.{has_id}
+use Rattle.nextest_config.proofs.AreRows.{rows_more, numbers_more, row_is}
 use Rattle.nextest_config.proofs.run.answer.rows_in.Goals as goal
-
-pub row_of-requires : goal.row_of-requires
-row_of-requires g c =
-    let F = g.F.Filters in
-    let profile = profile_meaning F.meaning c.args.profile.now in
-    let settings = c.settings_with_source_for-settings in (
-      omega arith,
-      λ some. subst IsSome (sym (settings.ensures.values at.RunWrapper))
-          (has_id (query_in F.holds profile _) profile.script_rules (subst IsSome (settings.ensures.origins at.RunWrapper) some)),
-    )
 
 pub loop-test-preserved : goal.loop-test-preserved
 loop-test-preserved g c =
@@ -28,7 +16,7 @@ loop-test-preserved g c =
     let profile = profile_meaning F.meaning c.args.profile.now in
     let settings = c.settings_with_source_for-settings in
     let row = c.in_ok-row_of in
-    let is = row_is F.holds profile c.args.mode _ row.field-0 (value_at settings.result) (origin_at settings.result) row.ensures.values row.ensures.sources settings.ensures.values settings.ensures.origins in
+    let is = row_is F.holds profile c.args.mode _ row.field-0 (value_at settings.result) (origin_at settings.result) row.ensures.values row.ensures.sources settings.ensures.settings.values settings.ensures.settings.origins in
     record {
       rows = rw c.in_ok-push.ensures.items (rows_more F.holds profile c.args.mode test_view c.args.tests.now c.loop-test.test-index _ _ c.loop-test-test.true refl c.loop-test.rows.items row.field-0 c.loop-test.invariant.rows is);
       tally = numbers_more F.holds profile c.args.mode test_view c.args.tests.now c.loop-test.test-index _ _ c.loop-test-test.true refl (numbers c.args.tally.now) (numbers c.loop-test.tally) (numbers settings.new.tally) c.loop-test.invariant.tally settings.ensures.tally;

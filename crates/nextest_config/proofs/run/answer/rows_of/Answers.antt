@@ -4,7 +4,7 @@ use Rattle.nextest_profiles.specs.Meaning.{configured_meaning, profile_meaning}
 use Rattle.nextest_config.specs.ConfigView.{configured_in}
 use Rattle.nextest_config.specs.RowView.{row_view}
 use Rattle.nextest_config.specs.RunView.{question_view}
-use Rattle.nextest_config.proofs.Answering.{profile_refused, with_rows, asked_profile}
+use Rattle.nextest_config.proofs.Answers.{profile_refused, with_rows, asked_profile}
 use Rattle.nextest_config.proofs.run.answer.rows_of.Goals as goal
 
 pub returns-in_err-early : goal.returns-in_err-early

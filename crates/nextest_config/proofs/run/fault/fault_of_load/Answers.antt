@@ -2,7 +2,7 @@ use Rattle.std.proofs.Common.{◌∙◌}
 use Rattle.nextest_sources.specs.Endings.{error_view}
 use Rattle.nextest_sources.specs.Errors.{source_of}
 use Rattle.nextest_sources.specs.Sources.{path_view}
-use Rattle.nextest_config.proofs.Telling.{with_source, without_source, same_some}
+use Rattle.nextest_config.proofs.TellsEnding.{with_source, without_source, same_some}
 use Rattle.nextest_config.proofs.run.fault.fault_of_load.Goals as goal
 
 pub returns-then-is_none : goal.returns-then-is_none

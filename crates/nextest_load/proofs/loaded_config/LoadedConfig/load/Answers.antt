@@ -3,7 +3,7 @@ use Rattle.nextest_engines.specs.Readings.{readings_view}
 use Rattle.nextest_rules.specs.KnownView.{features_view}
 use Rattle.nextest_rules.proofs.AcceptedDefinitions.{accepted_definitions}
 use Rattle.nextest_rules.proofs.AcceptedRules.{accepted_rules}
-use Rattle.nextest_sources.specs.Inputs.{load_inputs_view}
+use Rattle.nextest_sources.specs.Inputs.{inputs_view}
 use Rattle.nextest_sources.proofs.Runs.{ran_exit}
 use Rattle.nextest_load.specs.Meaning.{loaded_meaning}
 use Rattle.nextest_load.proofs.Accepting.{DefinitionsLaw, RulesLaw}
@@ -13,8 +13,8 @@ use Rattle.nextest_load.proofs.loaded_config.LoadedConfig.load.Goals as goal
 pub returns-in_err-parts : goal.returns-in_err-parts
 returns-in_err-parts g c =
     let engines = readings_view g.F.Filters g.S.Specs c.args.pcx.now in
-    let files = load_inputs_view c.args.shared.now c.args.selection.config_file c.args.tools.now in
-    let features = features_view c.args.experimental.now in
+    let files = inputs_view c.args.inputs.now in
+    let features = features_view c.args.inputs.now.features.now in
     let definitions : DefinitionsLaw features = λ source file. accepted_definitions features source file in
     let rules : RulesLaw engines = λ lower known source file sorted. accepted_rules engines lower known source file sorted in
     let e = c.in_err-parts.field-0.0 in
@@ -26,8 +26,8 @@ returns-in_err-parts g c =
 pub new-requires : goal.new-requires
 new-requires g c =
     let engines = readings_view g.F.Filters g.S.Specs c.args.pcx.now in
-    let files = load_inputs_view c.args.shared.now c.args.selection.config_file c.args.tools.now in
-    let features = features_view c.args.experimental.now in
+    let files = inputs_view c.args.inputs.now in
+    let features = features_view c.args.inputs.now.features.now in
     let definitions : DefinitionsLaw features = λ source file. accepted_definitions features source file in
     let rules : RulesLaw engines = λ lower known source file sorted. accepted_rules engines lower known source file sorted in
     parts_closed g.F.Filters.meaning g.S.Specs.spec_meaning engines features files definitions rules c.law_first_duplicate.ensures.none c.in_ok-parts.parts c.all.result c.all.ensures
@@ -36,8 +36,8 @@ new-requires g c =
 pub returns : goal.returns
 returns g c =
     let engines = readings_view g.F.Filters g.S.Specs c.args.pcx.now in
-    let files = load_inputs_view c.args.shared.now c.args.selection.config_file c.args.tools.now in
-    let features = features_view c.args.experimental.now in
+    let files = inputs_view c.args.inputs.now in
+    let features = features_view c.args.inputs.now.features.now in
     let definitions : DefinitionsLaw features = λ source file. accepted_definitions features source file in
     let rules : RulesLaw engines = λ lower known source file sorted. accepted_rules engines lower known source file sorted in record {
       loads = loaded_is g.F.Filters.meaning g.S.Specs.spec_meaning engines features files definitions rules c.law_first_duplicate.ensures.none c.in_ok-parts.parts c.all.result c.new.result c.all.ensures

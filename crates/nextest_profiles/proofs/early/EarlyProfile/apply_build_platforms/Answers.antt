@@ -1,9 +1,10 @@
 use Rattle.std.proofs.Common.{◌≡◌, refl, sym, ap, ◌∙◌, map}
+use Rattle.nextest_settings.specs.Engines.{meets_by}
 use Rattle.nextest_settings.specs.Platforms.{rule_on}
 use Rattle.nextest_settings.specs.View.{script_rule_ref_view, evaluated_script_rule_view}
 use Rattle.nextest_profiles.specs.Known.{named_use, evaluated_use}
-use Rattle.nextest_profiles.proofs.Closing.{fused}
-use Rattle.nextest_profiles.proofs.Answering.{answers_kept}
+use Rattle.nextest_profiles.proofs.KnowsScripts.{fused}
+use Rattle.nextest_profiles.proofs.AnswerForBinaries.{answers_kept}
 use Rattle.nextest_profiles.proofs.early.EarlyProfile.apply_build_platforms.Goals as goal
 
 pub new-requires-clause-known : goal.new-requires-clause-known
@@ -13,7 +14,7 @@ new-requires-clause-known g c =
     let same : map evaluated_use after ≡ map named_use before =
     sym (fused (λ r. r.writes) evaluated_script_rule_view after)
     ∙ ap (map (λ r. r.writes)) c.in-Ok.ensures.script_rules
-    ∙ fused (λ r. r.writes) (rule_on (λ spec platform. g.S.Specs.holds_on (g.S.Specs.spec_meaning spec) platform) c.args.platforms.now) (map script_rule_ref_view before)
+    ∙ fused (λ r. r.writes) (rule_on (meets_by g.S.Specs) c.args.platforms.now) (map script_rule_ref_view before)
     ∙ fused (λ r. r.writes) script_rule_ref_view before in
     rw same c.self.invariant.0
 
@@ -21,7 +22,7 @@ pub new-requires-clause-answers : goal.new-requires-clause-answers
 new-requires-clause-answers g c =
     let before = c.self.inside.rules.script_rules.items in
     let after = c.in-Ok.rules.script_rules.items in
-    answers_kept g.F.Filters.holds_binary g.F.Filters.meaning g.S.Specs.spec_meaning (λ spec platform. g.S.Specs.holds_on (g.S.Specs.spec_meaning spec) platform) c.args.platforms.now before after c.in-Ok.ensures.script_rules c.self.invariant.1
+    answers_kept g.F.Filters.holds_binary g.F.Filters.meaning g.S.Specs.spec_meaning (meets_by g.S.Specs) c.args.platforms.now before after c.in-Ok.ensures.script_rules c.self.invariant.1
 
 pub returns-in-Ok-clause-ok : goal.returns-in-Ok-clause-ok
 returns-in-Ok-clause-ok g c =

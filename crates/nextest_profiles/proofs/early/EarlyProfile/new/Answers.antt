@@ -8,9 +8,9 @@ use Rattle.nextest_settings.specs.View.{script_rule_ref_view}
 use Rattle.nextest_sources.specs.InputFaults.{Each}
 use Rattle.nextest_tables.specs.FileTexts.{names_in}
 use Rattle.nextest_inheritance.specs.View.{borrowed_view}
-use Rattle.nextest_profiles.proofs.Closing.{fused, uses_of, knows_scripts, filters_answer}
-use Rattle.nextest_profiles.proofs.Gathered.{each_at}
-use Rattle.nextest_profiles.proofs.Parents.{parents_written, parents_same, keys_same}
+use Rattle.nextest_profiles.proofs.KnowsScripts.{fused, uses_of, knows_scripts, filters_answer}
+use Rattle.nextest_profiles.proofs.EachRule.{each_at}
+use Rattle.nextest_profiles.proofs.ParentsIn.{parents_written, parents_same, keys_same}
 use Rattle.nextest_profiles.proofs.early.EarlyProfile.new.Goals as goal
 
 pub names_of-requires : goal.names_of-requires
@@ -38,7 +38,7 @@ returns g c =
       chain = chain;
       is_chain = subst (λ written. IsChain (parents_in written) c.args.name.now chain) (parents_same c.profiles.result.now.entries ∙ ap parents_written c.profiles.ensures.profiles) c.in_ok-names.ensures.is_chain;
       is_profile = λ i. record {
-        grounds = c.in_ok-new.ensures chain of_new i;
+        facts = c.in_ok-new.ensures chain of_new i;
         overrides = overrides i;
         script_rules = script_rules i;
         nearest_filter = nearest i;
@@ -55,7 +55,7 @@ invariant_of-result g c =
     let of_rules = ap borrowed_view c.deref-2.ensures.value ∙ c.in_ok-names.ensures.is in
     let script_rules = c.in_ok-rules_of.ensures.script_rules ∙ (λ i. script_rules_of (c.layers-layers.ensures i) (of_rules i)) in
     let uses = sym (fused (λ r. r.writes) script_rule_ref_view c.in_ok-rules_of.field-0.script_rules.items) ∙ ap uses_of script_rules in
-    let there = ap (λ grounds. grounds.scripts) (c.in_ok-new.ensures chain of_new) in
+    let there = ap (λ facts. facts.scripts) (c.in_ok-new.ensures chain of_new) in
     let rule = rules.script_rule_meaning g.F.Filters.meaning g.S.Specs.spec_meaning in
     let gathered = ap (map rule) (sym script_rules) ∙ fused rule script_rule_ref_view c.in_ok-rules_of.field-0.script_rules.items in (
       rw (uses, there) (knows_scripts g.F.Filters.meaning g.S.Specs.spec_meaning g.F.Filters.holds_binary config scripts c.profiles.ensures.closed (with_default chain)),

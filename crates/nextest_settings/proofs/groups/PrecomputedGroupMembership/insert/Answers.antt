@@ -2,7 +2,7 @@ use Rattle.std.proofs.Common.{◌≡◌, ℕ, List, refl, option_and_then, Some,
 use Rattle.std.proofs.lemmas.Map.Text.{btree_map_updates_text}
 use Rattle.std.specs.BTreeMap.{get_by_text}
 use Rattle.std.specs.Str.{bytes_eq}
-use Rattle.nextest_settings.proofs.Memberships.{custom_group_in_after}
+use Rattle.nextest_settings.proofs.LastGroup.{custom_group_in_after}
 use Rattle.nextest_settings.proofs.groups.PrecomputedGroupMembership.insert.Goals as goal
 use Rattle.nextest_settings.proofs.groups.PrecomputedGroupMembership.insert.Goals.{in-Some, in-None}
 
