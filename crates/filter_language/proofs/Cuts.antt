@@ -38,13 +38,13 @@ pub front_is : (text rest : List ℕ) (found : Option (Bor (List ℕ))) (d : Bor
 front_is text rest None d whole none =
     test_pick text rest d.now _ refl
     (λ e. absurd (none (take (length text - length rest) text) (
-      sym (take-append-drop (length text - length rest) text)
-      ∙ ap (λ l. take (length text - length rest) text ++ l) ((bytes_eq-Decides (drop (length text - length rest) text) rest).0 e)
+    sym (take-append-drop (length text - length rest) text)
+    ∙ ap (λ l. take (length text - length rest) text ++ l) ((bytes_eq-Decides (drop (length text - length rest) text) rest).0 e)
     )))
     (λ e. whole)
 front_is text rest (Some x) d whole (n, fits, is, long) =
     let cut : text ≡ take (length text - length rest) text ++ rest = rw fits.0 at fits.1 in
     let same : drop (length text - length rest) text ≡ rest =
-        append_cancel_left (take (length text - length rest) text) _ _ (take-append-drop (length text - length rest) text ∙ cut) in
+    append_cancel_left (take (length text - length rest) text) _ _ (take-append-drop (length text - length rest) text ∙ cut) in
     let test : bytes_eq (drop (length text - length rest) text) rest ≡ true = (bytes_eq-Decides (drop (length text - length rest) text) rest).1 same in
     test_pick text rest x.now true test (λ e. is ∙ ap (λ k. take (length text - k) text) fits.0) (λ e. absurd (cc))

@@ -22,7 +22,6 @@ use Rattle.filter_language.specs.Lexing.{wrong_between, spelled, opened_in, clos
 use Rattle.filter_language.specs.Arguments.{Body, text_in, regex_in}
 
 infixl 10 ◌>>=◌
-
 -- What a further step gives, unless something is wrong before it.
 abbrev pub ◌>>=◌ : {A B : Type 0} → Result A Misreading → (A → Result B Misreading)
     → Result B Misreading

@@ -23,7 +23,9 @@ impl From<AllocError> for RowError {
 pub fn answer_to(alloc: Global, filters: &NextestFilters, line: &str) -> Result<String, RowError> {
     let mut columns = Vec::new(alloc);
     for column in line.split('\t') {
-        columns.push(unescaped(alloc, column)?).map_err(AllocError::from)?;
+        columns
+            .push(unescaped(alloc, column)?)
+            .map_err(AllocError::from)?;
     }
     let [
         text,

@@ -41,16 +41,19 @@ abbrev pub ReadItems : ℕ → List ℕ → ℕ → ℕ → List ℕ → List Ra
 ReadItems first text start end rest ranges =
     (done : List ClassItem → List ClassItem)
     × ((items : List ClassItem) (left : List ℕ) → WritesItems first text items left
-        ↔ ((behind : List ClassItem) × (items ≡ done behind) × WritesItems start rest behind left))
+    ↔ ((behind : List ClassItem) × (items ≡ done behind) × WritesItems start rest behind left))
     × ((behind : List ClassItem) (byte : ℕ)
-        → in_items first first (done behind) byte ≡ (in_ranges ranges byte || in_items start end behind byte))
+    → in_items first first (done behind) byte ≡ (in_ranges ranges byte || in_items start end behind byte))
 
 -- Nothing is read.
 pub none_done : (first : ℕ) (text : List ℕ) → ReadItems first text first first text []
 none_done first text = (
   λ items. items,
-  λ items left. (λ w. (items, refl, w), λ (found : (behind : List ClassItem) × (items ≡ behind) × WritesItems first text behind left).
-      subst (λ l. WritesItems first text l left) (sym found.1) found.2),
+  λ items left. (
+    λ w. (items, refl, w),
+    λ (found : (behind : List ClassItem) × (items ≡ behind) × WritesItems first text behind left).
+        subst (λ l. WritesItems first text l left) (sym found.1) found.2,
+  ),
   λ behind byte. sym (ap (λ b. b || in_items first first behind byte) (in_ranges-nil byte)),
 )
 
@@ -74,7 +77,7 @@ item_behind start text rest item writes (next ∷ items) left = (
 pub item_done : (first : ℕ) (text : List ℕ) (start end : ℕ) (rest next : List ℕ) (old new : List Range) (item : ClassItem) (close : ℕ)
     → ReadItems first text start end rest old → WritesItem start rest item next
     → ((behind : List ClassItem) (byte : ℕ) → (in_ranges old byte || in_items start end (item ∷ behind) byte)
-        ≡ (in_ranges new byte || in_items (start_behind start item) close behind byte))
+    ≡ (in_ranges new byte || in_items (start_behind start item) close behind byte))
     → ReadItems first text (start_behind start item) close next new
 item_done first text start end rest next old new item close (done, writes, holds) here widens = (
   λ behind. done (item ∷ behind),

@@ -73,7 +73,7 @@ module _ (inside : Bool) (place : Place) where
       ⊎_elim
       (λ (whole : WritesFolders inside place text rest × (is_whole inside place rest ≡ true)). (42 ∷ 47 ∷ rest, whole.0.0))
       (λ (star : (text ≡ 42 ∷ rest) × ((other : List ℕ) → WritesFolders inside place text other → ⊥)
-          × ((other : List ℕ) → WritesLast inside place text other → ⊥)). (rest, star.0))
+      × ((other : List ℕ) → WritesLast inside place text other → ⊥)). (rest, star.0))
       w
 
   -- Folders leave one rest.
@@ -95,14 +95,14 @@ module _ (inside : Bool) (place : Place) where
       ⊎_elim
       (λ (two : WritesFolders inside place text s × (is_whole inside place s ≡ true)). same_folders text r s one.0.0 two.0.0)
       (λ (two : (text ≡ 42 ∷ s) × ((other : List ℕ) → WritesFolders inside place text other → ⊥)
-          × ((other : List ℕ) → WritesLast inside place text other → ⊥)). absurd (two.1 r one.0))
+      × ((other : List ℕ) → WritesLast inside place text other → ⊥)). absurd (two.1 r one.0))
       v)
       (λ (one : (text ≡ 42 ∷ r) × ((other : List ℕ) → WritesFolders inside place text other → ⊥)
-          × ((other : List ℕ) → WritesLast inside place text other → ⊥)).
+      × ((other : List ℕ) → WritesLast inside place text other → ⊥)).
       ⊎_elim
       (λ (two : WritesFolders inside place text s × (is_whole inside place s ≡ true)). absurd (one.1 s two.0))
       (λ (two : (text ≡ 42 ∷ s) × ((other : List ℕ) → WritesFolders inside place text other → ⊥)
-          × ((other : List ℕ) → WritesLast inside place text other → ⊥)). (heads text 42 42 r s one.0 two.0).1)
+      × ((other : List ℕ) → WritesLast inside place text other → ⊥)). (heads text 42 42 r s one.0 two.0).1)
       v)
       w
 
@@ -112,7 +112,7 @@ module _ (inside : Bool) (place : Place) where
       (λ (one : WritesFolders inside place text r × (is_whole inside place r ≡ true)).
       whole_twice r s (same_folders text r s one.0.0 v.0.0) one.1 v.1)
       (λ (one : (text ≡ 42 ∷ r) × ((other : List ℕ) → WritesFolders inside place text other → ⊥)
-          × ((other : List ℕ) → WritesLast inside place text other → ⊥)). one.1 s v.0)
+      × ((other : List ℕ) → WritesLast inside place text other → ⊥)). one.1 s v.0)
       w
 
   any_nothing : (text r s : List ℕ) → WritesPart inside place text AnyBytes r → WritesPart inside place text Nothing s → ⊥
@@ -120,7 +120,7 @@ module _ (inside : Bool) (place : Place) where
       ⊎_elim
       (λ (one : WritesFolders inside place text r × (is_whole inside place r ≡ true)). folders_last text r s one.0.0 v)
       (λ (one : (text ≡ 42 ∷ r) × ((other : List ℕ) → WritesFolders inside place text other → ⊥)
-          × ((other : List ℕ) → WritesLast inside place text other → ⊥)). one.2 s v)
+      × ((other : List ℕ) → WritesLast inside place text other → ⊥)). one.2 s v)
       w
 
   folders_by : (whole : Bool) (text rest : List ℕ) → is_whole inside place rest ≡ whole → text ≡ 42 ∷ 42 ∷ 47 ∷ rest → opens place ≡ true
@@ -205,8 +205,11 @@ writes_plain : (levels : ℕ) (place : Place) (text : List ℕ) → IsPlain text
 writes_plain levels place [] plain = (refl, refl)
 writes_plain levels place (b ∷ text) plain = (
   refl,
-  (text, inl (refl, All-head (λ byte. is_special byte ≡ false) b text plain),
-  writes_plain levels (behind place (Byte b)) text (All-tail (λ byte. is_special byte ≡ false) b text plain)),
+  (
+    text,
+    inl (refl, All-head (λ byte. is_special byte ≡ false) b text plain),
+    writes_plain levels (behind place (Byte b)) text (All-tail (λ byte. is_special byte ≡ false) b text plain),
+  ),
 )
 
 -- A plain text writes no other row.
@@ -218,7 +221,7 @@ only_plain (part p row) levels place (b ∷ text) plain (go, (mid, here, later))
     let same = same_part false place (b ∷ text) p (Byte b) mid text here (inl (refl, special)) in
     let next = subst (λ q. WritesRow false levels (behind place q) mid row []) same.0 later in
     let tail = only_plain row levels (behind place (Byte b)) text (All-tail (λ byte. is_special byte ≡ false) b text plain)
-        (subst (λ m. WritesRow false levels (behind place (Byte b)) m row []) same.1 next) in
+    (subst (λ m. WritesRow false levels (behind place (Byte b)) m row []) same.1 next) in
     cc
 only_plain (class c row) levels place [] plain w = absurd (let f = w.2 in cc)
 only_plain (class c row) levels place (b ∷ text) plain w =

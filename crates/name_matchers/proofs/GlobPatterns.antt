@@ -227,9 +227,17 @@ byte_in_means ranges passes exactly name bytes i j h = (
       let here = slice_get-get_or name i 0 inside in
       let is : slice_get name i ≡ Some found.0 = found.1 in
       let same : found.0 ≡ get_or name i 0 = cc in
-      let small : get_or name i 0 < 256 = bytes i 0 inside in
-      (get_or name i 0 ∷ [], drop (i + 1) name, drop_more name i 0 inside, found.3, (get_or name i 0, refl,
-      sym (exactly (get_or name i 0) small) ∙ ap (in_ranges ranges) (sym same) ∙ found.2)),
+      let small : get_or name i 0 < 256 = bytes i 0 inside in (
+        get_or name i 0 ∷ [],
+        drop (i + 1) name,
+        drop_more name i 0 inside,
+        found.3,
+        (
+          get_or name i 0,
+          refl,
+          sym (exactly (get_or name i 0) small) ∙ ap (in_ranges ranges) (sym same) ∙ found.2,
+        ),
+      ),
   λ (stands : StandsBetween (λ bytes. (b : ℕ) × (bytes ≡ b ∷ []) × (passes b ≡ true)) name i j).
       let b = stands.4.0 in
       let within = front_within name i stands.0 stands.1 h stands.2 in
@@ -321,10 +329,15 @@ whole_found Kind re means name bytes = (
       kind_whole Kind re means name bytes 0 value.0.trace.end refl
       (subst (λ k. Matches name (cat_all (re ∷ look End ∷ [])) k value.0.trace.end) place sound.2),
   λ takes.
-      find_complete (cat_all (look Start ∷ re ∷ look End ∷ [])) name 0 0 (length name) (omega arith) (omega arith)
-      (0, (start_holds name, refl),
-      (length name, (means name bytes 0 (length name) (omega arith)).1 (name, [], sym (append-nil name), omega arith, takes),
-      (length name, (left_end name (length name) (nil_from_length (drop (length name) name) (length-drop (length name) name ∙ omega arith)), refl), refl))),
+      find_complete (cat_all (look Start ∷ re ∷ look End ∷ [])) name 0 0 (length name) (omega arith) (omega arith) (
+        0,
+        (start_holds name, refl),
+        (
+          length name,
+          (means name bytes 0 (length name) (omega arith)).1 (name, [], sym (append-nil name), omega arith, takes),
+          (length name, (left_end name (length name) (nil_from_length (drop (length name) name) (length-drop (length name) name ∙ omega arith)), refl), refl),
+        ),
+      ),
 )
 
 -- The pattern of a byte, if memory lasted.

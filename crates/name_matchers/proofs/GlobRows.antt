@@ -259,28 +259,31 @@ module _ (inside : Bool) (levels : ℕ) where
   ReadTo text at rest hirs =
       (done : Row → Row)
       × ((row : Row) (left : List ℕ) → WritesRow inside levels place.Start text row left
-          ↔ ((next : Row) × (row ≡ done next) × WritesRow inside levels at rest next left))
+      ↔ ((next : Row) × (row ≡ done next) × WritesRow inside levels at rest next left))
       × ((next : Row) → is_empty (done next) ≡ (is_nil hirs && is_empty next))
       × ((next : Row) (tails : List Re) → MatchesKind (RowTakes next) (cat_all tails)
-          → MatchesKind (RowTakes (done next)) (cat_all (map meaning hirs ++ tails)))
+      → MatchesKind (RowTakes (done next)) (cat_all (map meaning hirs ++ tails)))
 
   -- Nothing is read.
   pub none_read : (text : List ℕ) → ReadTo text place.Start text []
   none_read text = (
     λ row. row,
-    λ row left. (λ w. (row, refl, w), λ (found : (next : Row) × (row ≡ next) × WritesRow inside levels place.Start text next left).
-        subst (λ r. WritesRow inside levels place.Start text r left) (sym found.1) found.2),
+    λ row left. (
+      λ w. (row, refl, w),
+      λ (found : (next : Row) × (row ≡ next) × WritesRow inside levels place.Start text next left).
+          subst (λ r. WritesRow inside levels place.Start text r left) (sym found.1) found.2,
+    ),
     λ next. refl,
     λ next tails means. means,
   )
 
   piece_written : (text : List ℕ) (at next_at : Place) (rest next : List ℕ) (done step : Row → Row)
       → ((row : Row) (left : List ℕ) → WritesRow inside levels place.Start text row left
-          ↔ ((behind : Row) × (row ≡ done behind) × WritesRow inside levels at rest behind left))
+      ↔ ((behind : Row) × (row ≡ done behind) × WritesRow inside levels at rest behind left))
       → ((row : Row) (left : List ℕ) → WritesRow inside levels at rest row left
-          ↔ ((behind : Row) × (row ≡ step behind) × WritesRow inside levels next_at next behind left))
+      ↔ ((behind : Row) × (row ≡ step behind) × WritesRow inside levels next_at next behind left))
       → (row : Row) (left : List ℕ) → WritesRow inside levels place.Start text row left
-          ↔ ((behind : Row) × (row ≡ done (step behind)) × WritesRow inside levels next_at next behind left)
+      ↔ ((behind : Row) × (row ≡ done (step behind)) × WritesRow inside levels next_at next behind left)
   piece_written text at next_at rest next done step first second row left = (
     λ w.
         let found = (first row left).0 w in
@@ -377,17 +380,20 @@ module _ (levels : ℕ) where
   ReadBranches text rest hirs =
       (done : Branches → Branches)
       × ((branches : Branches) (left : List ℕ) → WritesBranches levels text branches left
-          ↔ ((next : Branches) × (branches ≡ done next) × WritesBranches levels rest next left))
+      ↔ ((next : Branches) × (branches ≡ done next) × WritesBranches levels rest next left))
       × ((next : Branches) → are_empty (done next) ≡ (is_nil hirs && are_empty next))
       × ((next : Branches) (tails : List Re) → MatchesKind (SomeTakes next) (alt_all tails)
-          → MatchesKind (SomeTakes (done next)) (alt_all (map meaning hirs ++ tails)))
+      → MatchesKind (SomeTakes (done next)) (alt_all (map meaning hirs ++ tails)))
 
   -- No branch is read.
   pub no_branches : (text : List ℕ) → ReadBranches text text []
   no_branches text = (
     λ branches. branches,
-    λ branches left. (λ w. (branches, refl, w), λ (found : (next : Branches) × (branches ≡ next) × WritesBranches levels text next left).
-        subst (λ b. WritesBranches levels text b left) (sym found.1) found.2),
+    λ branches left. (
+      λ w. (branches, refl, w),
+      λ (found : (next : Branches) × (branches ≡ next) × WritesBranches levels text next left).
+          subst (λ b. WritesBranches levels text b left) (sym found.1) found.2,
+    ),
     λ next. refl,
     λ next tails means. means,
   )
@@ -435,21 +441,21 @@ module _ (levels : ℕ) where
     tails,
     ap (λ l. map meaning l ++ tails) same,
     kind_same (SomeTakes branches) (SomeTakes (also row branches)) (alt_all tails)
-    (λ bytes. (
-      λ some. inr some,
-      λ (t : ((is_empty row ≡ false) × RowTakes row bytes) ⊎ SomeTakes branches bytes).
-          ⊎_elim (λ (here : (is_empty row ≡ false) × RowTakes row bytes). absurd (true≢false (sym none ∙ here.0))) (λ (some : SomeTakes branches bytes). some) t,
-    ))
-    rest,
+        (λ bytes. (
+          λ some. inr some,
+          λ (t : ((is_empty row ≡ false) × RowTakes row bytes) ⊎ SomeTakes branches bytes).
+              ⊎_elim (λ (here : (is_empty row ≡ false) × RowTakes row bytes). absurd (true≢false (sym none ∙ here.0))) (λ (some : SomeTakes branches bytes). some) t,
+        ))
+        rest,
   )
   branch_means row (h ∷ hirs) (means, some) branches old new (hir, is, is_cat) tails rest = (
     meaning hir ∷ tails,
     ap (λ l. map meaning l ++ tails) is ∙ ap (λ l. l ++ tails) (map-append meaning old (hir ∷ [])) ∙ append_assoc (map meaning old) (meaning hir ∷ []) tails,
     alt_means (λ bytes. (is_empty row ≡ false) × RowTakes row bytes) (SomeTakes branches) (meaning hir) (alt_all tails)
-    (kind_same (RowTakes row) (λ bytes. (is_empty row ≡ false) × RowTakes row bytes) (meaning hir)
-    (λ bytes. (λ t. (some, t), λ (t : (is_empty row ≡ false) × RowTakes row bytes). t.1))
-    (subst (λ re. MatchesKind (RowTakes row) re) (sym is_cat) means))
-    rest,
+        (kind_same (RowTakes row) (λ bytes. (is_empty row ≡ false) × RowTakes row bytes) (meaning hir)
+        (λ bytes. (λ t. (some, t), λ (t : (is_empty row ≡ false) × RowTakes row bytes). t.1))
+        (subst (λ re. MatchesKind (RowTakes row) re) (sym is_cat) means))
+        rest,
   )
 
   branch_empty : (row : Row) (hirs : List Hir) → RowPatterns row hirs → (old new : List Hir) → AddsBranch hirs old new → (b : Bool)
@@ -487,12 +493,12 @@ module _ (levels : ℕ) where
     meaning hir ∷ [],
     ap (map meaning) is ∙ map-append meaning old (hir ∷ []),
     kind_same (λ bytes. ((is_empty row ≡ false) × RowTakes row bytes) ⊎ ⊥) (SomeTakes (only row)) (alt_all (meaning hir ∷ []))
-    (λ bytes. (λ (t : ((is_empty row ≡ false) × RowTakes row bytes) ⊎ ⊥). ⊎_elim (λ (x : (is_empty row ≡ false) × RowTakes row bytes). x) (λ (x : ⊥). absurd x) t, λ (t : (is_empty row ≡ false) × RowTakes row bytes). inl t))
-    (alt_means (λ bytes. (is_empty row ≡ false) × RowTakes row bytes) (λ bytes. ⊥) (meaning hir) (byte_in [])
-    (kind_same (RowTakes row) (λ bytes. (is_empty row ≡ false) × RowTakes row bytes) (meaning hir)
-    (λ bytes. (λ t. (some, t), λ (t : (is_empty row ≡ false) × RowTakes row bytes). t.1))
-    (subst (λ re. MatchesKind (RowTakes row) re) (sym is_cat) means))
-    (never_means (λ bytes. ⊥) (λ bytes t. t))),
+        (λ bytes. (λ (t : ((is_empty row ≡ false) × RowTakes row bytes) ⊎ ⊥). ⊎_elim (λ (x : (is_empty row ≡ false) × RowTakes row bytes). x) (λ (x : ⊥). absurd x) t, λ (t : (is_empty row ≡ false) × RowTakes row bytes). inl t))
+        (alt_means (λ bytes. (is_empty row ≡ false) × RowTakes row bytes) (λ bytes. ⊥) (meaning hir) (byte_in [])
+        (kind_same (RowTakes row) (λ bytes. (is_empty row ≡ false) × RowTakes row bytes) (meaning hir)
+        (λ bytes. (λ t. (some, t), λ (t : (is_empty row ≡ false) × RowTakes row bytes). t.1))
+        (subst (λ re. MatchesKind (RowTakes row) re) (sym is_cat) means))
+        (never_means (λ bytes. ⊥) (λ bytes t. t))),
   )
 
   last_empty : (row : Row) (hirs : List Hir) → RowPatterns row hirs → (old new : List Hir) → AddsBranch hirs old new
@@ -522,7 +528,7 @@ module _ (levels : ℕ) where
               (writes branches left).1 (only row, same.0, (last_behind rest next row one (only row) left).1 (refl, same.1)),
         ),
         pattern_of (done (only row)) new pattern (empties (only row) ∙ last_empty row hirs patterns old new adds)
-        (subst (λ l. MatchesKind (SomeTakes (done (only row))) (alt_all l)) (sym here.1) (means (only row) here.0 here.2)) any,
+            (subst (λ l. MatchesKind (SomeTakes (done (only row))) (alt_all l)) (sym here.1) (means (only row) here.0 here.2)) any,
       )
 
   first_row : (rest : List ℕ) (branches : Branches) (left : List ℕ) → WritesBranches levels rest branches left

@@ -44,7 +44,7 @@ module _ (inside : Bool) (levels : ℕ) where
   ReadsPiece place text pattern next rest =
       (step : Row → Row)
       × ((row : Row) (left : List ℕ) → WritesRow inside levels place text row left
-          ↔ ((behind : Row) × (row ≡ step behind) × WritesRow inside levels next rest behind left))
+      ↔ ((behind : Row) × (row ≡ step behind) × WritesRow inside levels next rest behind left))
       × MatchOption pattern (IsSkipped step) (λ hir. IsMatched step (meaning hir))
 
   -- Memory ran out, or the text writes no row from this place on.

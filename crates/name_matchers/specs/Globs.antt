@@ -86,7 +86,7 @@ module _ (inside : Bool) (place : Place) where
   WritesPart text AnyBytes rest =
       (WritesFolders text rest × (is_whole inside place rest ≡ true))
       ⊎ ((text ≡ 42 ∷ rest) × ((other : List ℕ) → WritesFolders text other → ⊥)
-          × ((other : List ℕ) → WritesLast text other → ⊥))
+      × ((other : List ℕ) → WritesLast text other → ⊥))
   WritesPart text Folders rest = WritesFolders text rest × (is_whole inside place rest ≡ false)
   WritesPart text Nothing rest = WritesLast text rest
 

@@ -25,5 +25,5 @@ Means part re = MatchesKind (PartTakes part) re
 abbrev pub MeansRanges : Bool → List Range → Re → Type 0
 MeansRanges negated ranges re = MatchesKind
     (λ bytes. (byte : ℕ) × (bytes ≡ byte ∷ [])
-        × ((if negated then not (in_ranges ranges byte) else in_ranges ranges byte) ≡ true))
+    × ((if negated then not (in_ranges ranges byte) else in_ranges ranges byte) ≡ true))
     re

@@ -114,7 +114,9 @@ fn groups(rt: HostRuntime) -> Result<(), Fail> {
 #[test]
 fn no_globs(rt: HostRuntime) {
     let alloc = rt.alloc();
-    for text in [r"x\", "foo[", "foo[]", "}x", "{x", "{a,", "[b-a]", "[é]", "[a-", "[!]"] {
+    for text in [
+        r"x\", "foo[", "foo[]", "}x", "{x", "{a,", "[b-a]", "[é]", "[a-", "[!]",
+    ] {
         let malformed = NameMatcher::glob(alloc, text);
         assert!(rt; matches!(&malformed, Err(GlobFault::Malformed)), "{text}");
     }

@@ -172,10 +172,7 @@ fn rows(
 }
 
 /// The platforms of the build.
-fn platforms_of(
-    alloc: Global,
-    command: &Command<'_>,
-) -> Result<BuildPlatforms<String>, AllocError>
+fn platforms_of(alloc: Global, command: &Command<'_>) -> Result<BuildPlatforms<String>, AllocError>
     ensures host { IfOk result (λ platforms. string_bytes platforms.host
         ≡ option_map_or (λ host. host.now) command.now.options.host usual_host) }
     ensures target { IfOk result (λ platforms. option_map string_bytes platforms.target

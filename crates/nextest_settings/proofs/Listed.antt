@@ -78,6 +78,7 @@ found-among met test (x ∷ xs) = go (test x && met x) (found-among met test xs)
   further : (o : Option A) → IfSome o (λ y. (n : ℕ) × (slice_get xs n ≡ Some y)) → IfSome o (λ y. (n : ℕ) × (slice_get (x ∷ xs) n ≡ Some y))
   further None h = tt
   further (Some y) h = (suc h.0, h.1)
+
   go : (b : Bool) → IfSome (first_of met test xs) (λ y. (n : ℕ) × (slice_get xs n ≡ Some y)) → IfSome (cond b (Some x) (first_of met test xs)) (λ y. (n : ℕ) × (slice_get (x ∷ xs) n ≡ Some y))
   go true h = (0, refl)
   go false h = further (first_of met test xs) h

@@ -87,7 +87,13 @@ fn override_rows<F: Filters, S: Specs>(
     ensures { IfOk result (λ rows.
         rows.items ≡ rows_of (override_tests platform mode) 0 overrides.now) }
 {
-    build_rows(alloc, overrides, 0, &Place { platform, mode }, &Setting::ALL)
+    build_rows(
+        alloc,
+        overrides,
+        0,
+        &Place { platform, mode },
+        &Setting::ALL,
+    )
 }
 
 /// The script rules that name a wrapper for binaries of a platform, numbered on from the first

@@ -38,14 +38,7 @@ fn load_paths<F: Filters, S: Specs, W: ConfigWarnings>(
     let root = paths.workspace_root.as_str();
     let shared = &paths.shared;
     NextestConfig::from_sources_with_warnings(
-        alloc,
-        root,
-        shared,
-        engines,
-        None,
-        tools,
-        features,
-        sink,
+        alloc, root, shared, engines, None, tools, features, sink,
     )
 }
 

@@ -70,7 +70,10 @@ struct Reluctant {
 
 impl Write for Reluctant {
     fn write(&mut self, buf: &[u8]) -> io::Result<usize> {
-        let count = buf.len().min(self.step).min(self.room - self.taken.len().min(self.room));
+        let count = buf
+            .len()
+            .min(self.step)
+            .min(self.room - self.taken.len().min(self.room));
         if count == 0 {
             self.calls_after = self.calls_after.saturating_add(1);
             return match self.end {

@@ -102,8 +102,14 @@ fn check_failing(
     let status = status_of(rt.alloc(), line, &mut out, &mut err)?;
     let from_out = if room < whole.1 { 0 } else { room };
     assert!(rt; status == 6, "at {line}, {room}");
-    assert!(rt; out.taken == from_out && err.taken == room.min(whole.1), "at {line}, {room}");
-    assert!(rt; out.tries_after == 0 && err.tries_after == 0, "at {line}, {room}");
+    assert!(rt;
+        out.taken == from_out && err.taken == room.min(whole.1),
+        "at {line}, {room}"
+    );
+    assert!(rt;
+        out.tries_after == 0 && err.tries_after == 0,
+        "at {line}, {room}"
+    );
     Ok(())
 }
 

@@ -179,12 +179,22 @@ fn add_evaluated(
         lines.add_of(alloc, "evaluated", test.test_name, &tally.numbers(alloc)?)?;
         let mut tally = NotedTally::new();
         drop(profile.settings_with_source_for(NextestRunMode::Benchmark, test, &mut tally));
-        lines.add_of(alloc, "bench-evaluated", test.test_name, &tally.numbers(alloc)?)?;
+        lines.add_of(
+            alloc,
+            "bench-evaluated",
+            test.test_name,
+            &tally.numbers(alloc)?,
+        )?;
     }
     for binary in &case.binaries {
         let mut tally = NotedTally::new();
         drop(profile.list_settings_for(binary, &mut tally));
-        lines.add_of(alloc, "list-evaluated", binary.binary_id, &tally.numbers(alloc)?)?;
+        lines.add_of(
+            alloc,
+            "list-evaluated",
+            binary.binary_id,
+            &tally.numbers(alloc)?,
+        )?;
     }
     Ok(())
 }

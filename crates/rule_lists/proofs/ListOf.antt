@@ -39,6 +39,7 @@ module _ {R : Type 0} (test : R → Bool) where
   inside first (r ∷ rules) n there = go (test r) refl there (inside (first + 1) rules n) where
     here : test r ≡ true → n ≡ first → StandsAt test first (r ∷ rules) n
     here is same = (0, r, omega (arith, same), refl, is)
+
     go : (b : Bool) → test r ≡ b → Contains (numbers b first rules) n → (Contains (numbers_of test (first + 1) rules) n → StandsAt test (first + 1) rules n) → StandsAt test first (r ∷ rules) n
     go true is there later = elim (Contains-append_cases (first ∷ []) (numbers_of test (first + 1) rules) n there) [
       | inl one ↦ here is (alone first n one)

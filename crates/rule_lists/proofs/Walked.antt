@@ -117,6 +117,7 @@ module _ {R : Type 0} (met : R → Bool) where
     listed tests e = go (list_any (λ t. t r) tests) refl where
       clash : true ≡ false → ⊥
       clash e = absurd cc
+
       go : (b : Bool) → list_any (λ t. t r) tests ≡ b → IsTrue b
       go true is = refl
       go false is = absurd (clash (sym e ∙ unlisted tests is))

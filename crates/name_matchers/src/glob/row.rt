@@ -73,15 +73,27 @@ fn read_piece(
     }
     if text[0] == b'{' && levels > 0 {
         let (pattern, len) = read_group(alloc, &text[1..], levels - 1)?;
-        return Ok(Piece { pattern, len: len + 1, place: Place::Elsewhere });
+        return Ok(Piece {
+            pattern,
+            len: len + 1,
+            place: Place::Elsewhere,
+        });
     }
     if text[0] == b'[' {
         let (pattern, len) = read_class(alloc, &text[1..])?;
-        return Ok(Piece { pattern: Some(pattern), len: len + 1, place: Place::Elsewhere });
+        return Ok(Piece {
+            pattern: Some(pattern),
+            len: len + 1,
+            place: Place::Elsewhere,
+        });
     }
     let (part, len) = read_part(text, inside, place)?;
     let pattern = part_pattern(alloc, part)?;
-    Ok(Piece { pattern: Some(pattern), len, place: place.behind(part) })
+    Ok(Piece {
+        pattern: Some(pattern),
+        len,
+        place: place.behind(part),
+    })
 }
 
 // The pattern of the group behind an opening brace, if one of its branches is not empty, and how
@@ -128,5 +140,9 @@ fn add_branch(branches: &mut Vec<Hir>, patterns: Vec<Hir>) -> Result<(), AllocEr
 fn any_of(branches: Vec<Hir>) -> Option<Hir>
     ensures { MatchesAny branches.items result }
 {
-    if branches.len() > 0 { Some(Hir::Alternation(branches)) } else { None }
+    if branches.len() > 0 {
+        Some(Hir::Alternation(branches))
+    } else {
+        None
+    }
 }

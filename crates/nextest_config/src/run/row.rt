@@ -19,9 +19,7 @@ use nextest_settings::{Setting, SettingSource, TestSettings};
 use nextest_sources::ConfigSource;
 use sources::sources_of;
 use std::alloc::{AllocError, Global};
-use values::{
-    arguments_text, leak_timeout_text, retries_text, slow_timeout_text, wrapper_text,
-};
+use values::{arguments_text, leak_timeout_text, retries_text, slow_timeout_text, wrapper_text};
 
 /// What decides a setting.
 #[derive(Debug, Drop, PartialEq, Eq)]
