@@ -5,7 +5,7 @@ use Rattle.rinqebo_report.specs.declared.report.Asked.{Asked}
 use Rattle.rinqebo_report.specs.declared.report.Content.{Content}
 use Rattle.rinqebo_report.specs.declared.report.Content.TheVariants as contents
 use Rattle.rinqebo_report.specs.declared.report.Report.{Report}
-use Rattle.rinqebo_report.specs.Documents.{count_data, text_data, optional_text_data, list_data, test_data, rule_data, finding_data, source_data, unreached_data}
+use Rattle.rinqebo_report.specs.Documents.{count_data, text_data, optional_text_data, list_data, origin_data, test_data, entry_data, rule_data, finding_data, source_data, unreached_data}
 use Rattle.rinqebo_report.specs.Pages.{mode_word}
 
 -- What was asked for, as the document tells it.
@@ -35,32 +35,56 @@ asked_data asked = record {
 abbrev pub content_asked : Content → AskedData
 content_asked (contents.Explain asked test) = asked_data asked
 content_asked (contents.Why asked key rules) = asked_data asked
+content_asked (contents.List asked tests unused) = asked_data asked
+content_asked (contents.ShowConfig asked entries) = asked_data asked
 content_asked contents.Check = nothing_asked
 
 -- the word of a command
 abbrev pub command_word : Content → List ℕ
 command_word (contents.Explain asked test) = codes "explain"
 command_word (contents.Why asked key rules) = codes "explain"
+command_word (contents.List asked tests unused) = codes "list"
+command_word (contents.ShowConfig asked entries) = codes "show-config"
 command_word contents.Check = codes "check"
 
 -- the rules that are answered
 abbrev pub rules_data : Content → Data
 rules_data (contents.Explain asked test) = array no_items
 rules_data (contents.Why asked key rules) = list_data rule_data rules.items
+rules_data (contents.List asked tests unused) = array no_items
+rules_data (contents.ShowConfig asked entries) = array no_items
 rules_data contents.Check = array no_items
 
 -- the tests that are answered
 abbrev pub tests_data : Content → Data
 tests_data (contents.Explain asked test) = array (item (test_data test) no_items)
 tests_data (contents.Why asked key rules) = array no_items
+tests_data (contents.List asked tests unused) = list_data test_data tests.items
+tests_data (contents.ShowConfig asked entries) = array no_items
 tests_data contents.Check = array no_items
+
+-- the leaves that are answered
+abbrev pub entries_data : Content → Data
+entries_data (contents.Explain asked test) = array no_items
+entries_data (contents.Why asked key rules) = array no_items
+entries_data (contents.List asked tests unused) = array no_items
+entries_data (contents.ShowConfig asked entries) = list_data entry_data entries.items
+entries_data contents.Check = array no_items
+
+-- the rules that hold for no test
+abbrev pub unused_data : Content → Data
+unused_data (contents.Explain asked test) = array no_items
+unused_data (contents.Why asked key rules) = array no_items
+unused_data (contents.List asked tests unused) = list_data origin_data unused.items
+unused_data (contents.ShowConfig asked entries) = array no_items
+unused_data contents.Check = array no_items
 
 -- a report, with what was asked for
 abbrev pub document_with : AskedData → Report → Data
 document_with asked report =
     object (member (codes "chain") asked.chain
     (member (codes "command") (string (command_word report.content))
-    (member (codes "entries") (array no_items)
+    (member (codes "entries") (entries_data report.content)
     (member (codes "findings") (list_data finding_data report.findings.items)
     (member (codes "host") asked.host
     (member (codes "mode") asked.mode
@@ -71,7 +95,7 @@ document_with asked report =
     (member (codes "target") asked.target
     (member (codes "tests") (tests_data report.content)
     (member (codes "unreached") (list_data unreached_data report.unreached.items)
-    (member (codes "unused") (array no_items)
+    (member (codes "unused") (unused_data report.content)
     (member (codes "version") (count_data 1) no_members)))))))))))))))
 
 -- the document of a report

@@ -19,6 +19,7 @@ use Rattle.rinqebo_report.specs.declared.origin.SourceKind.TheVariants as kinds
 use Rattle.rinqebo_report.specs.declared.origin.Written.{Written}
 use Rattle.rinqebo_report.specs.declared.report.ConditionAnswer.{ConditionAnswer}
 use Rattle.rinqebo_report.specs.declared.report.ConditionAnswer.TheVariants as answers
+use Rattle.rinqebo_report.specs.declared.report.Entry.{Entry}
 use Rattle.rinqebo_report.specs.declared.report.Rule.{Rule}
 use Rattle.rinqebo_report.specs.declared.report.SettingRow.{SettingRow}
 use Rattle.rinqebo_report.specs.declared.report.TestRows.{TestRows}
@@ -129,6 +130,14 @@ test_data test =
     (member (codes "platform") (string (platform_word test.platform))
     (member (codes "settings") (object (fold with_setting no_members test.settings.items))
     no_members))))
+
+-- a leaf of the configuration
+abbrev pub entry_data : Entry → Data
+entry_data entry =
+    object (member (codes "hidden") (boolean entry.is_hidden)
+    (member (codes "key") (text_data entry.key)
+    (member (codes "origin") (origin_data entry.origin)
+    (member (codes "value") (value_data entry.value) no_members))))
 
 -- the word of an answer
 abbrev pub answer_word : ConditionAnswer → List ℕ

@@ -10,3 +10,5 @@ pub mod Rendered
 pub mod Documents
 pub mod Document
 pub mod AskedView
+pub mod Uncoloured
+pub mod Hints

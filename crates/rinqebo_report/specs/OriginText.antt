@@ -1,5 +1,5 @@
 -- Origins as pages show them.
-use Rattle.std.specs.Prelude.{ℕ, ◌+◌, ◌==◌, List, [], ◌∷◌, ◌++◌, Option, None, Some, option_and_then, unwrap_or, slice_get, codes, decimal, String, string_bytes, if◌then◌else◌}
+use Rattle.std.specs.Prelude.{ℕ, ◌-◌, ◌==◌, Bool, true, false, List, [], ◌∷◌, ◌++◌, Option, None, Some, option_and_then, unwrap_or, slice_get, slice_index, length, codes, decimal, String, string_bytes, if◌then◌else◌}
 use Rattle.std.specs.declared.alloc.Global.{Global}
 use Rattle.rinqebo_report.specs.declared.origin.Lines.{Lines}
 use Rattle.rinqebo_report.specs.declared.origin.Origin.{Origin}
@@ -18,10 +18,20 @@ after_prefix [] text = Some text
 after_prefix (c ∷ prefix) [] = None
 after_prefix (c ∷ prefix) (d ∷ text) = if c == d then after_prefix prefix text else None
 
+-- whether a path ends with a slash
+abbrev pub ends_with_slash : List ℕ → Bool
+ends_with_slash path = slice_index path (length path - 1) == 47
+
+-- what follows a root, without a slash if the root does not end with one
+abbrev pub behind_root : Bool → List ℕ → Option (List ℕ)
+behind_root true rest = Some rest
+behind_root false rest = after_prefix (codes "/") rest
+
 -- a path below a root without the root and the slash behind it, and another path as it is
 abbrev pub below : List ℕ → List ℕ → List ℕ
 below root path =
-    unwrap_or (option_and_then (after_prefix (codes "/")) (after_prefix root path)) path
+    unwrap_or
+    (option_and_then (behind_root (ends_with_slash root)) (after_prefix root path)) path
 
 -- the path of a source, below a root where it is; the defaults have none
 abbrev pub path_text : List ℕ → Option (String Global) → List ℕ

@@ -8,6 +8,7 @@ use Rattle.rinqebo_report.specs.declared.finding.Level.{Level}
 use Rattle.rinqebo_report.specs.declared.finding.Level.TheVariants as levels
 use Rattle.rinqebo_report.specs.declared.finding.Span.{Span}
 use Rattle.rinqebo_report.specs.declared.origin.Lines.{Lines}
+use Rattle.rinqebo_report.specs.declared.origin.Origin.{Origin}
 use Rattle.rinqebo_report.specs.declared.origin.Place.{Place}
 use Rattle.rinqebo_report.specs.declared.origin.Source.{Source}
 use Rattle.rinqebo_report.specs.declared.piece.Style.TheVariants as styles
@@ -18,6 +19,7 @@ use Rattle.rinqebo_report.specs.declared.report.ConditionAnswer.{ConditionAnswer
 use Rattle.rinqebo_report.specs.declared.report.ConditionAnswer.TheVariants as answers
 use Rattle.rinqebo_report.specs.declared.report.Content.{Content}
 use Rattle.rinqebo_report.specs.declared.report.Content.TheVariants as contents
+use Rattle.rinqebo_report.specs.declared.report.Entry.{Entry}
 use Rattle.rinqebo_report.specs.declared.report.Platform.{Platform}
 use Rattle.rinqebo_report.specs.declared.report.Platform.TheVariants as platforms
 use Rattle.rinqebo_report.specs.declared.report.Report.{Report}
@@ -182,6 +184,67 @@ rules_runs root sources key n [] = []
 rules_runs root sources key n (rule ∷ rules) =
     rule_runs root sources key n rule ++ rules_runs root sources key (n + 1) rules
 
+-- the names of a test
+abbrev pub test_line_runs : List ℕ → List ℕ → List Run
+test_line_runs binary name = plain binary ∷ plain (codes " ") ∷ plain name ∷ ending ∷ []
+
+-- a row of a test in a list
+abbrev pub indented_runs : List ℕ → List Source → ℕ → SettingRow → List Run
+indented_runs root sources w row = plain (codes "    ") ∷ row_runs root sources w row
+
+-- a test in a list
+abbrev pub listed_runs : List ℕ → List Source → TestRows → List Run
+listed_runs root sources test =
+    test_line_runs (string_bytes test.binary) (string_bytes test.name)
+    ++ flat_map (indented_runs root sources (widest test.settings.items)) test.settings.items
+
+-- how many tests there are
+abbrev pub count_runs : ℕ → List Run
+count_runs n = plain (codes "tests: ") ∷ numbered n ∷ ending ∷ []
+
+-- a rule that holds for no test
+abbrev pub unused_line_runs : List ℕ → List Run
+unused_line_runs origin = plain (codes "unused: ") ∷ plain origin ∷ ending ∷ []
+
+-- where a rule that holds for no test stands
+abbrev pub unused_runs : List ℕ → List Source → Origin → List Run
+unused_runs root sources origin = unused_line_runs (origin_text root sources origin)
+
+-- tests, how many there are, and the rules that hold for none
+abbrev pub list_runs : List ℕ → List Source → List TestRows → List Origin → List Run
+list_runs root sources tests unused =
+    flat_map (listed_runs root sources) tests
+    ++ (count_runs (length tests) ++ flat_map (unused_runs root sources) unused)
+
+-- how wide the key of a leaf is: one that is hidden counts for nothing
+abbrev pub entry_width : Entry → ℕ
+entry_width entry = if entry.is_hidden then 0 else width (string_bytes entry.key)
+
+-- how wide the widest key of leaves is
+abbrev pub widest_entry : List Entry → ℕ
+widest_entry entries = fold (λ w entry. max w (entry_width entry)) 0 entries
+
+-- a leaf that another one hides
+abbrev pub hidden_runs : List ℕ → List ℕ → List ℕ → List Run
+hidden_runs key value remark =
+    styled styles.Remark (codes "# hidden: "
+    ++ (key ++ (codes " = " ++ (value ++ (codes "  " ++ remark)))))
+    ∷ ending ∷ []
+
+-- a leaf
+abbrev pub entry_runs : List ℕ → List Source → ℕ → Entry → List Run
+entry_runs root sources w entry =
+    if entry.is_hidden
+    then hidden_runs (string_bytes entry.key) (value_text entry.value)
+    (codes "# " ++ origin_text root sources entry.origin)
+    else setting_runs w (string_bytes entry.key) (Some (value_text entry.value))
+    (codes "# " ++ origin_text root sources entry.origin)
+
+-- leaves of a configuration
+abbrev pub config_runs : List ℕ → List Source → List Entry → List Run
+config_runs root sources entries =
+    flat_map (entry_runs root sources (widest_entry entries)) entries
+
 -- the word of a level
 abbrev pub level_word : Level → List ℕ
 level_word levels.Error = codes "error"
@@ -298,5 +361,9 @@ content_runs report (contents.Explain asked test) =
     explain_runs (string_bytes report.root) report.sources.items asked test
 content_runs report (contents.Why asked key rules) =
     rules_runs (string_bytes report.root) report.sources.items (string_bytes key) 0 rules.items
+content_runs report (contents.List asked tests unused) =
+    list_runs (string_bytes report.root) report.sources.items tests.items unused.items
+content_runs report (contents.ShowConfig asked entries) =
+    config_runs (string_bytes report.root) report.sources.items entries.items
 content_runs report contents.Check =
     findings_runs report ++ (plain (summary_text report) ∷ ending ∷ [])

@@ -33,7 +33,7 @@ fn key_width(row: &SettingRow) -> usize
 }
 
 /// How wide the widest key of rows is.
-fn widest(rows: &[SettingRow]) -> usize
+pub(crate) fn widest(rows: &[SettingRow]) -> usize
     ensures { result ≡ widest rows.now }
 {
     let mut most = 0usize;
@@ -120,7 +120,7 @@ fn header_text(alloc: Global, asked: &Asked, test: &TestRows) -> Result<String, 
 }
 
 /// Writes the row of a setting that has a value.
-fn add_valued<'x>(
+pub(crate) fn add_valued<'x>(
     out: &mut String,
     colour: Colour,
     widest: usize,
@@ -161,7 +161,7 @@ fn add_absent(alloc: Global, out: &mut String, colour: Colour, key: &str) -> Res
 }
 
 /// Writes the row of a setting.
-fn add_row(
+pub(crate) fn add_row(
     alloc: Global,
     out: &mut String,
     colour: Colour,

@@ -5,8 +5,11 @@ ghost use Rattle.rinqebo_report.specs.Pieces.{page_text};
 ghost use Rattle.rinqebo_report.specs.Rendered.{rendered};
 
 use crate::check_page::{add_check, add_findings, add_heads};
+use crate::config_page::add_config;
 use crate::explain_page::add_explain;
 use crate::github::github_text;
+use crate::json_document::render_json;
+use crate::list_page::add_list;
 use crate::piece::Colour;
 use crate::report::{Content, Report};
 use crate::why_page::add_why;
@@ -17,9 +20,12 @@ use std::alloc::{AllocError, Global};
 pub enum Format<'a> {
     /// The page of what a command answers.
     Text,
+    /// One document of JSON, on a line.
+    Json,
     /// The first lines of the findings.
     Concise,
-    /// The findings as commands of GitHub's workflows, below the folder in which a workflow runs.
+    /// The findings as commands of GitHub's workflows, with paths below the folder in which a
+    /// workflow runs.
     Github(&'a str),
 }
 
@@ -41,6 +47,12 @@ fn add_content(
         }
         Content::Why { key, rules, .. } => {
             add_why(alloc, out, colour, root, sources, key.as_str(), rules)
+        }
+        Content::List { tests, unused, .. } => {
+            add_list(alloc, out, colour, root, sources, tests, unused)
+        }
+        Content::ShowConfig { entries, .. } => {
+            add_config(alloc, out, colour, root, sources, entries)
         }
         Content::Check => add_check(alloc, out, colour, report),
     }
@@ -86,6 +98,7 @@ pub fn render(
 {
     match format {
         Format::Text => content_text(alloc, report, colour),
+        Format::Json => render_json(alloc, report),
         Format::Concise => concise_text(alloc, report, colour),
         Format::Github(workspace) => github_text(alloc, workspace, report),
     }

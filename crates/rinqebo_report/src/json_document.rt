@@ -1,15 +1,14 @@
 //! A report as one document of JSON, for other programs.
-ghost use Rattle.std.specs.Prelude.{◌≡◌, ◌≤◌, Some, IfOk, string_bytes};
-ghost use Rattle.serde_json.specs.Data.{depth};
-ghost use Rattle.serde_json.specs.Read.{read, max_depth};
+ghost use Rattle.std.specs.Prelude.{◌≡◌, ◌++◌, [], ◌∷◌, Some, IfOk, string_bytes};
+ghost use Rattle.serde_json.specs.Read.{read};
 ghost use Rattle.serde_json.specs.View.{view};
-ghost use Rattle.serde_json.specs.Written.{IsInOrder};
+ghost use Rattle.serde_json.specs.Written.{compact_text};
 ghost use Rattle.rinqebo_report.specs.AskedView.{asked_view};
-ghost use Rattle.rinqebo_report.specs.Document.{asked_data, content_asked, command_word, rules_data, tests_data, document_data};
+ghost use Rattle.rinqebo_report.specs.Document.{asked_data, content_asked, command_word, rules_data, tests_data, entries_data, unused_data, document_data};
 
 use crate::json_parts::{
-    all_unreached_json, findings_json, optional_text_json, rules_json, sources_json, test_json,
-    texts_json,
+    all_unreached_json, entries_json, findings_json, optional_text_json, origins_json, rules_json,
+    sources_json, test_json, tests_json, texts_json,
 };
 use crate::report::{Asked, Content, Report};
 use serde_json::{Value, json};
@@ -46,6 +45,8 @@ impl Content {
         match self {
             Content::Explain { asked, .. } => asked_json(alloc, asked),
             Content::Why { asked, .. } => asked_json(alloc, asked),
+            Content::List { asked, .. } => asked_json(alloc, asked),
+            Content::ShowConfig { asked, .. } => asked_json(alloc, asked),
             Content::Check => Ok(AskedJson {
                 chain: Value::Array(Vec::new(alloc)),
                 host: Value::Null,
@@ -62,6 +63,8 @@ impl Content {
     {
         match self {
             Content::Explain { .. } | Content::Why { .. } => "explain",
+            Content::List { .. } => "list",
+            Content::ShowConfig { .. } => "show-config",
             Content::Check => "check",
         }
     }
@@ -72,7 +75,10 @@ impl Content {
     {
         match self {
             Content::Why { rules, .. } => rules_json(alloc, rules),
-            Content::Explain { .. } | Content::Check => Ok(Value::Array(Vec::new(alloc))),
+            Content::Explain { .. }
+            | Content::List { .. }
+            | Content::ShowConfig { .. }
+            | Content::Check => Ok(Value::Array(Vec::new(alloc))),
         }
     }
 
@@ -85,7 +91,34 @@ impl Content {
                 let test = test_json(alloc, test)?;
                 json!(in alloc; [test])
             }
-            Content::Why { .. } | Content::Check => Ok(Value::Array(Vec::new(alloc))),
+            Content::List { tests, .. } => tests_json(alloc, tests),
+            Content::Why { .. } | Content::ShowConfig { .. } | Content::Check => {
+                Ok(Value::Array(Vec::new(alloc)))
+            }
+        }
+    }
+
+    /// The leaves that are answered.
+    fn entries_json(&self, alloc: Global) -> Result<Value, AllocError>
+        ensures { IfOk result (λ value. view value ≡ entries_data self.now) }
+    {
+        match self {
+            Content::ShowConfig { entries, .. } => entries_json(alloc, entries),
+            Content::Explain { .. } | Content::Why { .. } | Content::List { .. } | Content::Check =>
+                { Ok(Value::Array(Vec::new(alloc))) }
+        }
+    }
+
+    /// The rules that hold for no test.
+    fn unused_json(&self, alloc: Global) -> Result<Value, AllocError>
+        ensures { IfOk result (λ value. view value ≡ unused_data self.now) }
+    {
+        match self {
+            Content::List { unused, .. } => origins_json(alloc, unused),
+            Content::Explain { .. }
+            | Content::Why { .. }
+            | Content::ShowConfig { .. }
+            | Content::Check => Ok(Value::Array(Vec::new(alloc))),
         }
     }
 }
@@ -95,15 +128,17 @@ pub fn document(alloc: Global, report: &Report) -> Result<Value, AllocError>
     ensures { IfOk result (λ value. view value ≡ document_data report.now) }
 {
     let asked = report.content.asked_json(alloc)?;
+    let entries = report.content.entries_json(alloc)?;
     let findings = findings_json(alloc, &report.findings)?;
     let rules = report.content.rules_json(alloc)?;
     let sources = sources_json(alloc, &report.sources)?;
     let tests = report.content.tests_json(alloc)?;
     let unreached = all_unreached_json(alloc, &report.unreached)?;
+    let unused = report.content.unused_json(alloc)?;
     json!(in alloc; {
         "chain": asked.chain,
         "command": report.content.command(),
-        "entries": [],
+        "entries": entries,
         "findings": findings,
         "host": asked.host,
         "mode": asked.mode,
@@ -114,17 +149,31 @@ pub fn document(alloc: Global, report: &Report) -> Result<Value, AllocError>
         "target": asked.target,
         "tests": tests,
         "unreached": unreached,
-        "unused": [],
+        "unused": unused,
         "version": 1u64
     })
 }
 
-/// The document of a report as a text, without spaces: it has each item and member in order, and
-/// reads back.
-pub fn render_json(alloc: Global, report: &Report) -> Result<String, AllocError>
-    ensures order { IfOk result (λ text. IsInOrder (string_bytes text) (document_data report.now)) }
-    ensures reads_back { IfOk result (λ text. depth (document_data report.now) ≤ max_depth
-        → read (string_bytes text) ≡ Some (document_data report.now)) }
+/// The document of a report as a text without spaces, which reads back.
+fn document_text(alloc: Global, report: &Report) -> Result<String, AllocError>
+    ensures text { IfOk result (λ text. string_bytes text
+        ≡ compact_text (document_data report.now)) }
+    ensures reads_back { IfOk result (λ text. read (string_bytes text)
+        ≡ Some (document_data report.now)) }
 {
-    document(alloc, report)?.to_string(alloc)
+    let document = document(alloc, report)?;
+    let text = document.to_string(alloc)?;
+    Ok(text)
+}
+
+/// The document of a report, on one line. Without the end of the line it reads back.
+pub fn render_json(alloc: Global, report: &Report) -> Result<String, AllocError>
+    ensures text { IfOk result (λ text. string_bytes text
+        ≡ compact_text (document_data report.now) ++ 10 ∷ []) }
+    ensures reads_back { IfOk result (λ text.
+        read (compact_text (document_data report.now)) ≡ Some (document_data report.now)) }
+{
+    let mut text = document_text(alloc, report)?;
+    text.push('\n')?;
+    Ok(text)
 }

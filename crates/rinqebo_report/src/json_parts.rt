@@ -2,12 +2,12 @@
 ghost use Rattle.std.specs.Prelude.{◌≡◌, IfOk, fold};
 ghost use Rattle.serde_json.specs.Data.{null, object, no_members};
 ghost use Rattle.serde_json.specs.View.{view};
-ghost use Rattle.rinqebo_report.specs.Documents.{count_data, text_data, optional_text_data, optional_count_data, list_data, lines_data, scalar_data, with_field, optional_value_data, part_word, part_data, kind_data, origin_data, setting_data, with_setting, test_data, answer_word, rule_data, kind_word, tool_data, source_data, unreached_data, place_source_data, place_lines_data, span_data, expression_data, expression_span_data, finding_data};
+ghost use Rattle.rinqebo_report.specs.Documents.{count_data, text_data, optional_text_data, optional_count_data, list_data, lines_data, scalar_data, with_field, value_data, optional_value_data, part_word, part_data, kind_data, origin_data, setting_data, with_setting, test_data, entry_data, answer_word, rule_data, kind_word, tool_data, source_data, unreached_data, place_source_data, place_lines_data, span_data, expression_data, expression_span_data, finding_data};
 
 use crate::duration::add_duration;
 use crate::finding::{Expression, Finding, Span};
 use crate::origin::{Lines, Origin, Part, Place, Source, SourceKind, Written};
-use crate::report::{ConditionAnswer, Rule, SettingRow, TestRows, Unreached};
+use crate::report::{ConditionAnswer, Entry, Rule, SettingRow, TestRows, Unreached};
 use crate::value::{Field, Scalar, Value as SettingValue};
 use serde_json::{Map, Value, json};
 use std::alloc::{AllocError, Global};
@@ -82,14 +82,23 @@ fn fields_json(alloc: Global, fields: &[Field]) -> Result<Value, AllocError>
     Ok(Value::Object(members))
 }
 
+/// A value.
+fn value_json(alloc: Global, value: &SettingValue) -> Result<Value, AllocError>
+    ensures { IfOk result (λ json. view json ≡ value_data value.now) }
+{
+    match value {
+        SettingValue::Scalar(scalar) => scalar_json(alloc, scalar),
+        SettingValue::Texts(texts) => texts_json(alloc, texts),
+        SettingValue::Table(fields) => fields_json(alloc, fields),
+    }
+}
+
 /// A value, or null.
 fn optional_value_json(alloc: Global, value: &Option<SettingValue>) -> Result<Value, AllocError>
     ensures { IfOk result (λ json. view json ≡ optional_value_data value.now) }
 {
     match value {
-        Some(SettingValue::Scalar(scalar)) => scalar_json(alloc, scalar),
-        Some(SettingValue::Texts(texts)) => texts_json(alloc, texts),
-        Some(SettingValue::Table(fields)) => fields_json(alloc, fields),
+        Some(value) => value_json(alloc, value),
         None => Ok(Value::Null),
     }
 }
@@ -152,7 +161,7 @@ fn origin_json(alloc: Global, origin: &Origin) -> Result<Value, AllocError>
 }
 
 /// Origins.
-fn origins_json(alloc: Global, origins: &[Origin]) -> Result<Value, AllocError>
+pub(crate) fn origins_json(alloc: Global, origins: &[Origin]) -> Result<Value, AllocError>
     ensures { IfOk result (λ value. view value ≡ list_data origin_data origins.now) }
 {
     let mut list = Vec::new(alloc);
@@ -195,6 +204,42 @@ pub(crate) fn test_json(alloc: Global, test: &TestRows) -> Result<Value, AllocEr
         "platform": test.platform.word(),
         "settings": settings
     })
+}
+
+/// Tests.
+pub(crate) fn tests_json(alloc: Global, tests: &[TestRows]) -> Result<Value, AllocError>
+    ensures { IfOk result (λ value. view value ≡ list_data test_data tests.now) }
+{
+    let mut list = Vec::new(alloc);
+    for test in tests {
+        list.push(test_json(alloc, test)?)?;
+    }
+    Ok(Value::Array(list))
+}
+
+/// A leaf of the configuration.
+fn entry_json(alloc: Global, entry: &Entry) -> Result<Value, AllocError>
+    ensures { IfOk result (λ value. view value ≡ entry_data entry.now) }
+{
+    let origin = origin_json(alloc, &entry.origin)?;
+    let value = value_json(alloc, &entry.value)?;
+    json!(in alloc; {
+        "hidden": entry.is_hidden,
+        "key": entry.key.as_str(),
+        "origin": origin,
+        "value": value
+    })
+}
+
+/// Leaves of the configuration.
+pub(crate) fn entries_json(alloc: Global, entries: &[Entry]) -> Result<Value, AllocError>
+    ensures { IfOk result (λ value. view value ≡ list_data entry_data entries.now) }
+{
+    let mut list = Vec::new(alloc);
+    for entry in entries {
+        list.push(entry_json(alloc, entry)?)?;
+    }
+    Ok(Value::Array(list))
 }
 
 impl ConditionAnswer {

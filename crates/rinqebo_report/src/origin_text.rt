@@ -1,7 +1,7 @@
 //! Origins as pages show them.
 ghost use Rattle.std.specs.Prelude.{◌≡◌, ◌++◌, MatchOption, None, Some, option_map, OnOk, IfOk, codes, string_bytes};
 ghost use Rattle.rinqebo_report.specs.Joined.{joined};
-ghost use Rattle.rinqebo_report.specs.OriginText.{after_prefix, below, path_at, lines_text, tool_at, tool_text, place_text, part_text, written_text, origin_text};
+ghost use Rattle.rinqebo_report.specs.OriginText.{after_prefix, ends_with_slash, below, path_at, lines_text, tool_at, tool_text, place_text, part_text, written_text, origin_text};
 
 use crate::origin::{Lines, Origin, Part, Place, Source, SourceKind, Written};
 use std::alloc::{AllocError, Global};
@@ -15,11 +15,19 @@ fn after_prefix<'a>(prefix: &str, text: &'a str) -> Option<&'a str>
     text.strip_prefix(prefix)
 }
 
+/// Whether a path ends with a slash.
+fn ends_with_slash(path: &str) -> bool
+    ensures { result ≡ ends_with_slash path.now }
+{
+    path.ends_with('/')
+}
+
 /// A path below a root without the root and the slash behind it, and another path as it is.
 pub(crate) fn below<'a>(root: &str, path: &'a str) -> &'a str
     ensures { result.now ≡ below root.now path.now }
 {
     match after_prefix(root, path) {
+        Some(rest) if ends_with_slash(root) => rest,
         Some(rest) => after_prefix("/", rest).unwrap_or(path),
         None => path,
     }

@@ -49,6 +49,17 @@ pub struct TestRows {
     pub settings: Vec<SettingRow>,
 }
 
+/// A leaf of the configuration.
+#[derive(Drop)]
+pub struct Entry {
+    /// The keys that lead to it, with dots between them.
+    pub key: String,
+    pub value: Value,
+    pub origin: Origin,
+    /// Whether another source's value counts in place of this one.
+    pub is_hidden: bool,
+}
+
 /// What comes of a rule for a test and a setting.
 #[derive(Clone, Copy)]
 pub enum Verdict {
@@ -121,6 +132,18 @@ pub enum Content {
         asked: Asked,
         key: String,
         rules: Vec<Rule>,
+    },
+    /// What is set for each test.
+    List {
+        asked: Asked,
+        tests: Vec<TestRows>,
+        /// The rules that hold for no test.
+        unused: Vec<Origin>,
+    },
+    /// Leaves of the configuration.
+    ShowConfig {
+        asked: Asked,
+        entries: Vec<Entry>,
     },
     /// Nothing else.
     Check,

@@ -1,12 +1,21 @@
 //! Puts a report together, line by line.
 use crate::line::{Line, RowError};
 use rinqebo_report::{
-    Asked, Condition, ConditionAnswer, Content, Expression, Field, Finding, Level, Lines, Origin,
-    Part, Place, Platform, Report, Rule, RunMode, Scalar, SettingRow, Source, SourceKind, Span,
-    TestRows, Unreached, Value, Verdict, Written,
+    Asked, Condition, ConditionAnswer, Content, Entry, Expression, Field, Finding, Level, Lines,
+    Origin, Part, Place, Platform, Report, Rule, RunMode, Scalar, SettingRow, Source, SourceKind,
+    Span, TestRows, Unreached, Value, Verdict, Written,
 };
 use std::alloc::{AllocError, Global};
 use std::mem;
+
+/// The command that a report answers: `check`, unless another one is named.
+#[derive(Drop)]
+enum Command {
+    Explain,
+    Why(String),
+    List,
+    ShowConfig,
+}
 
 /// A report as far as it is put together.
 #[derive(Drop)]
@@ -15,10 +24,12 @@ pub struct Builder {
     pub name: String,
     root: String,
     sources: Vec<Source>,
+    command: Option<Command>,
     asked: Option<Asked>,
-    test: Option<TestRows>,
-    key: Option<String>,
+    tests: Vec<TestRows>,
     rules: Vec<Rule>,
+    entries: Vec<Entry>,
+    unused: Vec<Origin>,
     findings: Vec<Finding>,
     unreached: Vec<Unreached>,
 }
@@ -39,10 +50,12 @@ impl Builder {
             name: String::new(alloc),
             root: String::new(alloc),
             sources: Vec::new(alloc),
+            command: None,
             asked: None,
-            test: None,
-            key: None,
+            tests: Vec::new(alloc),
             rules: Vec::new(alloc),
+            entries: Vec::new(alloc),
+            unused: Vec::new(alloc),
             findings: Vec::new(alloc),
             unreached: Vec::new(alloc),
         }
@@ -62,12 +75,30 @@ impl Builder {
     }
 
     fn take_content(&mut self) -> Result<Content, RowError> {
-        let rules = mem::replace(&mut self.rules, Vec::new(self.alloc));
-        match (self.asked.take(), self.test.take(), self.key.take()) {
-            (Some(asked), Some(test), _) => Ok(Content::Explain { asked, test }),
-            (Some(asked), None, Some(key)) => Ok(Content::Why { asked, key, rules }),
-            (None, None, None) => Ok(Content::Check),
-            _ => Err(RowError::NoRow),
+        let Some(asked) = self.asked.take() else {
+            return Ok(Content::Check);
+        };
+        let alloc = self.alloc;
+        match self.command.take() {
+            Some(Command::Explain) => Ok(Content::Explain {
+                asked,
+                test: self.tests.pop().ok_or(RowError::NoRow)?,
+            }),
+            Some(Command::Why(key)) => Ok(Content::Why {
+                asked,
+                key,
+                rules: mem::replace(&mut self.rules, Vec::new(alloc)),
+            }),
+            Some(Command::List) => Ok(Content::List {
+                asked,
+                tests: mem::replace(&mut self.tests, Vec::new(alloc)),
+                unused: mem::replace(&mut self.unused, Vec::new(alloc)),
+            }),
+            Some(Command::ShowConfig) => Ok(Content::ShowConfig {
+                asked,
+                entries: mem::replace(&mut self.entries, Vec::new(alloc)),
+            }),
+            None => Err(RowError::NoRow),
         }
     }
 
@@ -77,10 +108,12 @@ impl Builder {
             "case" => self.begin(line),
             "source" => self.add_source(line),
             "asked" => self.set_asked(line),
-            "test" => self.set_test(line),
-            "why" => self.set_key(line),
+            "explain" | "why" | "list" | "show-config" => self.set_command(line),
+            "test" => self.add_test(line),
             "setting" => self.add_setting(line),
             "rule" => self.add_rule(line),
+            "entry" | "hidden" => self.add_entry(line),
+            "unused" => self.add_unused(line),
             "host" | "target" | "filter" => self.set_condition(line),
             "value" | "texts" | "table" => self.set_value(line),
             "field" => self.add_field(line),
@@ -88,7 +121,7 @@ impl Builder {
                 self.add_origin(line)
             }
             "finding" => self.add_finding(line),
-            "at" | "expression" | "expected" | "help" => self.complete_finding(line),
+            "at" | "path" | "expression" | "expected" | "help" => self.complete_finding(line),
             "unreached" => self.add_unreached(line),
             _ => Err(RowError::NoRow),
         }
@@ -138,30 +171,37 @@ impl Builder {
         Ok(())
     }
 
-    fn set_test(&mut self, line: &Line) -> Result<(), RowError> {
+    fn add_test(&mut self, line: &Line) -> Result<(), RowError> {
         let platform = match line.word(3)? {
             "host" => Platform::Host,
             "target" => Platform::Target,
             _ => return Err(RowError::NoRow),
         };
-        self.test = Some(TestRows {
+        let test = TestRows {
             binary: line.text(self.alloc, 1)?,
             name: line.text(self.alloc, 2)?,
             platform,
             settings: Vec::new(self.alloc),
-        });
+        };
+        self.tests.push(test).map_err(AllocError::from)?;
         Ok(())
     }
 
-    fn set_key(&mut self, line: &Line) -> Result<(), RowError> {
-        self.key = Some(line.text(self.alloc, 1)?);
+    fn set_command(&mut self, line: &Line) -> Result<(), RowError> {
+        let command = match line.word(0)? {
+            "explain" => Command::Explain,
+            "why" => Command::Why(line.text(self.alloc, 1)?),
+            "list" => Command::List,
+            _ => Command::ShowConfig,
+        };
+        self.command = Some(command);
         Ok(())
     }
 
     fn add_setting(&mut self, line: &Line) -> Result<(), RowError> {
         let key = line.text(self.alloc, 1)?;
         let origins = Vec::new(self.alloc);
-        let Some(test) = &mut self.test else {
+        let Some(test) = self.tests.last_mut() else {
             return Err(RowError::NoRow);
         };
         let row = SettingRow {
@@ -187,6 +227,23 @@ impl Builder {
         Ok(())
     }
 
+    fn add_entry(&mut self, line: &Line) -> Result<(), RowError> {
+        let entry = Entry {
+            key: line.text(self.alloc, 1)?,
+            value: Value::Table(Vec::new(self.alloc)),
+            origin: Origin::BuiltIn,
+            is_hidden: line.word(0)? == "hidden",
+        };
+        self.entries.push(entry).map_err(AllocError::from)?;
+        Ok(())
+    }
+
+    fn add_unused(&mut self, line: &Line) -> Result<(), RowError> {
+        let origin = written_of(self.alloc, line, 1)?;
+        self.unused.push(origin).map_err(AllocError::from)?;
+        Ok(())
+    }
+
     fn set_condition(&mut self, line: &Line) -> Result<(), RowError> {
         let answer = answer_of(line.word(1)?).ok_or(RowError::NoRow)?;
         let text = line.text(self.alloc, 2)?;
@@ -202,36 +259,45 @@ impl Builder {
         Ok(())
     }
 
-    /// The value of the last setting or rule.
-    fn last_value(&mut self) -> Result<&mut Option<Value>, RowError> {
-        if let Some(test) = &mut self.test {
-            return match test.settings.last_mut() {
-                Some(row) => Ok(&mut row.value),
-                None => Err(RowError::NoRow),
-            };
-        }
-        match self.rules.last_mut() {
-            Some(rule) => Ok(&mut rule.value),
-            None => Err(RowError::NoRow),
-        }
-    }
-
     fn set_value(&mut self, line: &Line) -> Result<(), RowError> {
         let value = match line.word(0)? {
             "value" => Value::Scalar(scalar_of(self.alloc, line, 1)?),
             "texts" => Value::Texts(line.texts(self.alloc, 1)?),
             _ => Value::Table(Vec::new(self.alloc)),
         };
-        *self.last_value()? = Some(value);
+        if let Some(entry) = self.entries.last_mut() {
+            entry.value = value;
+        } else if let Some(rule) = self.rules.last_mut() {
+            rule.value = Some(value);
+        } else {
+            self.last_setting()?.value = Some(value);
+        }
         Ok(())
     }
 
+    /// The last setting of the last test.
+    fn last_setting(&mut self) -> Result<&mut SettingRow, RowError> {
+        match self.tests.last_mut() {
+            Some(test) => test.settings.last_mut().ok_or(RowError::NoRow),
+            None => Err(RowError::NoRow),
+        }
+    }
+
     fn add_field(&mut self, line: &Line) -> Result<(), RowError> {
-        let key = line.text(self.alloc, 1)?;
-        let value = scalar_of(self.alloc, line, 2)?;
-        match self.last_value()? {
+        let field = Field {
+            key: line.text(self.alloc, 1)?,
+            value: scalar_of(self.alloc, line, 2)?,
+        };
+        let value = if let Some(entry) = self.entries.last_mut() {
+            Some(&mut entry.value)
+        } else if let Some(rule) = self.rules.last_mut() {
+            rule.value.as_mut()
+        } else {
+            self.last_setting()?.value.as_mut()
+        };
+        match value {
             Some(Value::Table(fields)) => {
-                fields.push(Field { key, value }).map_err(AllocError::from)?;
+                fields.push(field).map_err(AllocError::from)?;
                 Ok(())
             }
             _ => Err(RowError::NoRow),
@@ -240,17 +306,14 @@ impl Builder {
 
     fn add_origin(&mut self, line: &Line) -> Result<(), RowError> {
         let origin = origin_of(self.alloc, line)?;
-        if let Some(test) = &mut self.test {
-            let Some(row) = test.settings.last_mut() else {
-                return Err(RowError::NoRow);
-            };
+        if let Some(entry) = self.entries.last_mut() {
+            entry.origin = origin;
+        } else if let Some(rule) = self.rules.last_mut() {
+            rule.origin = origin;
+        } else {
+            let row = self.last_setting()?;
             row.origins.push(origin).map_err(AllocError::from)?;
-            return Ok(());
         }
-        let Some(rule) = self.rules.last_mut() else {
-            return Err(RowError::NoRow);
-        };
-        rule.origin = origin;
         Ok(())
     }
 
@@ -285,6 +348,7 @@ impl Builder {
                 finding.place = Some(place_of(line, 1)?);
                 finding.column = line.optional_number(4)?;
             }
+            "path" => finding.path = Some(line.text(alloc, 1)?),
             "expression" => finding.expression = Some(expression_of(alloc, line)?),
             "expected" => finding.expected = Some(line.text(alloc, 1)?),
             _ => finding.help = Some(line.text(alloc, 1)?),
@@ -359,16 +423,25 @@ fn place_of(line: &Line, place: usize) -> Result<Place, RowError> {
 
 /// The origin of a line.
 fn origin_of(alloc: Global, line: &Line) -> Result<Origin, RowError> {
-    let part = match line.word(0)? {
-        "built-in" => return Ok(Origin::BuiltIn),
-        "default-table" => return Ok(Origin::DefaultTable),
-        "profile" => Part::Fields,
-        "override" => Part::Override(line.number(2)? as usize),
-        _ => Part::Script(line.number(2)? as usize),
+    match line.word(0)? {
+        "built-in" => Ok(Origin::BuiltIn),
+        "default-table" => Ok(Origin::DefaultTable),
+        _ => written_of(alloc, line, 0),
+    }
+}
+
+/// What is written in a file, whose kind stands at a place of the line.
+fn written_of(alloc: Global, line: &Line, place: usize) -> Result<Origin, RowError> {
+    let index = line.optional_number(place.saturating_add(2))?;
+    let part = match (line.word(place)?, index) {
+        ("profile", None) => Part::Fields,
+        ("override", Some(index)) => Part::Override(index as usize),
+        ("script", Some(index)) => Part::Script(index as usize),
+        _ => return Err(RowError::NoRow),
     };
     Ok(Origin::Written(Written {
-        place: place_of(line, 3)?,
-        profile: line.text(alloc, 1)?,
+        place: place_of(line, place.saturating_add(3))?,
+        profile: line.text(alloc, place.saturating_add(1))?,
         part,
     }))
 }

@@ -9,22 +9,26 @@
 //! | `case NAME ROOT` | a report begins, of a workspace with this root |
 //! | `source KIND TOOL PATH` | a source: `default`, `tool`, `explicit` or `discovered` |
 //! | `asked PROFILE CHAIN MODE HOST TARGET` | what is asked for; the chain has spaces in it |
-//! | `test BINARY NAME PLATFORM` | the settings of a test are reported |
-//! | `why KEY` | the rules of a setting are reported |
+//! | `explain`, `why KEY`, `list` or `show-config` | the command; without one it is `check` |
+//! | `test BINARY NAME PLATFORM` | a test |
 //! | `setting KEY` | a setting of the test |
+//! | `entry KEY`, `hidden KEY` | a leaf of the configuration |
 //! | `rule VERDICT` | a rule |
 //! | `host`, `target` or `filter`, then `ANSWER TEXT` | a condition of the rule |
-//! | `value KIND TEXT` | the value of the setting or rule: `boolean`, `integer`, `text` or `duration` |
+//! | `value KIND TEXT` | the value of the setting, rule or leaf: `boolean`, `integer`, `text` or `duration` |
 //! | `texts TEXT ..`, `table` | the value is a list of texts, or a table |
 //! | `field KEY KIND TEXT` | a member of the table |
-//! | `built-in`, `default-table` | where the setting or rule comes from |
+//! | `built-in`, `default-table` | where the setting, rule or leaf comes from |
 //! | `profile`, `override` or `script`, then `PROFILE INDEX SOURCE FIRST LAST` | the same, with the place of the source from 0, and lines |
+//! | `unused`, and the same behind it | a rule that holds for no test |
 //! | `finding LEVEL CODE MESSAGE` | what is wrong |
 //! | `at SOURCE FIRST LAST COLUMN` | where it is |
+//! | `path KEYS` | the keys that lead to it |
 //! | `expression TEXT FROM TO` | the expression, and the span of it that is wrong |
 //! | `expected TEXT`, `help TEXT` | remarks on it |
 //! | `unreached SOURCE NAME ..` | checks that were not reached |
-//! | `print FORM ..` | what is printed: `text`, `colour`, `findings`, `concise`, `coloured-concise` or `github:FOLDER` |
+//! | `print FORM ..` | what is printed: `text`, `colour`, `json`, `findings`, `concise`, `coloured-concise` or `github:FOLDER` |
+//! | `nearest NAME KNOWN ..` | the known name that is nearest to a name is printed |
 //!
 //! A line of another form is told on standard error, and the status is 2.
 #![tactic(auto)]
