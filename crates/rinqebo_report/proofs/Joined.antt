@@ -7,8 +7,8 @@ use Rattle.rinqebo_report.specs.Joined.{joined, separator_after}
 -- one more text stands behind its separator
 joined-push : {X : Type 0} (s : List ℕ) (f : X → List ℕ) (xs : List X) (x : X)
     → joined s f (xs ++ x ∷ []) ≡ (joined s f xs ++ separator_after s xs) ++ f x
-joined-push s f [] x = append-nil (f x)
-joined-push s f (y ∷ ys) x =
+joined-push {X} s f [] x = append-nil (f x)
+joined-push {X} s f (y ∷ ys) x =
     let later : X → List ℕ = λ z. s ++ f z in
     ap (λ t. f y ++ t)
     (flat_map-append later ys (x ∷ []) ∙ ap (λ t. flat_map later ys ++ t) (append-nil (s ++ f x)))

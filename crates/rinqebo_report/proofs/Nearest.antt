@@ -1,5 +1,5 @@
 -- The nearest of known names, where one name more is known.
-use Rattle.std.proofs.Common.{◌≡◌, ◌<◌, ◌≤◌, ◌+◌, ℕ, Bool, true, false, cond, ltb, List, [], ◌∷◌, ◌++◌, length, take, get_or, map, Option, None, Some, All, MatchOption, Bor, refl, sym, ap, ap₂, ◌∙◌, subst, lt-ltb, arith}
+use Rattle.std.proofs.Common.{◌≡◌, ◌<◌, ◌≤◌, ◌+◌, ℕ, Bool, true, false, cond, eqb, ltb, List, [], ◌∷◌, ◌++◌, length, take, get_or, map, Option, None, Some, All, MatchOption, Bor, refl, sym, ap, ap₂, ◌∙◌, subst, lt-ltb, arith}
 use Rattle.std.specs.List.{Contains}
 use Rattle.std.specs.Cmp.{IsTotalOrder}
 use Rattle.std.specs.Cmp.Lexicographic.{slice_cmp}
@@ -19,7 +19,8 @@ by_distance_total name = then_total (on_total (distance name) nat_cmp_total) nat
 -- a nearer name comes before another
 nearer_first : (name one other : List ℕ) → distance name one < distance name other → is_gt (by_distance name one other) ≡ false
 nearer_first name one other h =
-    ap (λ b. is_gt (ordering_then (cond b Less (nat_cmp (distance name one) (distance name other))) (slice_cmp nat_cmp one other))) (lt-ltb (distance name one) (distance name other) h)
+    ap (λ b. is_gt (ordering_then (cond b Less (cond (eqb (distance name one) (distance name other)) Equal Greater)) (slice_cmp nat_cmp one other)))
+    (lt-ltb (distance name one) (distance name other) h)
 
 less_from : (o : Ordering) → is_lt o ≡ true → is_gt o ≡ false
 less_from Less h = refl

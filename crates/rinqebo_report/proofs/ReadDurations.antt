@@ -65,8 +65,8 @@ record Divides (unit : Unit') (n : ℕ) : Type 0 where
 chosen_divides : (unit other : Unit') (n : ℕ) → Divides other n → Divides (cond (divides unit n) unit other) n
 chosen_divides unit other n h =
     elim (eqb_tells (n % unit_size unit) 0) [
-      | inl yes ↦ record { exact = ap (λ b. n % unit_size (cond b unit other)) yes.0 ∙ yes.1 }
-      | inr no ↦ record { exact = ap (λ b. n % unit_size (cond b unit other)) no.0 ∙ h.exact }
+      | inl same ↦ record { exact = ap (λ b. n % unit_size (cond b unit other)) same.0 ∙ same.1 }
+      | inr differs ↦ record { exact = ap (λ b. n % unit_size (cond b unit other)) differs.0 ∙ h.exact }
     ]
 
 unit_divides : (n : ℕ) → Divides (unit_of n) n

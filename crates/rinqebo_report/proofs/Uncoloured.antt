@@ -1,7 +1,8 @@
 -- Pages in colour are the plain pages without their escapes.
-use Rattle.std.proofs.Common.{◌≡◌, ◌<◌, ◌≤◌, ◌+◌, ◌/◌, ◌%◌, ℕ, zero, suc, Bool, true, false, cond, eqb, ltb, ⊤, tt, List, [], ◌∷◌, ◌++◌, codes, flat_map, replicate, decimal, refl, sym, ap, ◌∙◌, append_assoc, arith}
+use Rattle.std.proofs.Common.{◌≡◌, ◌<◌, ◌≤◌, ◌+◌, ◌/◌, ◌%◌, ℕ, zero, suc, Bool, true, false, cond, eqb, ltb, List, [], ◌∷◌, ◌++◌, codes, flat_map, replicate, decimal, refl, sym, ap, ◌∙◌, append_assoc, arith}
 use Rattle.std.proofs.lemmas.Bool.{ne_eqb}
 use Rattle.std.proofs.lemmas.Bool.Decides.{nat_tests}
+use Rattle.std.specs.Bool.{⊤}
 use Rattle.std.specs.Char.{is_control, encode_utf8}
 use Rattle.std.specs.Fmt.{digit_glyph, digits, digits_onto}
 use Rattle.std.specs.Str.{chars}
@@ -57,10 +58,10 @@ encoded_plain c low =
     let all : (a b d : Bool) → P a b d = λ a b d. elim a as (λ a. P a b d) [
       | true ↦ one
       | false ↦ (elim b as (λ b. P false b d) [
-        | true ↦ (above _ (omega arith), next c, tt)
+        | true ↦ (above _ (omega arith), (next c, tt))
         | false ↦ (elim d as (λ d. P false false d) [
-          | true ↦ (above _ (omega arith), next (c / 64), next c, tt)
-          | false ↦ (above _ (omega arith), next (c / 4096), next (c / 64), next c, tt)
+          | true ↦ (above _ (omega arith), (next (c / 64), (next c, tt)))
+          | false ↦ (above _ (omega arith), (next (c / 4096), (next (c / 64), (next c, tt))))
         ])
       ])
     ] in
@@ -73,7 +74,7 @@ shown_plain : (c : ℕ) → HasNoEscape (shown_char c)
 shown_plain c =
     let P : Bool → Type 0 = λ b. is_control c ≡ b → HasNoEscape (cond b (escape_of c) (encode_utf8 c)) in
     let cases : (b : Bool) → P b = λ b. elim b as P [
-      | true ↦ (λ e. (refl, refl, refl, appended (digits 16 false c) (codes "}") (digits_plain 16 c) (refl, tt)))
+      | true ↦ (λ e. (refl, (refl, (refl, appended (digits 16 false c) (codes "}") (digits_plain 16 c) (refl, tt)))))
       | false ↦ (λ e. encoded_plain c (not_control_is_above c e))
     ] in
     cases (is_control c) refl

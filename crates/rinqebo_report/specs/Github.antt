@@ -48,14 +48,19 @@ file_property workspace sources None = []
 file_property workspace sources (Some place) =
     path_property workspace place.lines (file_at sources place.source)
 
--- a finding: its level, its place, its name as the title, and its message
+-- the properties of a finding: its place, and its name as the title
+abbrev pub properties_text : List ℕ → List Source → Finding → List ℕ
+properties_text workspace sources finding =
+    file_property workspace sources finding.place
+    ++ (codes "title=" ++ flat_map property_char (chars (string_bytes finding.code)))
+
+-- a finding: its level, its properties, and its message
 abbrev pub github_line : List ℕ → List Source → Finding → List ℕ
 github_line workspace sources finding =
     codes "::" ++ (level_word finding.level ++ (codes " "
-    ++ (file_property workspace sources finding.place
-    ++ (codes "title=" ++ (flat_map property_char (chars (string_bytes finding.code))
+    ++ (properties_text workspace sources finding
     ++ (codes "::" ++ (flat_map message_char (chars (string_bytes finding.message))
-    ++ 10 ∷ [])))))))
+    ++ 10 ∷ [])))))
 
 -- findings, a line each
 abbrev pub github_text : List ℕ → Report → List ℕ

@@ -53,15 +53,17 @@ key_width row = if is_some row.value then width (string_bytes row.key) else 0
 abbrev pub widest : List SettingRow → ℕ
 widest rows = fold (λ w row. max w (key_width row)) 0 rows
 
--- Rows of settings: the key, an equals sign, the value, and where it comes from; and that there is
--- no value.
+-- that a setting has no value
+abbrev pub absent_runs : List ℕ → List Run
+absent_runs key = styled styles.Remark (codes "# " ++ (key ++ codes ": none")) ∷ ending ∷ []
+
+-- a row of a setting: the key, an equals sign, the value, and where it comes from
 abbrev pub setting_runs : ℕ → List ℕ → Option (List ℕ) → List ℕ → List Run
 setting_runs w key (Some value) remark =
     styled styles.Key key ∷ repeated 32 (w - width key) ∷ plain (codes " = ")
     ∷ plain value ∷ repeated 32 (12 - width value) ∷ plain (codes "  ")
     ∷ styled styles.Remark remark ∷ ending ∷ []
-setting_runs w key None remark =
-    styled styles.Remark (codes "# " ++ (key ++ codes ": none")) ∷ ending ∷ []
+setting_runs w key None remark = absent_runs key
 
 -- the origins of a row, behind a mark
 abbrev pub remark_of : List ℕ → List Source → SettingRow → List ℕ
@@ -337,13 +339,18 @@ unreached_text root sources unreached =
     codes "; not reached in " ++ (path_at root sources unreached.source
     ++ (codes ": " ++ joined (codes ", ") string_bytes unreached.checks.items))
 
+-- how many findings refuse, and how many only warn
+abbrev pub counts_text : List Finding → List ℕ
+counts_text findings =
+    codes "errors: " ++ (decimal (count_by is_error findings)
+    ++ (codes ", warnings: " ++ decimal (count_by is_warning findings)))
+
 -- how many findings there are, and which checks were not reached
 abbrev pub summary_text : Report → List ℕ
 summary_text report =
-    codes "errors: " ++ (decimal (count_by is_error report.findings.items)
-    ++ (codes ", warnings: " ++ (decimal (count_by is_warning report.findings.items)
+    counts_text report.findings.items
     ++ flat_map (unreached_text (string_bytes report.root) report.sources.items)
-    report.unreached.items)))
+    report.unreached.items
 
 -- the findings
 abbrev pub findings_runs : Report → List Run

@@ -1,7 +1,7 @@
 //! The page of a check: what is wrong, and where.
-ghost use Rattle.std.specs.Prelude.{◌≡◌, ◌++◌, OnOk, IfOk, codes, count_by, string_bytes};
+ghost use Rattle.std.specs.Prelude.{◌≡◌, ◌++◌, OnOk, IfOk, codes, count_by, flat_map, string_bytes};
 ghost use Rattle.rinqebo_report.specs.Joined.{joined};
-ghost use Rattle.rinqebo_report.specs.Pages.{level_word, level_style, spot_text, finding_place, level_text, head_line_runs, head_runs, shown_width, caret_runs, expression_runs, remark_runs, finding_runs, is_refusal, is_error, is_warning, unreached_text, summary_text, findings_runs, concise_runs, content_runs};
+ghost use Rattle.rinqebo_report.specs.Pages.{level_word, level_style, spot_text, finding_place, level_text, head_line_runs, head_runs, shown_width, caret_runs, expression_runs, remark_runs, finding_runs, is_refusal, is_error, is_warning, unreached_text, counts_text, summary_text, findings_runs, concise_runs, content_runs};
 ghost use Rattle.rinqebo_report.specs.Pieces.{page_text};
 ghost use Rattle.rinqebo_report.specs.declared.report.Content.{Content};
 
@@ -329,21 +329,44 @@ fn add_unreached(
     ensures { OnOk result (string_bytes out.new
         ≡ string_bytes out.old ++ unreached_text root.now sources.now unreached.now) }
 {
-    let path = path_at(root, sources, unreached.source);
-    write!(out, "; not reached in {path}: ")?;
+    out.push_str("; not reached in ")?;
+    out.push_str(path_at(root, sources, unreached.source))?;
+    out.push_str(": ")?;
     add_checks(out, &unreached.checks)
+}
+
+/// Writes the checks of sources that were not reached.
+fn add_all_unreached(
+    out: &mut String,
+    root: &str,
+    sources: &[Source],
+    all: &[Unreached],
+) -> Result<(), AllocError>
+    ensures { OnOk result (string_bytes out.new ≡ string_bytes out.old
+        ++ flat_map (unreached_text root.now sources.now) all.now) }
+{
+    for unreached in all {
+        add_unreached(out, root, sources, unreached)?;
+    }
+    Ok(())
+}
+
+/// How many findings refuse, and how many only warn.
+fn counts_text(alloc: Global, findings: &[Finding]) -> Result<String, AllocError>
+    ensures { IfOk result (λ text. string_bytes text ≡ counts_text findings.now) }
+{
+    let errors = errors_of(findings);
+    let warnings = warnings_of(findings);
+    format!(in alloc; "errors: {errors}, warnings: {warnings}")
 }
 
 /// How many findings there are, and which checks were not reached.
 fn summary_text(alloc: Global, report: &Report) -> Result<String, AllocError>
     ensures { IfOk result (λ text. string_bytes text ≡ summary_text report.now) }
 {
-    let errors = errors_of(&report.findings);
-    let warnings = warnings_of(&report.findings);
-    let mut text = format!(in alloc; "errors: {errors}, warnings: {warnings}")?;
-    for unreached in &report.unreached {
-        add_unreached(&mut text, report.root.as_str(), &report.sources, unreached)?;
-    }
+    let mut text = counts_text(alloc, &report.findings)?;
+    let root = report.root.as_str();
+    add_all_unreached(&mut text, root, &report.sources, &report.unreached)?;
     Ok(text)
 }
 

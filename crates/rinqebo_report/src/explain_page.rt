@@ -1,7 +1,7 @@
 //! The page of a test: its settings, each with its value and where it comes from.
-ghost use Rattle.std.specs.Prelude.{◌≡◌, ◌++◌, ℕ, List, None, Some, OnOk, IfOk, codes, flat_map, string_bytes};
+ghost use Rattle.std.specs.Prelude.{◌≡◌, ◌++◌, Some, OnOk, IfOk, codes, flat_map, string_bytes};
 ghost use Rattle.rinqebo_report.specs.Joined.{joined};
-ghost use Rattle.rinqebo_report.specs.Pages.{width, key_width, widest, mode_word, platform_word, triple_of, header_text, setting_runs, row_runs, explain_runs};
+ghost use Rattle.rinqebo_report.specs.Pages.{width, key_width, widest, mode_word, platform_word, triple_of, header_text, absent_runs, setting_runs, row_runs, explain_runs};
 ghost use Rattle.rinqebo_report.specs.Pieces.{page_text};
 
 use crate::origin::Source;
@@ -149,8 +149,8 @@ pub(crate) fn add_valued<'x>(
 
 /// Writes that a setting has no value.
 fn add_absent(alloc: Global, out: &mut String, colour: Colour, key: &str) -> Result<(), AllocError>
-    ensures { (w : ℕ) (remark : List ℕ) → OnOk result (string_bytes out.new ≡ string_bytes out.old
-        ++ page_text colour (setting_runs w key.now None remark)) }
+    ensures { OnOk result (string_bytes out.new ≡ string_bytes out.old
+        ++ page_text colour (absent_runs key.now)) }
 {
     let text = format!(in alloc; "# {key}: none")?;
     add_pieces(
@@ -173,19 +173,15 @@ pub(crate) fn add_row(
     ensures { OnOk result (string_bytes out.new ≡ string_bytes out.old
         ++ page_text colour (row_runs root.now sources.now widest row.now)) }
 {
-    let Some(value) = &row.value else {
-        return add_absent(alloc, out, colour, row.key.as_str());
-    };
-    let value = value_text(alloc, value)?;
-    let remark = origins_text(alloc, root, sources, &row.origins)?;
-    add_valued(
-        out,
-        colour,
-        widest,
-        row.key.as_str(),
-        value.as_str(),
-        remark.as_str(),
-    )
+    let key = row.key.as_str();
+    match &row.value {
+        Some(value) => {
+            let value = value_text(alloc, value)?;
+            let remark = origins_text(alloc, root, sources, &row.origins)?;
+            add_valued(out, colour, widest, key, value.as_str(), remark.as_str())
+        }
+        None => add_absent(alloc, out, colour, key),
+    }
 }
 
 /// Writes the rows of settings.

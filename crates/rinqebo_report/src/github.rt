@@ -1,7 +1,7 @@
 //! Findings as commands of GitHub's workflows, which show them beside the lines.
 ghost use Rattle.std.specs.Prelude.{◌≡◌, ◌++◌, OnOk, IfOk, option_map, flat_map, string_bytes};
 ghost use Rattle.std.specs.Str.{chars};
-ghost use Rattle.rinqebo_report.specs.Github.{message_char, property_char, file_at, path_property, file_property, lines_property, github_line, github_text};
+ghost use Rattle.rinqebo_report.specs.Github.{message_char, property_char, file_at, path_property, file_property, lines_property, properties_text, github_line, github_text};
 
 use crate::finding::Finding;
 use crate::origin::{Lines, Place, Source};
@@ -115,6 +115,21 @@ fn add_file(
     }
 }
 
+/// Writes the properties of a finding.
+fn add_properties(
+    out: &mut String,
+    workspace: &str,
+    sources: &[Source],
+    finding: &Finding,
+) -> Result<(), AllocError>
+    ensures { OnOk result (string_bytes out.new
+        ≡ string_bytes out.old ++ properties_text workspace.now sources.now finding.now) }
+{
+    add_file(out, workspace, sources, finding.place)?;
+    out.push_str("title=")?;
+    add_property(out, finding.code.as_str())
+}
+
 /// Writes a finding.
 fn add_line(
     out: &mut String,
@@ -128,9 +143,7 @@ fn add_line(
     out.push_str("::")?;
     out.push_str(finding.level.word())?;
     out.push_str(" ")?;
-    add_file(out, workspace, sources, finding.place)?;
-    out.push_str("title=")?;
-    add_property(out, finding.code.as_str())?;
+    add_properties(out, workspace, sources, finding)?;
     out.push_str("::")?;
     add_message(out, finding.message.as_str())?;
     out.push_str("\n")

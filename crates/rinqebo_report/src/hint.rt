@@ -16,7 +16,7 @@ struct Candidate<'a> {
 impl Candidate<'_> {
     /// Whether it comes before another one: by the distance, and then by the bytes.
     fn comes_before(self, other: Candidate<'_>) -> bool
-        ensures { result ≡ comes_before self other }
+        ensures { result ≡ comes_before self.entry other.entry }
     {
         self.distance
             .cmp(&other.distance)
@@ -27,7 +27,7 @@ impl Candidate<'_> {
 
 /// The one of two candidates that comes first.
 fn first_of<'a>(best: Option<Candidate<'a>>, other: Candidate<'a>) -> Candidate<'a>
-    ensures { result ≡ first_of best other }
+    ensures { result ≡ first_of best.entry other.entry }
 {
     match best {
         Some(best) if !other.comes_before(best) => best,

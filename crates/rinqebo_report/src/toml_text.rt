@@ -1,5 +1,6 @@
 //! Values as TOML, on one line.
-ghost use Rattle.std.specs.Prelude.{◌≡◌, ◌==◌, ◌/◌, ◌%◌, ◌++◌, ◌<◌, [], ◌∷◌, OnOk, IfOk, codes, string_bytes, if◌then◌else◌};
+ghost use Rattle.std.specs.Prelude.{◌≡◌, ◌==◌, ◌/◌, ◌%◌, ◌++◌, ◌<◌, [], ◌∷◌, OnOk, IfOk, codes, flat_map, string_bytes, if◌then◌else◌};
+ghost use Rattle.std.specs.Str.{chars};
 ghost use Rattle.rinqebo_report.specs.Joined.{joined};
 ghost use Rattle.rinqebo_report.specs.TomlText.{hex_digit, toml_char, quoted, scalar_text, field_text, item_text, value_text};
 
@@ -32,14 +33,23 @@ fn add_toml_char(out: &mut String, c: char) -> Result<(), AllocError>
     }
 }
 
+/// Writes the characters within a text of TOML.
+fn add_toml_chars(out: &mut String, text: &str) -> Result<(), AllocError>
+    ensures { OnOk result (string_bytes out.new
+        ≡ string_bytes out.old ++ flat_map toml_char (chars text.now)) }
+{
+    for c in text.chars() {
+        add_toml_char(out, c)?;
+    }
+    Ok(())
+}
+
 /// Writes a text of TOML.
 fn add_quoted(out: &mut String, text: &str) -> Result<(), AllocError>
     ensures { OnOk result (string_bytes out.new ≡ string_bytes out.old ++ quoted text.now) }
 {
     out.push('"')?;
-    for c in text.chars() {
-        add_toml_char(out, c)?;
-    }
+    add_toml_chars(out, text)?;
     out.push('"')
 }
 

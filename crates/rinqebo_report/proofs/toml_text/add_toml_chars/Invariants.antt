@@ -1,6 +1,6 @@
 use Rattle.std.proofs.Common.{◌≡◌, ◌++◌, flat_map, string_bytes}
 use Rattle.rinqebo_report.specs.TomlText.{toml_char}
-use Rattle.rinqebo_report.proofs.toml_text.add_quoted.Given as goal
+use Rattle.rinqebo_report.proofs.toml_text.add_toml_chars.Given as goal
 
 abbrev pub invariant-loop-c : goal.invariant-loop-c
 invariant-loop-c l =
