@@ -57,5 +57,8 @@ pub fn nearest_name<'a>(
             nearest = Some(first_of(nearest, candidate));
         }
     }
-    Ok(nearest.map(|candidate| candidate.name))
+    match nearest {
+        Some(candidate) => Ok(Some(candidate.name)),
+        None => Ok(None),
+    }
 }
