@@ -1,6 +1,6 @@
 -- The document of a report.
 use Rattle.std.specs.Prelude.{ℕ, List, [], ◌∷◌, ◌++◌, Option, None, Some, codes, String, string_bytes}
-use Rattle.serde_json.specs.Data.{Data, null, number, unsigned, string, array, object, Items, no_items, item, Members, no_members, member}
+use Rattle.serde_json.specs.Data.{Data, null, number, unsigned, string, array, object, Items, no_items, item, Members, no_members, member, put}
 use Rattle.rinqebo_report.specs.declared.report.Asked.{Asked}
 use Rattle.rinqebo_report.specs.declared.report.Content.{Content}
 use Rattle.rinqebo_report.specs.declared.report.Content.TheVariants as contents
@@ -15,6 +15,16 @@ pub record AskedData : Type 0 where
   pub mode : Data
   pub profile : Data
   pub target : Data
+
+-- What a report answers, as the document tells it.
+pub record AnswersData : Type 0 where
+  pub entries : Data
+  pub findings : Data
+  pub rules : Data
+  pub sources : Data
+  pub tests : Data
+  pub unreached : Data
+  pub unused : Data
 
 -- nothing was asked for
 abbrev pub nothing_asked : AskedData
@@ -79,25 +89,59 @@ unused_data (contents.List asked tests unused) = list_data origin_data unused.it
 unused_data (contents.ShowConfig asked entries) = array no_items
 unused_data contents.Check = array no_items
 
--- a report, with what was asked for
-abbrev pub document_with : AskedData → Report → Data
-document_with asked report =
+-- this is answered
+abbrev pub answers_data : Report → AnswersData
+answers_data report = record {
+  entries = entries_data report.content;
+  findings = list_data finding_data report.findings.items;
+  rules = rules_data report.content;
+  sources = list_data source_data report.sources.items;
+  tests = tests_data report.content;
+  unreached = list_data unreached_data report.unreached.items;
+  unused = unused_data report.content;
+}
+
+-- members, with what was asked for
+abbrev pub with_asked : AskedData → Members → Members
+with_asked asked members =
+    put (codes "target") asked.target (put (codes "profile") asked.profile
+    (put (codes "mode") asked.mode (put (codes "host") asked.host
+    (put (codes "chain") asked.chain members))))
+
+-- members, with what is answered
+abbrev pub with_answers : AnswersData → Members → Members
+with_answers answers members =
+    put (codes "unused") answers.unused (put (codes "unreached") answers.unreached
+    (put (codes "tests") answers.tests (put (codes "sources") answers.sources
+    (put (codes "rules") answers.rules (put (codes "findings") answers.findings
+    (put (codes "entries") answers.entries members))))))
+
+-- members, with the command, the root of the workspace, and the version of the document
+abbrev pub with_title : Report → Members → Members
+with_title report members =
+    put (codes "version") (count_data 1) (put (codes "root") (text_data report.root)
+    (put (codes "command") (string (command_word report.content)) members))
+
+-- the document of a report, with its keys in the order of bytes
+abbrev pub document_with : AskedData → AnswersData → Report → Data
+document_with asked answers report =
     object (member (codes "chain") asked.chain
     (member (codes "command") (string (command_word report.content))
-    (member (codes "entries") (entries_data report.content)
-    (member (codes "findings") (list_data finding_data report.findings.items)
+    (member (codes "entries") answers.entries
+    (member (codes "findings") answers.findings
     (member (codes "host") asked.host
     (member (codes "mode") asked.mode
     (member (codes "profile") asked.profile
     (member (codes "root") (text_data report.root)
-    (member (codes "rules") (rules_data report.content)
-    (member (codes "sources") (list_data source_data report.sources.items)
+    (member (codes "rules") answers.rules
+    (member (codes "sources") answers.sources
     (member (codes "target") asked.target
-    (member (codes "tests") (tests_data report.content)
-    (member (codes "unreached") (list_data unreached_data report.unreached.items)
-    (member (codes "unused") (unused_data report.content)
+    (member (codes "tests") answers.tests
+    (member (codes "unreached") answers.unreached
+    (member (codes "unused") answers.unused
     (member (codes "version") (count_data 1) no_members)))))))))))))))
 
 -- the document of a report
 abbrev pub document_data : Report → Data
-document_data report = document_with (content_asked report.content) report
+document_data report =
+    document_with (content_asked report.content) (answers_data report) report

@@ -9,6 +9,6 @@ pub mod Github
 pub mod Rendered
 pub mod Documents
 pub mod Document
-pub mod AskedView
+pub mod DocumentViews
 pub mod Uncoloured
 pub mod Hints

@@ -1,17 +1,17 @@
 //! A report as one document of JSON, for other programs.
-ghost use Rattle.std.specs.Prelude.{◌≡◌, ◌++◌, [], ◌∷◌, Some, IfOk, string_bytes};
+ghost use Rattle.std.specs.Prelude.{◌≡◌, ◌++◌, [], ◌∷◌, Some, IfOk, OnOk, string_bytes};
 ghost use Rattle.serde_json.specs.Read.{read};
-ghost use Rattle.serde_json.specs.View.{view};
+ghost use Rattle.serde_json.specs.View.{members_view, view};
 ghost use Rattle.serde_json.specs.Written.{compact_text};
-ghost use Rattle.rinqebo_report.specs.AskedView.{asked_view};
-ghost use Rattle.rinqebo_report.specs.Document.{asked_data, content_asked, command_word, rules_data, tests_data, entries_data, unused_data, document_data};
+ghost use Rattle.rinqebo_report.specs.DocumentViews.{asked_view, answers_view};
+ghost use Rattle.rinqebo_report.specs.Document.{asked_data, content_asked, command_word, rules_data, tests_data, entries_data, unused_data, answers_data, with_asked, with_answers, with_title, document_data};
 
 use crate::json_parts::{
     all_unreached_json, entries_json, findings_json, optional_text_json, origins_json, rules_json,
     sources_json, test_json, tests_json, texts_json,
 };
 use crate::report::{Asked, Content, Report};
-use serde_json::{Value, json};
+use serde_json::{Map, Value, json, put};
 use std::alloc::{AllocError, Global};
 
 /// What was asked for, as the document tells it.
@@ -123,35 +123,94 @@ impl Content {
     }
 }
 
+/// What a report answers, as the document tells it.
+#[derive(Drop)]
+struct AnswersJson {
+    entries: Value,
+    findings: Value,
+    rules: Value,
+    sources: Value,
+    tests: Value,
+    unreached: Value,
+    unused: Value,
+}
+
+/// This is answered.
+fn answers_json(alloc: Global, report: &Report) -> Result<AnswersJson, AllocError>
+    ensures { IfOk result (λ json. answers_view json ≡ answers_data report.now) }
+{
+    Ok(AnswersJson {
+        entries: report.content.entries_json(alloc)?,
+        findings: findings_json(alloc, &report.findings)?,
+        rules: report.content.rules_json(alloc)?,
+        sources: sources_json(alloc, &report.sources)?,
+        tests: report.content.tests_json(alloc)?,
+        unreached: all_unreached_json(alloc, &report.unreached)?,
+        unused: report.content.unused_json(alloc)?,
+    })
+}
+
+/// Puts what was asked for among members.
+fn put_asked(
+    members: &mut Map<String, Value>,
+    alloc: Global,
+    asked: AskedJson,
+) -> Result<(), AllocError>
+    ensures { OnOk result (members_view members.new.entries
+        ≡ with_asked (asked_view asked) (members_view members.old.entries)) }
+{
+    put(members, alloc, "chain", asked.chain)?;
+    put(members, alloc, "host", asked.host)?;
+    put(members, alloc, "mode", asked.mode)?;
+    put(members, alloc, "profile", asked.profile)?;
+    put(members, alloc, "target", asked.target)
+}
+
+/// Puts what is answered among members.
+fn put_answers(
+    members: &mut Map<String, Value>,
+    alloc: Global,
+    answers: AnswersJson,
+) -> Result<(), AllocError>
+    ensures { OnOk result (members_view members.new.entries
+        ≡ with_answers (answers_view answers) (members_view members.old.entries)) }
+{
+    put(members, alloc, "entries", answers.entries)?;
+    put(members, alloc, "findings", answers.findings)?;
+    put(members, alloc, "rules", answers.rules)?;
+    put(members, alloc, "sources", answers.sources)?;
+    put(members, alloc, "tests", answers.tests)?;
+    put(members, alloc, "unreached", answers.unreached)?;
+    put(members, alloc, "unused", answers.unused)
+}
+
+/// Puts among members which document this is.
+fn put_title(
+    members: &mut Map<String, Value>,
+    alloc: Global,
+    report: &Report,
+) -> Result<(), AllocError>
+    ensures { OnOk result (members_view members.new.entries
+        ≡ with_title report.now (members_view members.old.entries)) }
+{
+    let command = Value::try_from_str(alloc, report.content.command())?;
+    let root = Value::try_from_str(alloc, report.root.as_str())?;
+    put(members, alloc, "command", command)?;
+    put(members, alloc, "root", root)?;
+    put(members, alloc, "version", Value::from(1u64))
+}
+
 /// The document of a report.
 pub fn document(alloc: Global, report: &Report) -> Result<Value, AllocError>
     ensures { IfOk result (λ value. view value ≡ document_data report.now) }
 {
     let asked = report.content.asked_json(alloc)?;
-    let entries = report.content.entries_json(alloc)?;
-    let findings = findings_json(alloc, &report.findings)?;
-    let rules = report.content.rules_json(alloc)?;
-    let sources = sources_json(alloc, &report.sources)?;
-    let tests = report.content.tests_json(alloc)?;
-    let unreached = all_unreached_json(alloc, &report.unreached)?;
-    let unused = report.content.unused_json(alloc)?;
-    json!(in alloc; {
-        "chain": asked.chain,
-        "command": report.content.command(),
-        "entries": entries,
-        "findings": findings,
-        "host": asked.host,
-        "mode": asked.mode,
-        "profile": asked.profile,
-        "root": report.root.as_str(),
-        "rules": rules,
-        "sources": sources,
-        "target": asked.target,
-        "tests": tests,
-        "unreached": unreached,
-        "unused": unused,
-        "version": 1u64
-    })
+    let answers = answers_json(alloc, report)?;
+    let mut members = Map::new(alloc);
+    put_asked(&mut members, alloc, asked)?;
+    put_answers(&mut members, alloc, answers)?;
+    put_title(&mut members, alloc, report)?;
+    Ok(Value::Object(members))
 }
 
 /// The document of a report as a text without spaces, which reads back.

@@ -20,15 +20,15 @@ loop-other-preserved c =
     let limit : c.max-reach.result ≡ reach name = omega (arith, c.max-reach.ensures, c.width.ensures) in
     elim c.if-candidate-reach.branch [
       | then-candidate-reach w ↦ (
-        let near : candidate.distance ≤ reach name = omega (arith, w.if-candidate-reach.true) in
-        let found = near_push name before candidate c.loop-other.nearest c.loop-other.invariant is near in
-        subst (λ f. IsFound name (take (c.loop-other.other-index + 1) known) f) (sym (w.nearest-is ∙ ap Some w.first_of.ensures))
-        (subst (λ names. IsFound name names (Some (first_of c.loop-other.nearest candidate))) (sym more) found))
+          let near : candidate.distance ≤ reach name = omega (arith, w.if-candidate-reach.true) in
+          let found = near_push name before candidate c.loop-other.nearest c.loop-other.invariant is near in
+          subst (λ f. IsFound name (take (c.loop-other.other-index + 1) known) f) (sym (w.nearest-is ∙ ap Some w.first_of.ensures))
+          (subst (λ names. IsFound name names (Some (first_of c.loop-other.nearest candidate))) (sym more) found))
       | else-candidate-reach w ↦ (
-        let far : reach name < distance name other.now = omega (arith, w.if-candidate-reach.false) in
-        let found = far_push name before other c.loop-other.nearest c.loop-other.invariant far in
-        subst (λ f. IsFound name (take (c.loop-other.other-index + 1) known) f) (sym w.nearest-is)
-        (subst (λ names. IsFound name names c.loop-other.nearest) (sym more) found))
+          let far : reach name < distance name other.now = omega (arith, w.if-candidate-reach.false) in
+          let found = far_push name before other c.loop-other.nearest c.loop-other.invariant far in
+          subst (λ f. IsFound name (take (c.loop-other.other-index + 1) known) f) (sym w.nearest-is)
+          (subst (λ names. IsFound name names c.loop-other.nearest) (sym more) found))
     ]
 
 pub returns-in-Some : goal.returns-in-Some

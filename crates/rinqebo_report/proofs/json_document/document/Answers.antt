@@ -1,15 +1,17 @@
-use Rattle.std.proofs.Common.{◌≡◌, rules, ap}
-use Rattle.serde_json.specs.View.{view}
-use Rattle.rinqebo_report.specs.Document.{AskedData, content_asked}
+-- Members that are put one after another lie in the order of their keys.
+use Rattle.std.proofs.Common.{◌≡◌, rules, ap, ap₂, ◌∙◌}
+use Rattle.serde_json.proofs.Views.{view-Object}
+use Rattle.serde_json.specs.Data.{Members, no_members, object}
+use Rattle.serde_json.specs.View.{members_view}
+use Rattle.rinqebo_report.specs.Document.{with_answers, with_asked, with_title}
 use Rattle.rinqebo_report.proofs.json_document.document.Goals as goal
 
-pub returns-in-Ok-json-30 : goal.returns-in-Ok-json-30
-returns-in-Ok-json-30 c =
-    let json = c.in_ok-asked.asked in
-    let asked : AskedData = content_asked c.args.report.now.content in
-    let chain : view json.chain ≡ asked.chain = ap (λ (a : AskedData). a.chain) c.in_ok-asked.ensures in
-    let host : view json.host ≡ asked.host = ap (λ (a : AskedData). a.host) c.in_ok-asked.ensures in
-    let mode : view json.mode ≡ asked.mode = ap (λ (a : AskedData). a.mode) c.in_ok-asked.ensures in
-    let profile : view json.profile ≡ asked.profile = ap (λ (a : AskedData). a.profile) c.in_ok-asked.ensures in
-    let target : view json.target ≡ asked.target = ap (λ (a : AskedData). a.target) c.in_ok-asked.ensures in
-    search rules
+pub returns : goal.returns
+returns c =
+    let report = c.args.report.now in
+    let none : members_view c.new-members.result.entries ≡ no_members = search rules in
+    view-Object c.put_title.new.members
+    ∙ ap object (c.in_ok-put_title.ensures
+    ∙ ap (with_title report) (c.in_ok-put_answers.ensures
+    ∙ ap₂ with_answers c.in_ok-answers.ensures (c.in_ok-put_asked.ensures
+    ∙ ap₂ with_asked c.in_ok-asked.ensures none)))
