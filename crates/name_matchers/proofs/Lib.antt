@@ -8,5 +8,4 @@ pub mod Turns
 pub mod RegexTexts
 pub mod GlobParts
 pub mod GlobPatterns
-pub mod GlobBodies
-pub mod GlobRows
+pub mod GlobMachines

@@ -1,9 +1,11 @@
 pub mod AtName
 pub mod FilterMap
 pub mod AreValues
-pub mod Winner
-pub mod Listed
-pub mod Wrapped
+pub mod SlotsWithRule
+pub mod AfterRule
+pub mod WinnersOf
+pub mod IsOpen
+pub mod AskedAlone
 pub mod ScriptTables
 pub mod FallbackOf
 pub mod ValueBy
@@ -12,7 +14,6 @@ pub mod Rising
 pub mod StandsFirst
 pub mod LastGroup
 pub mod StandsOnce
-pub mod Index
 pub mod IsEvaluated
 pub mod IsEvaluatedForTest
 pub mod EachRule

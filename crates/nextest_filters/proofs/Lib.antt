@@ -1,4 +1,0 @@
-pub mod Names
-pub mod Members
-pub mod Compiling
-pub mod Readings

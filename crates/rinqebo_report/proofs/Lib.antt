@@ -1,4 +1,0 @@
-pub mod WholeTexts
-pub mod Joined
-pub mod Prefixes
-pub mod Pages
