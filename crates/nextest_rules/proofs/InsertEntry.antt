@@ -1,4 +1,4 @@
--- Maps that grow by names which ascend.
+-- An entry inserted behind others whose names ascend.
 use Rattle.std.proofs.Common.{◌≡◌, List, [], ◌∷◌, ◌++◌, map, String, Global, Less, Greater, nat_cmp, string_bytes, Option, Some, None, option_map, refl, sym, ap, ◌∙◌}
 use Rattle.std.proofs.lemmas.Cmp.{nat_list_cmp_total}
 use Rattle.std.specs.Cmp.Lexicographic.{slice_cmp}
