@@ -78,9 +78,14 @@ retries = 1
 "#;
 
 /// A file of a tool.
-fn tool_file(alloc: Global, name: &str, path: &str, text: &str) -> Result<ToolConfigFile, Fail> {
+fn tool_file(
+    alloc: Global,
+    name: &str,
+    path: &str,
+    text: &str,
+) -> Result<ToolConfigFile, AllocError> {
     let Ok(tool) = ToolName::new(alloc, name) else {
-        return Err(Fail::from(AllocError));
+        return Err(AllocError);
     };
     Ok(ToolConfigFile {
         tool,
@@ -98,13 +103,10 @@ fn load_refused(alloc: Global) -> Result<NextestConfig<Names, Anywhere>, ConfigP
         filters: &names,
         specs: &Anywhere,
     };
-    let Ok(first) = tool_file(alloc, "first", "/first.toml", REFUSED) else {
-        return Err(ConfigParseError::memory());
-    };
-    let Ok(second) = tool_file(alloc, "second", "/second.toml", LOWEST) else {
-        return Err(ConfigParseError::memory());
-    };
-    let tools = [first, second];
+    let tools = [
+        tool_file(alloc, "first", "/first.toml", REFUSED)?,
+        tool_file(alloc, "second", "/second.toml", LOWEST)?,
+    ];
     let mut warnings = DefaultConfigWarnings::new(alloc);
     load_files(alloc, &engines, HIGHER, &tools, &mut warnings)
 }
