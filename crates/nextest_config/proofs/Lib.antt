@@ -15,3 +15,4 @@ pub mod Isolation
 pub mod FileApart
 pub mod Aliasing
 pub mod JoinedTexts
+pub mod SpelledTexts

@@ -1,4 +1,3 @@
-use Rattle.std.proofs.Common.{◌≡◌}
 use Rattle.nextest_config.proofs.run.row.TestRow.value_text.Goals as goal
 
 pub returns-in-Priority : goal.returns-in-Priority
