@@ -1,3 +1,4 @@
+pub mod NamedFiles
 pub mod LineLists
 pub mod AskedRows
 pub mod Endings

@@ -1,5 +1,5 @@
 -- What writers hold.
-use Rattle.std.proofs.Common.{◌≡◌, ◌∙◌, ℕ, List, [], Option, None, Some, Result, Ok, Err, OnErr, append-nil}
+use Rattle.std.proofs.Common.{◌∙◌, ℕ, List, [], Option, None, Some, Result, Ok, Err, OnErr, append-nil}
 use Rattle.std.specs.Io.KnownBytes.{Appends, Keeps}
 
 -- a writer that took nothing holds what it held

@@ -7,9 +7,12 @@ use Rattle.nextest_config.specs.Headline.{Request, Row, Run, Resolves}
 use Rattle.nextest_engines.specs.Engines.{Test}
 use Rattle.nextest_engines.specs.Readings.{Readings}
 use Rattle.nextest_rules.specs.KnownView.{features_view}
+use Rattle.nextest_sources.specs.Inputs.{LoadInputs}
+use Rattle.nextest_sources.specs.Sources.{Outcome}
 use Rattle.toy_engines.specs.FilterValues.{Filter, match_all}
 use Rattle.toy_engines.specs.Filters.{filter_read, filter_matches, filter_holds_binary, filter_leaves}
 use Rattle.toy_engines.specs.Platforms.{Platforms, spec_read, meets}
+use Rattle.nextest_explain.specs.Files.{AreFilesOf}
 use Rattle.nextest_explain.specs.Lines.{lines_telling}
 use Rattle.nextest_explain.specs.declared.command.Command.{Command}
 use Rattle.nextest_explain.specs.declared.options.Places.{Places}
@@ -32,10 +35,12 @@ asked_test command = record {
   name = command.test.now;
 }
 
--- A command asks a request: of its root, its profile, its features, the platforms that it names, its
--- mode and its one test. The files are those that were read.
-pub record Asks (command : Command) (request : Request (String Global)) : Type 0 where
+-- A command asks a request over files: of its root, its profile, its features, the platforms that it
+-- names, its mode and its one test.
+pub record Asks (command : Command) (files : LoadInputs) (request : Request (String Global))
+    : Type 0 where
   pub root : request.root ≡ command.root.now
+  pub files_read : request.files ≡ files
   pub profile : request.profile ≡ command.profile.now
   pub features : request.features ≡ features_view command.options.features
   pub host : string_bytes request.platforms.host
@@ -57,24 +62,28 @@ toy_readings = record {
   meets = λ spec platform. meets spec (string_bytes platform);
 }
 
--- Rows are those that a command asks for: by the toy engines they resolve its request.
-pub record AreRowsFor (command : Command) (rows : List Row) : Type 0 where
+-- Rows are those that a command asks for over files: by the toy engines they resolve its request.
+pub record AreRowsFor (command : Command) (files : LoadInputs) (rows : List Row) : Type 0 where
   pub request : Request (String Global)
-  pub asks : Asks command request
+  pub asks : Asks command files request
   pub run : Run
   pub answered : run.answer ≡ Ok rows
   pub resolves : Resolves toy_readings request run
 
--- Rows are asked for by some command, with lines that tell places so.
-pub record AreAskedRows (places : Places) (rows : List Row) : Type 0 where
+-- Rows are asked for by some command, with lines that tell places so, over the files that it names,
+-- as a reader gives them.
+pub record AreAskedRows (gives : List ℕ → Outcome → Type 0) (places : Places) (rows : List Row)
+    : Type 0 where
   pub command : Command
   pub places_asked : command.options.places ≡ places
-  pub are_rows : AreRowsFor command rows
+  pub files : LoadInputs
+  pub are_files : AreFilesOf gives command files
+  pub are_rows : AreRowsFor command files rows
 
 -- A writer was given the lines of a command: known bytes grew by exactly the lines of the rows that
--- it asks for, which tell places as it asks.
-pub record Explains (old new : Option (List ℕ)) : Type 0 where
+-- it asks for, over the files that it names, as a reader gives them; they tell places as it asks.
+pub record Explains (gives : List ℕ → Outcome → Type 0) (old new : Option (List ℕ)) : Type 0 where
   pub places : Places
   pub rows : List Row
-  pub asked : AreAskedRows places rows
+  pub asked : AreAskedRows gives places rows
   pub lines : Appends old new (lines_telling places rows)

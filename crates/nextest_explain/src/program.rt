@@ -5,6 +5,7 @@ ghost use Rattle.std.specs.Io.KnownBytes.{Appends};
 ghost use Rattle.nextest_config.specs.RowView.{row_view};
 ghost use Rattle.nextest_engines.specs.Engines.{test_view};
 ghost use Rattle.nextest_explain.specs.Explained.{usual_host, asked_test, AreRowsFor, AreAskedRows, Explains};
+ghost use Rattle.nextest_explain.specs.Files.{sources_view};
 ghost use Rattle.nextest_explain.specs.Lines.{lines_telling};
 ghost use Rattle.nextest_explain.specs.Statuses.{IsRefusalStatus, IsStatus};
 
@@ -28,7 +29,7 @@ const HOST: &str = "x86_64-unknown-linux-gnu";
 /// fault, 3 for a refused configuration, 4 where there is no such profile, 5 for want of memory, 6
 /// where a write fails. Warnings come first, also before a refusal. After a write that failed
 /// nothing more is written. With status 0 the lines are those of the rows that resolve the request of
-/// a command.
+/// a command, over the files that it names.
 pub fn explain<R: FileReader, O: Write, E: Write>(
     alloc: Global,
     words: &[String],
@@ -38,7 +39,8 @@ pub fn explain<R: FileReader, O: Write, E: Write>(
 ) -> u8
     ensures status { IsStatus result }
     ensures quiet { (result ≡ 0) ⊎ (result ≡ 6) ⊎ (O.contents out.new ≡ O.contents out.old) }
-    ensures lines { result ≡ 0 → Explains (O.contents out.old) (O.contents out.new) }
+    ensures lines { result ≡ 0
+        → Explains (R.MayGive files.now) (O.contents out.old) (O.contents out.new) }
 {
     let mut warnings = DefaultConfigWarnings::new(alloc);
     let answer = run(alloc, words, files, &mut warnings);
@@ -130,7 +132,8 @@ fn run<R: FileReader>(
     warnings: &mut DefaultConfigWarnings,
 ) -> Result<Asked, Failure>
     ensures { IfOk result
-        (λ asked. AreAskedRows asked.places (map row_view asked.rows.items)) }
+        (λ asked. AreAskedRows (R.MayGive files.now) asked.places
+        (map row_view asked.rows.items)) }
 {
     let command = Command::parse(alloc, words)?;
     let sources = Sources::read(alloc, &command, files)?;
@@ -149,7 +152,8 @@ fn rows(
     warnings: &mut DefaultConfigWarnings,
 ) -> Result<Vec<TestRow>, ResolveFault>
     ensures { string_bytes sources.now.paths.workspace_root ≡ command.now.root.now
-        → IfOk result (λ rows. AreRowsFor command.now (map row_view rows.items)) }
+        → IfOk result (λ rows. AreRowsFor command.now (sources_view sources.now)
+        (map row_view rows.items)) }
 {
     let Ok(platforms) = platforms_of(alloc, command) else {
         return Err(ResolveFault::Memory);

@@ -10,6 +10,8 @@ use std::test::Fail;
 struct OneFile;
 
 impl FileReader for OneFile {
+    ghost MayGive = { λ _ _ _. Unit {0} };
+
     fn read(&self, alloc: Global, path: &str) -> Result<ReadOutcome, AllocError> {
         match path {
             "z" => Ok(ReadOutcome::Text(String::from_str(alloc, "zz = 1")?)),

@@ -2,6 +2,7 @@ use Rattle.std.proofs.Common.{◌≡◌, ◌∙◌, ◌++◌, ◌-◌, ℕ, List
 use Rattle.std.proofs.KnownBytes.{Appends-kept, Appends-trans}
 use Rattle.std.proofs.lemmas.List.{take_rest}
 use Rattle.std.specs.Io.KnownBytes.{Appends}
+use Rattle.nextest_explain.specs.Writing.{AppendsBeginning}
 use Rattle.nextest_explain.proofs.Writers.{at_fault}
 use Rattle.nextest_explain.proofs.writing.write_bytes.Goals as goal
 
@@ -23,7 +24,8 @@ loop-rest-preserved g c =
 pub returns-in_err-count-clause-begun : goal.returns-in_err-count-clause-begun
 returns-in_err-count-clause-begun g c =
     let (done, split, appended) = c.loop-rest.invariant in
-    at_fault _ _ (done, c.loop-rest.rest.now, split, search rules, Appends-kept _ _ _ _ appended c.in_err-count.ensures.kept)
+    let begun : AppendsBeginning (g.W.Write.contents c.args.out.now) (g.W.Write.contents c.write_some.new.out) c.args.bytes.now = (done, c.loop-rest.rest.now, split, search rules, Appends-kept _ _ _ _ appended c.in_err-count.ensures.kept) in
+    at_fault c.from_residual.result _ begun
 
 pub returns-clause-ok : goal.returns-clause-ok
 returns-clause-ok g c =
