@@ -12,6 +12,8 @@ pub struct DiskFiles<'rt, R> {
 }
 
 impl<R: Files + AllocGlobal> FileReader for DiskFiles<'_, R> {
+    ghost MayGive = { λ _ _ _. Unit {0} };
+
     fn read(&self, alloc: Global, path: &str) -> Result<ReadOutcome, AllocError> {
         match fs::read_to_string(self.rt, path) {
             Ok(text) => Ok(ReadOutcome::Text(text)),

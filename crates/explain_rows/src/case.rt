@@ -71,6 +71,8 @@ pub struct Beginnings<'a> {
 }
 
 impl FileReader for Beginnings<'_> {
+    ghost MayGive = { λ _ _ _. Unit {0} };
+
     fn read(&self, alloc: Global, path: &str) -> Result<ReadOutcome, AllocError> {
         match self.files.0.iter().find(|file| file.path == path) {
             Some(file) => file.stored.read(alloc, self.limit),

@@ -1,30 +1,27 @@
 -- Patterns match what the parts of a glob take.
-use Rattle.std.proofs.Common.{◌≡◌, ℕ, zero, suc, ◌+◌, ◌-◌, ◌<◌, ◌≤◌, ◌⊎◌, true, not, List, [], ◌∷◌, ◌++◌, Some, None, map, length, take, drop, get_or, min, refl, sym, ap, ◌∙◌, subst, ⊎_elim, inl, inr, arith, append_assoc, true≢false}
+use Rattle.std.proofs.Common.{◌≡◌, ℕ, zero, suc, ◌+◌, ◌-◌, ◌<◌, ◌≤◌, ◌⊎◌, ◌↔◌, true, not, List, [], ◌∷◌, ◌++◌, Some, None, length, take, drop, get_or, min, refl, sym, ap, ◌∙◌, subst, ⊎_elim, inl, inr, arith, append_assoc, true≢false, append-nil, false, Bool, nat_le, ◌&&◌}
 use Rattle.std.specs.Prelude.{All, IfOk, Ok, Err, Result, slice_get, is_some}
 use Rattle.std.specs.declared.alloc.AllocError.{AllocError}
 use Rattle.std.proofs.Math.Seq.{drop-append_seam}
 use Rattle.std.proofs.lemmas.Bool.{cases_lt, le-leb}
-use Rattle.std.proofs.lemmas.List.{drop_more, take_more, take_all, map-append, drop-drop, length-drop, length-take, length-append, take-append-drop, nil_from_length}
+use Rattle.std.proofs.lemmas.List.{drop_more, drop-drop, length-drop, length-take, length-append, take-append-drop, nil_from_length}
 use Rattle.std.proofs.lemmas.Option.{slice_get-get_or, slice_get_past, slice_get_within}
 use Rattle.regex_class.specs.Ranges.{in_range, in_ranges, HasExactly}
 use Rattle.regex_hir.specs.Text.{has_bytes_at, byte_before}
 use Rattle.regex_hir.specs.Looks.{holds, holds_between}
 use Rattle.regex_hir.specs.declared.look.Look.TheVariants.{Start, End}
-use Rattle.regex_hir.specs.Re.{Re, empty, literal, byte_in, look, alt, plus}
+use Rattle.regex_hir.specs.Re.{Re, empty, literal, byte_in, look, cat, alt, plus}
 use Rattle.regex_hir.specs.declared.hir.Hir.{Hir}
-use Rattle.regex_hir.specs.declared.hir.Hir.TheVariants as variant
 use Rattle.regex_hir.specs.Meaning.{meaning, cat_all, alt_all, repeat}
-use Rattle.regex_hir.proofs.MeaningLemmas.{meaning-Look}
 use Rattle.regex_hir.specs.Matches.{Matches, Rounds, one_round, next_round}
 use Rattle.regex_hir.specs.Find.{find}
 use Rattle.regex_hir.proofs.TextLemmas.{has_bytes_at_parts, has_bytes_at_from, byte_before-zero, byte_before-add-one}
 use Rattle.regex_hir.proofs.MatchesLemmas.{Matches-IsSpan}
 use Rattle.regex_hir.proofs.OptionLemmas.{value_of_IsSome}
 use Rattle.regex_hir.proofs.FindLemmas.{IsFirst-of_first_between, find_sound, find_complete}
-use Rattle.name_matchers.specs.Globs.{Takes, TakeAll}
-use Rattle.name_matchers.specs.Patterns.{StandsBetween, Means, MeanAll, TakesWhole, Anchored}
-use Rattle.name_matchers.specs.declared.glob.part.GlobPart.{GlobPart}
-use Rattle.name_matchers.specs.declared.glob.part.GlobPart.TheVariants.{Byte, AnyByte, AnyBytes, Folders}
+use Rattle.name_matchers.specs.Globs.{PartTakes, Joins}
+use Rattle.name_matchers.specs.Patterns.{StandsBetween, MatchesKind, Means, MeansRanges}
+use Rattle.name_matchers.specs.declared.glob.part.GlobPart.TheVariants.{Byte, AnyByte, AnyBytes, Folders, Nothing}
 
 -- What stands behind the front of what stands from a place on.
 rest_at : (name : List ℕ) (i : ℕ) (front rest : List ℕ) → drop i name ≡ front ++ rest → rest ≡ drop (i + length front) name
@@ -48,7 +45,7 @@ any_byte_means ranges exactly name bytes i j h = (
   λ (found : (b : ℕ) × (slice_get name i ≡ Some b) × (in_ranges ranges b ≡ true) × (j ≡ i + 1)).
       let inside = slice_get_within name i found.0 found.1 in
       (get_or name i 0 ∷ [], drop (i + 1) name, drop_more name i 0 inside, found.3, refl),
-  λ (stands : StandsBetween (Takes AnyByte) name i j).
+  λ (stands : StandsBetween (PartTakes AnyByte) name i j).
       let within = front_within name i stands.0 stands.1 h stands.2 in
       let one : length stands.0 ≡ 1 = stands.4 in
       let inside : i < length name = omega arith in
@@ -85,7 +82,7 @@ any_bytes_means re means name bytes i j h = (
       let span = Matches-IsSpan name (alt (plus true re) empty) i j found in
       let len : length (take (j - i) (drop i name)) ≡ j - i = length-take (j - i) (drop i name) ∙ ap (min (j - i)) (length-drop i name) ∙ omega arith in
       (take (j - i) (drop i name), drop (j - i) (drop i name), sym (take-append-drop (j - i) (drop i name)), omega arith, tt),
-  λ (stands : StandsBetween (Takes AnyBytes) name i j).
+  λ (stands : StandsBetween (PartTakes AnyBytes) name i j).
       let within = front_within name i stands.0 stands.1 h stands.2 in
       any_to re means name bytes stands.0 i j stands.3 (let e = stands.3 in omega arith),
 )
@@ -95,7 +92,7 @@ pub byte_means : (b : ℕ) → Means (Byte b) (literal (b ∷ []))
 byte_means b name bytes i j h = (
   λ (found : (has_bytes_at name i (b ∷ []) ≡ true) × (j ≡ i + 1)).
       (b ∷ [], drop (i + 1) name, has_bytes_at_parts name i (b ∷ []) found.0, found.1, refl),
-  λ (stands : StandsBetween (Takes (Byte b)) name i j).
+  λ (stands : StandsBetween (PartTakes (Byte b)) name i j).
       (has_bytes_at_from name i (b ∷ []) stands.1 (rw stands.4 at stands.2), stands.3 ∙ ap (λ f. i + length f) stands.4),
 )
 
@@ -128,7 +125,7 @@ folders_means re means name bytes i j h = (
       (λ (none : (b : ℕ) × (slice_get name i ≡ Some b) × (in_ranges [] b ≡ true) × (j ≡ i + 1)). absurd (no_class none.0 none.2))
       more)
       found,
-  λ (stands : StandsBetween (Takes Folders) name i j).
+  λ (stands : StandsBetween (PartTakes Folders) name i j).
       ⊎_elim
       (λ (none : stands.0 ≡ []). inl (let len = ap length none in let e = stands.3 in omega arith))
       (λ (some : (front : List ℕ) × (stands.0 ≡ front ++ 47 ∷ [])).
@@ -145,6 +142,127 @@ folders_means re means name bytes i j h = (
       )))
       stands.4,
 )
+
+-- Nothing matches nothing.
+pub empty_means : MatchesKind (λ bytes. bytes ≡ []) empty
+empty_means name bytes i j h = (
+  λ (same : j ≡ i). ([], drop i name, refl, omega arith, refl),
+  λ (stands : StandsBetween (λ bytes. bytes ≡ []) name i j). let len = ap length stands.4 in let e = stands.3 in omega arith,
+)
+
+pub nothing_means : Means Nothing empty
+nothing_means = empty_means
+
+-- A class of no bytes matches no kind that takes nothing.
+pub never_means : (Kind : List ℕ → Type 0) → ((bytes : List ℕ) → Kind bytes → ⊥) → MatchesKind Kind (byte_in [])
+never_means Kind never name bytes i j h = (
+  λ (found : (b : ℕ) × (slice_get name i ≡ Some b) × (in_ranges [] b ≡ true) × (j ≡ i + 1)). absurd (no_class found.0 found.2),
+  λ (stands : StandsBetween Kind name i j). absurd (never stands.0 stands.4),
+)
+
+-- The pattern of a kind matches the same kind otherwise said.
+pub kind_same : (A B : List ℕ → Type 0) (re : Re) → ((bytes : List ℕ) → A bytes ↔ B bytes) → MatchesKind A re → MatchesKind B re
+kind_same A B re same means name bytes i j h = (
+  λ found. let s = (means name bytes i j h).0 found in (s.0, s.1, s.2, s.3, (same s.0).0 s.4),
+  λ (s : StandsBetween B name i j). (means name bytes i j h).1 (s.0, s.1, s.2, s.3, (same s.0).1 s.4),
+)
+
+-- One pattern behind another.
+pub cat_means : (A B : List ℕ → Type 0) (a b : Re) → MatchesKind A a → MatchesKind B b → MatchesKind (Joins A B) (cat a b)
+cat_means A B a b one two name bytes i j h = (
+  λ (found : (l : ℕ) × Matches name a i l × Matches name b l j).
+      let l = found.0 in
+      let s = (one name bytes i l h).0 found.1 in
+      let within = front_within name i s.0 s.1 h s.2 in
+      let place : l ≡ i + length s.0 = s.3 in
+      let t = (two name bytes l j (omega arith)).0 found.2 in
+      let rest : s.1 ≡ drop l name = rest_at name i s.0 s.1 s.2 ∙ ap (λ k. drop k name) (sym place) in
+      let last : j ≡ l + length t.0 = t.3 in
+      let len = length-append s.0 t.0 in (
+        s.0 ++ t.0,
+        t.1,
+        s.2 ∙ ap (λ r. s.0 ++ r) (rest ∙ t.2) ∙ sym (append_assoc s.0 t.0 t.1),
+        omega arith,
+        (s.0, t.0, refl, s.4, t.4),
+      ),
+  λ (s : StandsBetween (Joins A B) name i j).
+      let front = s.4.0 in
+      let back = s.4.1 in
+      let split : drop i name ≡ front ++ (back ++ s.1) = s.2 ∙ ap (λ f. f ++ s.1) s.4.2 ∙ append_assoc front back s.1 in
+      let l = i + length front in
+      let within : l ≤ length name = front_within name i front (back ++ s.1) h split in
+      let rest : back ++ s.1 ≡ drop l name = rest_at name i front (back ++ s.1) split in
+      let len = ap length s.4.2 ∙ length-append front back in
+      let place = s.3 in (
+        l,
+        (one name bytes i l h).1 (front, back ++ s.1, split, refl, s.4.3),
+        (two name bytes l j within).1 (back, s.1, sym rest, omega arith, s.4.4),
+      ),
+)
+
+-- One pattern or another.
+pub alt_means : (A B : List ℕ → Type 0) (a b : Re) → MatchesKind A a → MatchesKind B b → MatchesKind (λ bytes. A bytes ⊎ B bytes) (alt a b)
+alt_means A B a b one two name bytes i j h = (
+  λ found.
+      ⊎_elim
+      (λ (left : Matches name a i j). let s = (one name bytes i j h).0 left in (s.0, s.1, s.2, s.3, inl s.4))
+      (λ (right : Matches name b i j). let s = (two name bytes i j h).0 right in (s.0, s.1, s.2, s.3, inr s.4))
+      found,
+  λ (s : StandsBetween (λ bytes. A bytes ⊎ B bytes) name i j).
+      ⊎_elim
+      (λ (left : A s.0). inl ((one name bytes i j h).1 (s.0, s.1, s.2, s.3, left)))
+      (λ (right : B s.0). inr ((two name bytes i j h).1 (s.0, s.1, s.2, s.3, right)))
+      s.4,
+)
+
+-- A class of bytes matches one byte that passes its test.
+pub byte_in_means : (ranges : List (ℕ × ℕ)) (passes : ℕ → Bool) → ((b : ℕ) → b < 256 → in_ranges ranges b ≡ passes b)
+    → MatchesKind (λ bytes. (b : ℕ) × (bytes ≡ b ∷ []) × (passes b ≡ true)) (byte_in ranges)
+byte_in_means ranges passes exactly name bytes i j h = (
+  λ (found : (b : ℕ) × (slice_get name i ≡ Some b) × (in_ranges ranges b ≡ true) × (j ≡ i + 1)).
+      let inside = slice_get_within name i found.0 found.1 in
+      let here = slice_get-get_or name i 0 inside in
+      let is : slice_get name i ≡ Some found.0 = found.1 in
+      let same : found.0 ≡ get_or name i 0 = cc in
+      let small : get_or name i 0 < 256 = bytes i 0 inside in (
+        get_or name i 0 ∷ [],
+        drop (i + 1) name,
+        drop_more name i 0 inside,
+        found.3,
+        (
+          get_or name i 0,
+          refl,
+          sym (exactly (get_or name i 0) small) ∙ ap (in_ranges ranges) (sym same) ∙ found.2,
+        ),
+      ),
+  λ (stands : StandsBetween (λ bytes. (b : ℕ) × (bytes ≡ b ∷ []) × (passes b ≡ true)) name i j).
+      let b = stands.4.0 in
+      let within = front_within name i stands.0 stands.1 h stands.2 in
+      let one : length stands.0 ≡ 1 = ap length stands.4.1 in
+      let inside : i < length name = omega arith in
+      let text : drop i name ≡ b ∷ stands.1 = stands.2 ∙ ap (λ f. f ++ stands.1) stands.4.1 in
+      let more = drop_more name i 0 inside in
+      let same : get_or name i 0 ≡ b = cc in
+      let small : get_or name i 0 < 256 = bytes i 0 inside in (
+        get_or name i 0,
+        slice_get-get_or name i 0 inside,
+        exactly (get_or name i 0) small ∙ ap passes same ∙ stands.4.2,
+        stands.3 ∙ ap (λ n. i + n) one,
+      ),
+)
+
+-- The class of ranges.
+pub ranges_mean : (made ranges : List (ℕ × ℕ)) → HasExactly made (in_ranges ranges) → MeansRanges false ranges (byte_in made)
+ranges_mean made ranges exactly = byte_in_means made (in_ranges ranges) (λ b h. exactly b (omega arith))
+
+-- The class of the bytes in no range.
+pub others_mean : (other made ranges : List (ℕ × ℕ)) → HasExactly made (in_ranges ranges)
+    → HasExactly other (λ c. nat_le c 255 && not (in_ranges made c)) → MeansRanges true ranges (byte_in other)
+others_mean other made ranges exactly negated =
+    byte_in_means other (λ b. not (in_ranges ranges b))
+    (λ b h.
+    let below : nat_le b 255 ≡ true = le-leb b 255 (omega arith) in
+    negated b (omega arith) ∙ ap (λ t. t && not (in_ranges made b)) below ∙ ap not (exactly b (omega arith)))
 
 -- ---- whole names
 
@@ -181,83 +299,46 @@ start_place name (suc k) h e =
     ap (byte_before name) (omega arith) ∙ byte_before-add-one name k ∙ slice_get-get_or name k 0 (omega arith) in
     absurd (true≢false (sym (sym (start_is name (suc k)) ∙ e) ∙ ap (λ o. not (is_some o)) before))
 
-module _ (name : List ℕ) (bytes : All (λ byte. byte < 256) name) where
-  -- What the patterns match up to the end is what the parts take.
-  row_takes : (parts : List GlobPart) (res : List Re) → MeanAll parts res → (i j : ℕ) → i ≤ length name
-      → Matches name (cat_all (res ++ look End ∷ [])) i j → TakeAll parts (drop i name)
-  row_takes [] [] means i j h (l, end, e) = end_left name i end.0
-  row_takes [] (re ∷ res) means i j h found = absurd means
-  row_takes (part ∷ parts) [] means i j h found = absurd means
-  row_takes (part ∷ parts) (re ∷ res) means i j h (l, here, more) =
-      let stands = (means.0 name bytes i l h).0 here in
-      let within = front_within name i stands.0 stands.1 h stands.2 in
-      let place : l ≡ i + length stands.0 = stands.3 in
-      let rest : stands.1 ≡ drop l name = rest_at name i stands.0 stands.1 stands.2 ∙ ap (λ k. drop k name) (sym place) in
-      (stands.0, stands.1, stands.2, stands.4, rw rest (row_takes parts res means.1 l j (omega arith) more))
+-- What the pattern matches up to the end is the whole name.
+kind_whole : (Kind : List ℕ → Type 0) (re : Re) → MatchesKind Kind re → (name : List ℕ) → All (λ byte. byte < 256) name → (i j : ℕ) → i ≡ 0
+    → Matches name (cat_all (re ∷ look End ∷ [])) i j → Kind name
+kind_whole Kind re means name bytes i j zero_start (l, here, last) =
+    let s = (means name bytes i l (omega arith)).0 here in
+    let place : l ≡ i + length s.0 = s.3 in
+    let rest : s.1 ≡ drop l name = rest_at name i s.0 s.1 s.2 ∙ ap (λ k. drop k name) (sym place) in
+    let none : drop l name ≡ [] = end_left name l last.1.0 in
+    let whole : drop i name ≡ name = ap (λ k. drop k name) zero_start in
+    let same : name ≡ s.0 = sym whole ∙ s.2 ∙ ap (λ r. s.0 ++ r) (rest ∙ none) ∙ append-nil s.0 in
+    subst Kind (sym same) s.4
 
-  row_matches : (parts : List GlobPart) (res : List Re) → MeanAll parts res → (i : ℕ) → i ≤ length name
-      → TakeAll parts (drop i name) → (j : ℕ) × Matches name (cat_all (res ++ look End ∷ [])) i j
-  row_matches [] [] means i h none = (i, (i, (left_end name i none, refl), refl))
-  row_matches [] (re ∷ res) means i h takes = absurd means
-  row_matches (part ∷ parts) [] means i h takes = absurd means
-  row_matches (part ∷ parts) (re ∷ res) means i h (front, rest, e, taken, more) =
-      let l = i + length front in
-      let within = front_within name i front rest h e in
-      let later = row_matches parts res means.1 l within (subst (TakeAll parts) (rest_at name i front rest e) more) in
-      (later.0, (l, (means.0 name bytes i l h).1 (front, rest, e, refl, taken), later.1))
-
-  found_takes : (parts : List GlobPart) (res : List Re) → MeanAll parts res
-      → is_some (find (cat_all (look Start ∷ (res ++ look End ∷ []))) name 0) ≡ true → TakeAll parts name
-  unfolding find
-  found_takes parts res means some =
-      let re : Re = cat_all (look Start ∷ (res ++ look End ∷ [])) in
-      let value = value_of_IsSome (find re name 0) some in
+-- The pattern between the start and the end is found just in the names of its kind.
+pub whole_found : (Kind : List ℕ → Type 0) (re : Re) → MatchesKind Kind re → (name : List ℕ) → All (λ byte. byte < 256) name
+    → (is_some (find (cat_all (look Start ∷ re ∷ look End ∷ [])) name 0) ≡ true) ↔ Kind name
+unfolding find
+whole_found Kind re means name bytes = (
+  λ some.
+      let whole : Re = cat_all (look Start ∷ re ∷ look End ∷ []) in
+      let value = value_of_IsSome (find whole name 0) some in
       let first = IsFirst-of_first_between _ 0 (length name) value.0 value.1 in
-      let sound = (find_sound re name 0 value.0 value.1).1 in
+      let sound = (find_sound whole name 0 value.0 value.1).1 in
       let zero_place : value.0.start ≡ 0 = start_place name value.0.start first.to sound.1.0 in
       let place : sound.0 ≡ 0 = sound.1.1 ∙ zero_place in
-      row_takes parts res means 0 value.0.trace.end (omega arith)
-      (subst (λ k. Matches name (cat_all (res ++ look End ∷ [])) k value.0.trace.end) place sound.2)
-
-  takes_found : (parts : List GlobPart) (res : List Re) → MeanAll parts res → TakeAll parts name
-      → is_some (find (cat_all (look Start ∷ (res ++ look End ∷ []))) name 0) ≡ true
-  takes_found parts res means takes =
-      let found = row_matches parts res means 0 (omega arith) takes in
-      find_complete (cat_all (look Start ∷ (res ++ look End ∷ []))) name 0 0 found.0 (omega arith) (omega arith)
-      (0, (start_holds name, refl), found.1)
-
--- The patterns between start and end are found just where the parts take the whole name.
-pub takes_whole : (parts : List GlobPart) (res : List Re) → MeanAll parts res → TakesWhole parts (cat_all (look Start ∷ (res ++ look End ∷ [])))
-takes_whole parts res means name bytes = (found_takes name bytes parts res means, takes_found name bytes parts res means)
-
--- One part more.
-pub means_more : (parts : List GlobPart) (res : List Re) (part : GlobPart) (re : Re) → MeanAll parts res → Means part re
-    → MeanAll (parts ++ part ∷ []) (res ++ re ∷ [])
-means_more [] [] part re means more = (more, tt)
-means_more [] (q ∷ res) part re means more = absurd means
-means_more (p ∷ parts) [] part re means more = absurd means
-means_more (p ∷ parts) (q ∷ res) part re means more = (means.0, means_more parts res part re means.1 more)
+      kind_whole Kind re means name bytes 0 value.0.trace.end refl
+      (subst (λ k. Matches name (cat_all (re ∷ look End ∷ [])) k value.0.trace.end) place sound.2),
+  λ takes.
+      find_complete (cat_all (look Start ∷ re ∷ look End ∷ [])) name 0 0 (length name) (omega arith) (omega arith) (
+        0,
+        (start_holds name, refl),
+        (
+          length name,
+          (means name bytes 0 (length name) (omega arith)).1 (name, [], sym (append-nil name), omega arith, takes),
+          (length name, (left_end name (length name) (nil_from_length (drop (length name) name) (length-drop (length name) name ∙ omega arith)), refl), refl),
+        ),
+      ),
+)
 
 -- The pattern of a byte, if memory lasted.
 pub byte_pattern : (result : Result Hir AllocError) (b : ℕ) → IfOk result (λ hir. meaning hir ≡ literal (b ∷ []))
     → IfOk result (λ hir. Means (Byte b) (meaning hir))
 byte_pattern (Ok hir) b is = rw is (byte_means b)
 byte_pattern (Err e) b is = tt
-
--- The start of the name alone.
-pub anchored_start : (hirs : List Hir) → hirs ≡ variant.Look Start ∷ [] → Anchored [] (map meaning hirs)
-anchored_start hirs is = rw (is, meaning-Look Start) ([], refl, tt)
-
--- One part's pattern more.
-pub anchored_more : (parts : List GlobPart) (i : ℕ) (d : GlobPart) (old new : List Hir) (hir : Hir) → Anchored (take i parts) (map meaning old)
-    → i < length parts → new ≡ old ++ hir ∷ [] → Means (get_or parts i d) (meaning hir) → Anchored (take (i + 1) parts) (map meaning new)
-anchored_more parts i d old new hir (res, is, means) below next more =
-    rw (next, map-append meaning old (hir ∷ []), is, take_more parts i d below)
-    (res ++ meaning hir ∷ [], refl, means_more (take i parts) res (get_or parts i d) (meaning hir) means more)
-
--- The end of the name behind all.
-pub anchored_end : (parts : List GlobPart) (i : ℕ) (old new : List Hir) → Anchored (take i parts) (map meaning old) → length parts ≤ i
-    → new ≡ old ++ variant.Look End ∷ [] → TakesWhole parts (cat_all (map meaning new))
-anchored_end parts i old new (res, is, means) all next =
-    rw (next, map-append meaning old (variant.Look End ∷ []), is, meaning-Look End)
-    (takes_whole parts res (subst (λ ps. MeanAll ps res) (take_all i parts all) means))

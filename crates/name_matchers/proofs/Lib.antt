@@ -8,4 +8,12 @@ pub mod Turns
 pub mod RegexTexts
 pub mod GlobParts
 pub mod GlobPatterns
+pub mod GlobBodies
+pub mod GlobPieces
+pub mod GlobRows
 pub mod GlobMachines
+pub mod Tells
+pub mod ClassTexts
+pub mod PartTexts
+pub mod GlobTexts
+pub mod GlobDecisions

@@ -1,6 +1,10 @@
 pub mod StateLists
 pub mod Runs
 pub mod RegexTexts
+pub mod GlobClasses
 pub mod Globs
+pub mod GlobTexts
+pub mod GlobDecisions
 pub mod Patterns
+pub mod GlobReading
 pub mod Matches

@@ -1,10 +1,9 @@
 -- Patterns that take what the parts of a glob take.
-use Rattle.std.specs.Prelude.{◌≡◌, ℕ, ◌<◌, ◌≤◌, ◌+◌, ◌↔◌, List, [], ◌∷◌, ◌++◌, length, drop, All, true, is_some}
-use Rattle.regex_hir.specs.Find.{find}
-use Rattle.regex_hir.specs.Re.{Re, look}
-use Rattle.regex_hir.specs.declared.look.Look.TheVariants.{Start}
+use Rattle.std.specs.Prelude.{◌≡◌, ℕ, ◌<◌, ◌≤◌, ◌+◌, ◌↔◌, Bool, true, not, if◌then◌else◌, List, [], ◌∷◌, ◌++◌, length, drop, All}
+use Rattle.regex_class.specs.Ranges.{Range, in_ranges}
+use Rattle.regex_hir.specs.Re.{Re}
 use Rattle.regex_hir.specs.Matches.{Matches}
-use Rattle.name_matchers.specs.Globs.{Takes, TakeAll}
+use Rattle.name_matchers.specs.Globs.{PartTakes}
 use Rattle.name_matchers.specs.declared.glob.part.GlobPart.{GlobPart}
 
 -- Between these places of the name stand bytes of this kind.
@@ -20,20 +19,11 @@ MatchesKind Kind re =
 
 -- The pattern matches what the part takes.
 abbrev pub Means : GlobPart → Re → Type 0
-Means part re = MatchesKind (Takes part) re
+Means part re = MatchesKind (PartTakes part) re
 
--- Each pattern matches what the part at its place takes.
-abbrev pub MeanAll : List GlobPart → List Re → Type 0
-MeanAll [] [] = Unit {0}
-MeanAll [] (re ∷ res) = ⊥
-MeanAll (part ∷ parts) [] = ⊥
-MeanAll (part ∷ parts) (re ∷ res) = Means part re × MeanAll parts res
-
--- The pattern is found in a name just where the parts take the whole name.
-abbrev pub TakesWhole : List GlobPart → Re → Type 0
-TakesWhole parts re =
-    (name : List ℕ) → All (λ byte. byte < 256) name → (is_some (find re name 0) ≡ true) ↔ TakeAll parts name
-
--- The patterns are the start of the name and one for each part.
-abbrev pub Anchored : List GlobPart → List Re → Type 0
-Anchored parts res = (behind : List Re) × (res ≡ look Start ∷ behind) × MeanAll parts behind
+-- The pattern matches one byte, which is in the ranges, or in none of them for a negated class.
+abbrev pub MeansRanges : Bool → List Range → Re → Type 0
+MeansRanges negated ranges re = MatchesKind
+    (λ bytes. (byte : ℕ) × (bytes ≡ byte ∷ [])
+    × ((if negated then not (in_ranges ranges byte) else in_ranges ranges byte) ≡ true))
+    re

@@ -1,14 +1,16 @@
 //! Globs over whole names.
-ghost use Rattle.std.specs.Prelude.{◌≡◌, ◌↔◌, ℕ, List, string_bytes, true, IfOk, IfErr, OnOk, IsTrue, ◌⊎◌};
-ghost use Rattle.name_matchers.specs.Globs.{IsGlob, IsPlain, GlobMatches, IsGlobMachine, WritesAll};
-ghost use Rattle.name_matchers.specs.declared.glob.part.GlobPart as part;
+ghost use Rattle.std.specs.Prelude.{◌≡◌, ◌↔◌, ℕ, List, string_bytes, IfOk, IfErr, OnOk, IsTrue, ◌⊎◌};
+ghost use Rattle.name_matchers.specs.Globs.{IsGlob, GlobMatches, IsGlobMachine};
 
+mod class;
 mod part;
 mod pattern;
+mod place;
+mod row;
 
 use crate::machine::Machine;
-use part::{GlobPart, read_part};
-use pattern::glob_pattern;
+use pattern::whole_pattern;
+use row::read_row;
 use std::alloc::{AllocError, Global};
 use std::marker::Model;
 use thiserror::Error;
@@ -16,12 +18,11 @@ use thiserror::Error;
 /// Why a text gives no glob.
 #[derive(Clone, Copy, Debug, PartialEq, Eq, Error)]
 pub enum GlobFault {
-    /// A backslash stands at the end, or a bracket or brace is not closed or closes nothing.
+    /// A backslash stands at the end, a bracket or brace is not closed or closes nothing, the end of
+    /// a range comes before its start, a class has a byte beyond ASCII, or groups nest more than 250
+    /// deep.
     #[error("invalid glob")]
     Malformed,
-    /// A class in brackets or a group in braces, which are not brought.
-    #[error("classes and groups of globs are not brought")]
-    NotBrought,
     /// Memory ran out, or the automaton takes more than 10 MiB or 4096 states.
     #[error("out of memory")]
     Memory,
@@ -53,40 +54,23 @@ impl Model for GlobMatcher {
     ghost invariant = { λ glob. IsGlobMachine (string_bytes glob.text) glob.machine.nfa };
 }
 
-// The parts that a text writes.
-fn read_parts(alloc: Global, text: &[u8]) -> Result<Vec<GlobPart>, GlobFault>
-    ensures parts { IfOk result (λ parts.
-        (items : List part.GlobPart) → WritesAll true text.now items ↔ (items ≡ parts.items)) }
-    ensures refused { IfErr result (λ fault. (fault ≡ GlobFault.Memory) ⊎ (IsGlob text.now → ⊥)) }
-{
-    let mut parts = Vec::new(alloc);
-    let mut opens = true;
-    let mut at = 0;
-    while at < text.len() {
-        let (part, len) = read_part(&text[at..], opens)?;
-        let Ok(()) = parts.push(part) else {
-            return Err(GlobFault::Memory);
-        };
-        opens = part.ends_in_slash();
-        at += len;
-    }
-    Ok(parts)
-}
+// The levels of groups that a glob may have.
+const MOST_LEVELS: u8 = 250;
 
 impl GlobMatcher {
     /// The glob of a text.
     ///
     /// # Errors
     ///
-    /// [`GlobFault::Malformed`] or [`GlobFault::NotBrought`] where the text writes none, and
-    /// [`GlobFault::Memory`] where memory ran out or the pattern is too large.
+    /// [`GlobFault::Malformed`] where the text writes none, and [`GlobFault::Memory`] where memory ran
+    /// out or the pattern is too large.
     pub fn parse(alloc: Global, text: &str) -> Result<GlobMatcher, GlobFault>
         ensures text { IfOk result (λ glob. glob ≡ text.now) }
         ensures written { OnOk result (IsGlob text.now) }
         ensures refused { IfErr result (λ fault. (fault ≡ GlobFault.Memory) ⊎ (IsGlob text.now → ⊥)) }
     {
-        let parts = read_parts(alloc, text.as_bytes())?;
-        let machine = Machine::compile(alloc, &glob_pattern(alloc, &parts)?, 1)?;
+        let (patterns, _len) = read_row(alloc, text.as_bytes(), false, MOST_LEVELS)?;
+        let machine = Machine::compile(alloc, &whole_pattern(alloc, patterns)?, 1)?;
         let text = String::from_str(alloc, text)?;
         Ok(GlobMatcher { text, machine })
     }

@@ -12,5 +12,5 @@ mod regex_matcher;
 mod tests;
 
 pub use glob::{GlobFault, GlobMatcher};
-pub use name_matcher::{NameMatcher, law_plain_glob};
+pub use name_matcher::{NameMatcher, law_decided_globs, law_plain_glob};
 pub use regex_matcher::{RegexFault, RegexMatcher};

@@ -1,6 +1,7 @@
 //! What is asked of a name, by equality, as a part or by a pattern.
 ghost use Rattle.std.specs.Prelude.{◌≡◌, ◌↔◌, ◌⊎◌, List, ℕ, IfOk, IfErr, OnOk, IsTrue};
 ghost use Rattle.name_matchers.specs.Globs.{IsGlob, IsPlain};
+ghost use Rattle.name_matchers.specs.GlobDecisions.{glob_takes, writes_glob};
 ghost use Rattle.name_matchers.specs.RegexTexts.{IsRegex};
 ghost use Rattle.name_matchers.specs.Matches as asked;
 ghost use Rattle.name_matchers.specs.Matches.{Matches, question_of};
@@ -41,8 +42,8 @@ impl NameMatcher {
     ///
     /// # Errors
     ///
-    /// [`GlobFault::Malformed`] or [`GlobFault::NotBrought`] where the text writes no glob, and
-    /// [`GlobFault::Memory`] where memory ran out or the pattern is too large.
+    /// [`GlobFault::Malformed`] where the text writes no glob, and [`GlobFault::Memory`] where memory
+    /// ran out or the pattern is too large.
     pub fn glob(alloc: Global, text: &str) -> Result<NameMatcher, GlobFault>
         ensures asks { IfOk result (λ matcher. question_of matcher ≡ asked.glob text.now) }
         ensures written { OnOk result (IsGlob text.now) }
@@ -82,4 +83,11 @@ impl NameMatcher {
 pub fn law_plain_glob()
     ensures { (text name : List ℕ) → IsPlain text
         → Matches (asked.glob text) name ↔ Matches (asked.equal text) name }
+{}
+
+/// A law: functions decide which texts write globs, and which names these take.
+pub fn law_decided_globs()
+    ensures written { (text : List ℕ) → IsTrue (writes_glob text) ↔ IsGlob text }
+    ensures taken { (text name : List ℕ)
+        → IsTrue (glob_takes text name) ↔ Matches (asked.glob text) name }
 {}

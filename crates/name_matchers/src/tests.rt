@@ -58,6 +58,7 @@ fn wildcards(rt: HostRuntime) -> Result<(), Fail> {
     assert!(rt; !globs(alloc, "??", "p")?);
     assert!(rt; globs(alloc, "**", "p")?);
     assert!(rt; globs(alloc, "p??net", "p::net")?);
+    assert!(rt; !globs(alloc, "p?net", "p::net")?);
     assert!(rt; globs(alloc, r"x\*", "x*")?);
     assert!(rt; !globs(alloc, r"x\*", "xy")?);
     Ok(())
@@ -75,14 +76,49 @@ fn folders(rt: HostRuntime) -> Result<(), Fail> {
 }
 
 #[test]
+fn classes(rt: HostRuntime) -> Result<(), Fail> {
+    let alloc = rt.alloc();
+    assert!(rt; globs(alloc, "[pq]", "p")?);
+    assert!(rt; !globs(alloc, "[!p]", "p")?);
+    assert!(rt; globs(alloc, "[^q]", "p")?);
+    assert!(rt; globs(alloc, "[a-q]-derive", "p-derive")?);
+    assert!(rt; globs(alloc, "[]-]", "]")?);
+    assert!(rt; globs(alloc, "[]-]", "-")?);
+    assert!(rt; globs(alloc, "[!]]", "a")?);
+    assert!(rt; globs(alloc, "[--0]", ".")?);
+    assert!(rt; globs(alloc, "[a-]", "-")?);
+    assert!(rt; globs(alloc, "[a-c-e]", "e")?);
+    assert!(rt; !globs(alloc, "[a-c-e]", "-")?);
+    assert!(rt; globs(alloc, r"[\]", r"\")?);
+    assert!(rt; !globs(alloc, "[a-c]", "")?);
+    Ok(())
+}
+
+#[test]
+fn groups(rt: HostRuntime) -> Result<(), Fail> {
+    let alloc = rt.alloc();
+    assert!(rt; globs(alloc, "{p,q}", "q")?);
+    assert!(rt; globs(alloc, "{p,{q,p-d*}}", "p-derive")?);
+    assert!(rt; globs(alloc, "p{,-derive}", "p-derive")?);
+    assert!(rt; !globs(alloc, "p{,-derive}", "p")?);
+    assert!(rt; globs(alloc, "p{,{},{,}}", "p")?);
+    assert!(rt; globs(alloc, "{**/x,y}", "a/x")?);
+    assert!(rt; globs(alloc, "{**/**,y}", "a/")?);
+    assert!(rt; !globs(alloc, "{**/**,y}", "a")?);
+    assert!(rt; globs(alloc, "{**,y}", "a")?);
+    assert!(rt; globs(alloc, "a,b", "a,b")?);
+    assert!(rt; globs(alloc, r"{a\,b}", "a,b")?);
+    assert!(rt; globs(alloc, "**/", "a")?);
+    Ok(())
+}
+
+#[test]
 fn no_globs(rt: HostRuntime) {
     let alloc = rt.alloc();
-    for text in [r"x\", "foo[", "}x", "{x"] {
+    for text in [
+        r"x\", "foo[", "foo[]", "}x", "{x", "{a", "{a,", "[b-a]", "[é]", "[a-", "[!]",
+    ] {
         let malformed = NameMatcher::glob(alloc, text);
-        assert!(rt; matches!(&malformed, Err(GlobFault::Malformed)));
-    }
-    for text in ["[pq]", "{a,b}"] {
-        let other = NameMatcher::glob(alloc, text);
-        assert!(rt; matches!(&other, Err(GlobFault::NotBrought)));
+        assert!(rt; matches!(&malformed, Err(GlobFault::Malformed)), "{text}");
     }
 }

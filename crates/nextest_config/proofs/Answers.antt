@@ -15,6 +15,7 @@ use Rattle.nextest_config.specs.RunView.{refusal_view, profile_fault, answer_vie
 use Rattle.nextest_config.specs.declared.profile_error.ProfileError.{ProfileError}
 use Rattle.nextest_config.specs.declared.profile_error.ProfileError.TheVariants as errors
 use Rattle.nextest_config.specs.declared.run.fault.ResolveFault.{ResolveFault}
+use Rattle.nextest_config.specs.declared.run.fault.ResolveFault.TheVariants as faults
 use Rattle.nextest_config.specs.declared.run.row.TestRow.{TestRow}
 
 -- a fact of what is answered, through what it implies
@@ -49,6 +50,12 @@ module _ {M K P : Type 0} (meets : K → P → Option Bool) (matches : M → Tes
   pub profile_refused : (r : Result (Vec TestRow Global) ResolveFault) (fault : ResolveFault) (error : ProfileError) → r ≡ Err fault → fault ≡ profile_fault error
       → IsNotFound (names_in configured.config.profiles) question.profile error → (old : List ℕ) → Answers meets matches configured question (answer_view r) old old
   profile_refused r fault error is same tells old = rw (is, same) (no_such_profile error tells old)
+
+  -- memory ran out, in what a call answers
+  pub memory_refused : (r : Result (Vec TestRow Global) ResolveFault) (fault : ResolveFault) → r ≡ Err fault
+      → fault ≡ faults.Memory → (old new numbers : List ℕ) → new ≡ old ++ numbers
+      → Answers meets matches configured question (answer_view r) old new
+  memory_refused r fault is same old new numbers added = rw (is, same) (no_rows old new numbers added)
 
   -- there are rows
   pub with_rows : (old new numbers : List ℕ) (rows : List Row) (profile : EvaluatableModel M) → IsIn (names_in configured.config.profiles) question.profile

@@ -1,5 +1,5 @@
 -- Rows of one test more.
-use Rattle.std.proofs.Common.{◌≡◌, ◌+◌, ◌<◌, ℕ, Bool, List, [], ◌∷◌, ◌++◌, ◌∙◌, length, get_or, take, map, Option, refl, sym, ap, append_assoc, append-nil}
+use Rattle.std.proofs.Common.{◌≡◌, ◌+◌, ◌<◌, ℕ, Bool, List, [], ◌∷◌, ◌++◌, ◌∙◌, length, get_or, take, map, Option, sym, ap, append_assoc, append-nil}
 use Rattle.std.proofs.lemmas.List.{map-append, map_more}
 use Rattle.std.specs.List.{AllZip, flat_map}
 use Rattle.nextest_elements.specs.declared.run_mode.NextestRunMode.{NextestRunMode}

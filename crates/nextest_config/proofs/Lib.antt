@@ -14,3 +14,5 @@ pub mod HaveSameProfile
 pub mod Isolation
 pub mod FileApart
 pub mod Aliasing
+pub mod JoinedTexts
+pub mod SpelledTexts

@@ -188,8 +188,8 @@ impl<F: Filters, S: Specs> NextestConfig<F, S> {
         )
     }
 
-    /// Loads as `from_sources_with_warnings` does, with the choice of the repository's file as a
-    /// value.
+    /// Loads as `from_sources_with_warnings` does, with the files beside those of tools as a value,
+    /// which may have one of the organisation.
     pub fn from_sources_with_selection<W: ConfigWarnings>(
         alloc: Global,
         workspace_root: &str,

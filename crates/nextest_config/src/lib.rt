@@ -8,7 +8,7 @@
 //! fn retries_of<F: Filters, S: Specs>(
 //!     alloc: Global, workspace_root: String, path: &str, text: String, profile: &str,
 //!     pcx: &ParseContext<'_, F, S>, platforms: &BuildPlatforms<S::Platform>,
-//!     test: TestQuery<'_>, tally: &mut F::Tally,
+//!     binary: &str, test: &str, tally: &mut F::Tally,
 //! ) -> Result<Option<RetryPolicy>, ResolveFault> {
 //!     let path = ConfigPath::new(alloc, path)?;
 //!     let shared = FileInput { path, outcome: ReadOutcome::Text(text) };
@@ -16,8 +16,9 @@
 //!     let (selection, features) = (ConfigFileSelection::new(None), BTreeSet::new(alloc));
 //!     let inputs = Inputs { paths: &paths, selection, tools: &[], features: &features };
 //!     let (mode, mut warnings) = (NextestRunMode::Test, DefaultConfigWarnings::new(alloc));
+//!     let tests = [TestQuery::of(binary, test)];
 //!     let rows = resolve(
-//!         alloc, &inputs, pcx, profile, platforms, mode, &[test], &mut warnings, tally)?;
+//!         alloc, &inputs, pcx, profile, platforms, mode, &tests, &mut warnings, tally)?;
 //!     Ok(rows.first().map(|row| row.retries))
 //! }
 //! ```
@@ -50,7 +51,7 @@ pub use nextest_sources::{
     ProfileListScriptUsesRunFiltersError, ProfileScriptErrors, ProfileUnknownScriptError,
     ProfileWrongConfigScriptTypeError, ReadOutcome, ToolConfigFile, UnknownTestGroupError,
 };
-pub use nextest_texts::{ConfigIdentifier, InvalidIdentifier, ToolName};
+pub use nextest_texts::{ConfigIdentifier, IdentifierOwner, InvalidIdentifier, ToolName};
 pub use nextest_tree::{Element, ElementCause, ElementFault, Tree, Walk};
 
 // Profiles, settings and what decides them.
@@ -70,7 +71,9 @@ pub use nextest_rules::{CompiledProfile, LayerRules};
 pub use nextest_tables::{ProfileEnds, ProfileFields, ProfileOutputs, ProfileRuns};
 
 // What follows from these definitions, proved once.
-pub use nextest_load::laws::{law_cycles, law_least_element, law_shown};
+pub use nextest_load::laws::{
+    law_closed, law_cycles, law_keys_ascend, law_least_element, law_shown,
+};
 pub use nextest_profiles::{
     law_group_of_settings, law_known_groups, law_last_group, law_settings_of_texts,
 };

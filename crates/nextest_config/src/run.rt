@@ -25,7 +25,8 @@ use std::collections::BTreeSet;
 pub struct Inputs<'a> {
     /// The workspace's root, and the repository's file where it is looked for.
     pub paths: &'a ConfigPaths,
-    /// The repository's file that a user named instead, if any.
+    /// The repository's file that a user named instead, if any, and the organisation's, if there is
+    /// one.
     pub selection: ConfigFileSelection<'a>,
     /// The files that tools provide, in the order of the arguments: the first is the highest.
     pub tools: &'a [ToolConfigFile],

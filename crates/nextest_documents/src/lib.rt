@@ -7,4 +7,4 @@ mod document;
 mod merge;
 
 pub use document::{TextFault, tree_from_text};
-pub use merge::{copy_tree, lay_over, merge_layers};
+pub use merge::{copy_tree, lay_over};

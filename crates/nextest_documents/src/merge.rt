@@ -1,31 +1,14 @@
 //! One tree of several layers: a higher layer is laid over a lower one, path by path.
-ghost use Rattle.std.specs.Prelude.{◌∷◌, [], ◌≡◌, map, IfOk};
-ghost use Rattle.std.specs.List.{AllByRecursion};
+ghost use Rattle.std.specs.Prelude.{◌∷◌, [], ◌≡◌, IfOk};
 ghost use Rattle.nextest_tree.specs.Node.{IsSorted};
 ghost use Rattle.nextest_tree.specs.View.{tree_view, nodes_view, entries_view};
-ghost use Rattle.nextest_documents.specs.Merge.{over, entries_over, merged};
+ghost use Rattle.nextest_documents.specs.Merge.{over, entries_over};
 ghost use Rattle.nextest_documents.specs.Shown.{HasExactly, IsShown};
 
 use nextest_tree::Tree;
 use std::alloc::{AllocError, Global};
 use std::collections::BTreeMap;
 use std::mem;
-
-/// Lays `layers`, the lowest first, over `base`.
-pub fn merge_layers(alloc: Global, base: Tree, layers: &[Tree]) -> Result<Tree, AllocError>
-    ensures is { IfOk result
-        (λ tree. tree_view tree ≡ merged (tree_view base) (map tree_view layers.now)) }
-    ensures nodes { IfOk result (λ tree. HasExactly (tree_view tree)
-        (IsShown (tree_view base ∷ map tree_view layers.now))) }
-    ensures sorted { IsSorted (tree_view base) → AllByRecursion IsSorted (map tree_view layers.now)
-        → IfOk result (λ tree. IsSorted (tree_view tree)) }
-{
-    let mut tree = base;
-    for layer in layers {
-        tree = lay_over(alloc, layer, tree)?;
-    }
-    Ok(tree)
-}
 
 /// Lays `above` over `below`: two tables unite, and anything else replaces what stands below.
 ///

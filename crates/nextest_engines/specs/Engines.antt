@@ -1,6 +1,7 @@
 -- What filters see of a test and of a binary, and of what their engines refuse.
-use Rattle.std.specs.Prelude.{List, ℕ, string_bytes}
+use Rattle.std.specs.Prelude.{List, [], ℕ, string_bytes}
 use Rattle.nextest_engines.specs.declared.queries.BuildPlatform.{BuildPlatform}
+use Rattle.nextest_engines.specs.declared.queries.BuildPlatform.TheVariants.{Target}
 use Rattle.nextest_engines.specs.declared.queries.BinaryQuery.{BinaryQuery}
 use Rattle.nextest_engines.specs.declared.queries.TestQuery.{TestQuery}
 use Rattle.nextest_engines.specs.declared.filters.FilterFault.{FilterFault}
@@ -20,6 +21,19 @@ pub record Binary : Type 0 where
 pub record Test : Type 0 where
   pub binary : Binary
   pub name : List ℕ
+
+-- The test of a name in the binary of an id that is built for the target, of which no more is known.
+abbrev pub named_test : (binary_id name : List ℕ) → Test
+named_test binary_id name = record {
+  binary = record {
+    package_id = [];
+    binary_id = binary_id;
+    kind = [];
+    binary_name = [];
+    platform = Target;
+  };
+  name = name;
+}
 
 -- The binary that a query asks about.
 abbrev pub binary_view : BinaryQuery → Binary

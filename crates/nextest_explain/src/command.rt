@@ -5,7 +5,7 @@ use std::alloc::{AllocError, Global};
 
 /// How the program is called.
 pub const USAGE: &str =
-    "usage: config_explain ROOT PROFILE MODE BINARY TEST [--config-file P] [--tool-config-file TOOL:PATH] [--experimental NAME] [--host T] [--target T] [--host-binary]";
+    "usage: config_explain ROOT PROFILE MODE BINARY TEST [--config-file P] [--organisation-config-file P] [--tool-config-file TOOL:PATH] [--experimental NAME] [--host T] [--target T] [--host-binary] [--all]";
 
 /// What the words ask for.
 #[derive(Debug, Drop)]
@@ -42,7 +42,8 @@ impl From<InvalidIdentifier> for CommandError {
             InvalidIdentifier::Empty
             | InvalidIdentifier::BadStart
             | InvalidIdentifier::BadCharacter
-            | InvalidIdentifier::BadToolForm => CommandError::Usage,
+            | InvalidIdentifier::BadToolForm
+            | InvalidIdentifier::BadOrganisationForm => CommandError::Usage,
         }
     }
 }
@@ -83,6 +84,8 @@ fn split<'a>(
             options.set(alloc, name, word)?;
         } else if word == "--host-binary" {
             options.set_host_binary()?;
+        } else if word == "--all" {
+            options.set_whole_places()?;
         } else if word.starts_with("--") {
             waiting = Some(OptionName::of(word).ok_or(CommandError::Usage)?);
         } else {

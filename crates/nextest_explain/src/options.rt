@@ -4,11 +4,22 @@ use nextest_config::{BuildPlatform, ConfigExperimental, ToolName};
 use std::alloc::{AllocError, Global};
 use std::collections::BTreeSet;
 
+/// How lines tell where a value comes from.
+#[derive(Clone, Copy, Debug, PartialEq, Eq)]
+pub enum Places {
+    /// In one word.
+    Words,
+    /// Whole: an override by its profile, its position there, and its file.
+    Whole,
+}
+
 /// The options among the words.
 #[derive(Debug, Drop)]
 pub struct Options<'a> {
     /// The path of the file that is read in place of the repository's own.
     pub config_file: Option<&'a str>,
+    /// The path of the organisation's file.
+    pub organisation_config_file: Option<&'a str>,
     /// The files of tools, in the order of the words.
     pub tool_files: Vec<ToolFile<'a>>,
     /// The experimental features that are switched on.
@@ -19,6 +30,8 @@ pub struct Options<'a> {
     pub target: Option<&'a str>,
     /// What the test's binary is built for.
     pub platform: BuildPlatform,
+    /// How lines tell where a value comes from.
+    pub places: Places,
 }
 
 /// A file that a tool provides.
@@ -32,6 +45,7 @@ pub struct ToolFile<'a> {
 #[derive(Clone, Copy)]
 pub enum OptionName {
     ConfigFile,
+    OrganisationConfigFile,
     ToolConfigFile,
     Experimental,
     Host,
@@ -43,6 +57,7 @@ impl OptionName {
     pub fn of(word: &str) -> Option<OptionName> {
         match word {
             "--config-file" => Some(OptionName::ConfigFile),
+            "--organisation-config-file" => Some(OptionName::OrganisationConfigFile),
             "--tool-config-file" => Some(OptionName::ToolConfigFile),
             "--experimental" => Some(OptionName::Experimental),
             "--host" => Some(OptionName::Host),
@@ -57,11 +72,13 @@ impl<'a> Options<'a> {
     pub fn new(alloc: Global) -> Options<'a> {
         Options {
             config_file: None,
+            organisation_config_file: None,
             tool_files: Vec::new(alloc),
             features: BTreeSet::new(alloc),
             host: None,
             target: None,
             platform: BuildPlatform::Target,
+            places: Places::Words,
         }
     }
 
@@ -74,6 +91,9 @@ impl<'a> Options<'a> {
     ) -> Result<(), CommandError> {
         match name {
             OptionName::ConfigFile => set_once(&mut self.config_file, value),
+            OptionName::OrganisationConfigFile => {
+                set_once(&mut self.organisation_config_file, value)
+            }
             OptionName::ToolConfigFile => self.add_tool_file(alloc, value),
             OptionName::Experimental => self.add_feature(value),
             OptionName::Host => set_once(&mut self.host, value),
@@ -87,6 +107,17 @@ impl<'a> Options<'a> {
             BuildPlatform::Host => Err(CommandError::Usage),
             BuildPlatform::Target => {
                 self.platform = BuildPlatform::Host;
+                Ok(())
+            }
+        }
+    }
+
+    /// Says that lines tell the whole place of each value.
+    pub fn set_whole_places(&mut self) -> Result<(), CommandError> {
+        match self.places {
+            Places::Whole => Err(CommandError::Usage),
+            Places::Words => {
+                self.places = Places::Whole;
                 Ok(())
             }
         }

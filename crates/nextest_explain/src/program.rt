@@ -1,13 +1,20 @@
 //! What the program does, over readers of files and writers of its own choosing.
-ghost use Rattle.std.specs.Prelude.{◌≡◌, ◌⊎◌, IsOk};
+ghost use Rattle.std.specs.Prelude.{◌≡◌, ◌⊎◌, IsOk, IfOk, map, option_map, string_bytes};
+ghost use Rattle.std.specs.Option.{option_map_or};
 ghost use Rattle.std.specs.Io.KnownBytes.{Appends};
+ghost use Rattle.nextest_config.specs.RowView.{row_view};
+ghost use Rattle.nextest_engines.specs.Engines.{test_view};
+ghost use Rattle.nextest_explain.specs.Explained.{usual_host, asked_test, AreRowsFor, AreAskedRows, Explains};
+ghost use Rattle.nextest_explain.specs.Files.{sources_view};
+ghost use Rattle.nextest_explain.specs.Lines.{lines_telling};
 ghost use Rattle.nextest_explain.specs.Statuses.{IsRefusalStatus, IsStatus};
 
 use crate::command::Command;
 use crate::failure::{Failure, OUT_OF_MEMORY};
 use crate::files::FileReader;
-use crate::row_lines::RowLines;
+use crate::options::Places;
 use crate::sources::Sources;
+use crate::writing::{ExplainFault, write_rows};
 use nextest_config::run::{ResolveFault, TestRow, resolve};
 use nextest_config::{BinaryQuery, BuildPlatforms, DefaultConfigWarnings, ParseContext, TestQuery};
 use std::alloc::{AllocError, Global};
@@ -21,7 +28,8 @@ const HOST: &str = "x86_64-unknown-linux-gnu";
 /// Explains what a configuration gives a test, and answers the exit status: 0, or 2 for a usage
 /// fault, 3 for a refused configuration, 4 where there is no such profile, 5 for want of memory, 6
 /// where a write fails. Warnings come first, also before a refusal. After a write that failed
-/// nothing more is written.
+/// nothing more is written. With status 0 the lines are those of the rows that resolve the request of
+/// a command, over the files that it names.
 pub fn explain<R: FileReader, O: Write, E: Write>(
     alloc: Global,
     words: &[String],
@@ -31,6 +39,8 @@ pub fn explain<R: FileReader, O: Write, E: Write>(
 ) -> u8
     ensures status { IsStatus result }
     ensures quiet { (result ≡ 0) ⊎ (result ≡ 6) ⊎ (O.contents out.new ≡ O.contents out.old) }
+    ensures lines { result ≡ 0
+        → Explains (R.MayGive files.now) (O.contents out.old) (O.contents out.new) }
 {
     let mut warnings = DefaultConfigWarnings::new(alloc);
     let answer = run(alloc, words, files, &mut warnings);
@@ -41,7 +51,7 @@ pub fn explain<R: FileReader, O: Write, E: Write>(
         return 6;
     }
     match answer {
-        Ok(lines) => status_of_write(out.write_all(lines.as_bytes()), 0),
+        Ok(asked) => tell(alloc, &asked.rows, asked.places, out, err),
         Err(failure) => refuse(alloc, &failure, err),
     }
 }
@@ -87,37 +97,51 @@ fn warning_text(alloc: Global, warnings: &DefaultConfigWarnings) -> Result<Strin
     Ok(text)
 }
 
-/// The lines of the test that words ask about.
+/// The rows that words ask for, and how their lines tell places.
+#[derive(Drop)]
+struct Asked {
+    rows: Vec<TestRow>,
+    places: Places,
+}
+
+/// Writes the lines of rows, and answers the exit status.
+fn tell<O: Write, E: Write>(
+    alloc: Global,
+    rows: &[TestRow],
+    places: Places,
+    out: &mut O,
+    err: &mut E,
+) -> u8
+    ensures status { (result ≡ 0) ⊎ (result ≡ 5) ⊎ (result ≡ 6) }
+    ensures quiet { (result ≡ 0) ⊎ (result ≡ 6) ⊎ (O.contents out.new ≡ O.contents out.old) }
+    ensures lines { result ≡ 0 → Appends (O.contents out.old) (O.contents out.new)
+        (lines_telling places (map row_view rows.now)) }
+{
+    match write_rows(alloc, rows, places, out) {
+        Ok(()) => 0,
+        Err(ExplainFault::Write) => 6,
+        Err(ExplainFault::Memory) => refuse_for_memory(err),
+    }
+}
+
+/// The rows that words ask for.
 fn run<R: FileReader>(
     alloc: Global,
     words: &[String],
     files: &R,
     warnings: &mut DefaultConfigWarnings,
-) -> Result<String, Failure> {
+) -> Result<Asked, Failure>
+    ensures { IfOk result
+        (λ asked. AreAskedRows (R.MayGive files.now) asked.places
+        (map row_view asked.rows.items)) }
+{
     let command = Command::parse(alloc, words)?;
-    run_command(alloc, &command, files, warnings)
-}
-
-/// The lines of the test that a command asks about.
-fn run_command<R: FileReader>(
-    alloc: Global,
-    command: &Command<'_>,
-    files: &R,
-    warnings: &mut DefaultConfigWarnings,
-) -> Result<String, Failure> {
-    let sources = Sources::read(alloc, command, files)?;
-    let rows = rows(alloc, command, &sources, warnings)?;
-    Ok(text_of(alloc, &rows)?)
-}
-
-/// The lines of rows.
-fn text_of(alloc: Global, rows: &[TestRow]) -> Result<String, AllocError> {
-    let mut text = String::new(alloc);
-    for row in rows {
-        let lines = RowLines(row).to_string(alloc)?;
-        text.push_str(lines.as_str())?;
-    }
-    Ok(text)
+    let sources = Sources::read(alloc, &command, files)?;
+    let rows = rows(alloc, &command, &sources, warnings)?;
+    Ok(Asked {
+        rows,
+        places: command.options.places,
+    })
 }
 
 /// The one row of the test that a command asks about.
@@ -126,7 +150,11 @@ fn rows(
     command: &Command<'_>,
     sources: &Sources,
     warnings: &mut DefaultConfigWarnings,
-) -> Result<Vec<TestRow>, ResolveFault> {
+) -> Result<Vec<TestRow>, ResolveFault>
+    ensures { string_bytes sources.now.paths.workspace_root ≡ command.now.root.now
+        → IfOk result (λ rows. AreRowsFor command.now (sources_view sources.now)
+        (map row_view rows.items)) }
+{
     let Ok(platforms) = platforms_of(alloc, command) else {
         return Err(ResolveFault::Memory);
     };
@@ -148,11 +176,16 @@ fn rows(
 }
 
 /// The platforms of the build.
-fn platforms_of(
-    alloc: Global,
-    command: &Command<'_>,
-) -> Result<BuildPlatforms<String>, AllocError> {
-    let host = command.options.host.unwrap_or(HOST);
+fn platforms_of(alloc: Global, command: &Command<'_>) -> Result<BuildPlatforms<String>, AllocError>
+    ensures host { IfOk result (λ platforms. string_bytes platforms.host
+        ≡ option_map_or (λ host. host.now) command.now.options.host usual_host) }
+    ensures target { IfOk result (λ platforms. option_map string_bytes platforms.target
+        ≡ option_map (λ target. target.now) command.now.options.target) }
+{
+    let host = match command.options.host {
+        Some(host) => host,
+        None => HOST,
+    };
     let target = match command.options.target {
         Some(target) => Some(String::from_str(alloc, target)?),
         None => None,
@@ -164,7 +197,9 @@ fn platforms_of(
 }
 
 /// The test that a command asks about.
-fn test_of<'a>(command: &Command<'a>) -> TestQuery<'a> {
+fn test_of<'a>(command: &Command<'a>) -> TestQuery<'a>
+    ensures { test_view result ≡ asked_test command.now }
+{
     TestQuery {
         binary_query: BinaryQuery {
             package_id: "",

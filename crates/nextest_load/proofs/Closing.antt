@@ -38,6 +38,7 @@ use Rattle.nextest_tree.specs.Schema.{faults, is_one_of}
 use Rattle.nextest_load.specs.Accepted.{IsAccepted}
 use Rattle.nextest_load.specs.Closed.{EachOverride, AnswersBinaries, HasDefaults, IsClosed}
 use Rattle.nextest_load.specs.Config.{ScriptTables, config_of}
+use Rattle.nextest_load.specs.Laws.{AnswerDefaultFilters}
 use Rattle.nextest_load.specs.Loading.{source_layer}
 use Rattle.nextest_load.specs.Merged.{profiles_of}
 use Rattle.nextest_load.specs.Steps.{no_profiles}
@@ -175,10 +176,6 @@ written_more : {X : Type 0} (P Q : X → Type 0) → ((x : X) → P x → Q x) �
 written_more P Q f None h = tt
 written_more P Q f (Some x) h = f x h
 
--- the law of filters that only a test can answer
-abbrev pub BinariesLaw : {M K P : Type 0} → Readings M K P → Type 0
-BinariesLaw {M} engines = (t : List ℕ) (m : M) → engines.read_filter DefaultFilter t ≡ Ok m → engines.leaves m ≡ [] → (binary : Binary) (default : M) → IsSome (engines.matches_binary m binary default)
-
 -- the sources of accepted files are without fault
 pub sources_readable : {M K P : Type 0} (engines : Readings M K P) (features : Features) (files : LoadInputs) → IsAccepted engines features files → AllReadable (sources_in files)
 sources_readable engines features files accepted = each_split (λ s. faults a_file [] (own_tree s) ≡ []) [] (sources_in files) (λ below s above e. (accepted.sources below s above e).elements)
@@ -214,18 +211,18 @@ module _ {M K P : Type 0} (engines : Readings M K P) where
   fine_lists known [] h = tt
   fine_lists known (p ∷ ps) h = (h.0.lists, fine_lists known ps h.1)
 
-  answers_at : (law : BinariesLaw engines) (t : List ℕ) (read : Result M (List ℕ)) → engines.read_filter DefaultFilter t ≡ read → ((m : M) → engines.read_filter DefaultFilter t ≡ Ok m → engines.leaves m ≡ [])
+  answers_at : (law : AnswerDefaultFilters engines) (t : List ℕ) (read : Result M (List ℕ)) → engines.read_filter DefaultFilter t ≡ read → ((m : M) → engines.read_filter DefaultFilter t ≡ Ok m → engines.leaves m ≡ [])
       → IfWritten (result_ok read) (λ m. (binary : Binary) (default : M) → IsSome (engines.matches_binary m binary default))
   answers_at law t (Ok m) is none = law t m is (none m is)
   answers_at law t (Err message) is none = tt
 
-  answers_with : (law : BinariesLaw engines) (filter : Option (List ℕ)) → ((t : List ℕ) (m : M) → filter ≡ Some t → engines.read_filter DefaultFilter t ≡ Ok m → engines.leaves m ≡ [])
+  answers_with : (law : AnswerDefaultFilters engines) (filter : Option (List ℕ)) → ((t : List ℕ) (m : M) → filter ≡ Some t → engines.read_filter DefaultFilter t ≡ Ok m → engines.leaves m ≡ [])
       → IfWritten (meaning_of (engines.read_filter DefaultFilter) filter) (λ m. (binary : Binary) (default : M) → IsSome (engines.matches_binary m binary default))
   answers_with law None none = tt
   answers_with law (Some t) none = answers_at law t (engines.read_filter DefaultFilter t) refl (λ m. none t m refl)
 
   -- a filter beside a list wrapper answers for each binary
-  answers : (law : BinariesLaw engines) (r : ScriptRuleText) → ListsWithoutTests engines r → AnswersBinaries engines.matches_binary (script_rule engines r)
+  answers : (law : AnswerDefaultFilters engines) (r : ScriptRuleText) → ListsWithoutTests engines r → AnswersBinaries engines.matches_binary (script_rule engines r)
   answers law r lists some = answers_with law r.filter (lists some)
 
   -- a fact of the layers of sources
@@ -252,7 +249,7 @@ module _ {M K P : Type 0} (engines : Readings M K P) where
         (λ id o among. among_more (known below s).groups group_names (known_group below above s e) o.settings.test_group among) s.source (own_file s).profiles
         (fine_groups (known below s) (own_file s).profiles (accepted.sources below s above e).rules.profiles))
 
-  module _ (features : Features) (files : LoadInputs) (scripts : ScriptTables) (law : BinariesLaw engines) (accepted : IsAccepted engines features files) (same : HaveScriptIds (merged_file (sources_in files)) scripts) where
+  module _ (features : Features) (files : LoadInputs) (scripts : ScriptTables) (law : AnswerDefaultFilters engines) (accepted : IsAccepted engines features files) (same : HaveScriptIds (merged_file (sources_in files)) scripts) where
     all_readable : AllReadable (sources_in files)
     all_readable = sources_readable engines features files accepted
 

@@ -4,7 +4,6 @@ mod Elements
 mod Files
 mod Laying
 mod Inputs
-mod Growing
 mod Parents
 mod NamesInOrder
 mod Placing

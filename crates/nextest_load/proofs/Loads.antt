@@ -11,6 +11,7 @@ use Rattle.nextest_sources.specs.declared.error.ConfigParseError.{ConfigParseErr
 use Rattle.nextest_load.specs.Closed.{HasDefaults, IsClosed}
 use Rattle.nextest_load.specs.Config.{ConfigModel, config_of}
 use Rattle.nextest_load.specs.ConfigView.{scripts_view}
+use Rattle.nextest_load.specs.Laws.{AnswerDefaultFilters}
 use Rattle.nextest_load.specs.Load.{Loaded, IsLoad}
 use Rattle.nextest_load.specs.Meaning.{config_meaning, loaded_meaning}
 use Rattle.nextest_load.specs.Merged.{MergedText}
@@ -19,7 +20,7 @@ use Rattle.nextest_load.specs.Scripts.{AreScriptsOf}
 use Rattle.nextest_load.specs.Steps.{load_steps}
 use Rattle.nextest_load.specs.declared.load.ConfigParts.{ConfigParts}
 use Rattle.nextest_load.proofs.Accepting.{DefinitionsLaw, RulesLaw, ToolsLaw, accepted_from, verdict}
-use Rattle.nextest_load.proofs.Closing.{BinariesLaw, closed, merged_tree_readable}
+use Rattle.nextest_load.proofs.Closing.{closed, merged_tree_readable}
 use Rattle.nextest_load.proofs.Exactness.{exact}
 use Rattle.nextest_load.proofs.MergedScripts.{have_ids}
 
@@ -57,7 +58,7 @@ module _ {F S E T N Q M K P : Type 0} (meaning : E → M) (spec_meaning : N → 
       }
 
   -- and they are closed
-  pub parts_closed : {old new : List Warning} (parts : ConfigParts F S E T N Q) (all : E) → meaning all ≡ engines.match_all → BinariesLaw engines → Ran (load_steps engines features files) old new passed → AreParts meaning spec_meaning engines (sources_in files) parts
+  pub parts_closed : {old new : List Warning} (parts : ConfigParts F S E T N Q) (all : E) → meaning all ≡ engines.match_all → AnswerDefaultFilters engines → Ran (load_steps engines features files) old new passed → AreParts meaning spec_meaning engines (sources_in files) parts
       → IsClosed engines.matches_binary (config_meaning meaning spec_meaning (config_parts parts.tables parts.layers.items all)) (scripts_view parts.tables.scripts)
   parts_closed parts all is law ran are =
       let accepted = accepted_from engines features definitions rules tools files ran.is.0 in
@@ -67,7 +68,7 @@ module _ {F S E T N Q M K P : Type 0} (meaning : E → M) (spec_meaning : N → 
       (closed engines features files (scripts_view parts.tables.scripts) law accepted (have_ids (sources_in files) (scripts_view parts.tables.scripts) are.tables.scripts) has_here)
 
   -- a load that made parts
-  pub loaded_is : {old new : List Warning} (parts : ConfigParts F S E T N Q) (all : E) (made : Loaded E N) → meaning all ≡ engines.match_all → BinariesLaw engines → Ran (load_steps engines features files) old new passed → AreParts meaning spec_meaning engines (sources_in files) parts
+  pub loaded_is : {old new : List Warning} (parts : ConfigParts F S E T N Q) (all : E) (made : Loaded E N) → meaning all ≡ engines.match_all → AnswerDefaultFilters engines → Ran (load_steps engines features files) old new passed → AreParts meaning spec_meaning engines (sources_in files) parts
       → made ≡ record { config = config_parts parts.tables parts.layers.items all; scripts = scripts_view parts.tables.scripts } → IsLoad (loaded_meaning meaning spec_meaning) engines features files old new (Ok made)
   loaded_is parts all made is law ran are made_is =
       record {

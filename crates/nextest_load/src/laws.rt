@@ -1,12 +1,16 @@
-//! Laws of the trees of a load.
+//! Laws of loads: of their trees, and of what is accepted.
 ghost use Rattle.std.specs.Prelude.{List, ◌∷◌, map};
 ghost use Rattle.nextest_documents.specs.Shown.{HasExactly, IsShown};
-ghost use Rattle.nextest_load.specs.Laws.{RefusesCycles, RefusesLeast};
+ghost use Rattle.nextest_engines.specs.Readings.{Readings};
+ghost use Rattle.nextest_load.specs.Laws.{AcceptedAreClosed, RefusesCycles, RefusesLeast};
 ghost use Rattle.nextest_load.specs.Steps.{no_profiles};
 ghost use Rattle.nextest_load.specs.Trees.{tree_in, own_tree, own_file, merged_tree, merged_file};
 ghost use Rattle.nextest_sources.specs.Causes.{NameSet};
 ghost use Rattle.nextest_sources.specs.Inputs.{SourceText};
 ghost use Rattle.nextest_tables.specs.Defaults.{defaults};
+ghost use Rattle.nextest_tree.specs.Node.{IsSorted};
+
+use nextest_engines::{Filters, Specs};
 
 /// An element that a load refuses, of a source over the defaults or of the merged tree, is the
 /// least fault of that tree in the order of places, and not merely the first of a list.
@@ -25,9 +29,24 @@ pub fn law_cycles()
     ensures merged { (ss : List SourceText) → RefusesCycles no_profiles (merged_file ss) }
 {}
 
+/// In each table of a source's tree over the defaults, and of the merged tree, the keys ascend by
+/// their bytes: profiles, groups and scripts stand by name.
+pub fn law_keys_ascend()
+    ensures own { (s : SourceText) → IsSorted (own_tree s) }
+    ensures merged { (ss : List SourceText) → IsSorted (merged_tree ss) }
+{}
+
 /// The merged tree has exactly the nodes of the defaults and of all sources that no higher source
 /// hides.
 pub fn law_shown()
     ensures { (ss : List SourceText)
         → HasExactly (merged_tree ss) (IsShown (defaults ∷ map tree_in ss)) }
+{}
+
+/// A configuration of accepted files is closed: no rule of it names an undefined script or group,
+/// each profile has one chain, and `default` is complete.
+///
+/// The merged tree of files that a load accepts always has a complete default profile.
+pub fn law_closed<F: Filters, S: Specs>()
+    ensures { (engines : Readings F.Meaning S.SpecMeaning S.Platform) → AcceptedAreClosed engines }
 {}

@@ -12,7 +12,9 @@ use std::marker::Model;
 /// A profile of the merged tree: the profile that it inherits from, and what it writes.
 #[derive(Drop)]
 pub struct MergedProfile {
+    /// The name of its parent, as it is written; none is `default`.
     pub inherits: Option<String>,
+    /// Its settings, each as the highest file writes it.
     pub fields: ProfileFields,
 }
 
@@ -21,7 +23,9 @@ pub struct MergedProfile {
 /// `script` stand behind all others.
 #[derive(Drop)]
 pub struct ScriptConfig {
+    /// Setup scripts, in the order in which they run.
     pub setup: IndexMap<ScriptId, SetupScriptConfig>,
+    /// Wrapper scripts.
     pub wrapper: IndexMap<ScriptId, WrapperScriptConfig>,
 }
 

@@ -1,5 +1,8 @@
 -- What a profile means whose rules code holds.
 use Rattle.std.proofs.Common.{◌≡◌, map}
+use Rattle.nextest_engines.specs.declared.filters.Filters as FilterGhosts
+use Rattle.nextest_engines.specs.declared.filters.Tally as TallyGhosts
+use Rattle.nextest_engines.specs.declared.platforms.Specs as SpecGhosts
 use Rattle.nextest_settings.specs.FilterView.{filter_view}
 use Rattle.nextest_settings.specs.Profile.{ProfileFacts, EvaluatableModel}
 use Rattle.nextest_settings.specs.View.{evaluated_override_view, evaluated_script_rule_view, evaluated_override_meaning, evaluated_script_rule_meaning, meant_override, meant_script_rule}
@@ -7,7 +10,8 @@ use Rattle.nextest_settings.specs.declared.evaluated.EvaluatedRules.{EvaluatedRu
 use Rattle.nextest_profiles.specs.Meaning.{choice_meaning, profile_meaning}
 use Rattle.nextest_profiles.proofs.KnowsScripts.{fused}
 
-module _ {F S E T N P M : Type 0} (f : E → M) (facts : ProfileFacts) (rules : EvaluatedRules F S E T N P) where
+module _ {F S E T N P M : Type 0} {filters : FilterGhosts.Ghosts F E T} {tally : TallyGhosts.Ghosts T} {specs : SpecGhosts.Ghosts S N P}
+    (f : E → M) (facts : ProfileFacts) (rules : EvaluatedRules F S E T N P filters tally specs) where
   -- a profile, as its model has it
   abbrev pub held : EvaluatableModel E
   held = record {

@@ -1,11 +1,12 @@
 pub mod AcceptedDefinitions
 pub mod AcceptedRules
+pub mod AtName
 pub mod Compiling
 pub mod Composing
 pub mod Emptying
 pub mod Gathering
 pub mod Grouping
-pub mod Growing
+pub mod InsertEntry
 pub mod Joining
 pub mod Knowing
 pub mod Layering
@@ -15,4 +16,3 @@ pub mod Ordering
 pub mod Owning
 pub mod Passing
 pub mod Telling
-pub mod AtName

@@ -101,11 +101,17 @@ fn ill_named_kind(owner: IdentifierOwner<'_>, names: IllNamed) -> ConfigParseErr
         (IllNamed::Groups(groups), IdentifierOwner::Tool(_)) => {
             ConfigParseErrorKind::InvalidTestGroupsDefinedByTool(groups)
         }
+        (IllNamed::Groups(groups), IdentifierOwner::Organisation) => {
+            ConfigParseErrorKind::InvalidTestGroupsDefinedByOrganisation(groups)
+        }
         (IllNamed::Scripts(ids), IdentifierOwner::Nobody) => {
             ConfigParseErrorKind::InvalidConfigScriptsDefined(ids)
         }
         (IllNamed::Scripts(ids), IdentifierOwner::Tool(_)) => {
             ConfigParseErrorKind::InvalidConfigScriptsDefinedByTool(ids)
+        }
+        (IllNamed::Scripts(ids), IdentifierOwner::Organisation) => {
+            ConfigParseErrorKind::InvalidConfigScriptsDefinedByOrganisation(ids)
         }
     }
 }

@@ -13,7 +13,7 @@ use Rattle.nextest_script_order.specs.Order.{appears_at, appears_before, is_plac
 use Rattle.nextest_script_order.proofs.Keeping.{all_lines, starts_between}
 use Rattle.nextest_script_order.proofs.Filters.{all_both, all_kept, all_map, all_pass, not_true}
 use Rattle.nextest_script_order.proofs.Among.{among_ids}
-use Rattle.nextest_script_order.proofs.Halves.{placed_few}
+use Rattle.nextest_script_order.proofs.IsOrder.{placed_few}
 
 all_append : (P : List ℕ → Type 0) (xs ys : List (List ℕ)) → AllByRecursion P xs → AllByRecursion P ys → AllByRecursion P (xs ++ ys)
 all_append P [] ys h i = i

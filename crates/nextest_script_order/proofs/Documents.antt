@@ -8,10 +8,10 @@ use Rattle.toml.specs.Data.{Members, table}
 use Rattle.toml.specs.Tables.{no_nodes, close, Document, Expression, define}
 use Rattle.toml.specs.Parse.{line, lines, skip_bom, parse_document}
 use Rattle.nextest_script_order.proofs.Stands.{Grows}
-use Rattle.nextest_script_order.proofs.Grown.{Grown, here, next, first_same, after_first, skip_grown}
+use Rattle.nextest_script_order.proofs.GoesOn.{GoesOn, here, next, first_same, after_first, skip_grown}
 use Rattle.nextest_script_order.proofs.Kept.{Kept}
 use Rattle.nextest_script_order.proofs.Values.{line_kept}
-use Rattle.nextest_script_order.proofs.Growth.{NodesGrow, table_grows, define_grows}
+use Rattle.nextest_script_order.proofs.KeptNodes.{NodesGrow, table_grows, define_grows}
 
 -- the lines after an expression
 abbrev pub after_line : ℕ → Document → Read Expression → Option Document
@@ -42,22 +42,22 @@ then_keeps short long None f h keeps a b = absurd (none-some short a)
 then_keeps short long (Some step) f h keeps a b = keeps step a b
 
 after_keeps : {behind : List ℕ} → (n m : ℕ) (doc short long : Document) (r s : Read Expression) → Kept behind r s
-    → ((next : Document) (v w : List ℕ) → Grown behind v w → lines n next v ≡ Some short → lines m next w ≡ Some long → NodesGrow short.0 long.0)
+    → ((next : Document) (v w : List ℕ) → GoesOn behind v w → lines n next v ≡ Some short → lines m next w ≡ Some long → NodesGrow short.0 long.0)
     → after_line n doc r ≡ Some short → after_line m doc s ≡ Some long → NodesGrow short.0 long.0
 after_keeps n m doc short long None s k keeps a b = absurd (none-some short a)
 after_keeps n m doc short long (Some e) s k keeps a b =
     let (w, g, same) = k in
     then_keeps short long (define doc e.0) (λ next. lines n next e.1) (λ next. lines m next w) (λ next c d. keeps next e.1 w g c d) a (rw same at b)
 
-pub not_over : {behind : List ℕ} → (x y : List ℕ) → Grown behind x y → (length x == 0) ≡ false
+pub not_over : {behind : List ℕ} → (x y : List ℕ) → GoesOn behind x y → (length x == 0) ≡ false
 not_over x y here = refl
 not_over x y (next c xs ys g) = grind (arith, nat_tests)
 
-pub not_over_long : {behind : List ℕ} → (x y : List ℕ) → Grown behind x y → (length y == 0) ≡ false
+pub not_over_long : {behind : List ℕ} → (x y : List ℕ) → GoesOn behind x y → (length y == 0) ≡ false
 not_over_long x y here = grind (arith, nat_tests)
 not_over_long x y (next c xs ys g) = grind (arith, nat_tests)
 
-lines_keep : {behind : List ℕ} → (n m : ℕ) (doc short long : Document) (x y : List ℕ) → Grown behind x y → lines n doc x ≡ Some short → lines m doc y ≡ Some long → NodesGrow short.0 long.0
+lines_keep : {behind : List ℕ} → (n m : ℕ) (doc short long : Document) (x y : List ℕ) → GoesOn behind x y → lines n doc x ≡ Some short → lines m doc y ≡ Some long → NodesGrow short.0 long.0
 unfolding lines
 lines_keep zero m doc short long x y g a b = absurd (none-some short a)
 lines_keep (suc n) zero doc short long x y g a b = absurd (none-some long b)
@@ -70,14 +70,14 @@ lines_keep (suc n) (suc m) doc short long x y g a b =
           after_keeps n m doc short long (line (skip_blank x)) (line (skip_blank y)) (line_kept _ _ rest) (λ next v w h c d. lines_keep n m next short long v w h c d) (rw some at a) (rw long_some at b)
     ]
 
-pub grown_from : (text more : List ℕ) → Grown more (text ++ 10 ∷ []) (text ++ 10 ∷ more)
+pub grown_from : (text more : List ℕ) → GoesOn more (text ++ 10 ∷ []) (text ++ 10 ∷ more)
 grown_from [] more = here
 grown_from (c ∷ text) more = next c _ _ (grown_from text more)
 
 no_bom : (c : ℕ) → (c == 0xEF && false) ≡ false
 no_bom c = grind (arith, nat_tests)
 
-pub bom_grown : {behind : List ℕ} → (x y : List ℕ) → Grown behind x y → Grown behind (skip_bom x) (skip_bom y)
+pub bom_grown : {behind : List ℕ} → (x y : List ℕ) → GoesOn behind x y → GoesOn behind (skip_bom x) (skip_bom y)
 unfolding skip_bom
 bom_grown x y here = here
 bom_grown x y (next c xs ys here) = rw (no_bom c) (next c xs ys here)

@@ -6,7 +6,7 @@ use Rattle.std.specs.Cmp.Lexicographic.{slice_cmp}
 use Rattle.std.specs.Option.{option_map_or}
 use Rattle.toml.specs.Data.{Data, table, get_member, same_key, push_item}
 use Rattle.toml.specs.Tables.{implicit, dotted, header, Node, value, open_table, open_array, Nodes, no_nodes, node, get_node, insert, replace, close, close_node, Edit, header_node, dot_node, by_header, by_dot, along_header, along_dots, Definition, key_value, std_table, array_table, new_node, redefine, at_found, at_key, put, Document, Expression, define_as, define}
-use Rattle.nextest_script_order.proofs.Growth.{cases_ordering, map_some, get_close, same_bytes}
+use Rattle.nextest_script_order.proofs.KeptNodes.{cases_ordering, map_some, get_close, same_bytes}
 
 -- how a path stands in a value: nothing is at its end, or something is, or something that is no table is in its way
 pub data Standing : Type 0 where

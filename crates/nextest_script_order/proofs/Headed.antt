@@ -6,7 +6,7 @@ use Rattle.toml_parser.specs.Lexical.{Read, first, skip_blank, skip_from, skip_w
 use Rattle.toml_parser.specs.Strings.{Key}
 use Rattle.toml.specs.Tables.{Definition, std_table, array_table, Expression}
 use Rattle.toml.specs.Parse.{after_byte, ends_line, expression, header_key, line, skip_bom}
-use Rattle.nextest_script_order.proofs.Growth.{map_some}
+use Rattle.nextest_script_order.proofs.KeptNodes.{map_some}
 use Rattle.nextest_script_order.proofs.Joined.{Agree}
 
 pub not_blank : (x : List ℕ) → first x ≡ 91 → skip_blank x ≡ x

@@ -5,7 +5,7 @@ use Rattle.std.proofs.lemmas.Option.{none-some, same_Some}
 use Rattle.toml_parser.specs.Lexical.{Read, first, skip_turn, skip_from, skip_blank}
 use Rattle.toml.specs.Tables.{Document, Expression, define}
 use Rattle.toml.specs.Parse.{line, lines}
-use Rattle.nextest_script_order.proofs.Grown.{Grown, here, next, first_same}
+use Rattle.nextest_script_order.proofs.GoesOn.{GoesOn, here, next, first_same}
 use Rattle.nextest_script_order.proofs.Kept.{Kept}
 use Rattle.nextest_script_order.proofs.Values.{line_kept}
 use Rattle.nextest_script_order.proofs.Documents.{after_line, not_over, not_over_long}
@@ -82,8 +82,8 @@ module _ (j : List ℕ) (path : List (List ℕ)) where
       ]
 
 -- white space, newlines and comments, up to where the text goes on
-skip_joined : {behind : List ℕ} → (comments : Bool) (x y : List ℕ) → Grown behind x y → (inside : Bool)
-    → ((skip_from comments inside x ≡ []) × (skip_from comments inside y ≡ skip_from comments false behind)) ⊎ Grown behind (skip_from comments inside x) (skip_from comments inside y)
+skip_joined : {behind : List ℕ} → (comments : Bool) (x y : List ℕ) → GoesOn behind x y → (inside : Bool)
+    → ((skip_from comments inside x ≡ []) × (skip_from comments inside y ≡ skip_from comments false behind)) ⊎ GoesOn behind (skip_from comments inside x) (skip_from comments inside y)
 unfolding skip_from
 skip_joined comments x y here inside = inl (refl, refl)
 skip_joined comments x y (next c xs ys g) inside =
@@ -128,14 +128,14 @@ front_defined n e small large s l (Some a) None h rec x y = absurd (none-some l 
 front_defined n e small large s l (Some a) (Some b) h rec x y = rec a b x y
 
 front_after : {behind : List ℕ} → (n m : ℕ) (small large s l : Document) (r q : Read Expression) → Kept behind r q
-    → ((a b : Document) (v w : List ℕ) → Grown behind v w → lines n a v ≡ Some s → lines m b w ≡ Some l → Runs n b v)
+    → ((a b : Document) (v w : List ℕ) → GoesOn behind v w → lines n a v ≡ Some s → lines m b w ≡ Some l → Runs n b v)
     → after_line n small r ≡ Some s → after_line m large q ≡ Some l → (t : Document) × (after_line n large r ≡ Some t)
 front_after n m small large s l None q k rec x y = absurd (none-some s x)
 front_after n m small large s l (Some e) q k rec x y =
     let (w, g, same) = k in
     front_defined n e small large s l (define small e.0) (define large e.0) (λ next. lines m next w) (λ a b u v. rec a b e.1 w g u v) x (rw same at y)
 
-pub front_runs : {behind : List ℕ} → (n m : ℕ) (small large s l : Document) (x y : List ℕ) → Grown behind x y → lines n small x ≡ Some s → lines m large y ≡ Some l → Runs n large x
+pub front_runs : {behind : List ℕ} → (n m : ℕ) (small large s l : Document) (x y : List ℕ) → GoesOn behind x y → lines n small x ≡ Some s → lines m large y ≡ Some l → Runs n large x
 unfolding lines
 front_runs zero m small large s l x y g a b = absurd (none-some s a)
 front_runs (suc n) zero small large s l x y g a b = absurd (none-some l b)
@@ -154,14 +154,14 @@ defined_on mid last f h None rec x = absurd (none-some mid x)
 defined_on mid last f h (Some a) rec x = rec a x
 
 joined_after : {behind : List ℕ} → (n k : ℕ) (doc mid last : Document) (r q : Read Expression) → Kept behind r q
-    → ((a : Document) (v w : List ℕ) → Grown behind v w → lines n a v ≡ Some mid → lines k a w ≡ Some last)
+    → ((a : Document) (v w : List ℕ) → GoesOn behind v w → lines n a v ≡ Some mid → lines k a w ≡ Some last)
     → after_line n doc r ≡ Some mid → after_line k doc q ≡ Some last
 joined_after n k doc mid last None q kept rec x = absurd (none-some mid x)
 joined_after n k doc mid last (Some e) q kept rec x =
     let (w, g, same) = kept in
     rw same (defined_on mid last (λ next. lines n next e.1) (λ next. lines k next w) (define doc e.0) (λ a u. rec a e.1 w g u) x)
 
-pub joined_runs : {behind : List ℕ} → (n m : ℕ) (doc mid last : Document) (x y : List ℕ) → Grown behind x y → lines n doc x ≡ Some mid → lines (suc m) mid behind ≡ Some last → lines (n + m) doc y ≡ Some last
+pub joined_runs : {behind : List ℕ} → (n m : ℕ) (doc mid last : Document) (x y : List ℕ) → GoesOn behind x y → lines n doc x ≡ Some mid → lines (suc m) mid behind ≡ Some last → lines (n + m) doc y ≡ Some last
 unfolding lines
 joined_runs zero m doc mid last x y g a b = absurd (none-some mid a)
 joined_runs {behind} (suc n) m doc mid last x y g a b =
@@ -184,14 +184,14 @@ split_defined behind mid last f h None rec x y = absurd (none-some mid x)
 split_defined behind mid last f h (Some a) rec x y = rec a x y
 
 split_after : (behind : List ℕ) (n m : ℕ) (doc mid last : Document) (r q : Read Expression) → Kept behind r q
-    → ((a : Document) (v w : List ℕ) → Grown behind v w → lines n a v ≡ Some mid → lines m a w ≡ Some last → (k : ℕ) × (lines k mid behind ≡ Some last))
+    → ((a : Document) (v w : List ℕ) → GoesOn behind v w → lines n a v ≡ Some mid → lines m a w ≡ Some last → (k : ℕ) × (lines k mid behind ≡ Some last))
     → after_line n doc r ≡ Some mid → after_line m doc q ≡ Some last → (k : ℕ) × (lines k mid behind ≡ Some last)
 split_after behind n m doc mid last None q kept rec x y = absurd (none-some mid x)
 split_after behind n m doc mid last (Some e) q kept rec x y =
     let (w, g, same) = kept in
     split_defined behind mid last (λ next. lines n next e.1) (λ next. lines m next w) (define doc e.0) (λ a u v. rec a e.1 w g u v) x (rw same at y)
 
-pub split_runs : {behind : List ℕ} → (n m : ℕ) (doc mid last : Document) (x y : List ℕ) → Grown behind x y → lines n doc x ≡ Some mid → lines m doc y ≡ Some last → (k : ℕ) × (lines k mid behind ≡ Some last)
+pub split_runs : {behind : List ℕ} → (n m : ℕ) (doc mid last : Document) (x y : List ℕ) → GoesOn behind x y → lines n doc x ≡ Some mid → lines m doc y ≡ Some last → (k : ℕ) × (lines k mid behind ≡ Some last)
 unfolding lines
 split_runs zero m doc mid last x y g a b = absurd (none-some mid a)
 split_runs (suc n) zero doc mid last x y g a b = absurd (none-some last b)

@@ -5,13 +5,13 @@ mod Documents
 mod Filters
 mod Fronts
 mod Gains
-mod Grown
-mod Growth
-mod Halves
+mod GoesOn
 mod Headed
+mod IsOrder
 mod Joined
 mod Keeping
 mod Kept
+mod KeptNodes
 mod Longer
 mod Placing
 mod Sections

@@ -7,7 +7,7 @@ use Rattle.nextest_script_order.specs.Lines.{first_lines, line_count}
 use Rattle.nextest_script_order.specs.Standing.{has_id}
 use Rattle.nextest_script_order.specs.Order.{placed_before}
 use Rattle.nextest_script_order.specs.Search.{AppearBetween, IsDocument, IsPlacedUpTo, TellsBetween}
-use Rattle.nextest_script_order.proofs.Halves.{halves, early_between, late_between}
+use Rattle.nextest_script_order.proofs.IsOrder.{halves, early_between, late_between}
 use Rattle.nextest_script_order.proofs.Sections.{early_told, late_told, some_of}
 
 module _ (path : Path) (text : List ℕ) where

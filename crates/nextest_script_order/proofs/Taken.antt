@@ -18,7 +18,7 @@ use Rattle.toml.specs.View.{members_view}
 use Rattle.toml.proofs.Views.{Entry}
 use Rattle.nextest_script_order.specs.Standing.{IdsAscend, has_id, is_among}
 use Rattle.nextest_script_order.proofs.Filters.{all_map, filter_same}
-use Rattle.nextest_script_order.proofs.Growth.{cases_ordering}
+use Rattle.nextest_script_order.proofs.KeptNodes.{cases_ordering}
 use Rattle.nextest_script_order.proofs.Tables.{at_end, node_of}
 
 -- each of some ids comes after one

@@ -8,7 +8,7 @@ use Rattle.toml_parser.specs.Numbers.{unquoted, word_len}
 use Rattle.toml.specs.Data.{Data, string, array, table, Items, no_items, push_item}
 use Rattle.toml.specs.Tables.{Nodes, no_nodes, put, key_value, std_table, array_table}
 use Rattle.toml.specs.Parse.{read_map, after_byte, after_element, key_equals, keyval, items, members, scalar_data, atom, val, header_key, expression, ends_line, line}
-use Rattle.nextest_script_order.proofs.Grown.{Grown, here, next, first_same, second_same, within, after_first, skip_ws_grown, skip_grown}
+use Rattle.nextest_script_order.proofs.GoesOn.{GoesOn, here, next, first_same, second_same, within, after_first, skip_ws_grown, skip_grown}
 use Rattle.nextest_script_order.proofs.Kept.{Kept, kept_bind, kept_map}
 use Rattle.nextest_script_order.proofs.Texts.{quoted_kept, key_kept}
 use Rattle.nextest_script_order.proofs.Words.{unquoted_kept}
@@ -16,9 +16,9 @@ use Rattle.nextest_script_order.proofs.Words.{unquoted_kept}
 -- the same for a text alone
 abbrev pub KeptRest : List ℕ → Option (List ℕ) → Option (List ℕ) → Type 0
 KeptRest behind None s = Unit {0}
-KeptRest behind (Some x) s = (y : List ℕ) × Grown behind x y × (s ≡ Some y)
+KeptRest behind (Some x) s = (y : List ℕ) × GoesOn behind x y × (s ≡ Some y)
 
-rest_bind : {behind : List ℕ} → {B : Type 0} (r s : Option (List ℕ)) (f h : List ℕ → Read B) → KeptRest behind r s → ((x y : List ℕ) → Grown behind x y → Kept behind (f x) (h y)) → Kept behind (option_and_then f r) (option_and_then h s)
+rest_bind : {behind : List ℕ} → {B : Type 0} (r s : Option (List ℕ)) (f h : List ℕ → Read B) → KeptRest behind r s → ((x y : List ℕ) → GoesOn behind x y → Kept behind (f x) (h y)) → Kept behind (option_and_then f r) (option_and_then h s)
 rest_bind None s f h k then = tt
 rest_bind (Some x) s f h k then = let (y, g, e) = k in rw e (then x y g)
 
@@ -34,7 +34,7 @@ kept_after : (behind : List ℕ) → {A B : Type 0} (o : Option A) (f h : A → 
 kept_after behind None f h then = tt
 kept_after behind (Some v) f h then = then v
 
-byte_kept : {behind : List ℕ} → (byte : ℕ) (x y : List ℕ) → (byte == 10) ≡ false → Grown behind x y → KeptRest behind (after_byte byte x) (after_byte byte y)
+byte_kept : {behind : List ℕ} → (byte : ℕ) (x y : List ℕ) → (byte == 10) ≡ false → GoesOn behind x y → KeptRest behind (after_byte byte x) (after_byte byte y)
 byte_kept byte x y other g =
     rw (← first_same x y g) (elim (cases_Bool (first x == byte)) [
       | inl at ↦
@@ -43,7 +43,7 @@ byte_kept byte x y other g =
       | inr none ↦ rw none tt
     ])
 
-element_kept : {behind : List ℕ} → (closing : ℕ) (x y : List ℕ) → (0 == closing) ≡ false → Grown behind x y → KeptRest behind (after_element closing x) (after_element closing y)
+element_kept : {behind : List ℕ} → (closing : ℕ) (x y : List ℕ) → (0 == closing) ≡ false → GoesOn behind x y → KeptRest behind (after_element closing x) (after_element closing y)
 unfolding after_element
 element_kept closing x y some g =
     elim (skip_grown true x y g false) [
@@ -61,7 +61,7 @@ element_kept closing x y some g =
           ])
     ]
 
-key_equals_kept : {behind : List ℕ} → (x y : List ℕ) → Grown behind x y → Kept behind (key_equals x) (key_equals y)
+key_equals_kept : {behind : List ℕ} → (x y : List ℕ) → GoesOn behind x y → Kept behind (key_equals x) (key_equals y)
 unfolding key_equals
 key_equals_kept x y g =
     kept_bind (key x) (key y) (λ k. option_map (λ rest. (k.0, skip_ws rest)) (after_byte 61 k.1)) (λ k. option_map (λ rest. (k.0, skip_ws rest)) (after_byte 61 k.1)) (key_kept 80 [] x y g)
@@ -73,7 +73,7 @@ key_equals_end = refl
 
 -- a reader that keeps, and reads nothing at the end of the text
 pub record Keeps {A : Type 0} (read : List ℕ → Read A) : Type 0 where
-  pub kept : {behind : List ℕ} → (x y : List ℕ) → Grown behind x y → Kept behind (read x) (read y)
+  pub kept : {behind : List ℕ} → (x y : List ℕ) → GoesOn behind x y → Kept behind (read x) (read y)
   pub over : read [] ≡ None
 
 keyval_keeps : (v : List ℕ → Read Data) → Keeps v → Keeps (keyval v)
@@ -82,7 +82,7 @@ keyval_keeps v k = record {
   over = rw key_equals_end refl;
 }
 
-items_kept : {behind : List ℕ} → (v : List ℕ → Read Data) → Keeps v → (n m : ℕ) (found : Items) (x y : List ℕ) → n ≤ m → Grown behind x y → Kept behind (items v n found x) (items v m found y)
+items_kept : {behind : List ℕ} → (v : List ℕ → Read Data) → Keeps v → (n m : ℕ) (found : Items) (x y : List ℕ) → n ≤ m → GoesOn behind x y → Kept behind (items v n found x) (items v m found y)
 unfolding items
 items_kept v k zero m found x y room g = tt
 items_kept v k (suc n) zero found x y room g = absurd (omega arith)
@@ -101,7 +101,7 @@ items_kept v k (suc n) (suc m) found x y room g =
           ])
     ]
 
-members_kept : {behind : List ℕ} → (v : List ℕ → Read Data) → Keeps v → (n m : ℕ) (found : Nodes) (x y : List ℕ) → n ≤ m → Grown behind x y → Kept behind (members v n found x) (members v m found y)
+members_kept : {behind : List ℕ} → (v : List ℕ → Read Data) → Keeps v → (n m : ℕ) (found : Nodes) (x y : List ℕ) → n ≤ m → GoesOn behind x y → Kept behind (members v n found x) (members v m found y)
 unfolding members
 members_kept v k zero m found x y room g = tt
 members_kept v k (suc n) zero found x y room g = absurd (omega arith)
@@ -154,17 +154,17 @@ val_keeps (suc depth) =
       over = atom_keeps.over;
     }
 
-header_kept : {behind : List ℕ} → (x y : List ℕ) → Grown behind x y → Kept behind (header_key x) (header_key y)
+header_kept : {behind : List ℕ} → (x y : List ℕ) → GoesOn behind x y → Kept behind (header_key x) (header_key y)
 unfolding header_key
 header_kept x y g =
     kept_bind (key (skip_ws x)) (key (skip_ws y)) (λ k. option_map (λ rest. (k.0, rest)) (after_byte 93 k.1)) (λ k. option_map (λ rest. (k.0, rest)) (after_byte 93 k.1)) (key_kept 80 [] _ _ (skip_ws_grown x y g))
     (λ k v w h. rest_map _ k (after_byte 93 v) (after_byte 93 w) (byte_kept 93 v w refl h))
 
-after_two : {behind : List ℕ} → (x y : List ℕ) → Grown behind x y → (first x == 10) ≡ false → (slice_index x 1 == 10) ≡ false → Grown behind (drop 2 x) (drop 2 y)
+after_two : {behind : List ℕ} → (x y : List ℕ) → GoesOn behind x y → (first x == 10) ≡ false → (slice_index x 1 == 10) ≡ false → GoesOn behind (drop 2 x) (drop 2 y)
 after_two x y here a b = absurd (true≢false a)
 after_two x y (next e xs ys g) a b = after_first xs ys g b
 
-pub expression_kept : {behind : List ℕ} → (x y : List ℕ) → Grown behind x y → Kept behind (expression x) (expression y)
+pub expression_kept : {behind : List ℕ} → (x y : List ℕ) → GoesOn behind x y → Kept behind (expression x) (expression y)
 unfolding expression
 expression_kept x y g =
     rw (← first_same x y g) (elim (cases_Bool (first x == 91)) [
@@ -181,14 +181,14 @@ expression_kept x y g =
           ])
     ])
 
-ends_same : {behind : List ℕ} → (x y : List ℕ) → Grown behind x y → ends_line x ≡ ends_line y
+ends_same : {behind : List ℕ} → (x y : List ℕ) → GoesOn behind x y → ends_line x ≡ ends_line y
 ends_same x y here = grind (arith, nat_tests)
 ends_same x y (next c xs ys g) =
     let a : (suc (length xs) == 0) ≡ false = grind (arith, nat_tests) in
     let b : (suc (length ys) == 0) ≡ false = grind (arith, nat_tests) in
     rw (a, b) refl
 
-pub line_kept : {behind : List ℕ} → (x y : List ℕ) → Grown behind x y → Kept behind (line x) (line y)
+pub line_kept : {behind : List ℕ} → (x y : List ℕ) → GoesOn behind x y → Kept behind (line x) (line y)
 unfolding line
 line_kept x y g =
     kept_bind (expression x) (expression y) (λ e. cond (ends_line (skip_ws e.1)) (Some e) None) (λ e. cond (ends_line (skip_ws e.1)) (Some e) None) (expression_kept x y g)

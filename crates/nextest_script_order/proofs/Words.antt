@@ -8,21 +8,21 @@ use Rattle.std.specs.List.{prefix_len}
 use Rattle.toml_parser.specs.Lexical.{first, is_word}
 use Rattle.toml_parser.specs.Numbers.{word_value, word_len, unquoted}
 use Rattle.toml_parser.specs.declared.scalar.Scalar.{Scalar}
-use Rattle.nextest_script_order.proofs.Grown.{Grown, here, next, first_same, second_same, after_first, run_same}
+use Rattle.nextest_script_order.proofs.GoesOn.{GoesOn, here, next, first_same, second_same, after_first, run_same}
 use Rattle.nextest_script_order.proofs.Kept.{Kept}
 
-nothing_left : {behind : List ℕ} → (y : List ℕ) → Grown behind [] y → ⊥
+nothing_left : {behind : List ℕ} → (y : List ℕ) → GoesOn behind [] y → ⊥
 nothing_left y g = elim g [ ]
 
 drop_none : (n : ℕ) → drop {A = ℕ} n [] ≡ []
 drop_none zero = refl
 drop_none (suc n) = refl
 
-end_of : {behind : List ℕ} → (n : ℕ) (more : List ℕ) → Grown behind (drop n []) (drop n more) → Grown behind [] (drop n more)
+end_of : {behind : List ℕ} → (n : ℕ) (more : List ℕ) → GoesOn behind (drop n []) (drop n more) → GoesOn behind [] (drop n more)
 end_of n more g = rw drop_none at g
 
 -- the fronts are the same where the rests are grown
-front_same : {behind : List ℕ} → (n : ℕ) (x y : List ℕ) → Grown behind x y → Grown behind (drop n x) (drop n y) → take n x ≡ take n y
+front_same : {behind : List ℕ} → (n : ℕ) (x y : List ℕ) → GoesOn behind x y → GoesOn behind (drop n x) (drop n y) → take n x ≡ take n y
 front_same zero x y g rest = refl
 front_same {behind} (suc n) x y here rest = absurd (nothing_left (drop n behind) (end_of n behind rest))
 front_same (suc n) x y (next c xs ys g) rest = ap (λ t. c ∷ t) (front_same n xs ys g rest)
@@ -43,7 +43,7 @@ word_len_from x n e =
 drop_all : (n k : ℕ) (x : List ℕ) → drop (n + 1 + k) x ≡ drop k (drop 1 (drop n x))
 drop_all n k x = sym (ap (drop k) (drop-drop 1 n x) ∙ drop-drop k (n + 1) x)
 
-pub word_same : {behind : List ℕ} → (x y : List ℕ) → Grown behind x y → (word_len x ≡ word_len y) × Grown behind (drop (word_len x) x) (drop (word_len x) y)
+pub word_same : {behind : List ℕ} → (x y : List ℕ) → GoesOn behind x y → (word_len x ≡ word_len y) × GoesOn behind (drop (word_len x) x) (drop (word_len x) y)
 word_same x y g =
     let (same, rest, front) = run_same is_word x y g refl in
     let n = prefix_len is_word x in
@@ -61,11 +61,11 @@ word_same x y g =
           ])
     ])
 
-scalar_from : {behind : List ℕ} → (o : Option Scalar) (r s : List ℕ) → Grown behind r s → Kept behind (option_map (λ d. (d, r)) o) (option_map (λ d. (d, s)) o)
+scalar_from : {behind : List ℕ} → (o : Option Scalar) (r s : List ℕ) → GoesOn behind r s → Kept behind (option_map (λ d. (d, r)) o) (option_map (λ d. (d, s)) o)
 scalar_from None r s g = tt
 scalar_from (Some d) r s g = (s, g, refl)
 
-pub unquoted_kept : {behind : List ℕ} → (x y : List ℕ) → Grown behind x y → Kept behind (unquoted x) (unquoted y)
+pub unquoted_kept : {behind : List ℕ} → (x y : List ℕ) → GoesOn behind x y → Kept behind (unquoted x) (unquoted y)
 unfolding unquoted
 unquoted_kept x y g =
     let (same, rest) = word_same x y g in

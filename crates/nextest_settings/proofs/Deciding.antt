@@ -11,7 +11,7 @@ use Rattle.nextest_settings.specs.Queries.{written_value, written_origin, value_
 use Rattle.nextest_settings.specs.Settings.{sets, is_set, fallback_of}
 use Rattle.nextest_settings.specs.declared.setting.Setting.{Setting}
 use Rattle.nextest_settings.specs.declared.setting.Setting.TheVariants as at
-use Rattle.nextest_settings.proofs.AskedAlone.{more-holds, more-fails, stays}
+use Rattle.nextest_settings.proofs.Winner.{more-holds, more-fails, stays}
 
 -- what fails a test is not found
 found_without : {X : Type 0} (passes : X → Bool) (xs : List X) (x : X) (ys : List X) → passes x ≡ false → find passes (xs ++ x ∷ ys) ≡ find passes (xs ++ ys)

@@ -1,11 +1,9 @@
 pub mod AtName
 pub mod FilterMap
 pub mod AreValues
-pub mod SlotsWithRule
-pub mod AfterRule
-pub mod WinnersOf
-pub mod IsOpen
-pub mod AskedAlone
+pub mod Winner
+pub mod Listed
+pub mod Wrapped
 pub mod ScriptTables
 pub mod FallbackOf
 pub mod ValueBy
@@ -14,6 +12,7 @@ pub mod Rising
 pub mod StandsFirst
 pub mod LastGroup
 pub mod StandsOnce
+pub mod IsIndex
 pub mod IsEvaluated
 pub mod IsEvaluatedForTest
 pub mod EachRule

@@ -24,7 +24,7 @@ all_places : PlacesFrom 0 settings
 unfolding settings
 all_places = (refl, (refl, (refl, (refl, (refl, (refl, (refl, (refl, (refl, (refl, (refl, (refl, (refl, (refl, (refl, tt)))))))))))))))
 
-at_place : (s : Setting) → slice_get settings (index_of s) ≡ Some s
+pub at_place : (s : Setting) → slice_get settings (index_of s) ≡ Some s
 unfolding settings
 at_place at.Priority = refl
 at_place at.ThreadsRequired = refl

@@ -9,6 +9,7 @@ pub mod Engines
 pub mod View
 pub mod FilterView
 pub mod ChainValues
+pub mod Index
 pub mod Pass
 pub mod SourceView
 pub mod SettingsView

@@ -17,7 +17,9 @@ use std::collections::BTreeMap;
 /// The rules of a chain of profiles, in order.
 #[derive(Drop)]
 pub struct ChainRules<'cfg, F: Filters, S: Specs> {
+    /// Overrides, in order of chain, file and index.
     pub overrides: Vec<&'cfg CompiledOverride<F, S>>,
+    /// Script rules, in the same order.
     pub script_rules: Vec<&'cfg CompiledProfileScripts<F, S>>,
 }
 

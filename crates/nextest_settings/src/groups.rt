@@ -169,7 +169,9 @@ impl<'cfg, F: Filters, S: Specs> EvaluatedRules<'cfg, F, S> {
         ensures tally { (added : List ℕ)
             × (F.Tally.numbers tally.new ≡ F.Tally.numbers tally.old ++ added) }
     {
-        let winners = winners(&self.overrides, NextestRunMode::Test, query, cx, tally);
+        let mode = NextestRunMode::Test;
+        let rows = self.override_rows(query.binary_query.platform, mode);
+        let winners = winners(&self.overrides, rows, mode, query, cx, tally);
         match group_slot(&winners[..]) {
             Some(rule) => written_group(rule.rule.settings()),
             None => None,

@@ -5,6 +5,7 @@ mod default_filter;
 mod evaluated;
 mod gather;
 mod groups;
+mod index;
 mod laws;
 mod list_settings;
 mod pass;
@@ -23,6 +24,7 @@ pub use default_filter::{
 pub use evaluated::EvaluatedRules;
 pub use gather::{ChainRules, fields_of, rules_of};
 pub use groups::{GroupLookup, PrecomputedGroupMembership};
+pub use index::{Place, PlatformIndex, RuleIndex, Wrapper};
 pub use laws::{
     law_all_settings, law_evaluated_at_most_once, law_evaluated_exactly, law_first_override,
     law_first_script_rule, law_rule_order,

@@ -9,6 +9,7 @@ ghost use Rattle.nextest_settings.specs.Queries.{AnswerForBinaries, list_wrapper
 ghost use Rattle.nextest_settings.specs.View.{meant_script_rule, KnowsListWrappers};
 
 use crate::evaluated::EvaluatedRules;
+use crate::index::Wrapper;
 use crate::wrappers::list_wrapper;
 use nextest_engines::{BinaryQuery, EvalContext, Filters, Specs, Tally};
 use nextest_load::ScriptConfig;
@@ -82,6 +83,7 @@ impl<'cfg, F: Filters, S: Specs> EvaluatedRules<'cfg, F, S> {
         ListSettings {
             list_wrapper: list_wrapper(
                 &self.script_rules,
+                self.wrapper_rows(query.platform, Wrapper::List),
                 scripts,
                 self.overrides.len(),
                 query,

@@ -21,6 +21,7 @@ ghost use Rattle.nextest_tables.specs.View.{settings_view};
 ghost use Rattle.nextest_tables.specs.Written.{WrittenFields};
 
 use crate::evaluated::EvaluatedRules;
+use crate::index::Wrapper;
 use crate::pass::winners;
 use crate::platforms::EvaluatedOverride;
 use crate::setting::{SETTING_COUNT, Setting};
@@ -99,15 +100,24 @@ impl<'cfg, F: Filters, S: Specs> EvaluatedRules<'cfg, F, S> {
         let cx = EvalContext {
             default_filter: self.default_filter.expr,
         };
+        let platform = query.binary_query.platform;
         TestSettings {
             values,
             mode,
             global_group: TestGroup::Global,
             winners: Winners {
-                slots: winners(&self.overrides, mode, query, &cx, tally),
+                slots: winners(
+                    &self.overrides,
+                    self.override_rows(platform, mode),
+                    mode,
+                    query,
+                    &cx,
+                    tally,
+                ),
             },
             run_wrapper: run_wrapper(
                 &self.script_rules,
+                self.wrapper_rows(platform, Wrapper::Run),
                 scripts,
                 self.overrides.len(),
                 query,

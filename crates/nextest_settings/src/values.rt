@@ -16,56 +16,82 @@ use nextest_tables::ProfileFields;
 /// What a chain says of each test.
 #[derive(Clone, Copy)]
 pub struct TestValues<'cfg> {
+    /// `retries`.
     pub retries: RetryPolicy,
+    /// `flaky-result`.
     pub flaky_result: FlakyResult,
+    /// `threads-required`.
     pub threads_required: ThreadsRequired,
+    /// `run-extra-args`, in order.
     pub run_extra_args: &'cfg [String],
+    /// `slow-timeout`, in tests.
     pub slow_timeout: SlowTimeout,
+    /// `leak-timeout`.
     pub leak_timeout: LeakTimeout,
+    /// `success-output`.
     pub success_output: TestOutputDisplay,
+    /// `failure-output`.
     pub failure_output: TestOutputDisplay,
 }
 
 /// What a chain says of the whole run.
 #[derive(Clone, Copy)]
 pub struct RunValues {
+    /// `test-threads`.
     pub test_threads: TestThreads,
+    /// `status-level`.
     pub status_level: StatusLevel,
+    /// `final-status-level`.
     pub final_status_level: FinalStatusLevel,
+    /// `fail-fast`: how many tests may fail.
     pub max_fail: MaxFail,
+    /// `global-timeout`, in tests.
     pub global_timeout: GlobalTimeout,
 }
 
 /// What a report stores of each test.
 #[derive(Clone, Copy)]
 pub struct StoredValues {
+    /// `junit.store-success-output`.
     pub success_output: bool,
+    /// `junit.store-failure-output`.
     pub failure_output: bool,
+    /// `junit.report-skipped`.
     pub skipped: ReportSkipPolicy,
+    /// `junit.flaky-fail-status`.
     pub flaky_fail_status: JunitFlakyFailStatus,
 }
 
 /// What a chain says of its report.
 #[derive(Clone, Copy)]
 pub struct ReportValues<'cfg> {
+    /// `junit.path`; no report is written without it.
     pub path: Option<&'cfg str>,
+    /// `junit.report-name`.
     pub name: &'cfg str,
+    /// What is stored where a report is written.
     pub stored: StoredValues,
 }
 
 /// What a chain says of benchmarks.
 #[derive(Clone, Copy)]
 pub struct BenchValues {
+    /// `bench.slow-timeout`.
     pub slow_timeout: SlowTimeout,
+    /// `bench.global-timeout`.
     pub global_timeout: GlobalTimeout,
 }
 
 /// The values of a chain of profiles, which stand behind the rules.
 #[derive(Clone, Copy)]
 pub struct ProfileValues<'cfg> {
+    /// What holds for each test.
     pub tests: TestValues<'cfg>,
+    /// What holds for the whole run.
     pub run: RunValues,
+    /// What holds for the report.
     pub report: ReportValues<'cfg>,
+    /// What holds in benchmarks.
     pub bench: BenchValues,
 }
 

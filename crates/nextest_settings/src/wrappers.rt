@@ -1,15 +1,18 @@
 //! Wrapper scripts: the first script rule that holds and names one.
-ghost use Rattle.std.specs.Prelude.{◌≡◌, ℕ, IfSome, IsSome, IsTrue, slice_get, ◌++◌, ◌∷◌, ◌<◌, ◌+◌, ◌^◌, ◌&&◌, [], length, map, option_map, option_and_then, is_some, if◌then◌else◌, Some};
+ghost use Rattle.std.specs.Prelude.{◌≡◌, ℕ, IfSome, IsSome, slice_get, ◌++◌, ◌∷◌, ◌&&◌, [], map, option_map, option_and_then, is_some, if◌then◌else◌, Some};
 ghost use Rattle.nextest_load.specs.ConfigView.{scripts_view};
 ghost use Rattle.nextest_rules.specs.Rules.{at_name};
 ghost use Rattle.nextest_scripts.specs.ScriptId.{script_text};
 ghost use Rattle.nextest_scripts.specs.ScriptTexts.{wrapper_script_view};
 ghost use Rattle.nextest_settings.specs.Deciding.{asked_from, filter_holds, rule_holds, winner};
 ghost use Rattle.nextest_settings.specs.Engines.{test_query_by, binary_query_by};
+ghost use Rattle.nextest_settings.specs.Index.{script_tests};
 ghost use Rattle.nextest_settings.specs.Pass.{asked_alone};
 ghost use Rattle.nextest_settings.specs.Queries.{binary_query, HasBinaryAnswers, AnswerForBinaries, wrapping_rule, list_wrapper_by, listed_by};
 ghost use Rattle.nextest_settings.specs.View.{meant_script_rule, script_rule_ref_view, KnowsRunWrappers, KnowsListWrappers};
+ghost use Rattle.nextest_settings.specs.declared.index.Wrapper.{Wrapper};
 ghost use Rattle.nextest_tables.specs.FileTexts.{names_in, IsIn};
+ghost use Rattle.rule_lists.specs.Rows.{rows_of};
 
 use crate::pass::matches_test;
 use crate::platforms::EvaluatedScriptRule;
@@ -17,6 +20,7 @@ use nextest_engines::{BinaryQuery, EvalContext, Filters, Specs, Tally, TestQuery
 use nextest_load::ScriptConfig;
 use nextest_rules::CompiledProfileScripts;
 use nextest_scripts::{ScriptId, WrapperScriptConfig};
+use rule_lists::{Query, Row, walk_rows};
 
 /// Whether a filter matches a binary, if there is one.
 fn matches_binary<F: Filters>(
@@ -63,39 +67,89 @@ pub(crate) fn holds_for_test<F: Filters, S: Specs>(
         && matches_test::<F>(rule.rule.filter(), number, query, cx, tally)
 }
 
-/// Whether a script rule holds for a binary and is wanted. Its filter is evaluated where its
-/// platforms hold and it is wanted.
-fn holds_for_binary<F: Filters, S: Specs>(
-    rule: &EvaluatedScriptRule<'_, F, S>,
-    is_wanted: bool,
-    number: usize,
-    query: &BinaryQuery<'_>,
-    cx: &EvalContext<'_, F::Expr>,
-    tally: &mut F::Tally,
-) -> bool
-    requires { IsTrue is_wanted
-        → HasBinaryAnswers F.holds_binary (meant_script_rule F.meaning rule.now).filter }
-    ensures answer { let query = binary_query_by F.Filters cx.now.default_filter.now query.now in
-        result ≡ (rule_holds query (meant_script_rule F.meaning rule.now) && is_wanted) }
-    ensures tally { let query = binary_query_by F.Filters cx.now.default_filter.now query.now in
-        F.Tally.numbers tally.new ≡ F.Tally.numbers tally.old
-        ++ asked_alone query is_wanted (meant_script_rule F.meaning rule.now) number }
-{
-    rule.is_on(query.platform)
-        && is_wanted
-        && matches_binary::<F>(rule.rule.filter(), number, query, cx, tally)
+/// The run wrapper of a test, as script rules are asked for it.
+#[derive(Drop)]
+struct RunWrapperQuery<'q, F: Filters> {
+    query: TestQuery<'q>,
+    cx: EvalContext<'q, F::Expr>,
 }
 
-/// The first script rule that holds for a test and names a run wrapper. Rules are numbered on from
-/// the first number.
+impl<'cfg, F: Filters, S: Specs> Query<EvaluatedScriptRule<'cfg, F, S>> for RunWrapperQuery<'_, F> {
+    ghost use Rattle.std.specs.Prelude.{⊤};
+    ghost use Rattle.nextest_settings.specs.declared.index.Wrapper.{Wrapper};
+
+    type Tally = F::Tally;
+
+    ghost numbers = { F.Tally.numbers };
+
+    ghost tests = { λ q. script_tests q.query.binary_query.platform Wrapper.Run };
+
+    ghost asks = { λ q rule. is_some (meant_script_rule F.meaning rule).filter };
+
+    ghost met = { λ q rule.
+        filter_holds (test_query_by F.Filters q.cx.default_filter.now q.query).matches
+        (meant_script_rule F.meaning rule).filter };
+
+    ghost has_answer = { λ q rule. ⊤ };
+
+    fn is_met(
+        &self,
+        rule: &EvaluatedScriptRule<'cfg, F, S>,
+        number: usize,
+        tally: &mut F::Tally,
+    ) -> bool {
+        matches_test::<F>(rule.rule.filter(), number, &self.query, &self.cx, tally)
+    }
+}
+
+/// The list wrapper of a binary, as script rules are asked for it.
+#[derive(Drop)]
+struct ListWrapperQuery<'q, F: Filters> {
+    query: BinaryQuery<'q>,
+    cx: EvalContext<'q, F::Expr>,
+}
+
+impl<'cfg, F: Filters, S: Specs> Query<EvaluatedScriptRule<'cfg, F, S>>
+    for ListWrapperQuery<'_, F> {
+    ghost use Rattle.nextest_settings.specs.declared.index.Wrapper.{Wrapper};
+
+    type Tally = F::Tally;
+
+    ghost numbers = { F.Tally.numbers };
+
+    ghost tests = { λ q. script_tests q.query.platform Wrapper.List };
+
+    ghost asks = { λ q rule. is_some (meant_script_rule F.meaning rule).filter };
+
+    ghost met = { λ q rule.
+        filter_holds (binary_query_by F.Filters q.cx.default_filter.now q.query).matches
+        (meant_script_rule F.meaning rule).filter };
+
+    ghost has_answer = { λ q rule.
+        HasBinaryAnswers F.holds_binary (meant_script_rule F.meaning rule).filter };
+
+    fn is_met(
+        &self,
+        rule: &EvaluatedScriptRule<'cfg, F, S>,
+        number: usize,
+        tally: &mut F::Tally,
+    ) -> bool {
+        matches_binary::<F>(rule.rule.filter(), number, &self.query, &self.cx, tally)
+    }
+}
+
+/// The first script rule that holds for a test and names a run wrapper, by the rows of the script
+/// rules that count for it. Rules are numbered on from the first number.
 pub(crate) fn run_wrapper_rule<'cfg, F: Filters, S: Specs>(
     rules: &[EvaluatedScriptRule<'cfg, F, S>],
+    rows: &[Row],
     first: usize,
     query: &TestQuery<'_>,
     cx: &EvalContext<'_, F::Expr>,
     tally: &mut F::Tally,
 ) -> Option<EvaluatedScriptRule<'cfg, F, S>>
-    requires { first + length rules.now < 2 ^ 64 }
+    requires { rows.now
+        ≡ rows_of (script_tests query.now.binary_query.platform Wrapper.Run) first rules.now }
     ensures rule { let query = test_query_by F.Filters cx.now.default_filter.now query.now in
         option_map (meant_script_rule F.meaning) result
         ≡ winner query (λ w. is_some w.run_wrapper)
@@ -107,25 +161,27 @@ pub(crate) fn run_wrapper_rule<'cfg, F: Filters, S: Specs>(
     ensures member { IfSome result (λ r. (n : ℕ) × (slice_get rules.now n ≡ Some r)) }
     ensures named { IfSome result (λ r. IsSome (script_rule_ref_view r.rule).writes.run_wrapper) }
 {
-    for (index, rule) in rules.iter().enumerate() {
-        let is_wanted = rule.rule.run_wrapper().is_some();
-        if holds_for_test(rule, is_wanted, first + index, query, cx, tally) {
-            return Some(*rule);
-        }
-    }
-    None
+    let asked: RunWrapperQuery<'_, F> = RunWrapperQuery {
+        query: *query,
+        cx: *cx,
+    };
+    let mut found = [None; 1];
+    walk_rows(&mut found, rows, rules, first, &asked, tally);
+    found[0]
 }
 
-/// The first script rule that holds for a binary and names a list wrapper. Rules are numbered on
-/// from the first number.
+/// The first script rule that holds for a binary and names a list wrapper, by the rows of the script
+/// rules that count for it. Rules are numbered on from the first number.
 pub(crate) fn list_wrapper_rule<'cfg, F: Filters, S: Specs>(
     rules: &[EvaluatedScriptRule<'cfg, F, S>],
+    rows: &[Row],
     first: usize,
     query: &BinaryQuery<'_>,
     cx: &EvalContext<'_, F::Expr>,
     tally: &mut F::Tally,
 ) -> Option<EvaluatedScriptRule<'cfg, F, S>>
-    requires room { first + length rules.now < 2 ^ 64 }
+    requires rows { rows.now
+        ≡ rows_of (script_tests query.now.platform Wrapper.List) first rules.now }
     requires answers { AnswerForBinaries F.holds_binary
         (map (meant_script_rule F.meaning) rules.now) }
     ensures rule { let query = binary_query_by F.Filters cx.now.default_filter.now query.now in
@@ -139,13 +195,13 @@ pub(crate) fn list_wrapper_rule<'cfg, F: Filters, S: Specs>(
     ensures member { IfSome result (λ r. (n : ℕ) × (slice_get rules.now n ≡ Some r)) }
     ensures named { IfSome result (λ r. IsSome (script_rule_ref_view r.rule).writes.list_wrapper) }
 {
-    for (index, rule) in rules.iter().enumerate() {
-        let is_wanted = rule.rule.list_wrapper().is_some();
-        if holds_for_binary(rule, is_wanted, first + index, query, cx, tally) {
-            return Some(*rule);
-        }
-    }
-    None
+    let asked: ListWrapperQuery<'_, F> = ListWrapperQuery {
+        query: *query,
+        cx: *cx,
+    };
+    let mut found = [None; 1];
+    walk_rows(&mut found, rows, rules, first, &asked, tally);
+    found[0]
 }
 
 /// The wrapper script of an id that a configuration defines.
@@ -174,13 +230,15 @@ pub(crate) struct RunWrapper<'cfg, F: Filters, S: Specs> {
 /// names one. Rules are numbered on from the first number.
 pub(crate) fn run_wrapper<'cfg, F: Filters, S: Specs>(
     rules: &[EvaluatedScriptRule<'cfg, F, S>],
+    rows: &[Row],
     scripts: &'cfg ScriptConfig,
     first: usize,
     query: &TestQuery<'_>,
     cx: &EvalContext<'_, F::Expr>,
     tally: &mut F::Tally,
 ) -> Option<RunWrapper<'cfg, F, S>>
-    requires room { first + length rules.now < 2 ^ 64 }
+    requires rows { rows.now
+        ≡ rows_of (script_tests query.now.binary_query.platform Wrapper.Run) first rules.now }
     requires known { KnowsRunWrappers (scripts_view scripts.now) rules.now }
     ensures id { let query = test_query_by F.Filters cx.now.default_filter.now query.now in
         option_map (λ w. (script_rule_ref_view w.rule).writes) result
@@ -194,7 +252,7 @@ pub(crate) fn run_wrapper<'cfg, F: Filters, S: Specs>(
         ++ asked_from ((λ w. is_some w.run_wrapper) ∷ []) first query []
         (map (meant_script_rule F.meaning) rules.now) }
 {
-    match run_wrapper_rule(rules, first, query, cx, tally) {
+    match run_wrapper_rule(rules, rows, first, query, cx, tally) {
         Some(found) => Some(RunWrapper {
             rule: found.rule,
             script: wrapper_at(scripts, found.rule.run_wrapper().unwrap()),
@@ -207,13 +265,15 @@ pub(crate) fn run_wrapper<'cfg, F: Filters, S: Specs>(
 /// for it and names one. Rules are numbered on from the first number.
 pub(crate) fn list_wrapper<'cfg, F: Filters, S: Specs>(
     rules: &[EvaluatedScriptRule<'cfg, F, S>],
+    rows: &[Row],
     scripts: &'cfg ScriptConfig,
     first: usize,
     query: &BinaryQuery<'_>,
     cx: &EvalContext<'_, F::Expr>,
     tally: &mut F::Tally,
 ) -> Option<&'cfg WrapperScriptConfig>
-    requires room { first + length rules.now < 2 ^ 64 }
+    requires rows { rows.now
+        ≡ rows_of (script_tests query.now.platform Wrapper.List) first rules.now }
     requires known { KnowsListWrappers (scripts_view scripts.now) rules.now }
     requires answers { AnswerForBinaries F.holds_binary
         (map (meant_script_rule F.meaning) rules.now) }
@@ -225,7 +285,7 @@ pub(crate) fn list_wrapper<'cfg, F: Filters, S: Specs>(
         F.Tally.numbers tally.new ≡ F.Tally.numbers tally.old
         ++ listed_by query first (map (meant_script_rule F.meaning) rules.now) }
 {
-    match list_wrapper_rule(rules, first, query, cx, tally) {
+    match list_wrapper_rule(rules, rows, first, query, cx, tally) {
         Some(found) => Some(wrapper_at(scripts, found.rule.list_wrapper().unwrap())),
         None => None,
     }

@@ -1,5 +1,5 @@
 -- What contracts see of refusals: their source and their cause.
-use Rattle.std.specs.Prelude.{map, Option, Some, None, option_map, string_bytes}
+use Rattle.std.specs.Prelude.{Bool, false, map, Option, Some, None, option_map, string_bytes}
 use Rattle.std.specs.BTreeSet.{BTreeSet, contains_text}
 use Rattle.nextest_tree.specs.Reads.{fault_view}
 use Rattle.nextest_tree.specs.Schema.{is_one_of}
@@ -9,9 +9,9 @@ use Rattle.nextest_inheritance.specs.View.{inherits_error_view}
 use Rattle.nextest_scripts.specs.ScriptId.{script_text}
 use Rattle.nextest_scripts.specs.declared.script_id.ScriptId.{ScriptId}
 use Rattle.nextest_texts.specs.IdentifierText.{tool_name_text}
-use Rattle.nextest_texts.specs.Owner.{no_owner, some_tool}
+use Rattle.nextest_texts.specs.Owner.{no_owner, organisation_owner, some_tool}
 use Rattle.nextest_sources.specs.Causes.{NameSet, RuleSection, in_default_filter, in_override, in_script_rule, CompileCause, no_constraint, two_filters, parse_refusals, CompileFault, UnknownGroup, UnknownScript, WrongScript, ListFilter, ScriptFaults, LoadCause, duplicate_tool, no_text, no_document, bad_element, ill_named_groups, ill_named_scripts, both_script_keys, missing_features, both_script_kinds, bad_parents, compile_refusals, unknown_groups, bad_scripts}
-use Rattle.nextest_sources.specs.Sources.{Source, source_view, outcome_view, path_view}
+use Rattle.nextest_sources.specs.Sources.{Source, source_view, outcome_view, path_view, is_of_organisation}
 use Rattle.nextest_sources.specs.declared.error.compile.ConfigCompileError.{ConfigCompileError}
 use Rattle.nextest_sources.specs.declared.error.compile.ConfigCompileErrorKind.{ConfigCompileErrorKind}
 use Rattle.nextest_sources.specs.declared.error.compile.ConfigCompileErrorKind.TheVariants as causes
@@ -102,6 +102,8 @@ cause_view (kinds.InvalidTestGroupsDefined groups) =
     Some (ill_named_groups no_owner (group_names_view groups))
 cause_view (kinds.InvalidTestGroupsDefinedByTool groups) =
     Some (ill_named_groups some_tool (group_names_view groups))
+cause_view (kinds.InvalidTestGroupsDefinedByOrganisation groups) =
+    Some (ill_named_groups organisation_owner (group_names_view groups))
 cause_view kinds.BothScriptAndScriptsDefined = Some both_script_keys
 cause_view (kinds.ExperimentalFeaturesNotEnabled features) = Some (missing_features features.items)
 cause_view (kinds.DuplicateConfigScriptNames ids) = Some (both_script_kinds (script_names_view ids))
@@ -109,6 +111,8 @@ cause_view (kinds.InvalidConfigScriptsDefined ids) =
     Some (ill_named_scripts no_owner (script_names_view ids))
 cause_view (kinds.InvalidConfigScriptsDefinedByTool ids) =
     Some (ill_named_scripts some_tool (script_names_view ids))
+cause_view (kinds.InvalidConfigScriptsDefinedByOrganisation ids) =
+    Some (ill_named_scripts organisation_owner (script_names_view ids))
 cause_view (kinds.InheritanceErrors errors) =
     Some (bad_parents (map inherits_error_view errors.items))
 cause_view (kinds.CompileErrors errors) =
@@ -122,3 +126,8 @@ cause_view kinds.Memory = None
 -- the source of a refusal
 abbrev pub source_of : ConfigParseError → Option Source
 source_of e = option_map source_view e.source
+
+-- whether a source, if there is one, is the organisation's
+abbrev pub is_organisation_source : Option Source → Bool
+is_organisation_source (Some source) = is_of_organisation source.kind
+is_organisation_source None = false

@@ -24,6 +24,10 @@ kind_label (kinds.CompileErrors errors) = (13, codes "CompileErrors")
 kind_label (kinds.UnknownTestGroups errors known_groups) = (14, codes "UnknownTestGroups")
 kind_label (kinds.ProfileScriptErrors errors known_scripts) = (15, codes "ProfileScriptErrors")
 kind_label kinds.Memory = (16, codes "Memory")
+kind_label (kinds.InvalidTestGroupsDefinedByOrganisation groups) =
+    (17, codes "InvalidTestGroupsDefinedByOrganisation")
+kind_label (kinds.InvalidConfigScriptsDefinedByOrganisation ids) =
+    (18, codes "InvalidConfigScriptsDefinedByOrganisation")
 
 -- the number of a kind
 abbrev pub kind_number : ConfigParseErrorKind → ℕ

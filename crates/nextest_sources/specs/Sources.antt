@@ -1,7 +1,7 @@
 -- What contracts see of files, outcomes and sources.
 use Rattle.std.specs.Prelude.{ℕ, List, Bool, true, false, Option, string_bytes}
 use Rattle.nextest_texts.specs.IdentifierText.{tool_name_text}
-use Rattle.nextest_texts.specs.Owner.{Owner, nobody, a_tool, tool_of_owner}
+use Rattle.nextest_texts.specs.Owner.{Owner, nobody, the_organisation, a_tool, is_the_organisation, tool_of_owner}
 use Rattle.nextest_sources.specs.declared.sources.ConfigPath.{ConfigPath}
 use Rattle.nextest_sources.specs.declared.sources.ReadOutcome.{ReadOutcome}
 use Rattle.nextest_sources.specs.declared.sources.ReadOutcome.TheVariants as outcomes
@@ -15,21 +15,25 @@ use Rattle.nextest_sources.specs.declared.sources.ConfigSourceKind.TheVariants a
 abbrev pub path_view : ConfigPath → List ℕ
 path_view p = string_bytes p.path
 
--- what kind of source a file is: one of a tool, or the repository's, named by a user or looked for
+-- what kind of source a file is: one of a tool, the organisation's, or the repository's, named by a
+-- user or looked for
 pub data SourceKind : Type 0 where
   tool_file : (tool : List ℕ) → SourceKind
+  organisation_file : SourceKind
   explicit_file : SourceKind
   discovered_file : SourceKind
 
 -- what contracts see of a kind of source
 abbrev pub source_kind_view : ConfigSourceKind → SourceKind
 source_kind_view (kinds.Tool tool) = tool_file (tool_name_text tool)
+source_kind_view kinds.Organisation = organisation_file
 source_kind_view kinds.ExplicitRepository = explicit_file
 source_kind_view kinds.DiscoveredRepository = discovered_file
 
--- The owner of a source: a tool owns its file, and nobody the repository's.
+-- The owner of a source: a tool and the organisation own their files, and nobody the repository's.
 abbrev pub owner_of_source : SourceKind → Owner
 owner_of_source (tool_file tool) = a_tool tool
+owner_of_source organisation_file = the_organisation
 owner_of_source explicit_file = nobody
 owner_of_source discovered_file = nobody
 
@@ -41,6 +45,10 @@ may_be_missing _ = false
 -- the tool of a source, where it is one of a tool
 abbrev pub tool_of_source : SourceKind → Option (List ℕ)
 tool_of_source kind = tool_of_owner (owner_of_source kind)
+
+-- whether a source is the organisation's
+abbrev pub is_of_organisation : SourceKind → Bool
+is_of_organisation kind = is_the_organisation (owner_of_source kind)
 
 -- a source: the path of a file, and what kind of source it is
 pub record Source : Type 0 where

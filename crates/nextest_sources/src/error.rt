@@ -8,7 +8,7 @@ mod message;
 mod scripts;
 
 use crate::error::message::{begin_detail, separate, write_detail, write_each, write_names};
-use crate::sources::{ConfigPath, ConfigSource, ReadOutcome};
+use crate::sources::{ConfigPath, ConfigSource, ConfigSourceKind, ReadOutcome};
 pub use compile::{ConfigCompileError, ConfigCompileErrorKind, ConfigCompileSection};
 pub use groups::UnknownTestGroupError;
 use nextest_elements::{ConfigExperimental, CustomTestGroup};
@@ -40,10 +40,12 @@ pub enum ConfigParseErrorKind {
     BuildError(String),
     /// A value is not what may stand there.
     DeserializeError(ElementFault),
-    /// The repository's file defines groups that are a tool's.
+    /// The repository's file defines groups that are a tool's or the organisation's.
     InvalidTestGroupsDefined(BTreeSet<CustomTestGroup>),
     /// A tool's file defines groups that are not its own.
     InvalidTestGroupsDefinedByTool(BTreeSet<CustomTestGroup>),
+    /// The organisation's file defines groups that are not its own.
+    InvalidTestGroupsDefinedByOrganisation(BTreeSet<CustomTestGroup>),
     /// There are scripts under the old key `script` and under `scripts`.
     BothScriptAndScriptsDefined,
     /// The file needs experimental features that are not switched on.
@@ -53,10 +55,12 @@ pub enum ConfigParseErrorKind {
     },
     /// Ids are defined both as setup scripts and as wrapper scripts.
     DuplicateConfigScriptNames(BTreeSet<ScriptId>),
-    /// The repository's file defines scripts that are a tool's.
+    /// The repository's file defines scripts that are a tool's or the organisation's.
     InvalidConfigScriptsDefined(BTreeSet<ScriptId>),
     /// A tool's file defines scripts that are not its own.
     InvalidConfigScriptsDefinedByTool(BTreeSet<ScriptId>),
+    /// The organisation's file defines scripts that are not its own.
+    InvalidConfigScriptsDefinedByOrganisation(BTreeSet<ScriptId>),
     /// Profiles inherit what they may not: one for each profile, `default` first and the others by
     /// name, and then one for all cycles.
     InheritanceErrors(Vec<InheritsError>),
@@ -117,6 +121,12 @@ impl ConfigParseErrorKind {
             ConfigParseErrorKind::UnknownTestGroups { .. } => (14, "UnknownTestGroups"),
             ConfigParseErrorKind::ProfileScriptErrors { .. } => (15, "ProfileScriptErrors"),
             ConfigParseErrorKind::Memory => (16, "Memory"),
+            ConfigParseErrorKind::InvalidTestGroupsDefinedByOrganisation(_) => {
+                (17, "InvalidTestGroupsDefinedByOrganisation")
+            }
+            ConfigParseErrorKind::InvalidConfigScriptsDefinedByOrganisation(_) => {
+                (18, "InvalidConfigScriptsDefinedByOrganisation")
+            }
         }
     }
 
@@ -189,7 +199,8 @@ impl fmt::Display for ConfigParseErrorKind {
             ConfigParseErrorKind::BuildError(message) => write_details(f, message.as_str()),
             ConfigParseErrorKind::DeserializeError(fault) => write_detail(f, fault),
             ConfigParseErrorKind::InvalidTestGroupsDefined(groups)
-            | ConfigParseErrorKind::InvalidTestGroupsDefinedByTool(groups) => {
+            | ConfigParseErrorKind::InvalidTestGroupsDefinedByTool(groups)
+            | ConfigParseErrorKind::InvalidTestGroupsDefinedByOrganisation(groups) => {
                 write_names(f, "test groups", groups)
             }
             ConfigParseErrorKind::ExperimentalFeaturesNotEnabled { missing_features } => {
@@ -197,7 +208,8 @@ impl fmt::Display for ConfigParseErrorKind {
             }
             ConfigParseErrorKind::DuplicateConfigScriptNames(ids)
             | ConfigParseErrorKind::InvalidConfigScriptsDefined(ids)
-            | ConfigParseErrorKind::InvalidConfigScriptsDefinedByTool(ids) => {
+            | ConfigParseErrorKind::InvalidConfigScriptsDefinedByTool(ids)
+            | ConfigParseErrorKind::InvalidConfigScriptsDefinedByOrganisation(ids) => {
                 write_names(f, "scripts", ids)
             }
             ConfigParseErrorKind::InheritanceErrors(errors) => write_each(f, errors),
@@ -244,13 +256,13 @@ impl std::error::Error for ConfigParseError {}
 
 #[tactic(auto, unfolding(crate::specs::Endings::error_view, nextest_tree::specs::Reads::fault_view))]
 impl ConfigParseError {
-    ghost use Rattle.std.specs.Prelude.{◌≡◌, option_map, option_and_then, None, not, is_some, IsSome};
+    ghost use Rattle.std.specs.Prelude.{◌≡◌, IsTrue, option_map, option_and_then, None, not, is_some, IsSome};
     ghost use Rattle.nextest_texts.specs.IdentifierText.{tool_name_text};
     ghost use Rattle.nextest_tree.specs.Reads.{fault_view};
     ghost use Rattle.nextest_sources.specs.Causes.{at_source, bad_element};
     ghost use Rattle.nextest_sources.specs.Endings.{error_view, no_memory, Refuses};
     ghost use Rattle.nextest_sources.specs.ErrorKinds.{is_memory};
-    ghost use Rattle.nextest_sources.specs.Errors.{source_of, cause_view};
+    ghost use Rattle.nextest_sources.specs.Errors.{source_of, cause_view, is_organisation_source};
     ghost use Rattle.nextest_sources.specs.Sources.{path_view, source_view, tool_of_source};
 
     /// The file that is refused: `None` exactly for want of memory.
@@ -273,6 +285,18 @@ impl ConfigParseError {
         match &self.source {
             Some(source) => source.tool(),
             None => None,
+        }
+    }
+
+    /// Whether the file that is refused is the organisation's. No tool provides it then.
+    pub fn is_organisation(&self) -> bool
+        ensures source { result ≡ is_organisation_source (source_of self.now) }
+        ensures no_tool { IsTrue result
+            → option_and_then (λ source. tool_of_source source.kind) (source_of self.now) ≡ None }
+    {
+        match &self.source {
+            Some(source) => matches!(source.kind(), ConfigSourceKind::Organisation),
+            None => false,
         }
     }
 

@@ -4,13 +4,14 @@ ghost use Rattle.nextest_texts.specs.IdentifierText.{tool_name_text};
 ghost use Rattle.nextest_sources.specs.Endings.{Found, ending};
 ghost use Rattle.nextest_sources.specs.InputFaults.{fault_at_source, outcome_cause, first_path, second_cause, tool_steps};
 ghost use Rattle.nextest_sources.specs.InputsView.{input_view};
-ghost use Rattle.nextest_sources.specs.Inputs.{inputs_of, inputs_view, repository_input, repository_of, selected_inputs, source_texts_of, tool_input, tool_source};
-ghost use Rattle.nextest_sources.specs.Sources.{ToolFile, outcome_view, path_view, source_view, tool_file_view};
+ghost use Rattle.nextest_sources.specs.Inputs.{file_input, inputs_of, inputs_view, organisation_inputs, repository_input, repository_of, selected_inputs, source_texts_of, tool_input, tool_source};
+ghost use Rattle.nextest_sources.specs.Sources.{ToolFile, file_view, outcome_view, path_view, source_kind_view, source_view, tool_file_view};
 ghost use Rattle.nextest_sources.specs.Steps.{first_fault};
 
 use crate::error::{ConfigParseError, ConfigParseErrorKind};
 use crate::sources::{
-    ConfigInputs, ConfigPath, ConfigSource, ConfigSourceKind, ReadOutcome, ToolConfigFile,
+    ConfigInputs, ConfigPath, ConfigSource, ConfigSourceKind, FileInput, ReadOutcome,
+    ToolConfigFile,
 };
 use nextest_texts::ToolName;
 use std::alloc::{AllocError, Global};
@@ -25,17 +26,23 @@ pub struct SourceInput<'a> {
     pub outcome: &'a ReadOutcome,
 }
 
+/// The input that a file of a kind is.
+fn file_input(file: &FileInput, kind: ConfigSourceKind) -> Result<SourceInput<'_>, AllocError>
+    ensures { IfOk result (λ input. input_view input
+        ≡ file_input (source_kind_view kind) (file_view file.now)) }
+{
+    Ok(SourceInput {
+        source: ConfigSource::new(file.path.clone()?, kind),
+        outcome: &file.outcome,
+    })
+}
+
 /// The input that a tool's file is.
 fn tool_source_input(file: &ToolConfigFile) -> Result<SourceInput<'_>, AllocError>
     ensures { IfOk result (λ input. input_view input ≡ tool_input (tool_file_view file.now)) }
 {
-    Ok(SourceInput {
-        source: ConfigSource::new(
-            file.config_file.path.clone()?,
-            ConfigSourceKind::Tool(file.tool.clone()?),
-        ),
-        outcome: &file.config_file.outcome,
-    })
+    let kind = ConfigSourceKind::Tool(file.tool.clone()?);
+    file_input(&file.config_file, kind)
 }
 
 /// The repository's file: the one that a user named, and else the one that is looked for.
@@ -43,14 +50,10 @@ fn repository_file<'a>(files: &ConfigInputs<'a>) -> Result<SourceInput<'a>, Allo
     ensures { let given = inputs_view files.now in
         IfOk result (λ input. input_view input ≡ repository_input given.shared given.explicit) }
 {
-    let (file, kind) = match files.selection.config_file {
-        Some(file) => (file, ConfigSourceKind::ExplicitRepository),
-        None => (files.shared, ConfigSourceKind::DiscoveredRepository),
-    };
-    Ok(SourceInput {
-        source: ConfigSource::new(file.path.clone()?, kind),
-        outcome: &file.outcome,
-    })
+    match files.selection.config_file {
+        Some(file) => file_input(file, ConfigSourceKind::ExplicitRepository),
+        None => file_input(files.shared, ConfigSourceKind::DiscoveredRepository),
+    }
 }
 
 /// The repository's source, where faults of what all sources make together are told.
@@ -61,6 +64,21 @@ pub fn repository_source(files: &ConfigInputs<'_>) -> Result<ConfigSource, Alloc
     Ok(source)
 }
 
+/// Adds the organisation's file, where there is one.
+fn add_organisation<'a>(
+    inputs: &mut Vec<SourceInput<'a>>,
+    files: &ConfigInputs<'a>,
+) -> Result<(), AllocError>
+    ensures { OnOk result (map input_view inputs.new.items ≡ map input_view inputs.old.items
+        ++ organisation_inputs (inputs_view files.now).organisation) }
+{
+    let Some(file) = files.selection.organisation_file else {
+        return Ok(());
+    };
+    inputs.push(file_input(file, ConfigSourceKind::Organisation)?)?;
+    Ok(())
+}
+
 /// Adds what stands above the files of tools, the lowest first.
 fn add_selected<'a>(
     inputs: &mut Vec<SourceInput<'a>>,
@@ -69,6 +87,7 @@ fn add_selected<'a>(
     ensures { OnOk result (map input_view inputs.new.items
         ≡ map input_view inputs.old.items ++ selected_inputs (inputs_view files.now)) }
 {
+    add_organisation(inputs, files)?;
     inputs.push(repository_file(files)?)?;
     Ok(())
 }

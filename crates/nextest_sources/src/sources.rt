@@ -2,7 +2,7 @@
 //! them.
 //!
 //! Nothing here reads a file. A caller reads them and hands the outcomes in.
-ghost use Rattle.std.specs.Prelude.{◌≡◌, IfOk, option_map};
+ghost use Rattle.std.specs.Prelude.{◌≡◌, IfOk, Some, option_map};
 ghost use Rattle.nextest_sources.specs.Inputs.{selecting};
 ghost use Rattle.nextest_sources.specs.Sources.{path_view, source_view, source_kind_view, tool_of_source};
 ghost use Rattle.nextest_texts.specs.IdentifierText.{tool_name_text};
@@ -79,26 +79,52 @@ pub struct ToolConfigFile {
     pub config_file: FileInput,
 }
 
-/// Which file of the repository is read, whatever files tools provide.
+/// Which files are read beside those of tools.
 #[derive(Clone, Copy, Debug)]
 pub struct ConfigFileSelection<'a> {
-    /// The file that a user named. It has to be there, and no other is looked for.
+    /// The repository's file that a user named. It has to be there, and no other is looked for.
     pub config_file: Option<&'a FileInput>,
+    /// The organisation's file. It has to be there.
+    pub organisation_file: Option<&'a FileInput>,
 }
 
 impl<'a> ConfigFileSelection<'a> {
-    /// The file that a user named, if there is one, and else the one that is looked for.
+    /// The repository's file that a user named, if there is one, and else the one that is looked
+    /// for. There is no file of the organisation.
     pub fn new(config_file: Option<&'a FileInput>) -> ConfigFileSelection<'a>
         ensures { result ≡ selecting config_file.entry }
     {
-        ConfigFileSelection { config_file }
+        ConfigFileSelection {
+            config_file,
+            organisation_file: None,
+        }
     }
 
-    /// The file that a user named.
+    /// The same, with this file of the organisation.
+    pub fn with_organisation(self, organisation_file: &'a FileInput) -> ConfigFileSelection<'a>
+        ensures { result ≡ record {
+          config_file = self.entry.config_file;
+          organisation_file = Some organisation_file.entry;
+        } }
+    {
+        ConfigFileSelection {
+            organisation_file: Some(organisation_file),
+            ..self
+        }
+    }
+
+    /// The repository's file that a user named.
     pub fn explicit_config_file(self) -> Option<&'a FileInput>
         ensures { result ≡ self.entry.config_file }
     {
         self.config_file
+    }
+
+    /// The organisation's file.
+    pub fn organisation_file(self) -> Option<&'a FileInput>
+        ensures { result ≡ self.entry.organisation_file }
+    {
+        self.organisation_file
     }
 }
 
@@ -129,6 +155,8 @@ pub struct ConfigInputs<'a> {
 pub enum ConfigSourceKind {
     /// A file that this tool provides.
     Tool(ToolName),
+    /// The organisation's file.
+    Organisation,
     /// The repository's file that a user named.
     ExplicitRepository,
     /// The repository's file where it is looked for, as nobody named another.
@@ -146,6 +174,7 @@ impl ConfigSourceKind {
     {
         match self {
             ConfigSourceKind::Tool(tool) => IdentifierOwner::Tool(tool.as_str()),
+            ConfigSourceKind::Organisation => IdentifierOwner::Organisation,
             ConfigSourceKind::ExplicitRepository | ConfigSourceKind::DiscoveredRepository => {
                 IdentifierOwner::Nobody
             }
@@ -213,12 +242,13 @@ impl ConfigSource {
     }
 }
 
-/// The path on one line, and the tool that provided the file, where one did.
+/// The path on one line, and the tool or the organisation that provided the file, where one did.
 impl fmt::Display for ConfigSource {
     fn fmt<W: fmt::Write>(&self, f: &mut fmt::Formatter<W>) -> fmt::Result {
         let path = OneLine(self.path.absolute_path());
         match self.kind.owner() {
             IdentifierOwner::Tool(tool) => write!(f, "{path} provided by tool `{tool}`"),
+            IdentifierOwner::Organisation => write!(f, "{path} provided by organisation"),
             IdentifierOwner::Nobody => write!(f, "{path}"),
         }
     }

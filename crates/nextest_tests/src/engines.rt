@@ -1,6 +1,7 @@
 //! An engine whose tally counts.
 ghost use Rattle.std.specs.Prelude.{◌≡◌, ◌==◌, ◌++◌, ◌∷◌, [], List, ℕ, Bool, true, Option, None, Some, Result, Ok, Err, option_map, string_bytes, length, refl, if◌then◌else◌};
 ghost use Rattle.std.proofs.Common.{rules};
+ghost use Rattle.std.specs.List.{list_any};
 ghost use Rattle.std.specs.Option.{option_map_or};
 ghost use Rattle.std.specs.Str.{bytes_eq};
 
@@ -10,10 +11,30 @@ use nextest_engines::{
     TestQuery,
 };
 use std::alloc::{AllocError, Global};
+use std::cell::Cell;
 
 /// Filters by name: a text matches the tests of that name and the binaries of that id, and the
-/// empty text all.
-pub struct Names;
+/// empty text all. A text with `!` is refused. There is no memory for more than so many readings.
+#[derive(Drop)]
+pub struct Names {
+    room: Cell<usize>,
+}
+
+impl Names {
+    /// An engine with memory for so many readings.
+    pub fn with_room(room: usize) -> Names {
+        Names {
+            room: Cell::new(room),
+        }
+    }
+
+    /// Whether there is memory for one more reading, which is then taken.
+    fn takes_room(&self) -> bool {
+        let room = self.room.get();
+        self.room.set(room.saturating_sub(1));
+        room > 0
+    }
+}
 
 /// A name, or none where all match.
 #[derive(Drop)]
@@ -86,7 +107,8 @@ impl Filters for Names {
 
     ghost meaning = { λ expr. option_map string_bytes expr.0 };
 
-    ghost read = { λ _ _ text. Ok (if length text == 0 then None else Some text) };
+    ghost read = { λ _ _ text. if list_any (λ b. b == 33) text then Err []
+        else Ok (if length text == 0 then None else Some text) };
 
     ghost match_all = { None };
 
@@ -99,6 +121,12 @@ impl Filters for Names {
 
     fn parse(&self, alloc: Global, text: &str, kind: FiltersetKind) -> Result<Name, FilterFault> {
         let _kind = kind;
+        if !self.takes_room() {
+            return Err(FilterFault::Memory);
+        }
+        if text.as_bytes().contains(&b'!') {
+            return Err(FilterFault::Refused(String::new(alloc)));
+        }
         if text.is_empty() {
             return Ok(Name(None));
         }

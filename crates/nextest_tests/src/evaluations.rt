@@ -48,8 +48,9 @@ type CountedProfile<'cfg> = EvaluatableProfile<'cfg, Names, Anywhere>;
 /// Loads the rules.
 fn load_rules(alloc: Global) -> Result<CountedConfig, Fail> {
     let text = text_of_rules(alloc, "[scripts.wrapper.w]\ncommand = 'x'\n")?;
+    let names = Names::with_room(RULES);
     let engines = ParseContext {
-        filters: &Names,
+        filters: &names,
         specs: &Anywhere,
     };
     let mut warnings = DefaultConfigWarnings::new(alloc);

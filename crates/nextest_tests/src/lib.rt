@@ -14,7 +14,11 @@ mod evaluations;
 #[cfg(test)]
 mod loads;
 #[cfg(test)]
+mod places;
+#[cfg(test)]
 mod queries;
+#[cfg(test)]
+mod refusals;
 #[cfg(test)]
 mod sinks;
 #[cfg(test)]

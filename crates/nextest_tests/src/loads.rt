@@ -1,13 +1,13 @@
 //! Loads of a file in memory, with all features.
 use nextest_config::{
     ConfigExperimental, ConfigParseError, ConfigPath, ConfigPaths, ConfigWarnings, FileInput,
-    Filters, NextestConfig, ParseContext, ReadOutcome, Specs,
+    Filters, NextestConfig, ParseContext, ReadOutcome, Specs, ToolConfigFile,
 };
 use std::alloc::{AllocError, Global};
 use std::collections::BTreeSet;
 
 /// The paths of a workspace whose own file has this text.
-fn workspace_paths(alloc: Global, text: &str) -> Result<ConfigPaths, AllocError> {
+pub fn workspace_paths(alloc: Global, text: &str) -> Result<ConfigPaths, AllocError> {
     let shared = FileInput {
         path: ConfigPath::new(alloc, "/w/.config/nextest.toml")?,
         outcome: ReadOutcome::Text(String::from_str(alloc, text)?),
@@ -31,20 +31,14 @@ fn load_paths<F: Filters, S: Specs, W: ConfigWarnings>(
     alloc: Global,
     engines: &ParseContext<'_, F, S>,
     paths: &ConfigPaths,
+    tools: &[ToolConfigFile],
     features: &BTreeSet<ConfigExperimental>,
     sink: &mut W,
 ) -> Result<NextestConfig<F, S>, ConfigParseError> {
     let root = paths.workspace_root.as_str();
     let shared = &paths.shared;
     NextestConfig::from_sources_with_warnings(
-        alloc,
-        root,
-        shared,
-        engines,
-        None,
-        &[],
-        features,
-        sink,
+        alloc, root, shared, engines, None, tools, features, sink,
     )
 }
 
@@ -55,7 +49,34 @@ pub fn load_text<F: Filters, S: Specs, W: ConfigWarnings>(
     text: &str,
     sink: &mut W,
 ) -> Result<NextestConfig<F, S>, ConfigParseError> {
+    load_files(alloc, engines, text, &[], sink)
+}
+
+/// Loads a workspace whose own file has this text, and files of tools, by engines, and tells
+/// warnings to a sink.
+pub fn load_files<F: Filters, S: Specs, W: ConfigWarnings>(
+    alloc: Global,
+    engines: &ParseContext<'_, F, S>,
+    text: &str,
+    tools: &[ToolConfigFile],
+    sink: &mut W,
+) -> Result<NextestConfig<F, S>, ConfigParseError> {
     let paths = workspace_paths(alloc, text)?;
     let features = all_features(alloc)?;
-    load_paths(alloc, engines, &paths, &features, sink)
+    load_paths(alloc, engines, &paths, tools, &features, sink)
+}
+
+/// Whether a load for which a part needs memory so many times ends as room for some of them lets
+/// it.
+pub fn ends_by_room<F: Filters, S: Specs>(
+    loaded: &Result<NextestConfig<F, S>, ConfigParseError>,
+    needed: usize,
+    room: usize,
+) -> bool {
+    match loaded {
+        Ok(_) => room >= needed,
+        Err(error) => {
+            room < needed && error.kind().number() == 16 && error.config_file().is_none()
+        }
+    }
 }

@@ -14,8 +14,5 @@ pub fn binary_of(binary_id: &str) -> BinaryQuery<'_> {
 
 /// The query for a test of this name, of the binary `b`.
 pub fn test_of(test_name: &str) -> TestQuery<'_> {
-    TestQuery {
-        binary_query: binary_of("b"),
-        test_name,
-    }
+    TestQuery::of("b", test_name)
 }

@@ -1,9 +1,6 @@
 //! A sink that has no memory for more than so many warnings.
-use crate::loads::load_text;
-use nextest_config::{
-    ConfigParseError, ConfigSource, ConfigWarnings, DefaultConfigWarnings, NextestConfig,
-    ParseContext,
-};
+use crate::loads::{ends_by_room, load_text};
+use nextest_config::{ConfigSource, ConfigWarnings, DefaultConfigWarnings, ParseContext};
 use std::alloc::{AllocError, Global};
 use std::collections::BTreeSet;
 use std::test::Fail;
@@ -80,17 +77,6 @@ command = "x"
 filter = "all()"
 "#;
 
-/// Whether a load ends as room for so many warnings lets it.
-fn ends_so(
-    loaded: &Result<NextestConfig<ToyFilters, ToySpecs>, ConfigParseError>,
-    room: usize,
-) -> bool {
-    match loaded {
-        Ok(_) => room >= 4,
-        Err(error) => room < 4 && error.kind().number() == 16 && error.config_file().is_none(),
-    }
-}
-
 /// Whether with room for so many warnings these are kept, and the load ends so.
 fn keeps_room(alloc: Global, room: usize) -> bool {
     let mut sink = Scarce {
@@ -98,7 +84,7 @@ fn keeps_room(alloc: Global, room: usize) -> bool {
         room,
     };
     let loaded = load_text(alloc, &ENGINES, WARNED, &mut sink);
-    sink.kept.warnings().len() == room.min(4) && ends_so(&loaded, room)
+    sink.kept.warnings().len() == room.min(4) && ends_by_room(&loaded, 4, room)
 }
 
 #[test]

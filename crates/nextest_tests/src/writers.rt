@@ -10,6 +10,8 @@ use std::test::Fail;
 struct OneFile;
 
 impl FileReader for OneFile {
+    ghost MayGive = { λ _ _ _. Unit {0} };
+
     fn read(&self, alloc: Global, path: &str) -> Result<ReadOutcome, AllocError> {
         match path {
             "z" => Ok(ReadOutcome::Text(String::from_str(alloc, "zz = 1")?)),
@@ -75,39 +77,61 @@ fn status_of(
     Ok(explain(alloc, &words, &OneFile, out, err))
 }
 
-/// Runs the program where both writers fail after so many bytes, and asks how many bytes each took.
+/// The bytes that the program writes to standard output and to standard error, where it ends with
+/// this status.
+fn check_whole(
+    rt: &(impl AllocGlobal + Abort),
+    line: &str,
+    wanted: u8,
+) -> Result<(usize, usize), Fail> {
+    let mut out = failing_after(usize::MAX);
+    let mut err = failing_after(usize::MAX);
+    let status = status_of(rt.alloc(), line, &mut out, &mut err)?;
+    assert!(rt; status == wanted, "at {line}");
+    Ok((out.taken, err.taken))
+}
+
+/// Runs the program where both writers fail after so many bytes, which are too few, and asks how
+/// many bytes each took.
 fn check_failing(
     rt: &(impl AllocGlobal + Abort),
     room: usize,
     line: &str,
-    taken: (usize, usize),
+    whole: (usize, usize),
 ) -> Result<(), Fail> {
     let mut out = failing_after(room);
     let mut err = failing_after(room);
     let status = status_of(rt.alloc(), line, &mut out, &mut err)?;
-    assert!(rt; status == 6, "at {line}");
-    assert!(rt; out.taken == taken.0 && err.taken == taken.1, "at {line}");
-    assert!(rt; out.tries_after == 0 && err.tries_after == 0, "at {line}");
+    let from_out = if room < whole.1 { 0 } else { room };
+    assert!(rt; status == 6, "at {line}, {room}");
+    assert!(rt;
+        out.taken == from_out && err.taken == room.min(whole.1),
+        "at {line}, {room}"
+    );
+    assert!(rt;
+        out.tries_after == 0 && err.tries_after == 0,
+        "at {line}, {room}"
+    );
     Ok(())
 }
 
-/// The bytes that fit, the words, and the bytes that each of the two writers takes.
-static ROWS: [(usize, &str, (usize, usize)); 9] = [
-    (0, "/w default test b t", (0, 0)),
-    (0, "/w x test b t", (0, 0)),
-    (0, "/w default test b", (0, 0)),
-    (3, "/w default test b t", (3, 0)),
-    (3, "/w x test b t", (0, 3)),
-    (3, "/w default test b t --config-file full", (0, 3)),
-    (3, "/w default test b t --config-file z", (0, 3)),
-    (59, "/w x test b t --config-file z", (0, 59)),
-    (70, "/w default test b t --config-file z", (70, 57)),
+/// The words, and the status where the writers take all.
+static ROWS: [(&str, u8); 6] = [
+    ("/w default test b t", 0),
+    ("/w default test b", 2),
+    ("/w x test b t", 4),
+    ("/w default test b t --config-file full", 5),
+    ("/w default test b t --config-file z", 0),
+    ("/w x test b t --config-file z", 4),
 ];
 
 #[test]
-fn nothing_follows_a_failed_write(rt: HostRuntime) -> Result<(), Fail> {
-    for &(room, line, taken) in &ROWS {
-        check_failing(&rt, room, line, taken)?;
+fn nothing_follows_a_write_that_fails_at_some_byte(rt: HostRuntime) -> Result<(), Fail> {
+    for &(line, status) in &ROWS {
+        let whole = check_whole(&rt, line, status)?;
+        for room in 0..whole.0.max(whole.1) {
+            check_failing(&rt, room, line, whole)?;
+        }
     }
     Ok(())
 }

@@ -1,5 +1,5 @@
 -- Which texts are identifiers.
-use Rattle.std.specs.Prelude.{◌≡◌, ℕ, ◌==◌, Bool, true, false, ◌||◌, ◌&&◌, IsTrue, IsFalse, Contains, List, [], ◌∷◌, ◌++◌, ◌⊎◌, All, Option, Some, None, is_some, codes, drop, nat_eq, encode_utf8_all, if◌then◌else◌}
+use Rattle.std.specs.Prelude.{◌≡◌, ℕ, ◌==◌, Bool, false, ◌||◌, ◌&&◌, IsTrue, IsFalse, Contains, List, [], ◌∷◌, ◌++◌, ◌⊎◌, All, Option, Some, None, is_some, codes, drop, nat_eq, encode_utf8_all, if◌then◌else◌}
 use Rattle.std.specs.List.{list_all, starts_with, before_first, after_first}
 use Rattle.std.specs.Option.{option_or}
 use Rattle.std.specs.Str.{all_scalars, chars, is_utf8}
@@ -30,14 +30,26 @@ pub record HasToolParts (text tool name : List ℕ) : Type 0 where
 abbrev pub IsToolIdentifier : List ℕ → Type 0
 IsToolIdentifier text = (tool : List ℕ) × (name : List ℕ) × HasToolParts text tool name
 
--- The form of an identifier: a plain name, or a tool and a name.
+-- The text is `@org:` and a name, and the name is a part.
+pub record HasOrganisationPart (text name : List ℕ) : Type 0 where
+  pub spelled : text ≡ codes "@org:" ++ name
+  pub name_is_part : IsPart name
+
+-- The text is an identifier of the organisation.
+abbrev pub IsOrganisationIdentifier : List ℕ → Type 0
+IsOrganisationIdentifier text = (name : List ℕ) × HasOrganisationPart text name
+
+-- The form of an identifier: a plain name, a name of the organisation, or a tool and a name.
 pub data Form : Type 0 where
   plain : Form
+  of_organisation : (name : List ℕ) → Form
   of_tool : (tool name : List ℕ) → Form
 
--- A text has a form: it is a part, or it has the parts of a tool's identifier.
+-- A text has a form: it is a part, or it has the parts of an identifier of the organisation or of
+-- a tool.
 abbrev pub HasForm : List ℕ → Form → Type 0
 HasForm text plain = IsPart text
+HasForm text (of_organisation name) = HasOrganisationPart text name
 HasForm text (of_tool tool name) = HasToolParts text tool name
 
 -- An identifier is a text that has some form.
@@ -70,6 +82,18 @@ has_tool_prefix text = starts_with nat_eq text (codes "@tool:")
 abbrev pub has_tool_form : List ℕ → Bool
 has_tool_form text = has_tool_prefix text && (is_part (tool_of text) && is_part (name_of text))
 
+-- What stands after the five bytes of `@org:`.
+abbrev pub organisation_name_of : List ℕ → List ℕ
+organisation_name_of text = drop 5 text
+
+-- Whether a text begins as the identifiers of the organisation do.
+abbrev pub has_organisation_prefix : List ℕ → Bool
+has_organisation_prefix text = starts_with nat_eq text (codes "@org:")
+
+-- Whether a text has the prefix of the organisation, and a part after it.
+abbrev pub has_organisation_form : List ℕ → Bool
+has_organisation_form text = has_organisation_prefix text && is_part (organisation_name_of text)
+
 -- The plain form, if a text is a part.
 abbrev pub plain_form : List ℕ → Option Form
 plain_form text = if is_part text then Some plain else None
@@ -78,18 +102,14 @@ plain_form text = if is_part text then Some plain else None
 abbrev pub tool_form : List ℕ → Option Form
 tool_form text = if has_tool_form text then Some (of_tool (tool_of text) (name_of text)) else None
 
+-- The form of an identifier of the organisation, if a text is one.
+abbrev pub organisation_form : List ℕ → Option Form
+organisation_form text =
+    if has_organisation_form text then Some (of_organisation (organisation_name_of text)) else None
+
 -- The form of a text, if it is an identifier.
 unfoldable pub form_of : List ℕ → Option Form
-form_of text = option_or (plain_form text) (tool_form text)
-
--- Whether a form is that of a tool's identifier.
-abbrev pub is_tool_form : Option Form → Bool
-is_tool_form (Some (of_tool tool name)) = true
-is_tool_form _ = false
-
--- Whether a text is an identifier of some tool.
-unfoldable pub is_tool_identifier : List ℕ → Bool
-is_tool_identifier text = is_tool_form (form_of text)
+form_of text = option_or (plain_form text) (option_or (organisation_form text) (tool_form text))
 
 -- Whether a text is an identifier.
 unfoldable pub is_identifier : List ℕ → Bool
@@ -117,10 +137,18 @@ HasPartFlaw text causes.Empty = text ≡ []
 HasPartFlaw text causes.BadStart = StartsBadly text
 HasPartFlaw text causes.BadCharacter = HasBadCharacter text
 HasPartFlaw text causes.BadToolForm = ⊥
+HasPartFlaw text causes.BadOrganisationForm = ⊥
 HasPartFlaw text causes.Memory = ⊥
 
+-- Whether a text begins as the identifiers of an owner do.
+abbrev pub has_owner_prefix : List ℕ → Bool
+has_owner_prefix text = has_tool_prefix text || has_organisation_prefix text
+
 -- What keeps a text from being an identifier: with the prefix of tools, that it is no tool's
--- identifier, and without it a flaw of a part.
+-- identifier, with that of the organisation, that it is none of the organisation, and without a
+-- prefix a flaw of a part.
 abbrev pub HasFlaw : List ℕ → InvalidIdentifier → Type 0
 HasFlaw text causes.BadToolForm = IsTrue (has_tool_prefix text) × (¬ IsToolIdentifier text)
-HasFlaw text cause = IsFalse (has_tool_prefix text) × HasPartFlaw text cause
+HasFlaw text causes.BadOrganisationForm =
+    IsTrue (has_organisation_prefix text) × (¬ IsOrganisationIdentifier text)
+HasFlaw text cause = IsFalse (has_owner_prefix text) × HasPartFlaw text cause

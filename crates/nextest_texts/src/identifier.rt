@@ -1,7 +1,7 @@
 //! Names that a configuration defines, and the names of tools.
 ghost use Rattle.std.specs.Prelude.{◌≡◌, ◌↔◌, ◌≢◌, IsTrue, IsFalse, IfOk, OnOk, IfErr, IfSome, IfNone, Err, string_bytes, is_ok, ◌==◌, drop, length};
 ghost use Rattle.std.specs.List.{position_or_len};
-ghost use Rattle.nextest_texts.specs.Identifier.{IsPart, HasToolParts, IsToolIdentifier, IsIdentifier, HasPartFlaw, HasFlaw, is_part, is_identifier, has_tool_prefix, tool_of, name_of};
+ghost use Rattle.nextest_texts.specs.Identifier.{IsPart, HasOrganisationPart, HasToolParts, IsOrganisationIdentifier, IsToolIdentifier, IsIdentifier, HasPartFlaw, HasFlaw, is_part, is_identifier, has_organisation_form, has_organisation_prefix, has_tool_form, has_tool_prefix, organisation_name_of, tool_of, name_of};
 
 use std::alloc::Global;
 use std::marker::Model;
@@ -35,12 +35,16 @@ pub enum InvalidIdentifier {
     #[error("an identifier of a tool has the form `@tool:<tool name>:<name>`")]
     BadToolForm,
 
+    /// The text begins with `@org:`, and what follows is not a name.
+    #[error("an identifier of the organisation has the form `@org:<name>`")]
+    BadOrganisationForm,
+
     /// Memory ran out.
     #[error("out of memory")]
     Memory,
 }
 
-/// The name of a group or of a script, as `build-db` or `@tool:my-tool:build-db`.
+/// The name of a group or of a script, as `build-db`, `@org:build-db` or `@tool:my-tool:build-db`.
 #[derive(Debug, Drop, PartialEq, Eq, PartialOrd, Ord, Hash)]
 pub struct ConfigIdentifier {
     text: NameText,
@@ -108,10 +112,31 @@ impl ConfigIdentifier {
         split_tool(self.as_str())
     }
 
+    /// Whether the identifier is one of the organisation, as `@org:build-db`. It is none of a tool
+    /// then.
+    pub fn is_organisation_identifier(&self) -> bool
+        ensures verdict { IsTrue result ↔ IsOrganisationIdentifier (identifier_text self.now) }
+        ensures no_tool { IsTrue result → ¬ IsToolIdentifier (identifier_text self.now) }
+    {
+        self.organisation_component().is_some()
+    }
+
+    /// The name that follows `@org:`, where the identifier is one of the organisation.
+    pub fn organisation_component(&self) -> Option<&str>
+        ensures none { IfNone result (¬ IsOrganisationIdentifier (identifier_text self.now)) }
+        ensures name { IfSome result
+            (λ name. HasOrganisationPart (identifier_text self.now) name.now) }
+    {
+        split_organisation(self.as_str())
+    }
+
     /// Who owns the name.
     pub fn owner(&self) -> IdentifierOwner<'_>
         ensures { owner_view result ≡ owner_of_name (identifier_text self.now) }
     {
+        if self.is_organisation_identifier() {
+            return IdentifierOwner::Organisation;
+        }
         match self.tool_components() {
             Some((tool, _)) => IdentifierOwner::Tool(tool),
             None => IdentifierOwner::Nobody,
@@ -119,18 +144,40 @@ impl ConfigIdentifier {
     }
 }
 
-#[tactic(auto, using(crate::proofs::Identifiers::plain_identifier, crate::proofs::Identifiers::prefixed_identifier, crate::proofs::Identifiers::unsplit_identifier))]
+#[tactic(auto, using(crate::proofs::Identifiers::plain_identifier, crate::proofs::Identifiers::tool_prefixed_identifier, crate::proofs::Identifiers::organisation_prefixed_identifier))]
 fn check_identifier(text: &str) -> Result<(), InvalidIdentifier>
     ensures verdict { is_ok result ≡ is_identifier text.now }
     ensures cause { result ≢ Err InvalidIdentifier.Memory }
     ensures flaw { IfErr result (HasFlaw text.now) }
 {
-    if !has_tool_prefix(text) {
-        return check_part(text);
+    if has_tool_prefix(text) {
+        check_tool_form(text)
+    } else if has_organisation_prefix(text) {
+        check_organisation_form(text)
+    } else {
+        check_part(text)
     }
+}
+
+/// Looks for the name of a tool and a name around the first colon that follows `@tool:`.
+fn check_tool_form(text: &str) -> Result<(), InvalidIdentifier>
+    ensures verdict { is_ok result ≡ has_tool_form text.now }
+    ensures cause { IfErr result (λ e. e ≡ InvalidIdentifier.BadToolForm) }
+{
     match split_tool(text) {
         Some((tool, name)) if is_part(tool) && is_part(name) => Ok(()),
         _ => Err(InvalidIdentifier::BadToolForm),
+    }
+}
+
+/// Looks for a name behind `@org:`.
+fn check_organisation_form(text: &str) -> Result<(), InvalidIdentifier>
+    ensures verdict { is_ok result ≡ has_organisation_form text.now }
+    ensures cause { IfErr result (λ e. e ≡ InvalidIdentifier.BadOrganisationForm) }
+{
+    match split_organisation(text) {
+        Some(name) if is_part(name) => Ok(()),
+        _ => Err(InvalidIdentifier::BadOrganisationForm),
     }
 }
 
@@ -138,6 +185,21 @@ fn has_tool_prefix(text: &str) -> bool
     ensures { result ≡ has_tool_prefix text.now }
 {
     text.starts_with("@tool:")
+}
+
+fn has_organisation_prefix(text: &str) -> bool
+    ensures { result ≡ has_organisation_prefix text.now }
+{
+    text.starts_with("@org:")
+}
+
+/// What stands behind `@org:`.
+fn split_organisation(text: &str) -> Option<&str>
+    ensures none { IfNone result (IsFalse (has_organisation_prefix text.now)) }
+    ensures prefix { IfSome result (λ _. IsTrue (has_organisation_prefix text.now)) }
+    ensures name { IfSome result (λ name. name.now ≡ organisation_name_of text.now) }
+{
+    text.strip_prefix("@org:")
 }
 
 /// What stands before and after the first colon that follows `@tool:`.

@@ -14,6 +14,7 @@ const LINUX: &str = "x86_64-unknown-linux-gnu";
 pub struct Case<'a> {
     pub name: &'a str,
     pub paths: ConfigPaths,
+    pub organisation: Option<FileInput>,
     pub tools: Vec<ToolConfigFile>,
     pub host: &'a str,
     pub target: Option<&'a str>,
@@ -89,6 +90,11 @@ fn tool_file<'a>(alloc: Global, name: &'a str) -> Result<ToolConfigFile, CaseErr
     })
 }
 
+/// An empty file of the organisation.
+fn organisation_file(alloc: Global) -> Result<FileInput, AllocError> {
+    file_at(alloc, "/o.toml", ReadOutcome::Text(String::new(alloc)))
+}
+
 /// Adds a line to the text of a file, and says whether there is such a file.
 fn add_line(file: &mut FileInput, line: &str) -> Result<bool, AllocError> {
     let ReadOutcome::Text(text) = &mut file.outcome else {
@@ -109,6 +115,7 @@ impl<'a> Case<'a> {
         Ok(Case {
             name,
             paths,
+            organisation: None,
             tools: Vec::new(alloc),
             host: LINUX,
             target: None,
@@ -126,6 +133,7 @@ impl<'a> Case<'a> {
         match word {
             "" => self.add_text(line)?,
             "file" => self.paths.shared.outcome = ReadOutcome::Text(String::new(alloc)),
+            "organisation" => self.organisation = Some(organisation_file(alloc)?),
             "tool" => push(&mut self.tools, tool_file(alloc, rest)?)?,
             "host" => self.host = rest,
             "target" => self.target = Some(rest),
@@ -140,13 +148,21 @@ impl<'a> Case<'a> {
         Ok(())
     }
 
+    /// The file of the last line that names one, where they stand from the repository's down.
+    fn last_file(&mut self) -> &mut FileInput {
+        if let Some(tool) = self.tools.last_mut() {
+            return &mut tool.config_file;
+        }
+        match &mut self.organisation {
+            Some(file) => file,
+            None => &mut self.paths.shared,
+        }
+    }
+
     /// Takes a line of the text of the last file.
     fn add_text(&mut self, line: &'a str) -> Result<(), CaseError<'a>> {
         let text = line.strip_prefix("  ").ok_or(CaseError::Line(line))?;
-        let is_file = match self.tools.last_mut() {
-            Some(tool) => add_line(&mut tool.config_file, text)?,
-            None => add_line(&mut self.paths.shared, text)?,
-        };
+        let is_file = add_line(self.last_file(), text)?;
         if is_file {
             Ok(())
         } else {

@@ -1,13 +1,31 @@
 //! The lines of a report.
+use crate::refusal::Refusal;
 use nextest_config::ConfigSource;
 use std::alloc::{AllocError, Global};
 use std::fmt::Debug;
 
-/// The lines of a report, of which those are kept that are shown.
+/// A call that may answer want of memory.
+#[derive(Clone, Copy, Debug, PartialEq, Eq)]
+pub enum Call {
+    FromSources,
+    Lines,
+    Profile,
+    KnownGroups,
+    ApplyBuildPlatforms,
+    DisplayConfig,
+    Junit,
+    SetupScripts,
+    PrecomputeGroupMemberships,
+    Resolve,
+}
+
+/// The lines of a report, of which those are kept that are shown, and the last call that was made
+/// once more.
 #[derive(Drop)]
 pub struct Lines<'a> {
     text: String,
     shown: Option<&'a str>,
+    again: Option<Call>,
 }
 
 impl<'a> Lines<'a> {
@@ -17,7 +35,30 @@ impl<'a> Lines<'a> {
         Lines {
             text: String::new(alloc),
             shown,
+            again: None,
         }
+    }
+
+    /// The answer of a call, which is made once more after want of memory.
+    pub fn ask<T, E: Refusal, F: Fn() -> Result<T, E>>(
+        &mut self,
+        call: Call,
+        answer: F,
+    ) -> Result<T, E>
+        requires { F.IsAlwaysCallable answer }
+    {
+        match answer() {
+            Err(error) if error.is_memory() => {
+                self.note_again(call);
+                answer()
+            }
+            answered => answered,
+        }
+    }
+
+    /// Keeps that a call is made once more.
+    pub fn note_again(&mut self, call: Call) {
+        self.again = Some(call);
     }
 
     /// Adds a line: a name, and a value.
@@ -49,13 +90,17 @@ impl<'a> Lines<'a> {
         Ok(())
     }
 
-    /// The text of all lines.
-    pub fn as_str(&self) -> &str {
-        self.text.as_str()
+    /// The text of all lines. The last names the last call that was made once more, if one was.
+    pub fn into_text(self, alloc: Global) -> Result<String, AllocError> {
+        let Lines { text, again, .. } = self;
+        match again {
+            Some(call) => format!(in alloc; "{text}  again: {call:?}\n"),
+            None => Ok(text),
+        }
     }
 
     /// Whether a line of this name is kept.
-    fn shows(&self, name: &str) -> bool {
+    pub fn shows(&self, name: &str) -> bool {
         match self.shown {
             Some(words) => words.split(' ').any(|word| word == name),
             None => true,

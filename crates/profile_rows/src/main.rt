@@ -7,7 +7,8 @@
 //! |---|---|
 //! | `case NAME` | a case begins, without files, for the host `x86_64-unknown-linux-gnu` |
 //! | `file` | the workspace has a file of its own; the lines below it that begin with two spaces are its text |
-//! | `tool NAME` | the same, below it, for a file of this tool, at `/NAME.toml` |
+//! | `organisation` | the same, below it, for the organisation's file, at `/o.toml` |
+//! | `tool NAME` | the same, below both, for a file of this tool, at `/NAME.toml` |
 //! | `host TRIPLE`, `target TRIPLE` | the build is for this host, and for this target |
 //! | `test NAME` | a test of the binary `b`, which is built for the target |
 //! | `host-test NAME` | a test of the binary `b`, which is built for the host |
@@ -17,13 +18,16 @@
 //! | `profile NAME` | the case is run for this profile |
 //!
 //! For each run it prints the names of the case and of the profile, and then a line for each thing
-//! that is asked, behind two spaces. A line that is none of these is told on standard error, and
-//! the status is 2.
+//! that is asked, behind two spaces. A call that answers want of memory is made once more, and a
+//! last line then names it. A line that is none of these is told on standard error, and the status
+//! is 2.
 #![tactic(auto)]
 
 mod case;
 mod lines;
+mod numbers;
 mod profile;
+mod refusal;
 mod report;
 mod rows;
 mod tests;

@@ -1,5 +1,5 @@
 //! What a profile says, before and after the platforms are known.
-use crate::lines::Lines;
+use crate::lines::{Call, Lines};
 use indexmap::IndexMap;
 use nextest_config::{EarlyProfile, EvaluatableProfile, NextestConfig, NextestRunMode, ScriptId};
 use std::alloc::{AllocError, Global};
@@ -21,7 +21,8 @@ pub fn add_early(
     lines.add(alloc, "early-store-dir", &early.store_dir())?;
     lines.add(alloc, "has-junit", &early.has_junit())?;
     lines.add(alloc, "test-groups", &early.test_group_config().len())?;
-    lines.add(alloc, "known-groups", &early.known_groups(alloc)?)
+    let groups = lines.ask(Call::KnownGroups, || early.known_groups(alloc))?;
+    lines.add(alloc, "known-groups", &groups)
 }
 
 /// Adds what a profile says on the platforms of a build.
@@ -66,10 +67,12 @@ fn add_places(
     lines: &mut Lines<'_>,
     profile: &Profile<'_>,
 ) -> Result<(), AllocError> {
-    let default_filter = profile.default_filter().display_config(alloc)?;
+    let filter = profile.default_filter();
+    let place = lines.ask(Call::DisplayConfig, || filter.display_config(alloc))?;
+    let junit = lines.ask(Call::Junit, || profile.junit(alloc))?;
     lines.add(alloc, "store-dir", &profile.store_dir())?;
-    lines.add(alloc, "junit", &profile.junit(alloc)?)?;
-    lines.add(alloc, "default-filter", &default_filter)
+    lines.add(alloc, "junit", &junit)?;
+    lines.add(alloc, "default-filter", &place)
 }
 
 /// Adds what a profile tells a run.

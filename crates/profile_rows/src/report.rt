@@ -1,11 +1,13 @@
 //! The report of a run: the load of a case's files, and what a profile of them says.
 use crate::case::Case;
-use crate::lines::Lines;
-use crate::profile::{Config, Profile, add_early, add_profile};
+use crate::lines::{Call, Lines};
+use crate::numbers::add_numbers;
+use crate::profile::{Config, Early, Profile, add_early, add_profile};
 use crate::rows::add_rows;
 use crate::tests::{add_binary, add_groups, add_setup_scripts, add_test};
 use nextest_config::{
-    BuildPlatforms, ConfigExperimental, ConfigParseError, NextestConfig, ParseContext,
+    BuildPlatforms, ConfigExperimental, ConfigFileSelection, ConfigParseError,
+    DefaultConfigWarnings, NextestConfig, ParseContext,
 };
 use std::alloc::{AllocError, Global};
 use std::collections::BTreeSet;
@@ -17,6 +19,9 @@ pub const ENGINES: ParseContext<'static, ToyFilters, ToySpecs> = ParseContext {
     filters: &ToyFilters,
     specs: &ToySpecs,
 };
+
+/// The lines that tell which rules are evaluated.
+static EVALUATED: [&str; 3] = ["evaluated", "bench-evaluated", "list-evaluated"];
 
 /// All features.
 pub fn all_features(alloc: Global) -> Result<BTreeSet<ConfigExperimental>, AllocError> {
@@ -37,7 +42,16 @@ fn platforms_of(alloc: Global, case: &Case<'_>) -> Result<BuildPlatforms<String>
     })
 }
 
-/// Loads the files of a case.
+/// Which files of a case are read beside those of tools.
+pub fn selection_of<'a>(case: &'a Case<'_>) -> ConfigFileSelection<'a> {
+    let selection = ConfigFileSelection::new(None);
+    match &case.organisation {
+        Some(file) => selection.with_organisation(file),
+        None => selection,
+    }
+}
+
+/// Loads the files of a case. Without a file of the organisation the warnings are kept.
 fn load(
     alloc: Global,
     case: &Case<'_>,
@@ -45,7 +59,29 @@ fn load(
 ) -> Result<Config, ConfigParseError> {
     let root = case.paths.workspace_root.as_str();
     let shared = &case.paths.shared;
-    NextestConfig::from_sources(alloc, root, shared, &ENGINES, None, &case.tools, features)
+    let selection = selection_of(case);
+    if selection.organisation_file().is_none() {
+        return NextestConfig::from_sources(
+            alloc,
+            root,
+            shared,
+            &ENGINES,
+            None,
+            &case.tools,
+            features,
+        );
+    }
+    let mut sink = DefaultConfigWarnings::new(alloc);
+    NextestConfig::from_sources_with_selection(
+        alloc,
+        root,
+        shared,
+        &ENGINES,
+        selection,
+        &case.tools,
+        features,
+        &mut sink,
+    )
 }
 
 /// The names of a case and of a profile, and what is asked of it.
@@ -53,13 +89,16 @@ pub fn report_of(alloc: Global, case: &Case<'_>, profile: &str) -> Result<String
     let features = all_features(alloc)?;
     let platforms = platforms_of(alloc, case)?;
     let mut lines = Lines::new(alloc, case.shown);
-    match load(alloc, case, &features) {
+    match lines.ask(Call::FromSources, || load(alloc, case, &features)) {
         Ok(config) => add_config(alloc, &mut lines, case, &config, profile, &platforms)?,
         Err(error) => lines.add(alloc, "refused", &error)?,
     }
     add_rows(alloc, &mut lines, case, &features, profile, &platforms)?;
-    let name = case.name;
-    format!(in alloc; "case {name}\nprofile {profile}\n{}", lines.as_str())
+    if EVALUATED.iter().any(|name| lines.shows(name)) {
+        add_numbers(alloc, &mut lines, case, &features, profile, &platforms)?;
+    }
+    let (name, text) = (case.name, lines.into_text(alloc)?);
+    format!(in alloc; "case {name}\nprofile {profile}\n{text}")
 }
 
 /// Adds what a configuration kept, and what a profile of it says.
@@ -71,16 +110,34 @@ fn add_config(
     name: &str,
     platforms: &BuildPlatforms<String>,
 ) -> Result<(), AllocError> {
-    lines.add(alloc, "warnings", &config.warnings().lines(alloc)?)?;
-    let early = match config.profile(alloc, name) {
+    let warnings = lines.ask(Call::Lines, || config.warnings().lines(alloc))?;
+    lines.add(alloc, "warnings", &warnings)?;
+    let early = match lines.ask(Call::Profile, || config.profile(alloc, name)) {
         Ok(early) => early,
         Err(error) => return lines.add(alloc, "refused", &error),
     };
     add_early(alloc, lines, &early)?;
-    let Ok(profile) = early.apply_build_platforms(alloc, platforms) else {
-        return Err(AllocError);
-    };
+    let profile = on_platforms(alloc, lines, early, platforms)?;
     add_evaluatable(alloc, lines, case, &profile)
+}
+
+/// A profile on the platforms of a build. After want of memory the profile that was handed back is
+/// asked once more.
+fn on_platforms<'cfg>(
+    alloc: Global,
+    lines: &mut Lines<'_>,
+    early: Early<'cfg>,
+    platforms: &BuildPlatforms<String>,
+) -> Result<Profile<'cfg>, AllocError> {
+    let early = match early.apply_build_platforms(alloc, platforms) {
+        Ok(profile) => return Ok(profile),
+        Err(early) => early,
+    };
+    lines.note_again(Call::ApplyBuildPlatforms);
+    match early.apply_build_platforms(alloc, platforms) {
+        Ok(profile) => Ok(profile),
+        Err(_) => Err(AllocError),
+    }
 }
 
 /// Adds what a profile says on the platforms of a build, of itself and of what is asked.

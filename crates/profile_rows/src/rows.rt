@@ -1,11 +1,10 @@
 //! The rows of a whole run, from the texts of files on.
 use crate::case::Case;
-use crate::lines::{Lines, override_text};
-use crate::report::ENGINES;
+use crate::lines::{Call, Lines, override_text};
+use crate::report::{ENGINES, selection_of};
 use nextest_config::run::{Inputs, PlainSource, ResolveFault, TestRow, resolve};
 use nextest_config::{
-    BuildPlatforms, ConfigExperimental, ConfigFileSelection, DefaultConfigWarnings, NextestRunMode,
-    Setting,
+    BuildPlatforms, ConfigExperimental, DefaultConfigWarnings, NextestRunMode, Setting,
 };
 use std::alloc::{AllocError, Global};
 use std::collections::BTreeSet;
@@ -20,7 +19,10 @@ pub fn add_rows(
     profile: &str,
     platforms: &BuildPlatforms<String>,
 ) -> Result<(), AllocError> {
-    match rows_of(alloc, case, features, profile, platforms) {
+    let rows = lines.ask(Call::Resolve, || {
+        rows_of(alloc, case, features, profile, platforms)
+    });
+    match rows {
         Ok(rows) => {
             lines.add(alloc, "rows", &rows.len())?;
             for row in &rows {
@@ -75,7 +77,7 @@ fn rows_of<'a>(
 ) -> Result<Vec<TestRow>, ResolveFault> {
     let inputs = Inputs {
         paths: &case.paths,
-        selection: ConfigFileSelection::new(None),
+        selection: selection_of(case),
         tools: &case.tools,
         features,
     };

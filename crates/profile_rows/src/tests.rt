@@ -1,5 +1,5 @@
 //! What a profile gives to tests and binaries.
-use crate::lines::{Lines, override_text};
+use crate::lines::{Call, Lines, override_text};
 use crate::profile::Profile;
 use nextest_config::{
     BinaryQuery, EvalContext, Filters, GroupLookup, NameMatcher, NextestRunMode,
@@ -21,7 +21,7 @@ fn source_text(alloc: Global, source: &Source<'_>) -> Result<String, AllocError>
         SettingSource::Profile => String::from_str(alloc, "profile"),
         SettingSource::Script(_) => String::from_str(alloc, "script"),
         SettingSource::Override(rule) => {
-            let id = rule.id().clone()?;
+            let id = rule.id().clone().or_else(|_| rule.id().clone())?;
             override_text(alloc, &id.config_source, id.profile_name.as_str(), id.index)
         }
     }
@@ -114,9 +114,10 @@ pub fn add_setup_scripts(
     profile: &Profile<'_>,
     tests: &[TestQuery<'_>],
 ) -> Result<(), AllocError> {
-    let mut tally = ToyTally::new();
     let context = profile.filterset_ecx();
-    let scripts = profile.setup_scripts(alloc, tests, &mut tally)?;
+    let scripts = lines.ask(Call::SetupScripts, || {
+        profile.setup_scripts(alloc, tests, &mut ToyTally::new())
+    })?;
     lines.add(alloc, "setup-scripts", &scripts.len())?;
     for script in scripts.iter() {
         add_setup_script(alloc, lines, &script, tests, &context)?;
@@ -166,8 +167,9 @@ pub fn add_groups(
     tests: &[TestQuery<'_>],
     groups: &[&str],
 ) -> Result<(), AllocError> {
-    let mut tally = ToyTally::new();
-    let members = profile.precompute_group_memberships(alloc, tests, &mut tally)?;
+    let members = lines.ask(Call::PrecomputeGroupMemberships, || {
+        profile.precompute_group_memberships(alloc, tests, &mut ToyTally::new())
+    })?;
     lines.add(alloc, "memberships", &members)?;
     for group in groups {
         let names = members_of(alloc, &members, tests, group)?;

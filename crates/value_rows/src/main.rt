@@ -6,7 +6,9 @@
 //! `elements.rt`; those of scripts in `scripts.rt`.
 //!
 //! Each line is printed with ` => ` behind it and then the value, or `refused: ` and the cause. A
-//! line of another form is told on standard error, and the status is 2.
+//! line of another form is told on standard error, and the status is 2. The words of a command
+//! line, an identifier and its copy, a command's program and a script's id within a run are asked
+//! for once more after want of memory.
 #![tactic(auto)]
 
 mod elements;

@@ -26,7 +26,9 @@ pub fn script_answer(
 fn program_answer(alloc: Global, reader: &str, tree: &Tree) -> Result<String, AllocError> {
     let mut walk = walk_at(alloc, reader)?;
     match ScriptCommand::read(alloc, tree, &mut walk) {
-        Ok(command) => command.program(alloc, "/w", "/w/target"),
+        Ok(command) => command
+            .program(alloc, "/w", "/w/target")
+            .or_else(|_| command.program(alloc, "/w", "/w/target")),
         Err(fault) => format!(in alloc; "refused: {fault}"),
     }
 }
@@ -53,7 +55,9 @@ fn stress_index(tree: &Tree) -> Option<u32> {
 /// The id of a script within the run whose id is the number 1, or the cause of the refusal.
 fn unique_id(alloc: Global, id: &str, stress_index: Option<u32>) -> Result<String, AllocError> {
     match ScriptId::new(alloc, id) {
-        Ok(id) => id.unique_id(alloc, Uuid::from_u128(1), stress_index),
+        Ok(id) => id
+            .unique_id(alloc, Uuid::from_u128(1), stress_index)
+            .or_else(|_| id.unique_id(alloc, Uuid::from_u128(1), stress_index)),
         Err(error) => format!(in alloc; "refused: {error}"),
     }
 }

@@ -1,8 +1,8 @@
 //! What readers of texts answer.
-use nextest_documents::{TextFault, merge_layers, tree_from_text};
-use nextest_elements::{ConfigIdentifier, Key, ToolName, Tree, parse_duration};
+use nextest_documents::{TextFault, lay_over, tree_from_text};
+use nextest_elements::{ConfigIdentifier, InvalidIdentifier, Key, ToolName, Tree, parse_duration};
 use nextest_script_order::ids_in_order;
-use nextest_scripts::{ScriptId, split_shell_words, validate_env_var_key};
+use nextest_scripts::{ScriptId, ShellWordsError, split_shell_words, validate_env_var_key};
 use std::alloc::{AllocError, Global};
 use std::fmt::Display;
 
@@ -44,21 +44,48 @@ fn duration_answer(alloc: Global, text: &str) -> Result<String, AllocError> {
     }
 }
 
-/// The identifier, and its parts where it is one of a tool.
+/// The identifier and its parts, or the cause of the refusal.
 fn identifier_answer(alloc: Global, text: &str) -> Result<String, AllocError> {
-    match ConfigIdentifier::new(alloc, text) {
-        Ok(identifier) => match identifier.tool_components() {
-            Some((tool, name)) => format!(in alloc; "{identifier}, `{name}` of tool `{tool}`"),
-            None => identifier.to_string(alloc),
-        },
+    match identifier_of(alloc, text) {
+        Ok(identifier) => {
+            let copy = identifier.clone().or_else(|_| identifier.clone())?;
+            parts_answer(alloc, &copy)
+        }
         Err(cause) => refusal(alloc, &cause),
     }
 }
 
+/// The identifier that a text is. After want of memory it is asked for once more.
+fn identifier_of(alloc: Global, text: &str) -> Result<ConfigIdentifier, InvalidIdentifier> {
+    match ConfigIdentifier::new(alloc, text) {
+        Err(InvalidIdentifier::Memory) => ConfigIdentifier::new(alloc, text),
+        identifier => identifier,
+    }
+}
+
+/// An identifier, and its parts where it is one of a tool or of the organisation.
+fn parts_answer(alloc: Global, identifier: &ConfigIdentifier) -> Result<String, AllocError> {
+    if let Some((tool, name)) = identifier.tool_components() {
+        return format!(in alloc; "{identifier}, `{name}` of tool `{tool}`");
+    }
+    match identifier.organisation_component() {
+        Some(name) => format!(in alloc; "{identifier}, `{name}` of the organisation"),
+        None => identifier.to_string(alloc),
+    }
+}
+
 fn words_answer(alloc: Global, text: &str) -> Result<String, AllocError> {
-    match split_shell_words(alloc, text) {
+    match words_of(alloc, text) {
         Ok(words) => format!(in alloc; "{words:?}"),
         Err(cause) => refusal(alloc, &cause),
+    }
+}
+
+/// The words of a line. After want of memory they are asked for once more.
+fn words_of(alloc: Global, text: &str) -> Result<Vec<String>, ShellWordsError> {
+    match split_shell_words(alloc, text) {
+        Err(ShellWordsError::Memory) => split_shell_words(alloc, text),
+        words => words,
     }
 }
 
@@ -100,12 +127,11 @@ pub fn merged_answer(alloc: Global, documents: &[Tree]) -> Result<String, AllocE
 }
 
 fn merged(alloc: Global, documents: &[Tree]) -> Result<Tree, TextFault> {
-    let mut layers = Vec::new(alloc);
+    let mut tree = tree_from_text(alloc, "")?;
     for document in documents {
         let text = document.as_str().unwrap_or("");
-        layers
-            .push(tree_from_text(alloc, text)?)
-            .map_err(AllocError::from)?;
+        let above = tree_from_text(alloc, text)?;
+        tree = lay_over(alloc, &above, tree)?;
     }
-    Ok(merge_layers(alloc, tree_from_text(alloc, "")?, &layers)?)
+    Ok(tree)
 }

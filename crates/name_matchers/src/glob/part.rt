@@ -1,9 +1,11 @@
 //! The parts of a glob.
-ghost use Rattle.std.specs.Prelude.{◌≡◌, ◌<◌, ◌≤◌, ◌↔◌, IfOk, Bool, List, ℕ, IsTrue, length, drop, slice_index};
+ghost use Rattle.std.specs.Prelude.{◌≡◌, ◌<◌, ◌≤◌, ◌↔◌, IfOk, IsTrue, Bool, length, drop, slice_index};
 ghost use Rattle.name_matchers.specs.Globs as globs;
-ghost use Rattle.name_matchers.specs.Globs.{BeginsFolders, ReadsPart, Writes};
+ghost use Rattle.name_matchers.specs.GlobReading.{BeginsFolders, BeginsLast, ReadsPart};
+ghost use Rattle.name_matchers.specs.declared.glob.place.Place as places;
 
 use crate::glob::GlobFault;
+use crate::glob::place::Place;
 
 /// A part of a glob.
 #[derive(Clone, Copy)]
@@ -14,44 +16,38 @@ pub enum GlobPart {
     AnyByte,
     /// Any bytes, also none: `*`.
     AnyBytes,
-    /// Nothing, or any bytes that end in a slash: `**/` at the start or behind a slash.
+    /// Nothing, or any bytes that end in a slash: `**/` at the start of a row or behind a slash.
     Folders,
-}
-
-impl GlobPart {
-    /// Whether folders may stand behind the part.
-    pub fn ends_in_slash(self) -> bool
-        ensures { result ≡ globs.ends_in_slash self }
-    {
-        match self {
-            GlobPart::Byte(byte) => byte == b'/',
-            GlobPart::AnyByte | GlobPart::AnyBytes => false,
-            GlobPart::Folders => true,
-        }
-    }
+    /// Nothing: `**` at the end of a branch of nothing but folders.
+    Nothing,
 }
 
 fn is_special(byte: u8) -> bool
     ensures { result ≡ globs.is_special byte }
 {
-    byte == b'?' || byte == b'*' || byte == b'[' || byte == b'\\' || byte == b'{' || byte == b'}'
+    matches!(byte, b'?' | b'*' | b'[' | b'\\' | b'{' | b'}')
 }
 
-fn begins_folders(text: &[u8]) -> bool
-    ensures { IsTrue result ↔ ((rest : List ℕ) × BeginsFolders text.now rest) }
+/// Whether a row ends before this text: a glob with the text, and a branch of a group before a comma
+/// or a closing brace.
+pub fn ends_row(inside: bool, text: &[u8]) -> bool
+    ensures { result ≡ globs.ends_row inside text.now }
 {
-    text.len() >= 3 && text[0] == b'*' && text[1] == b'*' && text[2] == b'/'
+    if text.len() == 0 {
+        return !inside;
+    }
+    inside && (text[0] == b',' || text[0] == b'}')
 }
 
 /// The part at the front of a text, and how many bytes write it.
 ///
 /// # Errors
 ///
-/// [`GlobFault::Malformed`] for a backslash at the end and a bracket or brace that is not closed or
-/// closes nothing, and [`GlobFault::NotBrought`] for a class or a group.
-pub fn read_part(text: &[u8], opens: bool) -> Result<(GlobPart, usize), GlobFault>
+/// [`GlobFault::Malformed`] where no part stands there: a backslash at the end, and the bytes of
+/// classes and groups.
+pub fn read_part(text: &[u8], inside: bool, place: Place) -> Result<(GlobPart, usize), GlobFault>
     requires { 0 < length text.now }
-    ensures part { ReadsPart opens text.now result }
+    ensures part { ReadsPart inside place text.now result }
     ensures len { IfOk result (λ read. (0 < read.1) × (read.1 ≤ length text.now)) }
 {
     let first = text[0];
@@ -62,46 +58,67 @@ pub fn read_part(text: &[u8], opens: bool) -> Result<(GlobPart, usize), GlobFaul
         return Ok((GlobPart::AnyByte, 1));
     }
     if first == b'*' {
-        return Ok(read_star(text, opens));
+        return Ok(read_star(text, inside, place));
     }
     if first == b'\\' {
         return read_escaped(text);
     }
-    Err(fault_of(first, &text[1..]))
+    Err(GlobFault::Malformed)
 }
 
-// Why no part begins with this byte: a bracket or a brace that is not closed, or that closes
-// nothing, is malformed.
-fn fault_of(first: u8, behind: &[u8]) -> GlobFault {
-    let closing = match first {
-        b'[' => b']',
-        b'{' => b'}',
-        _ => return GlobFault::Malformed,
-    };
-    if behind.iter().any(|byte| *byte == closing) {
-        GlobFault::NotBrought
+fn read_star(text: &[u8], inside: bool, place: Place) -> (GlobPart, usize)
+    requires some { 0 < length text.now }
+    requires star { slice_index text.now 0 ≡ 42 }
+    ensures part { globs.WritesPart inside place text.now result.0 (drop result.1 text.now) }
+    ensures len { (0 < result.1) × (result.1 ≤ length text.now) }
+{
+    if begins_folders(text, place) {
+        return (folders_part(inside, place, &text[3..]), 3);
+    }
+    if begins_last(text, inside, place) {
+        return (GlobPart::Nothing, 2);
+    }
+    (GlobPart::AnyBytes, 1)
+}
+
+// Whether folders stand at the front of a text, where they may.
+fn begins_folders(text: &[u8], place: Place) -> bool
+    ensures { IsTrue result ↔ BeginsFolders place text.now }
+{
+    place.opens() && text.len() >= 3 && text[0] == b'*' && text[1] == b'*' && text[2] == b'/'
+}
+
+// What folders before this rest are.
+fn folders_part(inside: bool, place: Place, rest: &[u8]) -> GlobPart
+    ensures { result ≡ globs.folders_part inside place rest.now }
+{
+    if !inside && place.leads() && ends_row(inside, rest) {
+        GlobPart::AnyBytes
     } else {
-        GlobFault::Malformed
+        GlobPart::Folders
     }
 }
 
-fn read_star(text: &[u8], opens: bool) -> (GlobPart, usize)
-    requires some { 0 < length text.now }
-    requires star { slice_index text.now 0 ≡ 42 }
-    ensures part { Writes opens text.now result.0 (drop result.1 text.now) }
-    ensures len { (0 < result.1) × (result.1 ≤ length text.now) }
+// Whether the last stars of a branch of folders stand at the front of a text.
+fn begins_last(text: &[u8], inside: bool, place: Place) -> bool
+    ensures { IsTrue result ↔ BeginsLast inside place text.now }
 {
-    if opens && begins_folders(text) {
-        (GlobPart::Folders, 3)
-    } else {
-        (GlobPart::AnyBytes, 1)
+    text.len() >= 2 && text[0] == b'*' && text[1] == b'*' && is_last(inside, place, &text[2..])
+}
+
+fn is_last(inside: bool, place: Place, rest: &[u8]) -> bool
+    ensures { result ≡ globs.is_last inside place rest.now }
+{
+    match place {
+        Place::BehindFolders => inside && ends_row(inside, rest),
+        _ => false,
     }
 }
 
 fn read_escaped(text: &[u8]) -> Result<(GlobPart, usize), GlobFault>
     requires some { 0 < length text.now }
     requires backslash { slice_index text.now 0 ≡ 92 }
-    ensures part { (opens : Bool) → ReadsPart opens text.now result }
+    ensures part { (inside : Bool) (at : places.Place) → ReadsPart inside at text.now result }
     ensures len { IfOk result (λ read. (0 < read.1) × (read.1 ≤ length text.now)) }
 {
     if text.len() < 2 {

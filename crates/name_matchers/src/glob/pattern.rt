@@ -1,10 +1,9 @@
 //! Patterns that match what the parts of a glob take.
-ghost use Rattle.std.specs.Prelude.{◌≡◌, ◌∷◌, ◌++◌, [], List, ℕ, IfOk, map, length};
+ghost use Rattle.std.specs.Prelude.{◌≡◌, ◌∷◌, [], IfOk, map};
 ghost use Rattle.regex_hir.specs.Meaning.{meaning, cat_all};
 ghost use Rattle.regex_hir.specs.Re as re;
 ghost use Rattle.regex_hir.specs.declared.look.Look.TheVariants as look;
-ghost use Rattle.name_matchers.specs.Patterns.{Means, TakesWhole};
-ghost use Rattle.name_matchers.specs.Patterns as patterns;
+ghost use Rattle.name_matchers.specs.Patterns.{Means};
 ghost use Rattle.name_matchers.specs.declared.glob.part.GlobPart.TheVariants as part;
 
 use crate::glob::part::GlobPart;
@@ -51,7 +50,8 @@ fn folders(alloc: Global) -> Result<Hir, AllocError>
     Ok(Hir::Alternation(two(alloc, Hir::Empty, Hir::Concat(path))?))
 }
 
-fn part_pattern(alloc: Global, part: GlobPart) -> Result<Hir, AllocError>
+/// The pattern of what a part takes.
+pub fn part_pattern(alloc: Global, part: GlobPart) -> Result<Hir, AllocError>
     ensures { IfOk result (λ hir. Means part (meaning hir)) }
 {
     match part {
@@ -59,18 +59,18 @@ fn part_pattern(alloc: Global, part: GlobPart) -> Result<Hir, AllocError>
         GlobPart::AnyByte => any_byte(alloc),
         GlobPart::AnyBytes => any_bytes(alloc),
         GlobPart::Folders => folders(alloc),
+        GlobPart::Nothing => Ok(Hir::Empty),
     }
 }
 
-/// The pattern that matches a name from start to end just where the parts take it.
-pub fn glob_pattern(alloc: Global, parts: &[GlobPart]) -> Result<Hir, AllocError>
-    ensures { IfOk result (λ hir. TakesWhole parts.now (meaning hir)) }
+/// The pattern that matches a name from start to end by these patterns.
+pub fn whole_pattern(alloc: Global, row: Vec<Hir>) -> Result<Hir, AllocError>
+    ensures { IfOk result (λ hir. meaning hir ≡ cat_all
+        (re.look look.Start ∷ cat_all (map meaning row.items) ∷ re.look look.End ∷ [])) }
 {
     let mut patterns = Vec::new(alloc);
     patterns.push(Hir::Look(Look::Start))?;
-    for part in parts {
-        patterns.push(part_pattern(alloc, *part)?)?;
-    }
+    patterns.push(Hir::Concat(row))?;
     patterns.push(Hir::Look(Look::End))?;
     Ok(Hir::Concat(patterns))
 }

@@ -4,8 +4,10 @@ ghost use Rattle.nextest_scripts.specs.ScriptId.{script_text};
 ghost use Rattle.nextest_settings.specs.SettingsView.{slot_at, value_at, origin_at};
 ghost use Rattle.nextest_settings.specs.declared.setting.Setting.{Setting};
 ghost use Rattle.nextest_config.specs.RowView.{origin_view, row_value, row_source};
+ghost use Rattle.nextest_config.specs.ValueTexts.{value_text};
 
 mod sources;
+mod values;
 
 use nextest_elements::{
     FlakyResult, JunitFlakyFailStatus, LeakTimeout, ReportSkipPolicy, RetryPolicy, SlowTimeout,
@@ -17,6 +19,7 @@ use nextest_settings::{Setting, SettingSource, TestSettings};
 use nextest_sources::ConfigSource;
 use sources::sources_of;
 use std::alloc::{AllocError, Global};
+use values::{arguments_text, leak_timeout_text, retries_text, slow_timeout_text, wrapper_text};
 
 /// What decides a setting.
 #[derive(Debug, Drop, PartialEq, Eq)]
@@ -84,6 +87,31 @@ impl TestRow {
         match self.sources.get(setting as usize) {
             Some(Some(source)) => Some(source),
             _ => None,
+        }
+    }
+
+    /// The value of a setting as a text, in the spelling of files: durations are whole nanoseconds,
+    /// and what is absent is `none`.
+    pub fn value_text(&self, alloc: Global, setting: Setting) -> Result<String, AllocError>
+        ensures { IfOk result (λ text. string_bytes text
+            ≡ value_text setting (row_value self.now setting)) }
+    {
+        match setting {
+            Setting::Priority => self.priority.0.to_string(alloc),
+            Setting::ThreadsRequired => self.threads_required.to_string(alloc),
+            Setting::RunWrapper => wrapper_text(alloc, &self.run_wrapper),
+            Setting::RunExtraArgs => arguments_text(alloc, &self.run_extra_args),
+            Setting::Retries => retries_text(alloc, self.retries),
+            Setting::FlakyResult => self.flaky_result.to_string(alloc),
+            Setting::SlowTimeout => slow_timeout_text(alloc, self.slow_timeout),
+            Setting::LeakTimeout => leak_timeout_text(alloc, self.leak_timeout),
+            Setting::TestGroup => self.test_group.to_string(alloc),
+            Setting::SuccessOutput => self.success_output.to_string(alloc),
+            Setting::FailureOutput => self.failure_output.to_string(alloc),
+            Setting::JunitStoreSuccessOutput => self.junit_store_success_output.to_string(alloc),
+            Setting::JunitStoreFailureOutput => self.junit_store_failure_output.to_string(alloc),
+            Setting::JunitReportSkipped => self.junit_report_skipped.to_string(alloc),
+            Setting::JunitFlakyFailStatus => self.junit_flaky_fail_status.to_string(alloc),
         }
     }
 }

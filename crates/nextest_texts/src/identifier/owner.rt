@@ -9,6 +9,8 @@ ghost use Rattle.nextest_texts.specs.OwnerView.{owner_view};
 pub enum IdentifierOwner<'a> {
     /// Nobody: any file of the repository defines it.
     Nobody,
+    /// The organisation.
+    Organisation,
     /// The tool of this name.
     Tool(&'a str),
 }
@@ -21,9 +23,10 @@ impl PartialEq for IdentifierOwner<'_> {
     fn eq(&self, other: &Self) -> bool {
         match self {
             IdentifierOwner::Nobody => matches!(other, IdentifierOwner::Nobody),
+            IdentifierOwner::Organisation => matches!(other, IdentifierOwner::Organisation),
             IdentifierOwner::Tool(tool) => match other {
                 IdentifierOwner::Tool(other_tool) => *tool == *other_tool,
-                IdentifierOwner::Nobody => false,
+                IdentifierOwner::Nobody | IdentifierOwner::Organisation => false,
             },
         }
     }

@@ -14,7 +14,7 @@ use Rattle.nextest_tables.specs.declared.profile_table.ProfileTable.{ProfileTabl
 use Rattle.nextest_rules.specs.CompileFaults.{profile_faults}
 use Rattle.nextest_rules.specs.Rules.{layer_of, layer_profile}
 use Rattle.nextest_rules.specs.View.{profiles_view, profile_meaning_view}
-use Rattle.nextest_rules.proofs.Growing.{goes_last, names_more, seen_more}
+use Rattle.nextest_rules.proofs.InsertEntry.{goes_last, names_more, seen_more}
 use Rattle.nextest_rules.proofs.Ordering.{in_default, in_others, more_default, more_others, all_together}
 use Rattle.nextest_rules.proofs.compile.compile_profiles.Goals as goal
 

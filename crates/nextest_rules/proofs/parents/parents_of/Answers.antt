@@ -6,7 +6,7 @@ use Rattle.nextest_tables.specs.View.{by_name, profile_view}
 use Rattle.nextest_tables.specs.declared.profile_table.ProfileTable.{ProfileTable}
 use Rattle.nextest_rules.specs.Steps.{written_parents}
 use Rattle.nextest_rules.specs.declared.parents.Parent.{Parent}
-use Rattle.nextest_rules.proofs.Growing.{goes_last, names_more, seen_more, same_copy}
+use Rattle.nextest_rules.proofs.InsertEntry.{goes_last, names_more, seen_more, same_copy}
 use Rattle.nextest_rules.proofs.parents.parents_of.Goals as goal
 
 pub loop-name-preserved : goal.loop-name-preserved

@@ -7,7 +7,7 @@ use Rattle.nextest_script_order.specs.Standing.{ids_view, key_path_view}
 use Rattle.nextest_script_order.specs.Order.{placed_before}
 use Rattle.nextest_script_order.proofs.Sections.{early_told, late_told, some_of}
 use Rattle.nextest_script_order.proofs.Tables.{node_of}
-use Rattle.nextest_script_order.proofs.Halves.{placed_few, placed_tied, halves, early_between, late_between}
+use Rattle.nextest_script_order.proofs.IsOrder.{placed_few, placed_tied, halves, early_between, late_between}
 use Rattle.nextest_script_order.proofs.order.+place_between.Goals as goal
 
 pub returns-then-len-lt2 : goal.returns-then-len-lt2

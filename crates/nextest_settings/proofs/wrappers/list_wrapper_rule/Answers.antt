@@ -1,55 +1,41 @@
-use Rattle.std.proofs.Common.{◌∙◌, sym, is_some, Bool, IsSome}
-use Rattle.nextest_scripts.specs.ScriptId.{script_text}
+use Rattle.std.proofs.Common.{◌≡◌, true, ◌∙◌, ap, sym, subst, option_map, IfSome, IsSome, ℕ, Some, slice_get, ◌∷◌, [], ◌++◌}
 use Rattle.nextest_settings.specs.Engines.{binary_query_by}
-use Rattle.nextest_tables.specs.FileTexts.{ScriptUse}
+use Rattle.nextest_settings.specs.Index.{names_wrapper}
 use Rattle.nextest_settings.specs.Queries.{HasBinaryAnswers}
-use Rattle.nextest_settings.specs.View.{meant_script_rule}
-use Rattle.nextest_settings.proofs.AskedAlone.{passed-rule, passed-tally, found-rule, found-tally}
-use Rattle.nextest_settings.proofs.EachRule.{each_at}
-use Rattle.nextest_settings.proofs.AtName.{some_of}
+use Rattle.nextest_settings.specs.View.{meant_script_rule, script_rule_ref_view}
+use Rattle.nextest_settings.specs.declared.index.Wrapper.TheVariants as wrappers
+use Rattle.nextest_settings.proofs.Listed.{winner-seen, all-told, met, listed, found-among, found-passes}
+use Rattle.nextest_settings.proofs.Wrapped.{head-found, each-there, writes-it, one-writes, if-some}
 use Rattle.nextest_settings.proofs.wrappers.list_wrapper_rule.Goals as goal
 
-abbrev wants : ScriptUse → Bool
-wants w = is_some w.list_wrapper
+pub walk_rows-requires-clause-answers : goal.walk_rows-requires-clause-answers
+walk_rows-requires-clause-answers g c = λ k r at listed.
+    let F = g.F.Filters in
+    let named : IsSome (script_rule_ref_view r.rule).writes.list_wrapper = one-writes _ _ listed in
+    each-there (λ r. IsSome r.writes.list_wrapper → HasBinaryAnswers F.holds_binary r.filter) (meant_script_rule F.meaning) c.args.rules.now k r c.requires.answers at named
 
-pub returns-then-holds_for_binary-clause-rule : goal.returns-then-holds_for_binary-clause-rule
-returns-then-holds_for_binary-clause-rule g c =
+pub returns-clause-rule : goal.returns-clause-rule
+returns-clause-rule g c =
     let F = g.F.Filters in
     let query = binary_query_by F c.args.cx.now.default_filter.now c.args.query.now in
-    let x = c.index-rules-index.result in
-    let wanted = c.is_some-is_wanted.ensures ∙ some_of (λ id. script_text id.now) c.list_wrapper.result _ c.list_wrapper.ensures in
-    let answer = rw wanted at c.holds_for_binary.ensures.answer in
-    found-rule query wants c.args.first (meant_script_rule F.meaning) c.args.rules.now c.loop-index.index x c.loop-index-test.true c.index-rules-index.is c.loop-index.invariant.rule (sym answer ∙ c.if-holds_for_binary.true)
+    ap (option_map (meant_script_rule F.meaning)) (head-found _ _ _ c.walk_rows.ensures.found) ∙ winner-seen (meant_script_rule F.meaning) names_wrapper query wrappers.List c.args.rules.now
 
-pub returns-then-holds_for_binary-clause-tally : goal.returns-then-holds_for_binary-clause-tally
-returns-then-holds_for_binary-clause-tally g c =
+pub returns-clause-tally : goal.returns-clause-tally
+returns-clause-tally g c =
     let F = g.F.Filters in
-    let numbers = g.F.Tally.Tally.numbers in
     let query = binary_query_by F c.args.cx.now.default_filter.now c.args.query.now in
-    let x = c.index-rules-index.result in
-    let wanted = c.is_some-is_wanted.ensures ∙ some_of (λ id. script_text id.now) c.list_wrapper.result _ c.list_wrapper.ensures in
-    let answer = rw wanted at c.holds_for_binary.ensures.answer in
-    let counted = rw wanted at c.holds_for_binary.ensures.tally in
-    found-tally query wants c.args.first (meant_script_rule F.meaning) c.args.rules.now c.loop-index.index x c.loop-index-test.true c.index-rules-index.is c.loop-index.invariant.rule (numbers c.loop-index.tally) _ _ (sym answer ∙ c.if-holds_for_binary.true) c.loop-index.invariant.tally counted
+    c.walk_rows.ensures.tally ∙ ap (λ l. g.F.Tally.Tally.numbers c.args.tally.now ++ l) (all-told (meant_script_rule F.meaning) names_wrapper query (wrappers.List ∷ []) c.args.first c.args.rules.now)
 
-pub loop-index-preserved : goal.loop-index-preserved
-loop-index-preserved g c =
+pub returns-clause-member : goal.returns-clause-member
+returns-clause-member g c =
     let F = g.F.Filters in
-    let numbers = g.F.Tally.Tally.numbers in
     let query = binary_query_by F c.args.cx.now.default_filter.now c.args.query.now in
-    let x = c.index-rules-index.result in
-    let wanted = c.is_some-is_wanted.ensures ∙ some_of (λ id. script_text id.now) c.list_wrapper.result _ c.list_wrapper.ensures in
-    let answer = rw wanted at c.holds_for_binary.ensures.answer in
-    let counted = rw wanted at c.holds_for_binary.ensures.tally in
-    record {
-      rule = passed-rule query wants c.args.first (meant_script_rule F.meaning) c.args.rules.now c.loop-index.index x c.loop-index-test.true c.index-rules-index.is c.loop-index.invariant.rule (sym answer ∙ c.if-holds_for_binary.false);
-      tally = passed-tally query wants c.args.first (meant_script_rule F.meaning) c.args.rules.now c.loop-index.index x c.loop-index-test.true c.index-rules-index.is c.loop-index.invariant.rule (numbers c.loop-index.tally) _ _ c.loop-index.invariant.tally counted;
-    }
+    subst (λ o. IfSome o (λ r. (n : ℕ) × (slice_get c.args.rules.now n ≡ Some r))) (sym (head-found _ _ _ c.walk_rows.ensures.found))
+    (found-among (met (meant_script_rule F.meaning) names_wrapper query) (listed (meant_script_rule F.meaning) names_wrapper query wrappers.List) c.args.rules.now)
 
-pub holds_for_binary-requires : goal.holds_for_binary-requires
-holds_for_binary-requires g c =
+pub returns-clause-named : goal.returns-clause-named
+returns-clause-named g c =
     let F = g.F.Filters in
-    let x = c.index-rules-index.result in
-    let wanted = c.is_some-is_wanted.ensures ∙ some_of (λ id. script_text id.now) c.list_wrapper.result _ c.list_wrapper.ensures in
-    let answers = each_at (λ r. IsSome r.writes.list_wrapper → HasBinaryAnswers F.holds_binary r.filter) (meant_script_rule F.meaning) c.args.rules.now c.loop-index.index x x c.requires.answers c.loop-index-test.true c.index-rules-index.is in
-    λ is_true. answers (sym wanted ∙ is_true)
+    let query = binary_query_by F c.args.cx.now.default_filter.now c.args.query.now in
+    subst (λ o. IfSome o (λ r. IsSome (script_rule_ref_view r.rule).writes.list_wrapper)) (sym (head-found _ _ _ c.walk_rows.ensures.found))
+    (if-some (λ r. listed (meant_script_rule F.meaning) names_wrapper query wrappers.List r ≡ true) (λ r. IsSome (script_rule_ref_view r.rule).writes.list_wrapper) _ (λ r e. writes-it _ _ e) (found-passes (met (meant_script_rule F.meaning) names_wrapper query) (listed (meant_script_rule F.meaning) names_wrapper query wrappers.List) c.args.rules.now))

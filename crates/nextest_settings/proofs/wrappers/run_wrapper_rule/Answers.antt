@@ -1,45 +1,37 @@
-use Rattle.std.proofs.Common.{◌∙◌, sym, is_some, Bool}
-use Rattle.nextest_scripts.specs.ScriptId.{script_text}
+use Rattle.std.proofs.Common.{◌≡◌, true, ◌∙◌, ap, sym, subst, option_map, IfSome, IsSome, ℕ, Some, slice_get, ◌∷◌, [], ◌++◌}
 use Rattle.nextest_settings.specs.Engines.{test_query_by}
-use Rattle.nextest_tables.specs.FileTexts.{ScriptUse}
-use Rattle.nextest_settings.specs.View.{meant_script_rule}
-use Rattle.nextest_settings.proofs.AskedAlone.{passed-rule, passed-tally, found-rule, found-tally}
-use Rattle.nextest_settings.proofs.AtName.{some_of}
+use Rattle.nextest_settings.specs.Index.{names_wrapper}
+use Rattle.nextest_settings.specs.View.{meant_script_rule, script_rule_ref_view}
+use Rattle.nextest_settings.specs.declared.index.Wrapper.TheVariants as wrappers
+use Rattle.nextest_settings.proofs.Listed.{winner-seen, all-told, met, listed, found-among, found-passes}
+use Rattle.nextest_settings.proofs.Wrapped.{head-found, writes-it, if-some}
 use Rattle.nextest_settings.proofs.wrappers.run_wrapper_rule.Goals as goal
 
-abbrev wants : ScriptUse → Bool
-wants w = is_some w.run_wrapper
+pub walk_rows-requires-clause-answers : goal.walk_rows-requires-clause-answers
+walk_rows-requires-clause-answers g c = λ k r at listed. tt
 
-pub returns-then-holds_for_test-clause-rule : goal.returns-then-holds_for_test-clause-rule
-returns-then-holds_for_test-clause-rule g c =
+pub returns-clause-rule : goal.returns-clause-rule
+returns-clause-rule g c =
     let F = g.F.Filters in
     let query = test_query_by F c.args.cx.now.default_filter.now c.args.query.now in
-    let x = c.index-rules-index.result in
-    let wanted = c.is_some-is_wanted.ensures ∙ some_of (λ id. script_text id.now) c.run_wrapper.result _ c.run_wrapper.ensures in
-    let answer = rw wanted at c.holds_for_test.ensures.answer in
-    found-rule query wants c.args.first (meant_script_rule F.meaning) c.args.rules.now c.loop-index.index x c.loop-index-test.true c.index-rules-index.is c.loop-index.invariant.rule (sym answer ∙ c.if-holds_for_test.true)
+    ap (option_map (meant_script_rule F.meaning)) (head-found _ _ _ c.walk_rows.ensures.found) ∙ winner-seen (meant_script_rule F.meaning) names_wrapper query wrappers.Run c.args.rules.now
 
-pub returns-then-holds_for_test-clause-tally : goal.returns-then-holds_for_test-clause-tally
-returns-then-holds_for_test-clause-tally g c =
+pub returns-clause-tally : goal.returns-clause-tally
+returns-clause-tally g c =
     let F = g.F.Filters in
-    let numbers = g.F.Tally.Tally.numbers in
     let query = test_query_by F c.args.cx.now.default_filter.now c.args.query.now in
-    let x = c.index-rules-index.result in
-    let wanted = c.is_some-is_wanted.ensures ∙ some_of (λ id. script_text id.now) c.run_wrapper.result _ c.run_wrapper.ensures in
-    let answer = rw wanted at c.holds_for_test.ensures.answer in
-    let counted = rw wanted at c.holds_for_test.ensures.tally in
-    found-tally query wants c.args.first (meant_script_rule F.meaning) c.args.rules.now c.loop-index.index x c.loop-index-test.true c.index-rules-index.is c.loop-index.invariant.rule (numbers c.loop-index.tally) _ _ (sym answer ∙ c.if-holds_for_test.true) c.loop-index.invariant.tally counted
+    c.walk_rows.ensures.tally ∙ ap (λ l. g.F.Tally.Tally.numbers c.args.tally.now ++ l) (all-told (meant_script_rule F.meaning) names_wrapper query (wrappers.Run ∷ []) c.args.first c.args.rules.now)
 
-pub loop-index-preserved : goal.loop-index-preserved
-loop-index-preserved g c =
+pub returns-clause-member : goal.returns-clause-member
+returns-clause-member g c =
     let F = g.F.Filters in
-    let numbers = g.F.Tally.Tally.numbers in
     let query = test_query_by F c.args.cx.now.default_filter.now c.args.query.now in
-    let x = c.index-rules-index.result in
-    let wanted = c.is_some-is_wanted.ensures ∙ some_of (λ id. script_text id.now) c.run_wrapper.result _ c.run_wrapper.ensures in
-    let answer = rw wanted at c.holds_for_test.ensures.answer in
-    let counted = rw wanted at c.holds_for_test.ensures.tally in
-    record {
-      rule = passed-rule query wants c.args.first (meant_script_rule F.meaning) c.args.rules.now c.loop-index.index x c.loop-index-test.true c.index-rules-index.is c.loop-index.invariant.rule (sym answer ∙ c.if-holds_for_test.false);
-      tally = passed-tally query wants c.args.first (meant_script_rule F.meaning) c.args.rules.now c.loop-index.index x c.loop-index-test.true c.index-rules-index.is c.loop-index.invariant.rule (numbers c.loop-index.tally) _ _ c.loop-index.invariant.tally counted;
-    }
+    subst (λ o. IfSome o (λ r. (n : ℕ) × (slice_get c.args.rules.now n ≡ Some r))) (sym (head-found _ _ _ c.walk_rows.ensures.found))
+    (found-among (met (meant_script_rule F.meaning) names_wrapper query) (listed (meant_script_rule F.meaning) names_wrapper query wrappers.Run) c.args.rules.now)
+
+pub returns-clause-named : goal.returns-clause-named
+returns-clause-named g c =
+    let F = g.F.Filters in
+    let query = test_query_by F c.args.cx.now.default_filter.now c.args.query.now in
+    subst (λ o. IfSome o (λ r. IsSome (script_rule_ref_view r.rule).writes.run_wrapper)) (sym (head-found _ _ _ c.walk_rows.ensures.found))
+    (if-some (λ r. listed (meant_script_rule F.meaning) names_wrapper query wrappers.Run r ≡ true) (λ r. IsSome (script_rule_ref_view r.rule).writes.run_wrapper) _ (λ r e. writes-it _ _ e) (found-passes (met (meant_script_rule F.meaning) names_wrapper query) (listed (meant_script_rule F.meaning) names_wrapper query wrappers.Run) c.args.rules.now))

@@ -1,23 +1,12 @@
-use Rattle.std.proofs.Common.{sym, ◌∙◌, subst, IfNone}
-use Rattle.nextest_texts.specs.Identifier.{IsToolIdentifier}
-use Rattle.nextest_texts.proofs.Identifiers.{tool_no_part, name_no_part, unsplit_is_no_tool}
+use Rattle.std.proofs.Common.{sym, ◌∙◌}
+use Rattle.nextest_texts.proofs.Identifiers.{flaws_of_organisation_form, flaws_of_tool_form}
 use Rattle.nextest_texts.proofs.identifier.check_identifier.Goals as goal
 
-pub returns-in_default-clause-flaw : goal.returns-in_default-clause-flaw
-returns-in_default-clause-flaw c = (
-  sym c.has_tool_prefix.ensures ∙ c.if-not-has_tool_prefix.false,
-  name_no_part c.args.text.now c.in-Some.name.now c.in-Some.ensures.name (sym c.is_part-then-is_part.ensures ∙ c.if-is_part-2.false),
-)
+pub returns-then-has_tool_prefix-clause-flaw : goal.returns-then-has_tool_prefix-clause-flaw
+returns-then-has_tool_prefix-clause-flaw c =
+    flaws_of_tool_form c.args.text.now c.check_tool_form.result (sym c.has_tool_prefix.ensures ∙ c.if-has_tool_prefix.true) c.check_tool_form.ensures.verdict c.check_tool_form.ensures.cause
 
-pub returns-in_default-2-clause-flaw : goal.returns-in_default-2-clause-flaw
-returns-in_default-2-clause-flaw c = (
-  sym c.has_tool_prefix.ensures ∙ c.if-not-has_tool_prefix.false,
-  tool_no_part c.args.text.now c.in-Some.tool.now c.in-Some.ensures.tool (sym c.is_part.ensures ∙ c.if-is_part.false),
-)
-
-pub returns-in_default-3-clause-flaw : goal.returns-in_default-3-clause-flaw
-returns-in_default-3-clause-flaw c = (
-  sym c.has_tool_prefix.ensures ∙ c.if-not-has_tool_prefix.false,
-  subst (λ r. IfNone r (¬ IsToolIdentifier c.args.text.now)) c.in_default.is
-      (unsplit_is_no_tool c.args.text.now c.split_tool.result c.split_tool.ensures.none),
-)
+pub returns-then-has_organisation_prefix-clause-flaw : goal.returns-then-has_organisation_prefix-clause-flaw
+returns-then-has_organisation_prefix-clause-flaw c =
+    flaws_of_organisation_form c.args.text.now c.check_organisation_form.result (sym c.has_organisation_prefix.ensures ∙ c.if-has_organisation_prefix.true)
+    c.check_organisation_form.ensures.verdict c.check_organisation_form.ensures.cause

@@ -1,0 +1,15 @@
+pub mod PartsOfTexts
+pub mod Blanks
+pub mod Packages
+pub mod Stacks
+pub mod Evaluations
+pub mod Readings
+pub mod Truths
+pub mod Shapes
+pub mod Bans
+pub mod MarksTell
+pub mod Stops
+pub mod Hex
+pub mod Cuts
+pub mod Turns
+pub mod Marks

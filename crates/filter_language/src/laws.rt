@@ -1,0 +1,38 @@
+//! Laws of what filters say.
+ghost use Rattle.std.specs.Prelude.{◌≡◌, ◌≤◌, ◌↔◌, Some, List};
+ghost use Rattle.filter_language.specs.Formula.{Formula};
+ghost use Rattle.filter_language.specs.Grammar.{Mark, Spells, nesting};
+ghost use Rattle.filter_language.specs.Reading.{read};
+ghost use Rattle.filter_language.specs.Values.{value, Subject, answer};
+ghost use Rattle.filter_language.specs.Evaluation.{marks_value};
+ghost use Rattle.filter_language.specs.Truth.{ValuesAreTrue, BinariesSpeakForTests, OnlyTestsAreUnknown};
+
+use crate::matchers::Matchers;
+
+/// Marks are read to a filter exactly where they spell it and it nests within the bound.
+pub fn law_grammar<E: Matchers>()
+    ensures { (marks : List (Mark E.Meaning)) (f : Formula E.Meaning)
+        → (read marks ≡ Some f) ↔ (Spells marks f × (nesting f ≤ 128)) }
+{}
+
+/// What marks say is the value of the filter that they spell.
+pub fn law_marks<E: Matchers>()
+    ensures { (s : Subject) (marks : List (Mark E.Meaning)) (f : Formula E.Meaning)
+        → Spells marks f → nesting f ≤ 128
+        → marks_value (answer E.accepts s) marks ≡ value E.accepts s f }
+{}
+
+/// The value of a filter at a test is known, and is the truth of the filter.
+pub fn law_values<E: Matchers>()
+    ensures { ValuesAreTrue E.accepts }
+{}
+
+/// What a filter answers of a binary, it answers of each test of the binary.
+pub fn law_binaries<E: Matchers>()
+    ensures { BinariesSpeakForTests E.accepts }
+{}
+
+/// A filter that asks neither for a test nor for the default filter has an answer for each binary.
+pub fn law_decided<E: Matchers>()
+    ensures { OnlyTestsAreUnknown E.accepts }
+{}

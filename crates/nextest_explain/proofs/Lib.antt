@@ -1,0 +1,5 @@
+pub mod NamedFiles
+pub mod LineLists
+pub mod AskedRows
+pub mod Endings
+pub mod Writers

@@ -1,0 +1,4 @@
+pub mod Asks
+pub mod Members
+pub mod Sought
+pub mod Readings

@@ -1,0 +1,5 @@
+pub mod Names
+pub mod Members
+pub mod Compiling
+pub mod Engine
+pub mod Decided

@@ -1,0 +1,47 @@
+-- Lists of rules by their numbers, and what is found in them.
+use Rattle.std.specs.Prelude.{◌≡◌, ◌<◌, ◌≤◌, ◌↔◌, ◌+◌, ◌&&◌, ℕ, Bool, true, Contains, IsTrue, Option, Some, is_none, slice_get, List, [], ◌∷◌, ◌++◌, map, find, if◌then◌else◌}
+use Rattle.std.specs.List.{list_any}
+
+-- a rule that passes a test stands at a number, where rules are counted on from the first number
+abbrev pub StandsAt : {R : Type 0} → (R → Bool) → (first : ℕ) → List R → ℕ → Type 0
+StandsAt {R} test first rules n =
+    (k : ℕ) × (r : R) × (n ≡ first + k) × (slice_get rules k ≡ Some r) × (test r ≡ true)
+
+-- numbers rise strictly from the least one on
+abbrev pub Rises : ℕ → List ℕ → Type 0
+Rises least [] = Unit {0}
+Rises least (n ∷ ns) = (least ≤ n) × Rises (n + 1) ns
+
+-- Numbers are the rising list of the rules that pass a test: they rise strictly, and a number is
+-- among them exactly where such a rule stands.
+pub record IsListOf {R : Type 0} (test : R → Bool) (first : ℕ) (rules : List R)
+    (numbers : List ℕ) : Type 0 where
+  pub rising : Rises first numbers
+  pub exact : (n : ℕ) → Contains numbers n ↔ StandsAt test first rules n
+
+-- each rule in some list has an answer
+abbrev pub HaveAnswers : {R : Type 0} → List (R → Bool) → (R → Type 0) → List R → Type 0
+HaveAnswers {R} tests has_answer rules = (k : ℕ) (r : R) → slice_get rules k ≡ Some r
+    → IsTrue (list_any (λ test. test r) tests) → has_answer r
+
+-- the first rule that is met and passes a test
+abbrev pub first_of : {R : Type 0} → (R → Bool) → (R → Bool) → List R → Option R
+first_of met test rules = find (λ r. test r && met r) rules
+
+-- the first rule of each test
+abbrev pub firsts : {R : Type 0} → (R → Bool) → List (R → Bool) → List R → List (Option R)
+firsts met tests rules = map (λ test. first_of met test rules) tests
+
+-- whether a rule passes a test for which no rule before it was found
+abbrev pub is_wanted : {R : Type 0} → (R → Bool) → List (R → Bool) → List R → R → Bool
+is_wanted met tests before r =
+    list_any (λ test. is_none (first_of met test before) && test r) tests
+
+-- the numbers of the rules that are evaluated, counted on from n: they have a filter, and pass a
+-- test for which no rule before them was found
+abbrev pub asked_from : {R : Type 0} → (R → Bool) → (R → Bool) → List (R → Bool) → ℕ → List R
+    → List R → List ℕ
+asked_from asks met tests n before [] = []
+asked_from asks met tests n before (r ∷ rest) =
+    (if asks r && is_wanted met tests before r then n ∷ [] else [])
+    ++ asked_from asks met tests (n + 1) (before ++ r ∷ []) rest

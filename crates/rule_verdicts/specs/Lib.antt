@@ -1,0 +1,2 @@
+pub mod VerdictsBy
+pub mod Verdicts
