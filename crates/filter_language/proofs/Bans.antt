@@ -25,13 +25,16 @@ none_or : {X : Type 0} (a b : Option X) → is_none (option_or a b) ≡ (is_none
 none_or None b = refl
 none_or (Some x) b = refl
 
-none_of_kind : (m : Option Misread) (ban : Option FaultKind) → option_map (λ x. x.kind) m ≡ ban → is_none m ≡ is_none ban
+none_of_kind : (m : Option Misread) (ban : Option FaultKind) → option_map (λ x. x.kind) m ≡ ban
+    → is_none m ≡ is_none ban
 none_of_kind None ban is = ap is_none is
 none_of_kind (Some x) ban is = ap is_none is
 
 -- One more mark, and perhaps an objection to it.
-pub one_allowed : {M L : Type 0} (kind : FiltersetKind) (knows : Bool) (view : M → Mark L) (marks more : List M) (m : M) (before now after : Option Misread)
-    → more ≡ marks ++ m ∷ [] → is_none before ≡ are_allowed kind knows (map view marks) → option_map (λ x. x.kind) now ≡ mark_ban kind knows (view m)
+pub one_allowed : {M L : Type 0} (kind : FiltersetKind) (knows : Bool) (view : M → Mark L)
+    (marks more : List M) (m : M) (before now after : Option Misread)
+    → more ≡ marks ++ m ∷ [] → is_none before ≡ are_allowed kind knows (map view marks)
+    → option_map (λ x. x.kind) now ≡ mark_ban kind knows (view m)
     → after ≡ option_or before now → is_none after ≡ are_allowed kind knows (map view more)
 one_allowed kind knows view marks more m before now after is known ban or =
     ap is_none or

@@ -13,7 +13,8 @@ begins_not d c text none =
     ]
 
 -- A return that no line feed follows is no blank.
-no_return : (c : ℕ) (text : List ℕ) → after_prefix (codes "\r\n") (c ∷ text) ≡ None → ((c == 13) && is_some (after_prefix (codes "\n") text)) ≡ false
+no_return : (c : ℕ) (text : List ℕ) → after_prefix (codes "\r\n") (c ∷ text) ≡ None
+    → ((c == 13) && is_some (after_prefix (codes "\n") text)) ≡ false
 no_return c text none =
     elim (eqb_tells c 13) [
       | inl same ↦ (
@@ -24,7 +25,8 @@ no_return c text none =
       | inr other ↦ rw other.0 refl
     ]
 
-pub no_blank : (text : List ℕ) → after_prefix (codes " ") text ≡ None → after_prefix (codes "\n") text ≡ None → after_prefix (codes "\r\n") text ≡ None → skipped text ≡ text
+pub no_blank : (text : List ℕ) → after_prefix (codes " ") text ≡ None → after_prefix (codes "\n") text ≡ None
+    → after_prefix (codes "\r\n") text ≡ None → skipped text ≡ text
 no_blank [] x y z = refl
 no_blank (c ∷ text) x y z = rw (begins_not 32 c text x, begins_not 10 c text y, no_return c text z) refl
 

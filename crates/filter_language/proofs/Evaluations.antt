@@ -49,43 +49,59 @@ room s below =
 
 -- How a written filter is evaluated, before any rest, where there is room for its levels.
 record IsEvaluated {L : Type 0} (answers : Question L → Option Bool) (f : Formula L) : Type 0 where
-  tight : stands Tight f ≡ true → (k : Known) (outer : List Known) (rest : List (Mark L)) → length outer + nesting f ≤ 128
-      → with_marks answers (at k outer) (written f rest) ≡ with_marks answers (at (with_operand k (formula_value answers f)) outer) rest
-  joined : stands Joined f ≡ true → (either : Option Bool) (outer : List Known) (rest : List (Mark L)) → length outer + nesting f ≤ 128
-      → with_marks answers (at (behind either) outer) (written f rest) ≡ with_marks answers (at (joint either (formula_value answers f)) outer) rest
+  tight : stands Tight f ≡ true → (k : Known) (outer : List Known) (rest : List (Mark L))
+      → length outer + nesting f ≤ 128
+      → with_marks answers (at k outer) (written f rest)
+      ≡ with_marks answers (at (with_operand k (formula_value answers f)) outer) rest
+  joined : stands Joined f ≡ true → (either : Option Bool) (outer : List Known) (rest : List (Mark L))
+      → length outer + nesting f ≤ 128
+      → with_marks answers (at (behind either) outer) (written f rest)
+      ≡ with_marks answers (at (joint either (formula_value answers f)) outer) rest
   loose : stands Loose f ≡ true → (outer : List Known) → length outer + nesting f ≤ 128
       → (either : Option Bool) × (both : Option Bool) × (known_or either both ≡ formula_value answers f)
-      × ((rest : List (Mark L)) → with_marks answers (at fresh outer) (written f rest) ≡ with_marks answers (at (joint either both) outer) rest)
+      × ((rest : List (Mark L))
+      → with_marks answers (at fresh outer) (written f rest)
+      ≡ with_marks answers (at (joint either both) outer) rest)
 
 -- An operand beside nothing but the sides of an `or`.
 first_operand : {L : Type 0} (answers : Question L → Option Bool) (f : Formula L)
     → ((k : Known) (outer : List Known) (rest : List (Mark L)) → length outer + nesting f ≤ 128
-    → with_marks answers (at k outer) (written f rest) ≡ with_marks answers (at (with_operand k (formula_value answers f)) outer) rest)
+    → with_marks answers (at k outer) (written f rest)
+    ≡ with_marks answers (at (with_operand k (formula_value answers f)) outer) rest)
     → (either : Option Bool) (outer : List Known) (rest : List (Mark L)) → length outer + nesting f ≤ 128
-    → with_marks answers (at (behind either) outer) (written f rest) ≡ with_marks answers (at (joint either (formula_value answers f)) outer) rest
+    → with_marks answers (at (behind either) outer) (written f rest)
+    ≡ with_marks answers (at (joint either (formula_value answers f)) outer) rest
 first_operand answers f h either outer rest fits = h (behind either) outer rest fits
 
 -- What stands beside `and` stands anywhere.
 first_side : {L : Type 0} (answers : Question L → Option Bool) (f : Formula L)
     → ((either : Option Bool) (outer : List Known) (rest : List (Mark L)) → length outer + nesting f ≤ 128
-    → with_marks answers (at (behind either) outer) (written f rest) ≡ with_marks answers (at (joint either (formula_value answers f)) outer) rest)
+    → with_marks answers (at (behind either) outer) (written f rest)
+    ≡ with_marks answers (at (joint either (formula_value answers f)) outer) rest)
     → (outer : List Known) → length outer + nesting f ≤ 128
     → (either : Option Bool) × (both : Option Bool) × (known_or either both ≡ formula_value answers f)
-    × ((rest : List (Mark L)) → with_marks answers (at fresh outer) (written f rest) ≡ with_marks answers (at (joint either both) outer) rest)
+    × ((rest : List (Mark L))
+    → with_marks answers (at fresh outer) (written f rest) ≡ with_marks answers (at (joint either both) outer) rest)
 first_side answers f h outer fits = (Some false, formula_value answers f, refl, λ rest. h (Some false) outer rest fits)
 
 -- Behind a `not`.
-negated : {L : Type 0} (answers : Question L → Option Bool) (a : Formula L) → IsEvaluated answers a → stands Tight a ≡ true
+negated : {L : Type 0} (answers : Question L → Option Bool) (a : Formula L) → IsEvaluated answers a
+    → stands Tight a ≡ true
     → (k : Known) (outer : List Known) (rest : List (Mark L)) → length outer + suc (nesting a) ≤ 128
-    → with_marks answers (at k outer) (written (Negated a) rest) ≡ with_marks answers (at (with_operand k (option_map not (formula_value answers a))) outer) rest
+    → with_marks answers (at k outer) (written (Negated a) rest)
+    ≡ with_marks answers (at (with_operand k (option_map not (formula_value answers a))) outer) rest
 negated answers a is fits k outer rest below =
     is.tight fits (flipped k) outer rest (omega (arith, below))
-    ∙ ap (λ x. with_marks answers (at (record { either = k.either; both = known_and k.both x; negated = false }) outer) rest) (flip_twice k.negated (formula_value answers a))
+    ∙ ap (λ x. with_marks answers
+    (at (record { either = k.either; both = known_and k.both x; negated = false }) outer) rest)
+    (flip_twice k.negated (formula_value answers a))
 
 -- In parentheses.
-grouped : {L : Type 0} (answers : Question L → Option Bool) (a : Formula L) → IsEvaluated answers a → stands Loose a ≡ true
+grouped : {L : Type 0} (answers : Question L → Option Bool) (a : Formula L) → IsEvaluated answers a
+    → stands Loose a ≡ true
     → (k : Known) (outer : List Known) (rest : List (Mark L)) → length outer + suc (nesting a) ≤ 128
-    → with_marks answers (at k outer) (written (Grouped a) rest) ≡ with_marks answers (at (with_operand k (formula_value answers a)) outer) rest
+    → with_marks answers (at k outer) (written (Grouped a) rest)
+    ≡ with_marks answers (at (with_operand k (formula_value answers a)) outer) rest
 grouped answers a is fits k outer rest below =
     let it = is.loose fits (k ∷ outer) (omega (arith, below)) in
     ap (λ s. with_marks answers s (written a (CloseMark ∷ rest))) (room (at k outer) (omega (arith, below)))
@@ -99,7 +115,8 @@ left_fits n a b h = omega (arith, h)
 right_fits : (n a b : ℕ) → n + max a b ≤ 128 → n + b ≤ 128
 right_fits n a b h = omega (arith, h)
 
-met : {L : Type 0} (answers : Question L → Option Bool) (a b : Formula L) → IsEvaluated answers a → IsEvaluated answers b
+met : {L : Type 0} (answers : Question L → Option Bool) (a b : Formula L) → IsEvaluated answers a
+    → IsEvaluated answers b
     → (stands Joined a && stands Tight b) ≡ true → (either : Option Bool) (outer : List Known) (rest : List (Mark L))
     → length outer + max (nesting a) (nesting b) ≤ 128
     → with_marks answers (at (behind either) outer) (written (Both a b) rest)
@@ -108,19 +125,26 @@ met answers a b x y fits either outer rest below =
     x.joined (first _ _ fits) either outer (AndMark ∷ written b rest) (left_fits _ _ _ below)
     ∙ y.tight (second _ _ fits) (joint either (formula_value answers a)) outer rest (right_fits _ _ _ below)
 
-lacked : {L : Type 0} (answers : Question L → Option Bool) (a b : Formula L) → IsEvaluated answers a → IsEvaluated answers b
+lacked : {L : Type 0} (answers : Question L → Option Bool) (a b : Formula L) → IsEvaluated answers a
+    → IsEvaluated answers b
     → (stands Joined a && stands Tight b) ≡ true → (either : Option Bool) (outer : List Known) (rest : List (Mark L))
     → length outer + max (nesting a) (nesting b) ≤ 128
     → with_marks answers (at (behind either) outer) (written (Without a b) rest)
-    ≡ with_marks answers (at (joint either (known_and (formula_value answers a) (option_map not (formula_value answers b)))) outer) rest
+    ≡ with_marks answers (at (joint either
+    (known_and (formula_value answers a) (option_map not (formula_value answers b)))) outer) rest
 lacked answers a b x y fits either outer rest below =
     x.joined (first _ _ fits) either outer (MinusMark ∷ written b rest) (left_fits _ _ _ below)
     ∙ y.tight (second _ _ fits) (flipped (joint either (formula_value answers a))) outer rest (right_fits _ _ _ below)
 
-chosen : {L : Type 0} (answers : Question L → Option Bool) (a b : Formula L) → IsEvaluated answers a → IsEvaluated answers b
-    → (stands Loose a && stands Joined b) ≡ true → (outer : List Known) → length outer + max (nesting a) (nesting b) ≤ 128
-    → (either : Option Bool) × (both : Option Bool) × (known_or either both ≡ known_or (formula_value answers a) (formula_value answers b))
-    × ((rest : List (Mark L)) → with_marks answers (at fresh outer) (written (Either a b) rest) ≡ with_marks answers (at (joint either both) outer) rest)
+chosen : {L : Type 0} (answers : Question L → Option Bool) (a b : Formula L) → IsEvaluated answers a
+    → IsEvaluated answers b
+    → (stands Loose a && stands Joined b) ≡ true → (outer : List Known)
+    → length outer + max (nesting a) (nesting b) ≤ 128
+    → (either : Option Bool) × (both : Option Bool)
+    × (known_or either both ≡ known_or (formula_value answers a) (formula_value answers b))
+    × ((rest : List (Mark L))
+    → with_marks answers (at fresh outer) (written (Either a b) rest)
+    ≡ with_marks answers (at (joint either both) outer) rest)
 chosen answers a b x y fits outer below =
     let it = x.loose (first _ _ fits) outer (left_fits _ _ _ below) in (
       formula_value answers a,
@@ -141,22 +165,26 @@ is_evaluated answers (Asks q) = record {
 is_evaluated answers (Negated a) = record {
   tight = λ fits. negated answers a (is_evaluated answers a) fits;
   joined = λ fits. first_operand answers (Negated a) (negated answers a (is_evaluated answers a) fits);
-  loose = λ fits. first_side answers (Negated a) (first_operand answers (Negated a) (negated answers a (is_evaluated answers a) fits));
+  loose = λ fits. first_side answers (Negated a)
+      (first_operand answers (Negated a) (negated answers a (is_evaluated answers a) fits));
 }
 is_evaluated answers (Grouped a) = record {
   tight = λ fits. grouped answers a (is_evaluated answers a) fits;
   joined = λ fits. first_operand answers (Grouped a) (grouped answers a (is_evaluated answers a) fits);
-  loose = λ fits. first_side answers (Grouped a) (first_operand answers (Grouped a) (grouped answers a (is_evaluated answers a) fits));
+  loose = λ fits. first_side answers (Grouped a)
+      (first_operand answers (Grouped a) (grouped answers a (is_evaluated answers a) fits));
 }
 is_evaluated answers (Both a b) = record {
   tight = λ no. absurd (cc);
   joined = λ fits. met answers a b (is_evaluated answers a) (is_evaluated answers b) fits;
-  loose = λ fits. first_side answers (Both a b) (met answers a b (is_evaluated answers a) (is_evaluated answers b) fits);
+  loose = λ fits. first_side answers (Both a b)
+      (met answers a b (is_evaluated answers a) (is_evaluated answers b) fits);
 }
 is_evaluated answers (Without a b) = record {
   tight = λ no. absurd (cc);
   joined = λ fits. lacked answers a b (is_evaluated answers a) (is_evaluated answers b) fits;
-  loose = λ fits. first_side answers (Without a b) (lacked answers a b (is_evaluated answers a) (is_evaluated answers b) fits);
+  loose = λ fits. first_side answers (Without a b)
+      (lacked answers a b (is_evaluated answers a) (is_evaluated answers b) fits);
 }
 is_evaluated answers (Either a b) = record {
   tight = λ no. absurd (cc);
@@ -164,14 +192,16 @@ is_evaluated answers (Either a b) = record {
   loose = λ fits. chosen answers a b (is_evaluated answers a) (is_evaluated answers b) fits;
 }
 
-pub spelled_value : {L : Type 0} (answers : Question L → Option Bool) (marks : List (Mark L)) (f : Formula L) → Spells marks f → nesting f ≤ 128
+pub spelled_value : {L : Type 0} (answers : Question L → Option Bool) (marks : List (Mark L)) (f : Formula L)
+    → Spells marks f → nesting f ≤ 128
     → marks_value answers marks ≡ formula_value answers f
 spelled_value answers marks f spells below =
     let it = (is_evaluated answers f).loose spells.1 [] (omega (arith, below)) in
     ap (marks_value answers) (sym spells.0) ∙ ap (λ (s : Stack). said s.inner) (it.3 []) ∙ it.2
 
 -- The value of a filter is that of its questions' answers.
-pub value_is : {L : Type 0} (accepts : L → List ℕ → Bool) (s : Subject) (f : Formula L) → formula_value (answer accepts s) f ≡ value accepts s f
+pub value_is : {L : Type 0} (accepts : L → List ℕ → Bool) (s : Subject) (f : Formula L)
+    → formula_value (answer accepts s) f ≡ value accepts s f
 value_is accepts s (Asks q) = refl
 value_is accepts s (Negated a) = ap (option_map not) (value_is accepts s a)
 value_is accepts s (Both a b) = rw (value_is accepts s a, value_is accepts s b) refl
@@ -180,7 +210,8 @@ value_is accepts s (Without a b) = rw (value_is accepts s a, value_is accepts s 
 value_is accepts s (Grouped a) = value_is accepts s a
 
 -- One more mark of those in memory.
-pub one_more : {M L : Type 0} (answers : Question L → Option Bool) (view : M → Mark L) (s t : Stack) (marks : List M) (i : ℕ) (m : M)
+pub one_more : {M L : Type 0} (answers : Question L → Option Bool) (view : M → Mark L) (s t : Stack)
+    (marks : List M) (i : ℕ) (m : M)
     → i < length marks → m ≡ get_or marks i m → t ≡ with_mark answers s (view m)
     → with_marks answers t (map view (drop (i + 1) marks)) ≡ with_marks answers s (map view (drop i marks))
 one_more answers view s t marks i m below is next =
@@ -191,8 +222,11 @@ one_more answers view s t marks i m below is next =
     ∙ sym (ap (λ l. with_marks answers s (map view l)) (drop-cons marks i m below))
 
 -- No more marks are left.
-pub none_left : {M L : Type 0} (answers : Question L → Option Bool) (view : M → Mark L) (s t : Stack) (marks : List M) (i : ℕ)
-    → length marks ≤ i → i ≤ length marks → with_marks answers s (map view (drop i marks)) ≡ with_marks answers t (map view marks) → s ≡ with_marks answers t (map view marks)
+pub none_left : {M L : Type 0} (answers : Question L → Option Bool) (view : M → Mark L) (s t : Stack)
+    (marks : List M) (i : ℕ)
+    → length marks ≤ i → i ≤ length marks
+    → with_marks answers s (map view (drop i marks)) ≡ with_marks answers t (map view marks)
+    → s ≡ with_marks answers t (map view marks)
 none_left answers view s t marks i above below is =
     let same : length marks ≡ i = omega (arith, above, below) in
     sym (ap (λ l. with_marks answers s (map view l)) (sym (ap (λ j. drop j marks) same) ∙ drop-length marks)) ∙ is

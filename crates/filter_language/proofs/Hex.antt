@@ -36,7 +36,8 @@ abbrev bound : ℕ → ℕ → ℕ
 bound zero m = m
 bound (suc k) m = bound k (m * 16)
 
-grows : (k n m : ℕ) (ds : List ℕ) → length ds ≤ k → list_all is_hex ds ≡ true → n < m → digits_value_after 16 n ds < bound k m
+grows : (k n m : ℕ) (ds : List ℕ) → length ds ≤ k → list_all is_hex ds ≡ true → n < m
+    → digits_value_after 16 n ds < bound k m
 grows zero n m [] short all less = less
 grows zero n m (c ∷ ds) short all less = absurd (omega (arith, short))
 grows (suc k) n m [] short all less = grows k n (m * 16) [] (omega arith) refl (omega (arith, less))
@@ -46,17 +47,21 @@ grows (suc k) n m (c ∷ ds) short all less =
     grows k (n * 16 + digit_value c) (m * 16) ds (omega (arith, short)) it.1 (omega (arith, less, small))
 
 fits : (ds : List ℕ) → length ds ≤ 6 → list_all is_hex ds ≡ true → digits_value 16 ds < 2 ^ 32
-fits ds short all = let it : digits_value_after 16 0 ds < bound 6 1 = grows 6 0 1 ds short all (omega arith) in omega (arith, it)
+fits ds short all = let it : digits_value_after 16 0 ds < bound 6 1 =
+    grows 6 0 1 ds short all (omega arith) in omega (arith, it)
 
 pick : (a b c : Bool) (x : Option ℕ) → a ≡ true → b ≡ true → c ≡ true → (if (a && b) && c then x else None) ≡ x
 pick a b c x p q r = rw (p, q, r) refl
 
-numeral_is : (ds : List ℕ) → 0 < length ds → length ds ≤ 6 → list_all is_hex ds ≡ true → hex_in ds ≡ Some (digits_value 16 ds)
+numeral_is : (ds : List ℕ) → 0 < length ds → length ds ≤ 6 → list_all is_hex ds ≡ true
+    → hex_in ds ≡ Some (digits_value 16 ds)
 numeral_is ds some short all =
-    pick (nat_lt 0 (length ds)) (nat_lt (length ds) 7) (list_all is_hex ds) (Some (digits_value 16 ds)) ((Decides-ltb 0 (length ds)).1 some)
+    pick (nat_lt 0 (length ds)) (nat_lt (length ds) 7) (list_all is_hex ds) (Some (digits_value 16 ds))
+    ((Decides-ltb 0 (length ds)).1 some)
     ((Decides-ltb (length ds) 7).1 (omega (arith, short))) all
 
-no_numeral : {E : Type 0} (ds : List ℕ) (e : E) → length ds ≤ 6 → list_all is_hex ds ≡ true → ParsesUnsigned 32 16 ds (Err e) → None ≡ hex_in ds
+no_numeral : {E : Type 0} (ds : List ℕ) (e : E) → length ds ≤ 6 → list_all is_hex ds ≡ true
+    → ParsesUnsigned 32 16 ds (Err e) → None ≡ hex_in ds
 no_numeral [] e short all h = refl
 no_numeral (c ∷ ds) e short all h =
     let P : List ℕ → Type 0 = λ l. IsNumeral 16 l × (digits_value 16 l < 2 ^ 32) in
@@ -64,7 +69,8 @@ no_numeral (c ∷ ds) e short all h =
     absurd (h (subst P (sym (no_plus (c ∷ ds) all)) ((some, are_digits (c ∷ ds) all), fits (c ∷ ds) short all)))
 
 -- What `from_str_radix` gives of at most six hex digits.
-pub hex_is : {E : Type 0} (ds : List ℕ) (r : Result ℕ E) → length ds ≤ 6 → list_all is_hex ds ≡ true → ParsesUnsigned 32 16 ds r → result_ok r ≡ hex_in ds
+pub hex_is : {E : Type 0} (ds : List ℕ) (r : Result ℕ E) → length ds ≤ 6 → list_all is_hex ds ≡ true
+    → ParsesUnsigned 32 16 ds r → result_ok r ≡ hex_in ds
 hex_is ds (Ok n) short all h =
     let some : 0 < length ds = omega (arith, h.0.0.0, ap length (no_plus ds all)) in
     ap Some (h.1 ∙ ap (digits_value 16) (no_plus ds all)) ∙ sym (numeral_is ds some short all)
@@ -74,7 +80,8 @@ hex_is ds (Err e) short all h = no_numeral ds e short all h
 pub too_long : (ds : List ℕ) → 6 < length ds → None ≡ hex_in ds
 too_long ds long = long_pick (nat_lt 0 (length ds)) (nat_lt (length ds) 7) refl
   where
-    long_pick : (a b : Bool) → nat_lt (length ds) 7 ≡ b → None ≡ (if (a && b) && list_all is_hex ds then Some (digits_value 16 ds) else None)
+    long_pick : (a b : Bool) → nat_lt (length ds) 7 ≡ b
+        → None ≡ (if (a && b) && list_all is_hex ds then Some (digits_value 16 ds) else None)
     long_pick true true is = absurd (let less = (Decides-ltb (length ds) 7).0 is in omega (arith, long, less))
     long_pick true false is = refl
     long_pick false b is = refl

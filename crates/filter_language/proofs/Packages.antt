@@ -14,7 +14,8 @@ whole (c ∷ id) lacks =
     first_byte c id (lacks 0 (omega arith))
     ∙ ap (λ l. c ∷ l) (whole id (λ k below rest e. lacks (suc k) (omega (arith, below)) rest e))
 
-before : (i : ℕ) (id behind : List ℕ) → ((k : ℕ) → k < i → LacksTextAt (codes "::") id k) → drop i id ≡ codes "::" ++ behind → package_name id ≡ take i id
+before : (i : ℕ) (id behind : List ℕ) → ((k : ℕ) → k < i → LacksTextAt (codes "::") id k)
+    → drop i id ≡ codes "::" ++ behind → package_name id ≡ take i id
 before zero id behind lacks is = ap package_name is
 before (suc i) [] behind lacks is = absurd (cc)
 before (suc i) (c ∷ id) behind lacks is =
@@ -22,7 +23,9 @@ before (suc i) (c ∷ id) behind lacks is =
     ∙ ap (λ l. c ∷ l) (before i id behind (λ k below rest e. lacks (suc k) (omega (arith, below)) rest e) is)
 
 pub package_parts : (id : List ℕ) (found : Option (Bor (List ℕ) × Bor (List ℕ)))
-    → MatchOption found (FindsText (codes "::") id None) (λ x. (i : ℕ) × (j : ℕ) × FindsText (codes "::") id (Some (i, j)) × (x.0.now ≡ take i id) × (x.1.now ≡ drop j id) × (i ≤ j) × (length x.0.now ≡ i) × (length x.1.now + j ≡ length id))
+    → MatchOption found (FindsText (codes "::") id None)
+    (λ x. (i : ℕ) × (j : ℕ) × FindsText (codes "::") id (Some (i, j)) × (x.0.now ≡ take i id)
+    × (x.1.now ≡ drop j id) × (i ≤ j) × (length x.0.now ≡ i) × (length x.1.now + j ≡ length id))
     → MatchOption found (package_name id ≡ id) (λ parts. package_name id ≡ parts.0.now)
 package_parts id None h = whole id h
 package_parts id (Some x) h = before h.0 id (drop h.1 id) h.2.0 h.2.1.split ∙ sym h.3

@@ -29,7 +29,8 @@ ReadsTight {L} f = (l : Left L) (outer : List (Left L)) (rest : List (Mark L)) �
     → run (Wanted l outer) (written f rest) ≡ run (taken l f outer) rest
 
 abbrev ReadsJoined : {L : Type 0} → Formula L → Type 0
-ReadsJoined {L} f = (n : ℕ) (k : Option (Formula L)) (outer : List (Left L)) (rest : List (Mark L)) → n + nesting f ≤ 128
+ReadsJoined {L} f = (n : ℕ) (k : Option (Formula L)) (outer : List (Left L)) (rest : List (Mark L))
+    → n + nesting f ≤ 128
     → run (Wanted (begun n k) outer) (written f rest) ≡ run (Complete n f k outer) rest
 
 abbrev ReadsLoose : {L : Type 0} → Formula L → Type 0
@@ -60,23 +61,27 @@ negated_read a h l outer rest fits =
 grouped : {L : Type 0} (a : Formula L) → ReadsLoose a → ReadsTight (Grouped a)
 grouped a h l outer rest fits =
     let it = h (suc (l.around + l.nots)) (l ∷ outer) (omega (arith, fits)) in
-    ap (option_and_then (λ next. run next (written a (CloseMark ∷ rest)))) (room l (Wanted (begun (suc (l.around + l.nots)) None) (l ∷ outer)) (omega (arith, fits)))
+    ap (option_and_then (λ next. run next (written a (CloseMark ∷ rest))))
+    (room l (Wanted (begun (suc (l.around + l.nots)) None) (l ∷ outer)) (omega (arith, fits)))
     ∙ it.3 (CloseMark ∷ rest)
     ∙ ap (λ g. run (taken l (Grouped g) outer) rest) it.2
 
 -- Beside `and` and `-`.
-met : {L : Type 0} (a b : Formula L) → IsRead a → IsRead b → (stands Joined a && stands Tight b) ≡ true → ReadsJoined (Both a b)
+met : {L : Type 0} (a b : Formula L) → IsRead a → IsRead b → (stands Joined a && stands Tight b) ≡ true
+    → ReadsJoined (Both a b)
 met a b x y both_stand n k outer rest fits =
     x.joint (first _ _ both_stand) n k outer (AndMark ∷ written b rest) (omega (arith, fits))
     ∙ y.tight (second _ _ both_stand) (beside n Meets a k) outer rest (omega (arith, fits))
 
-lacked : {L : Type 0} (a b : Formula L) → IsRead a → IsRead b → (stands Joined a && stands Tight b) ≡ true → ReadsJoined (Without a b)
+lacked : {L : Type 0} (a b : Formula L) → IsRead a → IsRead b → (stands Joined a && stands Tight b) ≡ true
+    → ReadsJoined (Without a b)
 lacked a b x y both_stand n k outer rest fits =
     x.joint (first _ _ both_stand) n k outer (MinusMark ∷ written b rest) (omega (arith, fits))
     ∙ y.tight (second _ _ both_stand) (beside n Lacks a k) outer rest (omega (arith, fits))
 
 -- Beside `or`.
-chosen : {L : Type 0} (a b : Formula L) → IsRead a → IsRead b → (stands Loose a && stands Joined b) ≡ true → ReadsLoose (Either a b)
+chosen : {L : Type 0} (a b : Formula L) → IsRead a → IsRead b → (stands Loose a && stands Joined b) ≡ true
+    → ReadsLoose (Either a b)
 chosen a b x y both_stand n outer fits =
     let it = x.loose (first _ _ both_stand) n outer (omega (arith, fits)) in (
       Some a,
@@ -114,9 +119,11 @@ is_read (Without a b) = record {
   joint = lacked a b (is_read a) (is_read b);
   loose = λ fits. of_joint (Without a b) (lacked a b (is_read a) (is_read b) fits);
 }
-is_read (Either a b) = record { tight = λ no. absurd (cc); joint = λ no. absurd (cc); loose = chosen a b (is_read a) (is_read b) }
+is_read (Either a b) = record
+    { tight = λ no. absurd (cc); joint = λ no. absurd (cc); loose = chosen a b (is_read a) (is_read b) }
 
-pub spelled_is_read : {L : Type 0} (marks : List (Mark L)) (f : Formula L) → Spells marks f → nesting f ≤ 128 → read marks ≡ Some f
+pub spelled_is_read : {L : Type 0} (marks : List (Mark L)) (f : Formula L) → Spells marks f → nesting f ≤ 128
+    → read marks ≡ Some f
 spelled_is_read marks f spells fits =
     let it = (is_read f).loose spells.1 0 [] (omega (arith, fits)) in
     ap read (sym spells.0) ∙ it.3 [] ∙ ap Some it.2
@@ -210,34 +217,41 @@ negated_nests : {L : Type 0} (n : ℕ) (f : Formula L) → nesting (negated n f)
 negated_nests zero f = omega arith
 negated_nests (suc n) f = let it = negated_nests n (Negated f) in omega (arith, it)
 
-negated_shown : {L : Type 0} (n : ℕ) (f : Formula L) (rest : List (Mark L)) → written (negated n f) rest ≡ shown_nots n (written f rest)
+negated_shown : {L : Type 0} (n : ℕ) (f : Formula L) (rest : List (Mark L))
+    → written (negated n f) rest ≡ shown_nots n (written f rest)
 negated_shown zero f rest = refl
 negated_shown (suc n) f rest = negated_shown n (Negated f) rest
 
-joint_may_stand : {L : Type 0} (j : Option (Joint × Formula L)) (f : Formula L) → joint_stands j ≡ true → stands Tight f ≡ true → stands Joined (joined j f) ≡ true
+joint_may_stand : {L : Type 0} (j : Option (Joint × Formula L)) (f : Formula L) → joint_stands j ≡ true
+    → stands Tight f ≡ true → stands Joined (joined j f) ≡ true
 joint_may_stand None f x y = tight_joined f y
 joint_may_stand (Some (Meets, a)) f x y = both _ _ x y
 joint_may_stand (Some (Lacks, a)) f x y = both _ _ x y
 
-joint_within : {L : Type 0} (n : ℕ) (j : Option (Joint × Formula L)) (f : Formula L) → n + joint_nests j ≤ 128 → n + nesting f ≤ 128 → n + nesting (joined j f) ≤ 128
+joint_within : {L : Type 0} (n : ℕ) (j : Option (Joint × Formula L)) (f : Formula L) → n + joint_nests j ≤ 128
+    → n + nesting f ≤ 128 → n + nesting (joined j f) ≤ 128
 joint_within n None f x y = y
 joint_within n (Some (Meets, a)) f x y = omega (arith, x, y)
 joint_within n (Some (Lacks, a)) f x y = omega (arith, x, y)
 
-joint_shown : {L : Type 0} (j : Option (Joint × Formula L)) (f : Formula L) (rest : List (Mark L)) → written (joined j f) rest ≡ shown_joint j (written f rest)
+joint_shown : {L : Type 0} (j : Option (Joint × Formula L)) (f : Formula L) (rest : List (Mark L))
+    → written (joined j f) rest ≡ shown_joint j (written f rest)
 joint_shown None f rest = refl
 joint_shown (Some (Meets, a)) f rest = refl
 joint_shown (Some (Lacks, a)) f rest = refl
 
-either_may_stand : {L : Type 0} (k : Option (Formula L)) (f : Formula L) → or_stands k ≡ true → stands Joined f ≡ true → stands Loose (either k f) ≡ true
+either_may_stand : {L : Type 0} (k : Option (Formula L)) (f : Formula L) → or_stands k ≡ true
+    → stands Joined f ≡ true → stands Loose (either k f) ≡ true
 either_may_stand None f x y = joined_loose f y
 either_may_stand (Some a) f x y = both _ _ x y
 
-either_within : {L : Type 0} (n : ℕ) (k : Option (Formula L)) (f : Formula L) → n + or_nests k ≤ 128 → n + nesting f ≤ 128 → n + nesting (either k f) ≤ 128
+either_within : {L : Type 0} (n : ℕ) (k : Option (Formula L)) (f : Formula L) → n + or_nests k ≤ 128
+    → n + nesting f ≤ 128 → n + nesting (either k f) ≤ 128
 either_within n None f x y = y
 either_within n (Some a) f x y = omega (arith, x, y)
 
-either_shown : {L : Type 0} (k : Option (Formula L)) (f : Formula L) (rest : List (Mark L)) → written (either k f) rest ≡ shown_or k (written f rest)
+either_shown : {L : Type 0} (k : Option (Formula L)) (f : Formula L) (rest : List (Mark L))
+    → written (either k f) rest ≡ shown_or k (written f rest)
 either_shown None f rest = refl
 either_shown (Some a) f rest = refl
 
@@ -245,7 +259,8 @@ either_shown (Some a) f rest = refl
 abbrev Follows : {L : Type 0} → Progress L → (List (Mark L) → List (Mark L)) → Type 0
 Follows {L} q before = IsFine q × ((rest : List (Mark L)) → shown q rest ≡ before rest)
 
-taken_follows : {L : Type 0} (l : Left L) (f : Formula L) (outer : List (Left L)) → IsFineLeft l → stands Tight f ≡ true → l.around + l.nots + nesting f ≤ 128 → AreFine l.around outer
+taken_follows : {L : Type 0} (l : Left L) (f : Formula L) (outer : List (Left L)) → IsFineLeft l
+    → stands Tight f ≡ true → l.around + l.nots + nesting f ≤ 128 → AreFine l.around outer
     → Follows (taken l f outer) (λ rest. shown_outer outer (shown_left l (written f rest)))
 taken_follows l f outer fine fits below around =
     let nests = negated_nests l.nots f in (
@@ -258,29 +273,38 @@ taken_follows l f outer fine fits below around =
         },
         around,
       ),
-      λ rest. ap (λ marks. shown_outer outer (shown_or l.alternative marks)) (joint_shown l.joint (negated l.nots f) rest ∙ ap (shown_joint l.joint) (negated_shown l.nots f rest)),
+      λ rest. ap (λ marks. shown_outer outer (shown_or l.alternative marks))
+          (joint_shown l.joint (negated l.nots f) rest ∙ ap (shown_joint l.joint) (negated_shown l.nots f rest)),
     )
 
 abbrev Steps : {L : Type 0} → Progress L → Mark L → Progress L → Type 0
 Steps p m q = Follows q (λ rest. shown p (m ∷ rest))
 
-closed_steps : {L : Type 0} (n : ℕ) (f : Formula L) (k : Option (Formula L)) (outer : List (Left L)) (q : Progress L) → IsFineOperand n f k → AreFine n outer
+closed_steps : {L : Type 0} (n : ℕ) (f : Formula L) (k : Option (Formula L)) (outer : List (Left L))
+    (q : Progress L) → IsFineOperand n f k → AreFine n outer
     → closed (either k f) outer ≡ Some q → Steps (Complete n f k outer) CloseMark q
 closed_steps n f k [] q fine around got = absurd (cc)
 closed_steps n f k (l ∷ outer) q fine around got =
     let same : taken l (Grouped (either k f)) outer ≡ q = cc in
     let deep = around.0 in
     let nests = either_within n k f fine.alternative_fits fine.operand_fits in
-    let it = taken_follows l (Grouped (either k f)) outer around.1 (either_may_stand k f fine.alternative fine.operand) (omega (arith, deep, nests)) around.2 in
-    rw (sym same) (it.0, λ rest. it.1 rest ∙ ap (λ marks. shown_outer outer (shown_left l (OpenMark ∷ marks))) (either_shown k f (CloseMark ∷ rest)))
+    let it = taken_follows l (Grouped (either k f)) outer around.1
+    (either_may_stand k f fine.alternative fine.operand) (omega (arith, deep, nests)) around.2 in
+    rw (sym same) (
+      it.0,
+      λ rest. it.1 rest
+          ∙ ap (λ marks. shown_outer outer (shown_left l (OpenMark ∷ marks))) (either_shown k f (CloseMark ∷ rest)),
+    )
 
 -- A level is opened within the bound.
-within_is : {L : Type 0} (l : Left L) (next q : Progress L) (b : Bool) → nat_lt (l.around + l.nots) 128 ≡ b → (if b then Some next else None) ≡ Some q
+within_is : {L : Type 0} (l : Left L) (next q : Progress L) (b : Bool) → nat_lt (l.around + l.nots) 128 ≡ b
+    → (if b then Some next else None) ≡ Some q
     → (next ≡ q) × (l.around + l.nots < 128)
 within_is l next q true is got = (cc, (Decides-ltb (l.around + l.nots) 128).0 is)
 within_is l next q false is got = absurd (cc)
 
-not_steps : {L : Type 0} (l : Left L) (outer : List (Left L)) (q : Progress L) → within l (Wanted (once_more l) outer) ≡ Some q → IsFine (Wanted l outer) → Steps (Wanted l outer) NotMark q
+not_steps : {L : Type 0} (l : Left L) (outer : List (Left L)) (q : Progress L)
+    → within l (Wanted (once_more l) outer) ≡ Some q → IsFine (Wanted l outer) → Steps (Wanted l outer) NotMark q
 not_steps l outer q got fine =
     let it = within_is l (Wanted (once_more l) outer) q _ refl got in
     let below = it.1 in
@@ -298,7 +322,8 @@ not_steps l outer q got fine =
       λ rest. refl,
     )
 
-open_steps : {L : Type 0} (l : Left L) (outer : List (Left L)) (q : Progress L) → within l (Wanted (begun (suc (l.around + l.nots)) None) (l ∷ outer)) ≡ Some q → IsFine (Wanted l outer)
+open_steps : {L : Type 0} (l : Left L) (outer : List (Left L)) (q : Progress L)
+    → within l (Wanted (begun (suc (l.around + l.nots)) None) (l ∷ outer)) ≡ Some q → IsFine (Wanted l outer)
     → Steps (Wanted l outer) OpenMark q
 open_steps l outer q got fine =
     let it = within_is l (Wanted (begun (suc (l.around + l.nots)) None) (l ∷ outer)) q _ refl got in
@@ -317,7 +342,8 @@ open_steps l outer q got fine =
       λ rest. refl,
     )
 
-joined_steps : {L : Type 0} (n : ℕ) (j : Joint) (f : Formula L) (k : Option (Formula L)) → IsFineOperand n f k → IsFineLeft (beside n j f k)
+joined_steps : {L : Type 0} (n : ℕ) (j : Joint) (f : Formula L) (k : Option (Formula L)) → IsFineOperand n f k
+    → IsFineLeft (beside n j f k)
 joined_steps n j f k fine =
     let fits = fine.operand_fits in
     record {
@@ -328,7 +354,8 @@ joined_steps n j f k fine =
       nots_fit = omega (arith, fits);
     }
 
-or_steps : {L : Type 0} (n : ℕ) (f : Formula L) (k : Option (Formula L)) → IsFineOperand n f k → IsFineLeft (begun n (Some (either k f)))
+or_steps : {L : Type 0} (n : ℕ) (f : Formula L) (k : Option (Formula L)) → IsFineOperand n f k
+    → IsFineLeft (begun n (Some (either k f)))
 or_steps n f k fine =
     let fits = fine.operand_fits in
     record {
@@ -351,9 +378,11 @@ step_steps (Wanted l outer) AndMark q got fine = absurd (cc)
 step_steps (Wanted l outer) OrMark q got fine = absurd (cc)
 step_steps (Wanted l outer) MinusMark q got fine = absurd (cc)
 step_steps (Complete n f k outer) AndMark q got fine =
-    let same : Wanted (beside n Meets f k) outer ≡ q = cc in rw (sym same) ((joined_steps n Meets f k fine.0, fine.1), λ rest. refl)
+    let same : Wanted (beside n Meets f k) outer ≡ q = cc in
+    rw (sym same) ((joined_steps n Meets f k fine.0, fine.1), λ rest. refl)
 step_steps (Complete n f k outer) MinusMark q got fine =
-    let same : Wanted (beside n Lacks f k) outer ≡ q = cc in rw (sym same) ((joined_steps n Lacks f k fine.0, fine.1), λ rest. refl)
+    let same : Wanted (beside n Lacks f k) outer ≡ q = cc in
+    rw (sym same) ((joined_steps n Lacks f k fine.0, fine.1), λ rest. refl)
 step_steps (Complete n f k outer) OrMark q got fine =
     let same : Wanted (begun n (Some (either k f))) outer ≡ q = cc in
     rw (sym same) ((or_steps n f k fine.0, fine.1), λ rest. ap (shown_outer outer) (either_shown k f (OrMark ∷ rest)))
@@ -379,7 +408,8 @@ finished_ends (Complete n g k []) f got fine =
       fits = omega (arith, nests);
     })
 
-next_ends : {L : Type 0} (marks : List (Mark L)) (p : Progress L) (m : Mark L) (f : Formula L) (next : Option (Progress L)) → step p m ≡ next
+next_ends : {L : Type 0} (marks : List (Mark L)) (p : Progress L) (m : Mark L) (f : Formula L)
+    (next : Option (Progress L)) → step p m ≡ next
     → ((q : Progress L) (g : Formula L) → run q marks ≡ Some g → IsFine q → Ends q marks g)
     → option_and_then (λ q. run q marks) next ≡ Some f → IsFine p → Ends p (m ∷ marks) f
 next_ends marks p m f None is known got fine = absurd (cc)
@@ -388,7 +418,8 @@ next_ends marks p m f (Some q) is known got fine =
     let it = known q f got to.0 in
     record { shows = it.shows ∙ to.1 marks; may_stand = it.may_stand; fits = it.fits }
 
-run_ends : {L : Type 0} (marks : List (Mark L)) (p : Progress L) (f : Formula L) → run p marks ≡ Some f → IsFine p → Ends p marks f
+run_ends : {L : Type 0} (marks : List (Mark L)) (p : Progress L) (f : Formula L) → run p marks ≡ Some f
+    → IsFine p → Ends p marks f
 run_ends [] p f got fine = finished_ends p f got fine
 run_ends (m ∷ marks) p f got fine = next_ends marks p m f (step p m) refl (run_ends marks) got fine
 
@@ -401,7 +432,8 @@ start_fine = record {
   nots_fit = omega arith;
 }
 
-pub read_is_spelled : {L : Type 0} (marks : List (Mark L)) (f : Formula L) → read marks ≡ Some f → Spells marks f × (nesting f ≤ 128)
+pub read_is_spelled : {L : Type 0} (marks : List (Mark L)) (f : Formula L) → read marks ≡ Some f
+    → Spells marks f × (nesting f ≤ 128)
 read_is_spelled marks f got =
     let it = run_ends marks (Wanted (begun 0 None) []) f got (start_fine, refl) in
     ((it.shows, it.may_stand), it.fits)

@@ -4,7 +4,8 @@ use Rattle.std.specs.List.{fold}
 use Rattle.filter_language.specs.declared.evaluation.Level as level
 use Rattle.filter_language.specs.Evaluation.{Known, Stack, known_view, fresh, opened}
 
-length_onto : (ks : List level.Level) (outer : List Known) → length (fold (λ outer k. known_view k ∷ outer) outer ks) ≡ length ks + length outer
+length_onto : (ks : List level.Level) (outer : List Known)
+    → length (fold (λ outer k. known_view k ∷ outer) outer ks) ≡ length ks + length outer
 length_onto [] outer = omega arith
 length_onto (k ∷ ks) outer = let it = length_onto ks (known_view k ∷ outer) in omega (arith, it)
 
@@ -13,7 +14,8 @@ pub stack_length : (ks : List level.Level) → length (fold (λ outer k. known_v
 stack_length ks = let it = length_onto ks [] in omega (arith, it)
 
 push_onto : (ks : List level.Level) (k : level.Level) (outer : List Known)
-    → fold (λ outer k. known_view k ∷ outer) outer (ks ++ k ∷ []) ≡ known_view k ∷ fold (λ outer k. known_view k ∷ outer) outer ks
+    → fold (λ outer k. known_view k ∷ outer) outer (ks ++ k ∷ []) ≡ known_view k
+    ∷ fold (λ outer k. known_view k ∷ outer) outer ks
 push_onto [] k outer = refl
 push_onto (j ∷ ks) k outer = push_onto ks k (known_view j ∷ outer)
 

@@ -41,24 +41,36 @@ answer_tells accepts default D known (OfName p) test = field_tells (accepts p.me
 -- Joining what is told.
 not_tells : (found : Option Bool) (P : Type 0) → Tells found P → Tells (option_map not found) (P → ⊥)
 not_tells found P (true, is, to, from) = (false, ap (option_map not) is, λ e. absurd (cc), λ no. absurd (no (to refl)))
-not_tells found P (false, is, to, from) = (true, ap (option_map not) is, λ _ p. (let e : false ≡ true = from p in cc), λ _. refl)
+not_tells found P (false, is, to, from) =
+    (true, ap (option_map not) is, λ _ p. (let e : false ≡ true = from p in cc), λ _. refl)
 
 and_tells : (x y : Option Bool) (P Q : Type 0) → Tells x P → Tells y Q → Tells (known_and x y) (P × Q)
-and_tells x y P Q (true, is, to, from) (b, also, forth, back) = (b, rw (is, also) refl, λ e. (to refl, forth e), λ both. back both.1)
-and_tells x y P Q (false, is, to, from) (b, also, forth, back) = (false, rw is refl, λ e. absurd (cc), λ both. from both.0)
+and_tells x y P Q (true, is, to, from) (b, also, forth, back) =
+    (b, rw (is, also) refl, λ e. (to refl, forth e), λ both. back both.1)
+and_tells x y P Q (false, is, to, from) (b, also, forth, back) =
+    (false, rw is refl, λ e. absurd (cc), λ both. from both.0)
 
 or_tells : (x y : Option Bool) (P Q : Type 0) → Tells x P → Tells y Q → Tells (known_or x y) (P ⊎ Q)
 or_tells x y P Q (true, is, to, from) (b, also, forth, back) = (true, rw is refl, λ _. inl (to refl), λ _. refl)
-or_tells x y P Q (false, is, to, from) (b, also, forth, back) =
-    (b, rw (is, also) refl, λ e. inr (forth e), λ some. elim some [ inl p ↦ absurd (let e : false ≡ true = from p in cc) | inr q ↦ back q ])
+or_tells x y P Q (false, is, to, from) (b, also, forth, back) = (
+  b,
+  rw (is, also) refl,
+  λ e. inr (forth e),
+  λ some. elim some
+      [ inl p ↦ absurd (let e : false ≡ true = from p in cc) | inr q ↦ back q ],
+)
 
 value_tells : {L : Type 0} (accepts : L → List ℕ → Bool) (default : Option Bool) (D : Type 0) → Tells default D
     → (f : Formula L) (test : Test) → Tells (value accepts (of_test test default) f) (Holds accepts D f test)
 value_tells accepts default D known (Asks q) test = answer_tells accepts default D known q test
 value_tells accepts default D known (Negated a) test = not_tells _ _ (value_tells accepts default D known a test)
-value_tells accepts default D known (Both a b) test = and_tells _ _ _ _ (value_tells accepts default D known a test) (value_tells accepts default D known b test)
-value_tells accepts default D known (Either a b) test = or_tells _ _ _ _ (value_tells accepts default D known a test) (value_tells accepts default D known b test)
-value_tells accepts default D known (Without a b) test = and_tells _ _ _ _ (value_tells accepts default D known a test) (not_tells _ _ (value_tells accepts default D known b test))
+value_tells accepts default D known (Both a b) test =
+    and_tells _ _ _ _ (value_tells accepts default D known a test) (value_tells accepts default D known b test)
+value_tells accepts default D known (Either a b) test =
+    or_tells _ _ _ _ (value_tells accepts default D known a test) (value_tells accepts default D known b test)
+value_tells accepts default D known (Without a b) test =
+    and_tells _ _ _ _ (value_tells accepts default D known a test)
+    (not_tells _ _ (value_tells accepts default D known b test))
 value_tells accepts default D known (Grouped a) test = value_tells accepts default D known a test
 
 pub values_are_true : {L : Type 0} (accepts : L → List ℕ → Bool) → ValuesAreTrue accepts
@@ -121,9 +133,12 @@ value_below : {L : Type 0} (accepts : L → List ℕ → Bool) (f : Formula L) (
     → Below (value accepts (of_binary test.binary d) f) (value accepts (of_test test e) f)
 value_below accepts (Asks q) test d e h = answer_below accepts q test d e h
 value_below accepts (Negated a) test d e h = not_below _ _ (value_below accepts a test d e h)
-value_below accepts (Both a c) test d e h = and_below _ _ _ _ (value_below accepts a test d e h) (value_below accepts c test d e h)
-value_below accepts (Either a c) test d e h = or_below _ _ _ _ (value_below accepts a test d e h) (value_below accepts c test d e h)
-value_below accepts (Without a c) test d e h = and_below _ _ _ _ (value_below accepts a test d e h) (not_below _ _ (value_below accepts c test d e h))
+value_below accepts (Both a c) test d e h =
+    and_below _ _ _ _ (value_below accepts a test d e h) (value_below accepts c test d e h)
+value_below accepts (Either a c) test d e h =
+    or_below _ _ _ _ (value_below accepts a test d e h) (value_below accepts c test d e h)
+value_below accepts (Without a c) test d e h =
+    and_below _ _ _ _ (value_below accepts a test d e h) (not_below _ _ (value_below accepts c test d e h))
 value_below accepts (Grouped a) test d e h = value_below accepts a test d e h
 
 pub binaries_speak : {L : Type 0} (accepts : L → List ℕ → Bool) → BinariesSpeakForTests accepts
@@ -156,19 +171,27 @@ field_known accepts BinaryName binary d other = refl
 field_known accepts Kind binary d other = refl
 field_known accepts Group binary d other = refl
 
-value_known : {L : Type 0} (accepts : L → List ℕ → Bool) (f : Formula L) (binary : Binary) (d : Option Bool) → (Needs L f → ⊥)
+value_known : {L : Type 0} (accepts : L → List ℕ → Bool) (f : Formula L) (binary : Binary) (d : Option Bool)
+    → (Needs L f → ⊥)
     → IsSome (value accepts (of_binary binary d) f)
 value_known accepts (Asks Always) binary d needless = refl
 value_known accepts (Asks Never) binary d needless = refl
 value_known accepts (Asks TheDefault) binary d needless = absurd (needless the_default)
 value_known accepts (Asks (OfPlatform p)) binary d needless = refl
-value_known accepts (Asks (OfName p)) binary d needless = field_known (accepts p.meaning) p.field binary d (λ is. needless (a_test p is))
-value_known accepts (Negated a) binary d needless = known_not _ (value_known accepts a binary d (λ n. needless (under a n)))
+value_known accepts (Asks (OfName p)) binary d needless =
+    field_known (accepts p.meaning) p.field binary d (λ is. needless (a_test p is))
+value_known accepts (Negated a) binary d needless =
+    known_not _ (value_known accepts a binary d (λ n. needless (under a n)))
 value_known accepts (Grouped a) binary d needless = value_known accepts a binary d (λ n. needless (within a n))
-value_known accepts (Both a b) binary d needless = known_and_known _ _ (value_known accepts a binary d (λ n. needless (both_left a b n))) (value_known accepts b binary d (λ n. needless (both_right a b n)))
-value_known accepts (Either a b) binary d needless = known_or_known _ _ (value_known accepts a binary d (λ n. needless (either_left a b n))) (value_known accepts b binary d (λ n. needless (either_right a b n)))
+value_known accepts (Both a b) binary d needless =
+    known_and_known _ _ (value_known accepts a binary d (λ n. needless (both_left a b n)))
+    (value_known accepts b binary d (λ n. needless (both_right a b n)))
+value_known accepts (Either a b) binary d needless =
+    known_or_known _ _ (value_known accepts a binary d (λ n. needless (either_left a b n)))
+    (value_known accepts b binary d (λ n. needless (either_right a b n)))
 value_known accepts (Without a b) binary d needless =
-    known_and_known _ _ (value_known accepts a binary d (λ n. needless (without_left a b n))) (known_not _ (value_known accepts b binary d (λ n. needless (without_right a b n))))
+    known_and_known _ _ (value_known accepts a binary d (λ n. needless (without_left a b n)))
+    (known_not _ (value_known accepts b binary d (λ n. needless (without_right a b n))))
 
 pub only_tests : {L : Type 0} (accepts : L → List ℕ → Bool) → OnlyTestsAreUnknown accepts
 only_tests accepts f default binary needless = value_known accepts f binary _ needless

@@ -13,7 +13,8 @@ use Rattle.filter_language.specs.Lexing.{wrong_between, wrong_at, spelled}
 -- The number of one to six hex digits.
 abbrev pub hex_in : List ℕ → Option ℕ
 hex_in digits =
-    if (nat_lt 0 (length digits) && nat_lt (length digits) 7) && list_all (λ c. is_digit c 16) digits
+    if (nat_lt 0 (length digits) && nat_lt (length digits) 7)
+    && list_all (λ c. is_digit c 16) digits
     then Some (digits_value 16 digits) else None
 
 -- The character of a number.

@@ -22,7 +22,7 @@ use Rattle.filter_language.specs.Places.{Misreading, misreading_view}
 use Rattle.filter_language.specs.Predicates.{Compiler, PredicateRead, predicate_in, ◌>>=◌}
 use Rattle.filter_language.specs.Texts.{after_prefix, skipped}
 
--- A mark, why it may not stand in a filter of its kind, what follows it, and what stands open there.
+-- A mark, why it may not stand in a filter of its kind, what follows it, and what stands open.
 pub record MarkRead (L : Type 0) : Type 0 where
   pub mark : Mark L
   pub objection : Option Misreading

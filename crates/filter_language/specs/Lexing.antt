@@ -66,7 +66,8 @@ no_close close =
 
 abbrev pub closed_in : List ℕ → Result (List ℕ × List ℕ) Misreading
 closed_in place =
-    close_of (no_close (skipped place)) place (skipped place) (after_prefix (codes ")") (skipped place))
+    close_of (no_close (skipped place)) place (skipped place)
+    (after_prefix (codes ")") (skipped place))
 
 -- The `)` of a set without an argument, and what follows it: white space alone stands before it.
 abbrev pub bare_close : List ℕ → List ℕ → List ℕ → Result (List ℕ × List ℕ) Misreading

@@ -23,7 +23,8 @@ Answers accepts Default Always test = Unit {0}
 Answers accepts Default Never test = ⊥
 Answers accepts Default TheDefault test = Default
 Answers accepts Default (OfPlatform p) test = test.binary.platform ≡ p
-Answers accepts Default (OfName p) test = NameHas (λ name. accepts p.meaning name ≡ true) p.field test
+Answers accepts Default (OfName p) test =
+    NameHas (λ name. accepts p.meaning name ≡ true) p.field test
 
 -- A filter is true of a test, where `default()` stands for a fact.
 abbrev pub Holds : {L : Type 0} → (L → List ℕ → Bool) → Type 0 → Formula L → Test → Type 0

@@ -39,7 +39,8 @@ subject_view s = record {
 
 -- A test, where the default filter says something.
 abbrev pub of_test : Test → Option Bool → Subject
-of_test test default = record { binary = test.binary; test_name = Some test.name; default = default }
+of_test test default = record
+    { binary = test.binary; test_name = Some test.name; default = default }
 
 -- A binary without regard to its tests.
 abbrev pub of_binary : Binary → Option Bool → Subject

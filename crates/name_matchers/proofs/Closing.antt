@@ -46,14 +46,17 @@ module _ (nfa : Nfa) (name : List ℕ) (at : ℕ) where
   }
 
   -- A followed state stays so where states are added.
-  still_followed : (q : ℕ) (old new : List ℕ) → Extends old new → IsFollowed nfa name at q old → IsFollowed nfa name at q new
+  still_followed : (q : ℕ) (old new : List ℕ) → Extends old new → IsFollowed nfa name at q old
+      → IsFollowed nfa name at q new
   still_followed q old new kept is =
       record { unmatched = is.unmatched; targets = λ r edge. keeps old new r kept (is.targets r edge) }
 
   -- What an added state is.
-  pub within_more : (q : ℕ) (states new : List ℕ) → AreStates nfa states → AddsTargets nfa name at q states new → AreStates nfa new
+  pub within_more : (q : ℕ) (states new : List ℕ) → AreStates nfa states
+      → AddsTargets nfa name at q states new → AreStates nfa new
   within_more q states new within adds r there =
-      ⊎_elim (λ old. within r old) (λ edge. below_within nfa r q (EmptyEdge-IsBelow nfa name at q r edge)) (adds.added r there)
+      ⊎_elim (λ old. within r old) (λ edge. below_within nfa r q (EmptyEdge-IsBelow nfa name at q r edge))
+      (adds.added r there)
 
   -- A match from a state that was added is one from the state that led there.
   sound_more : (q : ℕ) (states new : List ℕ) → Contains states q → AddsTargets nfa name at q states new
@@ -65,7 +68,8 @@ module _ (nfa : Nfa) (name : List ℕ) (at : ℕ) where
       (adds.added r found)
 
   -- One more is followed.
-  pub followed_more : (old states new : List ℕ) (done q : ℕ) → IsFollowedTo nfa name at old states done → done < length states
+  pub followed_more : (old states new : List ℕ) (done q : ℕ) → IsFollowedTo nfa name at old states done
+      → done < length states
       → q ≡ get_or states done 0 → (state_of nfa q ≡ Match → ⊥) → AddsTargets nfa name at q states new
       → IsFollowedTo nfa name at old new (done + 1)
   followed_more old states new done q before below is unmatched adds =
@@ -81,18 +85,21 @@ module _ (nfa : Nfa) (name : List ℕ) (at : ℕ) where
             rw (at_place states new k adds.kept place)
             (⊎_elim
             (λ (same : k ≡ done). rw (same, ← is) (record { unmatched = unmatched; targets = adds.all }))
-            (λ (other : k ≡ done → ⊥). still_followed (get_or states k 0) states new adds.kept (before.followed k (omega arith)))
+            (λ (other : k ≡ done → ⊥). still_followed (get_or states k 0) states new adds.kept
+            (before.followed k (omega arith)))
             (cases_eq k done));
       }
 
   -- A state that ends a match succeeds.
-  pub matches_here : (old states : List ℕ) (done q : ℕ) → at ≤ length name → IsFollowedTo nfa name at old states done → done < length states
+  pub matches_here : (old states : List ℕ) (done q : ℕ) → at ≤ length name
+      → IsFollowedTo nfa name at old states done → done < length states
       → q ≡ get_or states done 0 → state_of nfa q ≡ Match → SomeSucceeds nfa name at old
   matches_here old states done q within before below is ends =
       before.sound (q, rw is (Contains-get_or states done 0 below), (within, (at, matched q at ends refl)))
 
   -- Where all are followed, the states are closed.
-  pub closed_when_done : (old states : List ℕ) (done : ℕ) → IsFollowedTo nfa name at old states done → length states ≤ done
+  pub closed_when_done : (old states : List ℕ) (done : ℕ) → IsFollowedTo nfa name at old states done
+      → length states ≤ done
       → IsClosing nfa name at old states
   closed_when_done old states done before all =
       let of : (q : ℕ) → Contains states q → IsFollowed nfa name at q states =
@@ -102,5 +109,9 @@ module _ (nfa : Nfa) (name : List ℕ) (at : ℕ) where
       record {
         kept = before.kept;
         sound = before.sound;
-        closed = record { unmatched = λ q there. (of q there).unmatched; targets = λ q r there. (of q there).targets r };
+        closed = record {
+          unmatched = λ q there. (of q there).unmatched;
+          targets =
+              λ q r there. (of q there).targets r;
+        };
       }

@@ -20,7 +20,8 @@ no_bytes_decides : (bytes : List ℕ) → Decides (no_bytes bytes) (bytes ≡ []
 no_bytes_decides [] = (λ e. refl, λ e. refl)
 no_bytes_decides (b ∷ bytes) = (λ e. absurd (true≢false (sym e)), λ e. absurd (cc))
 
-one_byte_decides : (passes : ℕ → Bool) (bytes : List ℕ) → Decides (one_byte passes bytes) ((b : ℕ) × (bytes ≡ b ∷ []) × (passes b ≡ true))
+one_byte_decides : (passes : ℕ → Bool) (bytes : List ℕ)
+    → Decides (one_byte passes bytes) ((b : ℕ) × (bytes ≡ b ∷ []) × (passes b ≡ true))
 one_byte_decides passes [] = (
   λ e. absurd (true≢false (sym e)),
   λ (w : (b : ℕ) × ([] ≡ b ∷ []) × (passes b ≡ true)). absurd (let e = w.1 in cc),
@@ -43,7 +44,8 @@ no_slash : (front : List ℕ) → [] ≡ front ++ 47 ∷ [] → ⊥
 no_slash [] e = cc
 no_slash (c ∷ front) e = cc
 
-slash_behind : (b : ℕ) (bytes front : List ℕ) → b ∷ bytes ≡ front ++ 47 ∷ [] → ((b ≡ 47) × (bytes ≡ [])) ⊎ EndsInSlash bytes
+slash_behind : (b : ℕ) (bytes front : List ℕ) → b ∷ bytes ≡ front ++ 47 ∷ []
+    → ((b ≡ 47) × (bytes ≡ [])) ⊎ EndsInSlash bytes
 slash_behind b bytes [] e = inl (cc, cc)
 slash_behind b bytes (c ∷ front) e = inr (front, cc)
 
@@ -84,14 +86,16 @@ both_empty [] rest e = (refl, sym e)
 both_empty (b ∷ front) rest e = absurd (cc)
 
 -- How bytes that begin with one split.
-split_behind : (F G : List ℕ → Type 0) (b : ℕ) (bytes front rest : List ℕ) → b ∷ bytes ≡ front ++ rest → F front → G rest
+split_behind : (F G : List ℕ → Type 0) (b : ℕ) (bytes front rest : List ℕ) → b ∷ bytes ≡ front ++ rest
+    → F front → G rest
     → (F [] × G (b ∷ bytes)) ⊎ Joins (λ more. F (b ∷ more)) G bytes
 split_behind F G b bytes [] rest e f g = inl (f, subst G (sym e) g)
 split_behind F G b bytes (c ∷ front) rest e f g =
     let same : c ≡ b = cc in
     inr (front, rest, cc, subst (λ x. F (x ∷ front)) same f, g)
 
-splits_into_decides : (bytes : List ℕ) (f g : List ℕ → Bool) (F G : List ℕ → Type 0) → ((x : List ℕ) → Decides (f x) (F x))
+splits_into_decides : (bytes : List ℕ) (f g : List ℕ → Bool) (F G : List ℕ → Type 0)
+    → ((x : List ℕ) → Decides (f x) (F x))
     → ((x : List ℕ) → Decides (g x) (G x)) → Decides (splits_into f g bytes) (Joins F G bytes)
 splits_into_decides [] f g F G fs gs =
     Decides-like (f [] && g [])
@@ -105,7 +109,8 @@ splits_into_decides (b ∷ bytes) f g F G fs gs =
     (λ (w : (F [] × G (b ∷ bytes)) ⊎ Joins (λ more. F (b ∷ more)) G bytes).
     ⊎_elim
     (λ (here : F [] × G (b ∷ bytes)). ([], b ∷ bytes, refl, here.0, here.1))
-    (λ (later : Joins (λ more. F (b ∷ more)) G bytes). (b ∷ later.0, later.1, ap (λ l. b ∷ l) later.2, later.3, later.4))
+    (λ (later : Joins (λ more. F (b ∷ more)) G bytes).
+    (b ∷ later.0, later.1, ap (λ l. b ∷ l) later.2, later.3, later.4))
     w)
     (λ (w : Joins F G (b ∷ bytes)). split_behind F G b bytes w.0 w.1 w.2 w.3 w.4)
     (Decides-or (f [] && g (b ∷ bytes)) (splits_into (λ more. f (b ∷ more)) g bytes)
@@ -117,11 +122,14 @@ mutual
   row_takes_decides : (row : Row) (bytes : List ℕ) → Decides (row_takes row bytes) (RowTakes row bytes)
   row_takes_decides end bytes = no_bytes_decides bytes
   row_takes_decides (part this row) bytes =
-      splits_into_decides bytes (part_takes this) (row_takes row) (PartTakes this) (RowTakes row) (part_takes_decides this) (row_takes_decides row)
+      splits_into_decides bytes (part_takes this) (row_takes row) (PartTakes this) (RowTakes row)
+      (part_takes_decides this) (row_takes_decides row)
   row_takes_decides (class this row) bytes =
-      splits_into_decides bytes (one_byte (in_class this)) (row_takes row) (ClassTakes this) (RowTakes row) (one_byte_decides (in_class this)) (row_takes_decides row)
+      splits_into_decides bytes (one_byte (in_class this)) (row_takes row) (ClassTakes this) (RowTakes row)
+      (one_byte_decides (in_class this)) (row_takes_decides row)
   row_takes_decides (group branches row) bytes =
-      splits_into_decides bytes (λ front. some_takes branches front || (are_empty branches && no_bytes front)) (row_takes row)
+      splits_into_decides bytes (λ front. some_takes branches front || (are_empty branches && no_bytes front))
+      (row_takes row)
       (λ front. SomeTakes branches front ⊎ ((are_empty branches ≡ true) × (front ≡ []))) (RowTakes row)
       (λ front.
       Decides-or (some_takes branches front) (are_empty branches && no_bytes front) (some_takes_decides branches front)
@@ -129,12 +137,15 @@ mutual
       (row_takes_decides row)
 
   -- The branches' test decides what they take.
-  some_takes_decides : (branches : Branches) (bytes : List ℕ) → Decides (some_takes branches bytes) (SomeTakes branches bytes)
+  some_takes_decides : (branches : Branches) (bytes : List ℕ)
+      → Decides (some_takes branches bytes) (SomeTakes branches bytes)
   some_takes_decides (only row) bytes =
-      Decides-and (not (is_empty row)) (row_takes row bytes) (decides_false (is_empty row)) (row_takes_decides row bytes)
+      Decides-and (not (is_empty row)) (row_takes row bytes) (decides_false (is_empty row))
+      (row_takes_decides row bytes)
   some_takes_decides (also row branches) bytes =
       Decides-or (not (is_empty row) && row_takes row bytes) (some_takes branches bytes)
-      (Decides-and (not (is_empty row)) (row_takes row bytes) (decides_false (is_empty row)) (row_takes_decides row bytes))
+      (Decides-and (not (is_empty row)) (row_takes row bytes) (decides_false (is_empty row))
+      (row_takes_decides row bytes))
       (some_takes_decides branches bytes)
 
 -- ---- globs

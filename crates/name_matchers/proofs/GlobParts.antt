@@ -53,26 +53,32 @@ last_not_slash inside Elsewhere r e = true≢false (sym e)
 
 module _ (inside : Bool) (place : Place) where
   -- A byte is not written where another special one than a backslash stands.
-  byte_not : (text : List ℕ) (byte : ℕ) (rest : List ℕ) (c : ℕ) (s : List ℕ) → WritesPart inside place text (Byte byte) rest
+  byte_not : (text : List ℕ) (byte : ℕ) (rest : List ℕ) (c : ℕ) (s : List ℕ)
+      → WritesPart inside place text (Byte byte) rest
       → text ≡ c ∷ s → is_special c ≡ true → (c ≡ 92 → ⊥) → ⊥
   byte_not text byte rest c s writes e special other =
       ⊎_elim
-      (λ (plain : (text ≡ byte ∷ rest) × (is_special byte ≡ false)). special_apart byte c plain.1 special (heads text byte c rest s plain.0 e).0)
+      (λ (plain : (text ≡ byte ∷ rest) × (is_special byte ≡ false)). special_apart byte c plain.1 special
+      (heads text byte c rest s plain.0 e).0)
       (λ (escaped : text ≡ 92 ∷ byte ∷ rest). other (heads text c 92 s (byte ∷ rest) e escaped).0)
       writes
 
-  same_bytes : (text : List ℕ) (a b : ℕ) (r s : List ℕ) → WritesPart inside place text (Byte a) r → WritesPart inside place text (Byte b) s
+  same_bytes : (text : List ℕ) (a b : ℕ) (r s : List ℕ) → WritesPart inside place text (Byte a) r
+      → WritesPart inside place text (Byte b) s
       → (Byte a ≡ Byte b) × (r ≡ s)
   same_bytes text a b r s one two =
       ⊎_elim
       (λ (plain : (text ≡ a ∷ r) × (is_special a ≡ false)).
       ⊎_elim
-      (λ (other : (text ≡ b ∷ s) × (is_special b ≡ false)). let h = heads text a b r s plain.0 other.0 in (ap Byte h.0, h.1))
-      (λ (escaped : text ≡ 92 ∷ b ∷ s). absurd (special_apart a 92 plain.1 refl (heads text a 92 r (b ∷ s) plain.0 escaped).0))
+      (λ (other : (text ≡ b ∷ s) × (is_special b ≡ false)). let h = heads text a b r s plain.0 other.0 in
+      (ap Byte h.0, h.1))
+      (λ (escaped : text ≡ 92 ∷ b ∷ s). absurd
+      (special_apart a 92 plain.1 refl (heads text a 92 r (b ∷ s) plain.0 escaped).0))
       two)
       (λ (escaped : text ≡ 92 ∷ a ∷ r).
       ⊎_elim
-      (λ (plain : (text ≡ b ∷ s) × (is_special b ≡ false)). absurd (special_apart b 92 plain.1 refl (heads text b 92 s (a ∷ r) plain.0 escaped).0))
+      (λ (plain : (text ≡ b ∷ s) × (is_special b ≡ false)). absurd
+      (special_apart b 92 plain.1 refl (heads text b 92 s (a ∷ r) plain.0 escaped).0))
       (λ (other : text ≡ 92 ∷ b ∷ s).
       let h = heads text 92 92 (a ∷ r) (b ∷ s) escaped other in
       let inner = heads (a ∷ r) a b r s refl h.1 in
@@ -84,7 +90,8 @@ module _ (inside : Bool) (place : Place) where
   pub any_front : (text rest : List ℕ) → WritesPart inside place text AnyBytes rest → (s : List ℕ) × (text ≡ 42 ∷ s)
   any_front text rest w =
       ⊎_elim
-      (λ (whole : WritesFolders inside place text rest × (is_whole inside place rest ≡ true)). (42 ∷ 47 ∷ rest, whole.0.0))
+      (λ (whole : WritesFolders inside place text rest × (is_whole inside place rest ≡ true)).
+      (42 ∷ 47 ∷ rest, whole.0.0))
       (λ (star : (text ≡ 42 ∷ rest) × ((other : List ℕ) → WritesFolders inside place text other → ⊥)
       × ((other : List ℕ) → WritesLast inside place text other → ⊥)). (rest, star.0))
       w
@@ -101,12 +108,14 @@ module _ (inside : Bool) (place : Place) where
       let slash : s ≡ 47 ∷ r = let f = w.0 in cc in
       last_not_slash inside place r (ap (is_last inside place) (sym slash) ∙ w.1)
 
-  any_any : (text r s : List ℕ) → WritesPart inside place text AnyBytes r → WritesPart inside place text AnyBytes s → r ≡ s
+  any_any : (text r s : List ℕ) → WritesPart inside place text AnyBytes r
+      → WritesPart inside place text AnyBytes s → r ≡ s
   any_any text r s w v =
       ⊎_elim
       (λ (one : WritesFolders inside place text r × (is_whole inside place r ≡ true)).
       ⊎_elim
-      (λ (two : WritesFolders inside place text s × (is_whole inside place s ≡ true)). same_folders text r s one.0.0 two.0.0)
+      (λ (two : WritesFolders inside place text s × (is_whole inside place s ≡ true)). same_folders text r s
+      one.0.0 two.0.0)
       (λ (two : (text ≡ 42 ∷ s) × ((other : List ℕ) → WritesFolders inside place text other → ⊥)
       × ((other : List ℕ) → WritesLast inside place text other → ⊥)). absurd (two.1 r one.0))
       v)
@@ -119,7 +128,8 @@ module _ (inside : Bool) (place : Place) where
       v)
       w
 
-  any_folders : (text r s : List ℕ) → WritesPart inside place text AnyBytes r → WritesPart inside place text Folders s → ⊥
+  any_folders : (text r s : List ℕ) → WritesPart inside place text AnyBytes r
+      → WritesPart inside place text Folders s → ⊥
   any_folders text r s w v =
       ⊎_elim
       (λ (one : WritesFolders inside place text r × (is_whole inside place r ≡ true)).
@@ -128,7 +138,8 @@ module _ (inside : Bool) (place : Place) where
       × ((other : List ℕ) → WritesLast inside place text other → ⊥)). one.1 s v.0)
       w
 
-  any_nothing : (text r s : List ℕ) → WritesPart inside place text AnyBytes r → WritesPart inside place text Nothing s → ⊥
+  any_nothing : (text r s : List ℕ) → WritesPart inside place text AnyBytes r
+      → WritesPart inside place text Nothing s → ⊥
   any_nothing text r s w v =
       ⊎_elim
       (λ (one : WritesFolders inside place text r × (is_whole inside place r ≡ true)). folders_last text r s one.0.0 v)
@@ -136,13 +147,15 @@ module _ (inside : Bool) (place : Place) where
       × ((other : List ℕ) → WritesLast inside place text other → ⊥)). one.2 s v)
       w
 
-  folders_by : (whole : Bool) (text rest : List ℕ) → is_whole inside place rest ≡ whole → text ≡ 42 ∷ 42 ∷ 47 ∷ rest → opens place ≡ true
+  folders_by : (whole : Bool) (text rest : List ℕ) → is_whole inside place rest ≡ whole
+      → text ≡ 42 ∷ 42 ∷ 47 ∷ rest → opens place ≡ true
       → WritesPart inside place text (if whole then AnyBytes else Folders) rest
   folders_by true text rest is e opened = inl ((e, opened), is)
   folders_by false text rest is e opened = ((e, opened), is)
 
   -- A star that begins neither folders nor the last stars of a branch is any bytes.
-  pub star_written : (text rest : List ℕ) → text ≡ 42 ∷ rest → (BeginsFolders place text → ⊥) → (BeginsLast inside place text → ⊥)
+  pub star_written : (text rest : List ℕ) → text ≡ 42 ∷ rest → (BeginsFolders place text → ⊥)
+      → (BeginsLast inside place text → ⊥)
       → WritesPart inside place text AnyBytes rest
   star_written text rest e no_folders no_last =
       inr (e, λ other w. no_folders (other, w.0, w.1), λ other w. no_last (other, w.0, w.1))
@@ -154,7 +167,8 @@ module _ (inside : Bool) (place : Place) where
   question_no_star text r s e f = question_star 63 42 refl refl (heads text 63 42 r s e f).0
 
   -- A text writes one part and one rest.
-  pub same_part : (text : List ℕ) (p q : GlobPart) (r s : List ℕ) → WritesPart inside place text p r → WritesPart inside place text q s → (p ≡ q) × (r ≡ s)
+  pub same_part : (text : List ℕ) (p q : GlobPart) (r s : List ℕ) → WritesPart inside place text p r
+      → WritesPart inside place text q s → (p ≡ q) × (r ≡ s)
   same_part text (Byte a) (Byte b) r s w v = same_bytes text a b r s w v
   same_part text (Byte a) AnyByte r s w v = absurd (byte_not text a r 63 s w v refl (question_escape 63 refl))
   same_part text (Byte a) AnyBytes r s w v = let f = any_front text s v in absurd (byte_star text a r f.0 w f.1)
@@ -186,8 +200,10 @@ module _ (inside : Bool) (place : Place) where
       → (c ≡ 63 → ⊥) → (c ≡ 42 → ⊥) → (c ≡ 92 → ⊥) → (p : GlobPart) (r : List ℕ) → WritesPart inside place text p r → ⊥
   no_part text c s e special no_question no_star no_escape (Byte b) r w = byte_not text b r c s w e special no_escape
   no_part text c s e special no_question no_star no_escape AnyByte r w = no_question (heads text c 63 s r e w).0
-  no_part text c s e special no_question no_star no_escape AnyBytes r w = let f = any_front text r w in no_star (heads text c 42 s f.0 e f.1).0
-  no_part text c s e special no_question no_star no_escape Folders r w = no_star (heads text c 42 s (42 ∷ 47 ∷ r) e w.0.0).0
+  no_part text c s e special no_question no_star no_escape AnyBytes r w = let f = any_front text r w in
+      no_star (heads text c 42 s f.0 e f.1).0
+  no_part text c s e special no_question no_star no_escape Folders r w =
+      no_star (heads text c 42 s (42 ∷ 47 ∷ r) e w.0.0).0
   no_part text c s e special no_question no_star no_escape Nothing r w = no_star (heads text c 42 s (42 ∷ r) e w.0).0
 
   -- Folders are written as the part that they are.
@@ -196,7 +212,8 @@ module _ (inside : Bool) (place : Place) where
   folders_written text rest e opened = folders_by (is_whole inside place rest) text rest refl e opened
 
   -- A part takes a byte at least.
-  pub part_shorter : (text : List ℕ) (p : GlobPart) (rest : List ℕ) → WritesPart inside place text p rest → length rest < length text
+  pub part_shorter : (text : List ℕ) (p : GlobPart) (rest : List ℕ) → WritesPart inside place text p rest
+      → length rest < length text
   part_shorter text (Byte b) rest w =
       ⊎_elim
       (λ (plain : (text ≡ b ∷ rest) × (is_special b ≡ false)). omega (arith, ap length plain.0))
@@ -205,7 +222,8 @@ module _ (inside : Bool) (place : Place) where
   part_shorter text AnyByte rest w = omega (arith, ap length w)
   part_shorter text AnyBytes rest w =
       ⊎_elim
-      (λ (whole : WritesFolders inside place text rest × (is_whole inside place rest ≡ true)). omega (arith, ap length whole.0.0))
+      (λ (whole : WritesFolders inside place text rest × (is_whole inside place rest ≡ true)). omega
+      (arith, ap length whole.0.0))
       (λ (star : (text ≡ 42 ∷ rest) × ((other : List ℕ) → WritesFolders inside place text other → ⊥)
       × ((other : List ℕ) → WritesLast inside place text other → ⊥)). omega (arith, ap length star.0))
       w
@@ -219,10 +237,12 @@ brace : (c : ℕ) → c ≡ 123 → (is_special c ≡ true) × (c ≡ 63 → ⊥
 brace c e = (ap is_special e, λ f. omega arith, λ f. omega arith, λ f. omega arith)
 
 -- No part is written where a class or a group opens.
-pub no_part_at_class : (inside : Bool) (place : Place) (text s : List ℕ) → text ≡ 91 ∷ s → (p : GlobPart) (r : List ℕ) → WritesPart inside place text p r → ⊥
+pub no_part_at_class : (inside : Bool) (place : Place) (text s : List ℕ) → text ≡ 91 ∷ s
+    → (p : GlobPart) (r : List ℕ) → WritesPart inside place text p r → ⊥
 no_part_at_class inside place text s e = let b = bracket 91 refl in no_part inside place text 91 s e b.0 b.1 b.2 b.3
 
-pub no_part_at_group : (inside : Bool) (place : Place) (text s : List ℕ) → text ≡ 123 ∷ s → (p : GlobPart) (r : List ℕ) → WritesPart inside place text p r → ⊥
+pub no_part_at_group : (inside : Bool) (place : Place) (text s : List ℕ) → text ≡ 123 ∷ s
+    → (p : GlobPart) (r : List ℕ) → WritesPart inside place text p r → ⊥
 no_part_at_group inside place text s e = let b = brace 123 refl in no_part inside place text 123 s e b.0 b.1 b.2 b.3
 
 -- the row of these bytes
@@ -231,7 +251,8 @@ bytes_row [] = end
 bytes_row (b ∷ text) = part (Byte b) (bytes_row text)
 
 -- A plain text writes its bytes.
-writes_plain : (levels : ℕ) (place : Place) (text : List ℕ) → IsPlain text → WritesRow false levels place text (bytes_row text) []
+writes_plain : (levels : ℕ) (place : Place) (text : List ℕ) → IsPlain text
+    → WritesRow false levels place text (bytes_row text) []
 writes_plain levels place [] plain = (refl, refl)
 writes_plain levels place (b ∷ text) plain = (
   refl,
@@ -243,28 +264,33 @@ writes_plain levels place (b ∷ text) plain = (
 )
 
 -- A plain text writes no other row.
-only_plain : (row : Row) (levels : ℕ) (place : Place) (text : List ℕ) → IsPlain text → WritesRow false levels place text row [] → row ≡ bytes_row text
+only_plain : (row : Row) (levels : ℕ) (place : Place) (text : List ℕ) → IsPlain text
+    → WritesRow false levels place text row [] → row ≡ bytes_row text
 only_plain end levels place text plain w = rw w.0 refl
 only_plain (part p row) levels place [] plain w = absurd (true≢false w.0)
 only_plain (part p row) levels place (b ∷ text) plain (go, (mid, here, later)) =
     let special = All-head (λ byte. is_special byte ≡ false) b text plain in
     let same = same_part false place (b ∷ text) p (Byte b) mid text here (inl (refl, special)) in
     let next = subst (λ q. WritesRow false levels (behind place q) mid row []) same.0 later in
-    let tail = only_plain row levels (behind place (Byte b)) text (All-tail (λ byte. is_special byte ≡ false) b text plain)
+    let tail = only_plain row levels (behind place (Byte b)) text
+    (All-tail (λ byte. is_special byte ≡ false) b text plain)
     (subst (λ m. WritesRow false levels (behind place (Byte b)) m row []) same.1 next) in
     cc
 only_plain (class c row) levels place [] plain w = absurd (let f = w.2 in cc)
 only_plain (class c row) levels place (b ∷ text) plain w =
-    absurd (special_apart b 91 (All-head (λ byte. is_special byte ≡ false) b text plain) refl (heads (b ∷ text) b 91 text w.0 refl w.2).0)
+    absurd (special_apart b 91 (All-head (λ byte. is_special byte ≡ false) b text plain) refl
+    (heads (b ∷ text) b 91 text w.0 refl w.2).0)
 only_plain (group bs row) levels place [] plain w = absurd (let f = w.3 in cc)
 only_plain (group bs row) levels place (b ∷ text) plain w =
-    absurd (special_apart b 123 (All-head (λ byte. is_special byte ≡ false) b text plain) refl (heads (b ∷ text) b 123 text w.0 refl w.3).0)
+    absurd (special_apart b 123 (All-head (λ byte. is_special byte ≡ false) b text plain) refl
+    (heads (b ∷ text) b 123 text w.0 refl w.3).0)
 
 -- Bytes take themselves.
 takes_itself : (text name : List ℕ) → RowTakes (bytes_row text) name ↔ (name ≡ text)
 takes_itself [] name = (λ e. e, λ e. e)
 takes_itself (b ∷ text) name = (
-  λ (found : (front : List ℕ) × (rest : List ℕ) × (name ≡ front ++ rest) × (front ≡ b ∷ []) × RowTakes (bytes_row text) rest).
+  λ (found : (front : List ℕ) × (rest : List ℕ) × (name ≡ front ++ rest) × (front ≡ b ∷ [])
+      × RowTakes (bytes_row text) rest).
       let tail = (takes_itself text found.1).0 found.4 in
       found.2 ∙ ap (λ f. f ++ found.1) found.3 ∙ ap (λ l. b ∷ l) tail,
   λ same. (b ∷ [], text, same, refl, (takes_itself text text).1 refl),
@@ -275,6 +301,7 @@ pub plain_is_equality : (text name : List ℕ) → IsPlain text → GlobMatches 
 unfolding GlobMatches
 plain_is_equality text name plain = (
   λ (found : (row : Row) × WritesRow false 250 Start text row [] × RowTakes row name).
-      (takes_itself text name).0 (subst (λ row. RowTakes row name) (only_plain found.0 250 Start text plain found.1) found.2),
+      (takes_itself text name).0
+      (subst (λ row. RowTakes row name) (only_plain found.0 250 Start text plain found.1) found.2),
   λ same. (bytes_row text, writes_plain 250 Start text plain, (takes_itself text name).1 same),
 )

@@ -24,14 +24,17 @@ use Rattle.name_matchers.specs.Patterns.{StandsBetween, MatchesKind, Means, Mean
 use Rattle.name_matchers.specs.declared.glob.part.GlobPart.TheVariants.{Byte, AnyByte, AnyBytes, Folders, Nothing}
 
 -- What stands behind the front of what stands from a place on.
-rest_at : (name : List ℕ) (i : ℕ) (front rest : List ℕ) → drop i name ≡ front ++ rest → rest ≡ drop (i + length front) name
+rest_at : (name : List ℕ) (i : ℕ) (front rest : List ℕ) → drop i name ≡ front ++ rest
+    → rest ≡ drop (i + length front) name
 rest_at name i front rest e =
     sym (drop-append_seam front rest) ∙ ap (drop (length front)) (sym e) ∙ drop-drop (length front) i name
 
 -- A front stands within the name.
-front_within : (name : List ℕ) (i : ℕ) (front rest : List ℕ) → i ≤ length name → drop i name ≡ front ++ rest → i + length front ≤ length name
+front_within : (name : List ℕ) (i : ℕ) (front rest : List ℕ) → i ≤ length name → drop i name ≡ front ++ rest
+    → i + length front ≤ length name
 front_within name i front rest h e =
-    let whole : length name - i ≡ length front + length rest = sym (length-drop i name) ∙ ap length e ∙ length-append front rest in
+    let whole : length name - i ≡ length front + length rest =
+    sym (length-drop i name) ∙ ap length e ∙ length-append front rest in
     omega arith
 
 -- Each byte is in the class of all bytes.
@@ -40,7 +43,8 @@ unfolding in_ranges in_range
 in_all b h = rw (le-leb 0 b (omega arith), le-leb b 255 (omega arith)) refl
 
 -- A class of all bytes matches any byte.
-pub any_byte_means : (ranges : List (ℕ × ℕ)) → HasExactly ranges (in_ranges ((0, 255) ∷ [])) → Means AnyByte (byte_in ranges)
+pub any_byte_means : (ranges : List (ℕ × ℕ)) → HasExactly ranges (in_ranges ((0, 255) ∷ []))
+    → Means AnyByte (byte_in ranges)
 any_byte_means ranges exactly name bytes i j h = (
   λ (found : (b : ℕ) × (slice_get name i ≡ Some b) × (in_ranges ranges b ≡ true) × (j ≡ i + 1)).
       let inside = slice_get_within name i found.0 found.1 in
@@ -68,7 +72,8 @@ module _ (re : Re) (means : Means AnyByte re) (name : List ℕ) (bytes : All (λ
   rounds_to : (n i j : ℕ) → j ≡ i + (n + 1) → j ≤ length name → Rounds (Matches name re) i j
   rounds_to zero i j e h = one_round j (round i j (omega arith) h)
   rounds_to (suc n) i j e h =
-      next_round (i + (n + 1)) j (rounds_to n i (i + (n + 1)) refl (omega arith)) (round (i + (n + 1)) j (omega arith) h)
+      next_round (i + (n + 1)) j (rounds_to n i (i + (n + 1)) refl (omega arith))
+      (round (i + (n + 1)) j (omega arith) h)
 
   any_to : (front : List ℕ) (i j : ℕ) → j ≡ i + length front → j ≤ length name → Rounds (Matches name re) i j ⊎ (j ≡ i)
   any_to [] i j e h = inr (omega arith)
@@ -80,8 +85,14 @@ unfolding repeat
 any_bytes_means re means name bytes i j h = (
   λ found.
       let span = Matches-IsSpan name (alt (plus true re) empty) i j found in
-      let len : length (take (j - i) (drop i name)) ≡ j - i = length-take (j - i) (drop i name) ∙ ap (min (j - i)) (length-drop i name) ∙ omega arith in
-      (take (j - i) (drop i name), drop (j - i) (drop i name), sym (take-append-drop (j - i) (drop i name)), omega arith, tt),
+      let len : length (take (j - i) (drop i name)) ≡ j - i =
+      length-take (j - i) (drop i name) ∙ ap (min (j - i)) (length-drop i name) ∙ omega arith in (
+        take (j - i) (drop i name),
+        drop (j - i) (drop i name),
+        sym (take-append-drop (j - i) (drop i name)),
+        omega arith,
+        tt,
+      ),
   λ (stands : StandsBetween (PartTakes AnyBytes) name i j).
       let within = front_within name i stands.0 stands.1 h stands.2 in
       any_to re means name bytes stands.0 i j stands.3 (let e = stands.3 in omega arith),
@@ -92,8 +103,11 @@ pub byte_means : (b : ℕ) → Means (Byte b) (literal (b ∷ []))
 byte_means b name bytes i j h = (
   λ (found : (has_bytes_at name i (b ∷ []) ≡ true) × (j ≡ i + 1)).
       (b ∷ [], drop (i + 1) name, has_bytes_at_parts name i (b ∷ []) found.0, found.1, refl),
-  λ (stands : StandsBetween (PartTakes (Byte b)) name i j).
-      (has_bytes_at_from name i (b ∷ []) stands.1 (rw stands.4 at stands.2), stands.3 ∙ ap (λ f. i + length f) stands.4),
+  λ (stands : StandsBetween (PartTakes (Byte b)) name i j). (
+    has_bytes_at_from name i (b ∷ []) stands.1 (rw stands.4 at stands.2),
+    stands.3
+        ∙ ap (λ f. i + length f) stands.4,
+  ),
 )
 
 no_class : (b : ℕ) → in_ranges [] b ≡ true → ⊥
@@ -101,17 +115,20 @@ unfolding in_ranges
 no_class b e = true≢false (sym e)
 
 -- Nothing, or any bytes and a slash.
-pub folders_means : (re : Re) → Means AnyBytes re → Means Folders (alt_all (empty ∷ cat_all (re ∷ literal (47 ∷ []) ∷ []) ∷ []))
+pub folders_means : (re : Re) → Means AnyBytes re
+    → Means Folders (alt_all (empty ∷ cat_all (re ∷ literal (47 ∷ []) ∷ []) ∷ []))
 folders_means re means name bytes i j h = (
   λ found.
       ⊎_elim
       (λ (none : j ≡ i). ([], drop i name, refl, omega arith, inl refl))
       (λ more.
       ⊎_elim
-      (λ (path : (l : ℕ) × Matches name re i l × ((k : ℕ) × ((has_bytes_at name l (47 ∷ []) ≡ true) × (k ≡ l + 1)) × (j ≡ k))).
+      (λ (path : (l : ℕ) × Matches name re i l
+      × ((k : ℕ) × ((has_bytes_at name l (47 ∷ []) ≡ true) × (k ≡ l + 1)) × (j ≡ k))).
       let front = (means name bytes i path.0 h).0 path.1 in
       let slash = has_bytes_at_parts name path.0 (47 ∷ []) path.2.1.0 in
-      let rest : front.1 ≡ 47 ∷ drop (path.0 + 1) name = rest_at name i front.0 front.1 front.2 ∙ ap (λ k. drop k name) (sym front.3) ∙ slash in
+      let rest : front.1 ≡ 47 ∷ drop (path.0 + 1) name =
+      rest_at name i front.0 front.1 front.2 ∙ ap (λ k. drop k name) (sym front.3) ∙ slash in
       let len = length-append front.0 (47 ∷ []) in
       let place : path.0 ≡ i + length front.0 = front.3 in
       let ends : path.2.0 ≡ path.0 + 1 = path.2.1.1 in
@@ -122,7 +139,8 @@ folders_means re means name bytes i j h = (
         omega arith,
         inr (front.0, refl),
       ))
-      (λ (none : (b : ℕ) × (slice_get name i ≡ Some b) × (in_ranges [] b ≡ true) × (j ≡ i + 1)). absurd (no_class none.0 none.2))
+      (λ (none : (b : ℕ) × (slice_get name i ≡ Some b) × (in_ranges [] b ≡ true) × (j ≡ i + 1)). absurd
+      (no_class none.0 none.2))
       more)
       found,
   λ (stands : StandsBetween (PartTakes Folders) name i j).
@@ -147,7 +165,8 @@ folders_means re means name bytes i j h = (
 pub empty_means : MatchesKind (λ bytes. bytes ≡ []) empty
 empty_means name bytes i j h = (
   λ (same : j ≡ i). ([], drop i name, refl, omega arith, refl),
-  λ (stands : StandsBetween (λ bytes. bytes ≡ []) name i j). let len = ap length stands.4 in let e = stands.3 in omega arith,
+  λ (stands : StandsBetween (λ bytes. bytes ≡ []) name i j). let len = ap length stands.4 in let e =
+      stands.3 in omega arith,
 )
 
 pub nothing_means : Means Nothing empty
@@ -156,19 +175,22 @@ nothing_means = empty_means
 -- A class of no bytes matches no kind that takes nothing.
 pub never_means : (Kind : List ℕ → Type 0) → ((bytes : List ℕ) → Kind bytes → ⊥) → MatchesKind Kind (byte_in [])
 never_means Kind never name bytes i j h = (
-  λ (found : (b : ℕ) × (slice_get name i ≡ Some b) × (in_ranges [] b ≡ true) × (j ≡ i + 1)). absurd (no_class found.0 found.2),
+  λ (found : (b : ℕ) × (slice_get name i ≡ Some b) × (in_ranges [] b ≡ true) × (j ≡ i + 1)). absurd
+      (no_class found.0 found.2),
   λ (stands : StandsBetween Kind name i j). absurd (never stands.0 stands.4),
 )
 
 -- The pattern of a kind matches the same kind otherwise said.
-pub kind_same : (A B : List ℕ → Type 0) (re : Re) → ((bytes : List ℕ) → A bytes ↔ B bytes) → MatchesKind A re → MatchesKind B re
+pub kind_same : (A B : List ℕ → Type 0) (re : Re) → ((bytes : List ℕ) → A bytes ↔ B bytes) → MatchesKind A re
+    → MatchesKind B re
 kind_same A B re same means name bytes i j h = (
   λ found. let s = (means name bytes i j h).0 found in (s.0, s.1, s.2, s.3, (same s.0).0 s.4),
   λ (s : StandsBetween B name i j). (means name bytes i j h).1 (s.0, s.1, s.2, s.3, (same s.0).1 s.4),
 )
 
 -- One pattern behind another.
-pub cat_means : (A B : List ℕ → Type 0) (a b : Re) → MatchesKind A a → MatchesKind B b → MatchesKind (Joins A B) (cat a b)
+pub cat_means : (A B : List ℕ → Type 0) (a b : Re) → MatchesKind A a → MatchesKind B b
+    → MatchesKind (Joins A B) (cat a b)
 cat_means A B a b one two name bytes i j h = (
   λ (found : (l : ℕ) × Matches name a i l × Matches name b l j).
       let l = found.0 in
@@ -201,7 +223,8 @@ cat_means A B a b one two name bytes i j h = (
 )
 
 -- One pattern or another.
-pub alt_means : (A B : List ℕ → Type 0) (a b : Re) → MatchesKind A a → MatchesKind B b → MatchesKind (λ bytes. A bytes ⊎ B bytes) (alt a b)
+pub alt_means : (A B : List ℕ → Type 0) (a b : Re) → MatchesKind A a → MatchesKind B b
+    → MatchesKind (λ bytes. A bytes ⊎ B bytes) (alt a b)
 alt_means A B a b one two name bytes i j h = (
   λ found.
       ⊎_elim
@@ -252,7 +275,8 @@ byte_in_means ranges passes exactly name bytes i j h = (
 )
 
 -- The class of ranges.
-pub ranges_mean : (made ranges : List (ℕ × ℕ)) → HasExactly made (in_ranges ranges) → MeansRanges false ranges (byte_in made)
+pub ranges_mean : (made ranges : List (ℕ × ℕ)) → HasExactly made (in_ranges ranges)
+    → MeansRanges false ranges (byte_in made)
 ranges_mean made ranges exactly = byte_in_means made (in_ranges ranges) (λ b h. exactly b (omega arith))
 
 -- The class of the bytes in no range.
@@ -300,7 +324,8 @@ start_place name (suc k) h e =
     absurd (true≢false (sym (sym (start_is name (suc k)) ∙ e) ∙ ap (λ o. not (is_some o)) before))
 
 -- What the pattern matches up to the end is the whole name.
-kind_whole : (Kind : List ℕ → Type 0) (re : Re) → MatchesKind Kind re → (name : List ℕ) → All (λ byte. byte < 256) name → (i j : ℕ) → i ≡ 0
+kind_whole : (Kind : List ℕ → Type 0) (re : Re) → MatchesKind Kind re → (name : List ℕ)
+    → All (λ byte. byte < 256) name → (i j : ℕ) → i ≡ 0
     → Matches name (cat_all (re ∷ look End ∷ [])) i j → Kind name
 kind_whole Kind re means name bytes i j zero_start (l, here, last) =
     let s = (means name bytes i l (omega arith)).0 here in
@@ -312,7 +337,8 @@ kind_whole Kind re means name bytes i j zero_start (l, here, last) =
     subst Kind (sym same) s.4
 
 -- The pattern between the start and the end is found just in the names of its kind.
-pub whole_found : (Kind : List ℕ → Type 0) (re : Re) → MatchesKind Kind re → (name : List ℕ) → All (λ byte. byte < 256) name
+pub whole_found : (Kind : List ℕ → Type 0) (re : Re) → MatchesKind Kind re → (name : List ℕ)
+    → All (λ byte. byte < 256) name
     → (is_some (find (cat_all (look Start ∷ re ∷ look End ∷ [])) name 0) ≡ true) ↔ Kind name
 unfolding find
 whole_found Kind re means name bytes = (
@@ -332,7 +358,15 @@ whole_found Kind re means name bytes = (
         (
           length name,
           (means name bytes 0 (length name) (omega arith)).1 (name, [], sym (append-nil name), omega arith, takes),
-          (length name, (left_end name (length name) (nil_from_length (drop (length name) name) (length-drop (length name) name ∙ omega arith)), refl), refl),
+          (
+            length name,
+            (
+              left_end name (length name)
+                  (nil_from_length (drop (length name) name) (length-drop (length name) name ∙ omega arith)),
+              refl,
+            ),
+            refl,
+          ),
         ),
       ),
 )

@@ -14,18 +14,23 @@ module _ (inside : Bool) (place : Place) where
   -- What is found is a part, or none stands there.
   abbrev PartIs : List ℕ → Leading GlobPart → Type 0
   PartIs text found =
-      MatchOption found ((p : GlobPart) (r : List ℕ) → WritesPart inside place text p r → ⊥) (λ f. WritesPart inside place text f.0 f.1)
+      MatchOption found ((p : GlobPart) (r : List ℕ) → WritesPart inside place text p r → ⊥)
+      (λ f. WritesPart inside place text f.0 f.1)
 
   -- Two stars that are no last ones, before no slash.
-  two_stars : (text : List ℕ) → is_last inside place text ≡ false → ((rest : List ℕ) → text ≡ 47 ∷ rest → opens place ≡ true → ⊥)
+  two_stars : (text : List ℕ) → is_last inside place text ≡ false
+      → ((rest : List ℕ) → text ≡ 47 ∷ rest → opens place ≡ true → ⊥)
       → WritesPart inside place (42 ∷ 42 ∷ text) AnyBytes (42 ∷ text)
   two_stars text no_last no_slash =
       star_written inside place (42 ∷ 42 ∷ text) (42 ∷ text) refl
       (λ w. no_slash w.0 (let e = w.1 in cc) w.2)
-      (λ w. let same : w.0 ≡ text = (let e = w.1 in cc) in true≢false (sym w.2 ∙ ap (is_last inside place) same ∙ no_last))
+      (λ w. let same : w.0 ≡ text = (let e = w.1 in cc) in
+      true≢false (sym w.2 ∙ ap (is_last inside place) same ∙ no_last))
 
-  last_by : (text : List ℕ) (last : Bool) → is_last inside place text ≡ last → ((rest : List ℕ) → text ≡ 47 ∷ rest → opens place ≡ true → ⊥)
-      → let f : GlobPart × List ℕ = (if last then (Nothing, text) else (AnyBytes, 42 ∷ text)) in WritesPart inside place (42 ∷ 42 ∷ text) f.0 f.1
+  last_by : (text : List ℕ) (last : Bool) → is_last inside place text ≡ last
+      → ((rest : List ℕ) → text ≡ 47 ∷ rest → opens place ≡ true → ⊥)
+      → let f : GlobPart × List ℕ = (if last then (Nothing, text) else (AnyBytes, 42 ∷ text)) in
+      WritesPart inside place (42 ∷ 42 ∷ text) f.0 f.1
   last_by text true is no_slash = (refl, is)
   last_by text false is no_slash = two_stars text is no_slash
 
@@ -35,27 +40,37 @@ module _ (inside : Bool) (place : Place) where
       WritesPart inside place (42 ∷ 42 ∷ byte ∷ text) f.0 f.1
   slash_by byte text true is =
       let both = and_parts (byte == 47) (opens place) is in
-      folders_written inside place (42 ∷ 42 ∷ byte ∷ text) text (ap (λ b. 42 ∷ 42 ∷ b ∷ text) (eqb-true byte 47 both.0)) both.1
+      folders_written inside place (42 ∷ 42 ∷ byte ∷ text) text
+      (ap (λ b. 42 ∷ 42 ∷ b ∷ text) (eqb-true byte 47 both.0)) both.1
   slash_by byte text false is =
       last_by (byte ∷ text) (is_last inside place (byte ∷ text)) refl
-      (λ rest e opened. true≢false (sym (and_from (byte == 47) (opens place) (eq-eqb byte 47 (heads (byte ∷ text) byte 47 text rest refl e).0) opened) ∙ is))
+      (λ rest e opened. true≢false
+      (sym (and_from (byte == 47) (opens place)
+      (eq-eqb byte 47 (heads (byte ∷ text) byte 47 text rest refl e).0) opened) ∙ is))
 
-  stars_are : (text : List ℕ) → WritesPart inside place (42 ∷ 42 ∷ text) (stars_in inside place text).0 (stars_in inside place text).1
+  stars_are : (text : List ℕ)
+      → WritesPart inside place (42 ∷ 42 ∷ text) (stars_in inside place text).0 (stars_in inside place text).1
   stars_are [] = last_by [] (is_last inside place []) refl (λ rest e opened. cc)
   stars_are (byte ∷ text) = slash_by byte text (byte == 47 && opens place) refl
 
   -- One star before anything else is any bytes.
-  one_star : (text : List ℕ) → ((rest : List ℕ) → text ≡ 42 ∷ rest → ⊥) → WritesPart inside place (42 ∷ text) AnyBytes text
+  one_star : (text : List ℕ) → ((rest : List ℕ) → text ≡ 42 ∷ rest → ⊥)
+      → WritesPart inside place (42 ∷ text) AnyBytes text
   one_star text single =
-      star_written inside place (42 ∷ text) text refl (λ w. single (47 ∷ w.0) (let e = w.1 in cc)) (λ w. single w.0 (let e = w.1 in cc))
+      star_written inside place (42 ∷ text) text refl (λ w. single (47 ∷ w.0) (let e = w.1 in cc))
+      (λ w. single w.0 (let e = w.1 in cc))
 
   star_by : (byte : ℕ) (text : List ℕ) (two : Bool) → (byte == 42) ≡ two
-      → let f : GlobPart × List ℕ = (if two then stars_in inside place text else (AnyBytes, byte ∷ text)) in WritesPart inside place (42 ∷ byte ∷ text) f.0 f.1
+      → let f : GlobPart × List ℕ = (if two then stars_in inside place text else (AnyBytes, byte ∷ text)) in
+      WritesPart inside place (42 ∷ byte ∷ text) f.0 f.1
   star_by byte text true is =
-      subst (λ b. WritesPart inside place (42 ∷ b ∷ text) (stars_in inside place text).0 (stars_in inside place text).1) (sym (eqb-true byte 42 is)) (stars_are text)
-  star_by byte text false is = one_star (byte ∷ text) (λ rest e. eqb-false byte 42 is (heads (byte ∷ text) byte 42 text rest refl e).0)
+      subst (λ b. WritesPart inside place (42 ∷ b ∷ text) (stars_in inside place text).0
+      (stars_in inside place text).1) (sym (eqb-true byte 42 is)) (stars_are text)
+  star_by byte text false is =
+      one_star (byte ∷ text) (λ rest e. eqb-false byte 42 is (heads (byte ∷ text) byte 42 text rest refl e).0)
 
-  star_is : (text : List ℕ) → WritesPart inside place (42 ∷ text) (star_in inside place text).0 (star_in inside place text).1
+  star_is : (text : List ℕ)
+      → WritesPart inside place (42 ∷ text) (star_in inside place text).0 (star_in inside place text).1
   star_is [] = one_star [] (λ rest e. cc)
   star_is (byte ∷ text) = star_by byte text (byte == 42) refl
 
@@ -63,11 +78,13 @@ module _ (inside : Bool) (place : Place) where
   lone_escape : (text : List ℕ) → text ≡ 92 ∷ [] → (p : GlobPart) (r : List ℕ) → WritesPart inside place text p r → ⊥
   lone_escape text e (Byte b) r w =
       ⊎_elim
-      (λ (plain : (text ≡ b ∷ r) × (is_special b ≡ false)). special_apart b 92 plain.1 refl (heads text b 92 r [] plain.0 e).0)
+      (λ (plain : (text ≡ b ∷ r) × (is_special b ≡ false)). special_apart b 92 plain.1 refl
+      (heads text b 92 r [] plain.0 e).0)
       (λ (escaped : text ≡ 92 ∷ b ∷ r). let f = (heads text 92 92 (b ∷ r) [] escaped e).1 in absurd (cc))
       w
   lone_escape text e AnyByte r w = apart 63 92 r [] text w e (omega arith)
-  lone_escape text e AnyBytes r w = let star = any_front inside place text r w in apart 42 92 star.0 [] text star.1 e (omega arith)
+  lone_escape text e AnyBytes r w = let star = any_front inside place text r w in
+      apart 42 92 star.0 [] text star.1 e (omega arith)
   lone_escape text e Folders r w = apart 42 92 (42 ∷ 47 ∷ r) [] text w.0.0 e (omega arith)
   lone_escape text e Nothing r w = apart 42 92 (42 ∷ r) [] text w.0 e (omega arith)
 
@@ -75,20 +92,25 @@ module _ (inside : Bool) (place : Place) where
   escaped_is [] = lone_escape (92 ∷ []) refl
   escaped_is (byte ∷ text) = inr refl
 
-  plain_by : (byte : ℕ) (text : List ℕ) (special : Bool) → is_special byte ≡ special → (byte ≡ 63 → ⊥) → (byte ≡ 42 → ⊥) → (byte ≡ 92 → ⊥)
+  plain_by : (byte : ℕ) (text : List ℕ) (special : Bool) → is_special byte ≡ special → (byte ≡ 63 → ⊥)
+      → (byte ≡ 42 → ⊥) → (byte ≡ 92 → ⊥)
       → PartIs (byte ∷ text) (if special then None else Some (Byte byte, text))
-  plain_by byte text true is question star escape = no_part inside place (byte ∷ text) byte text refl is question star escape
+  plain_by byte text true is question star escape =
+      no_part inside place (byte ∷ text) byte text refl is question star escape
   plain_by byte text false is question star escape = inl (refl, is)
 
   escape_by : (byte : ℕ) (text : List ℕ) (escape : Bool) → (byte == 92) ≡ escape → (byte ≡ 63 → ⊥) → (byte ≡ 42 → ⊥)
-      → PartIs (byte ∷ text) (if escape then escaped_in inside place text else if is_special byte then None else Some (Byte byte, text))
+      → PartIs (byte ∷ text) (if escape then escaped_in inside place text else if is_special byte then None
+      else Some (Byte byte, text))
   escape_by byte text true is question star =
       subst (λ b. PartIs (b ∷ text) (escaped_in inside place text)) (sym (eqb-true byte 92 is)) (escaped_is text)
-  escape_by byte text false is question star = plain_by byte text (is_special byte) refl question star (eqb-false byte 92 is)
+  escape_by byte text false is question star =
+      plain_by byte text (is_special byte) refl question star (eqb-false byte 92 is)
 
   any_by : (byte : ℕ) (text : List ℕ) (star : Bool) → (byte == 42) ≡ star → (byte ≡ 63 → ⊥)
       → PartIs (byte ∷ text) (if star then Some (star_in inside place text)
-      else if byte == 92 then escaped_in inside place text else if is_special byte then None else Some (Byte byte, text))
+      else if byte == 92 then escaped_in inside place text else if is_special byte then None else Some
+      (Byte byte, text))
   any_by byte text true is question =
       subst (λ b. PartIs (b ∷ text) (Some (star_in inside place text))) (sym (eqb-true byte 42 is)) (star_is text)
   any_by byte text false is question = escape_by byte text (byte == 92) refl question (eqb-false byte 42 is)
@@ -96,7 +118,8 @@ module _ (inside : Bool) (place : Place) where
   part_by : (byte : ℕ) (text : List ℕ) (question : Bool) → (byte == 63) ≡ question
       → PartIs (byte ∷ text) (if question then Some (AnyByte, text)
       else if byte == 42 then Some (star_in inside place text)
-      else if byte == 92 then escaped_in inside place text else if is_special byte then None else Some (Byte byte, text))
+      else if byte == 92 then escaped_in inside place text else if is_special byte then None else Some
+      (Byte byte, text))
   part_by byte text true is = ap (λ b. b ∷ text) (eqb-true byte 63 is)
   part_by byte text false is = any_by byte text (byte == 42) refl (eqb-false byte 63 is)
 
@@ -107,4 +130,5 @@ module _ (inside : Bool) (place : Place) where
   -- The part that is found is the one that is written.
   pub part_tells : (text : List ℕ) → Tells (part_in inside place text) (WritesPart inside place text)
   part_tells text =
-      tells_only (WritesPart inside place text) (part_in inside place text) (part_is text) (λ p q r s w v. same_part inside place text p q r s w v)
+      tells_only (WritesPart inside place text) (part_in inside place text) (part_is text)
+      (λ p q r s w v. same_part inside place text p q r s w v)

@@ -26,12 +26,14 @@ module _ (nfa : Nfa) (byte : ℕ) where
   }
 
   -- One more state that leads nowhere.
-  more_none : (states : List ℕ) (q : ℕ) (old new : List ℕ) → Reads nfa byte states old new → next q ≡ None → Reads nfa byte (states ++ q ∷ []) old new
+  more_none : (states : List ℕ) (q : ℕ) (old new : List ℕ) → Reads nfa byte states old new → next q ≡ None
+      → Reads nfa byte (states ++ q ∷ []) old new
   more_none states q old new reads none = record {
     added = λ r there.
         ⊎_elim
         (λ before. inl before)
-        (λ (from : (p : ℕ) × Contains states p × (next p ≡ Some r)). inr (from.0, Contains-append_left states (q ∷ []) from.0 from.1, from.2))
+        (λ (from : (p : ℕ) × Contains states p × (next p ≡ Some r)). inr
+        (from.0, Contains-append_left states (q ∷ []) from.0 from.1, from.2))
         (reads.added r there);
     all = λ p r there is.
         ⊎_elim
@@ -42,7 +44,8 @@ module _ (nfa : Nfa) (byte : ℕ) where
   }
 
   -- One more state that leads to a state.
-  more_some : (states : List ℕ) (q target : ℕ) (old mid new : List ℕ) → Reads nfa byte states old mid → next q ≡ Some target
+  more_some : (states : List ℕ) (q target : ℕ) (old mid new : List ℕ) → Reads nfa byte states old mid
+      → next q ≡ Some target
       → AddsState target mid new → Reads nfa byte (states ++ q ∷ []) old new
   more_some states q target old mid new reads to adds = record {
     added = λ r there.
@@ -50,7 +53,8 @@ module _ (nfa : Nfa) (byte : ℕ) where
         (λ (between : Contains mid r).
         ⊎_elim
         (λ before. inl before)
-        (λ (from : (p : ℕ) × Contains states p × (next p ≡ Some r)). inr (from.0, Contains-append_left states (q ∷ []) from.0 from.1, from.2))
+        (λ (from : (p : ℕ) × Contains states p × (next p ≡ Some r)). inr
+        (from.0, Contains-append_left states (q ∷ []) from.0 from.1, from.2))
         (reads.added r between))
         (λ (same : target ≡ r). inr (q, Contains-push states q, to ∙ ap Some same))
         (cases_of target mid new r adds there);
@@ -65,13 +69,15 @@ module _ (nfa : Nfa) (byte : ℕ) where
     kept = extends_on old mid new reads.kept (extends_of target mid new adds);
   }
 
-  by_target : (states : List ℕ) (q : ℕ) (old mid new : List ℕ) (to : Option ℕ) → next q ≡ to → Reads nfa byte states old mid
+  by_target : (states : List ℕ) (q : ℕ) (old mid new : List ℕ) (to : Option ℕ) → next q ≡ to
+      → Reads nfa byte states old mid
       → MatchOption to (new ≡ mid) (λ r. AddsState r mid new) → Reads nfa byte (states ++ q ∷ []) old new
   by_target states q old mid new None is reads same = rw same (more_none states q old mid reads is)
   by_target states q old mid new (Some target) is reads adds = more_some states q target old mid new reads is adds
 
   -- One more of the states is read.
-  pub reads_more : (states : List ℕ) (i q : ℕ) (old mid new : List ℕ) → Reads nfa byte (take i states) old mid → i < length states
+  pub reads_more : (states : List ℕ) (i q : ℕ) (old mid new : List ℕ) → Reads nfa byte (take i states) old mid
+      → i < length states
       → q ≡ get_or states i 0 → ReadsState nfa byte q mid new → Reads nfa byte (take (i + 1) states) old new
   reads_more states i q old mid new reads below is read =
       rw (take_more states i 0 below, ← is) (by_target (take i states) q old mid new (next q) refl reads read)
@@ -85,11 +91,13 @@ module _ (nfa : Nfa) (byte : ℕ) where
       (reads.added r there)
 
   -- Where all are read.
-  pub reads_all : (states : List ℕ) (i : ℕ) (old new : List ℕ) → Reads nfa byte (take i states) old new → i ≡ length states → Reads nfa byte states old new
+  pub reads_all : (states : List ℕ) (i : ℕ) (old new : List ℕ) → Reads nfa byte (take i states) old new
+      → i ≡ length states → Reads nfa byte states old new
   reads_all states i old new reads same = rw take-length at (rw same at reads)
 
 -- A state at a place of the list.
-pub within_at : (nfa : Nfa) (states : List ℕ) (i q : ℕ) → AreStates nfa states → i < length states → q ≡ get_or states i 0 → q < vec_len nfa.states
+pub within_at : (nfa : Nfa) (states : List ℕ) (i q : ℕ) → AreStates nfa states → i < length states
+    → q ≡ get_or states i 0 → q < vec_len nfa.states
 within_at nfa states i q within below is = rw is (within (get_or states i 0) (Contains-get_or states i 0 below))
 
 -- No state is a state.

@@ -23,16 +23,20 @@ mapped_there f None = refl
 mapped_there f (Some x) = refl
 
 -- Two patterns that a caller can't tell apart are found together.
-found_alike : (a b : Re) → SameCaptures a b → (name : List ℕ) → All (λ x. x < 256) name → is_some (find a name 0) ≡ is_some (find b name 0)
+found_alike : (a b : Re) → SameCaptures a b → (name : List ℕ) → All (λ x. x < 256) name
+    → is_some (find a name 0) ≡ is_some (find b name 0)
 found_alike a b same name bytes =
-    sym (mapped_there spans (find a name 0)) ∙ ap is_some (find_alike a b same name bytes 0) ∙ mapped_there spans (find b name 0)
+    sym (mapped_there spans (find a name 0)) ∙ ap is_some (find_alike a b same name bytes 0)
+    ∙ mapped_there spans (find b name 0)
 
 -- What the parser says of what it read.
 abbrev IsParsed : Hir → Names → Nested Re → Names → Type 0
 IsParsed hir names re found =
-    (re.depth ≤ default_config.nest_limit) × SameCaptures (meaning hir) re.value × (names ≡ found) × (group_count (meaning hir) ≤ length names)
+    (re.depth ≤ default_config.nest_limit) × SameCaptures (meaning hir) re.value × (names ≡ found)
+    × (group_count (meaning hir) ≤ length names)
 
-parsed_within : (hir : Hir) (names : Names) (found : Option (Nested Re × Names)) → IsSomeAnd found (λ (re, other). IsParsed hir names re other)
+parsed_within : (hir : Hir) (names : Names) (found : Option (Nested Re × Names))
+    → IsSomeAnd found (λ (re, other). IsParsed hir names re other)
     → IsSomeAnd found (λ (re, other). re.depth ≤ 250)
 parsed_within hir names None is = is
 parsed_within hir names (Some p) is = is.0
@@ -42,7 +46,8 @@ pub is_read : (text : List ℕ) (hir : Hir) (names : Names) → Reads default_co
 unfolding Reads IsRegex
 is_read text hir names reads = parsed_within hir names (read default_config (chars text)) reads
 
-parsed_found : (hir : Hir) (names : Names) (name : List ℕ) → All (λ x. x < 256) name → (found : Option (Nested Re × Names))
+parsed_found : (hir : Hir) (names : Names) (name : List ℕ) → All (λ x. x < 256) name
+    → (found : Option (Nested Re × Names))
     → IsSomeAnd found (λ (re, other). IsParsed hir names re other)
     → (is_some (find (meaning hir) name 0) ≡ true) ↔ IsSomeAnd found (λ (re, other). IsSome (find re.value name 0))
 parsed_found hir names name bytes None is = absurd is
@@ -63,7 +68,8 @@ too_deep None deep is = is
 too_deep (Some p) deep is = omega arith
 
 -- A text that is refused for another reason than memory writes none.
-pub not_read : (text : List ℕ) (kind : ErrorKind) → Refuses default_config text kind → (kind ≡ OutOfMemory → ⊥) → IsRegex text → ⊥
+pub not_read : (text : List ℕ) (kind : ErrorKind) → Refuses default_config text kind
+    → (kind ≡ OutOfMemory → ⊥) → IsRegex text → ⊥
 unfolding Refuses IsRegex
 not_read text kind refuses other is =
     ⊎_elim

@@ -11,7 +11,8 @@ use Rattle.regex_vm.specs.Found.{first_match}
 use Rattle.name_matchers.specs.Runs.{finds, AreStates, Succeeds, SomeSucceeds, Steps}
 
 -- What an automaton finds is what its pattern finds.
-pub finds_pattern : (nfa : Nfa) (re : Re) → Implements nfa re → (name : List ℕ) → finds nfa name ≡ is_some (find re name 0)
+pub finds_pattern : (nfa : Nfa) (re : Re) → Implements nfa re → (name : List ℕ)
+    → finds nfa name ≡ is_some (find re name 0)
 unfolding finds find
 finds_pattern nfa re same name = ap is_some (first_between_cong _ _ 0 (length name) (λ i _ _. same name i))
 
@@ -25,15 +26,24 @@ module _ (nfa : Nfa) (name : List ℕ) where
   abbrev pub StartsFrom : ℕ → Type 0
   StartsFrom at = (s : ℕ) × (at ≤ s) × Succeeds nfa name s nfa.start
 
-  starts_at : (found : Option Match) → first_match nfa name (length name) 0 (length name) ≡ found → is_some found ≡ true → StartsFrom 0
+  starts_at : (found : Option Match) → first_match nfa name (length name) 0 (length name) ≡ found
+      → is_some found ≡ true → StartsFrom 0
   starts_at None e h = absurd (true≢false (sym h))
   starts_at (Some m) e h =
-      let first = IsFirst-of_first_between _ 0 (length name) m e in
-      (m.start, first.from, (first.to, (m.trace.end, Accepts-of_run nfa name (length name) nfa.start m.start m.trace first.here)))
+      let first = IsFirst-of_first_between _ 0 (length name) m e in (
+        m.start,
+        first.from,
+        (
+          first.to,
+          (m.trace.end, Accepts-of_run nfa name (length name) nfa.start m.start m.trace first.here),
+        ),
+      )
 
-  found_from : (found : Option Match) → first_match nfa name (length name) 0 (length name) ≡ found → StartsFrom 0 → is_some found ≡ true
+  found_from : (found : Option Match) → first_match nfa name (length name) 0 (length name) ≡ found
+      → StartsFrom 0 → is_some found ≡ true
   found_from None e (s, from, succeeds) =
-      absurd (no_path_of_run_none nfa name (length name) succeeds.1.0 nfa.start s (none_of_first_between _ 0 (length name) e s from succeeds.0) succeeds.1.1)
+      absurd (no_path_of_run_none nfa name (length name) succeeds.1.0 nfa.start s
+      (none_of_first_between _ 0 (length name) e s from succeeds.0) succeeds.1.1)
   found_from (Some m) e h = refl
 
   -- What is found starts at some position.
@@ -67,12 +77,14 @@ module _ (nfa : Nfa) (name : List ℕ) where
       (cases_eq s at)
 
   -- A step that finds a match.
-  pub found_at : (at : ℕ) (states next : List ℕ) → IsSearched at states → Steps nfa name at states next true → finds nfa name ≡ true
+  pub found_at : (at : ℕ) (states next : List ℕ) → IsSearched at states → Steps nfa name at states next true
+      → finds nfa name ≡ true
   found_at at states next before begins =
       before.left.1 (⊎_elim (λ some. inl some) (λ start. inr (at, omega arith, start)) begins)
 
   -- A step that finds none.
-  pub searched_more : (at : ℕ) (states next : List ℕ) → IsSearched at states → AreStates nfa next → Steps nfa name at states next false
+  pub searched_more : (at : ℕ) (states next : List ℕ) → IsSearched at states → AreStates nfa next
+      → Steps nfa name at states next false
       → IsSearched (at + 1) next
   searched_more at states next before within steps = record {
     within = within;

@@ -9,7 +9,8 @@ use Rattle.regex_vm.proofs.SetLemmas.{member-set, no_member}
 use Rattle.name_matchers.specs.StateLists.{IsListed, AddsState}
 
 -- No state is listed where no flag is set.
-pub none_listed : (flags : List Bool) (states : List ℕ) → All (λ b. b ≡ false) flags → length flags ≡ 4096 → members flags ≡ 0
+pub none_listed : (flags : List Bool) (states : List ℕ) → All (λ b. b ≡ false) flags → length flags ≡ 4096
+    → members flags ≡ 0
     → length states ≡ 4096 → IsListed flags states 0
 none_listed flags states none size count room = record {
   size = size;
@@ -20,11 +21,13 @@ none_listed flags states none size count room = record {
 }
 
 -- How many states there are.
-pub listed_len : (flags : List Bool) (states : List ℕ) (len : ℕ) → IsListed flags states len → length (take len states) ≡ len
+pub listed_len : (flags : List Bool) (states : List ℕ) (len : ℕ) → IsListed flags states len
+    → length (take len states) ≡ len
 listed_len flags states len listed = length-take-le len states (omega arith)
 
 -- A state that is put behind the others is listed.
-pub listed_more : (flags after : List Bool) (states : List ℕ) (len q : ℕ) → IsListed flags states len → after ≡ set flags q true
+pub listed_more : (flags after : List Bool) (states : List ℕ) (len q : ℕ) → IsListed flags states len
+    → after ≡ set flags q true
     → members after ≡ members flags + 1 → members after ≤ length flags → IsListed after (set states len q) (len + 1)
 listed_more flags after states len q listed is count within = record {
   size = rw (is, length-set flags q true) listed.size;
@@ -46,7 +49,8 @@ adds_behind states old len q room is =
     rw (take_more_set states len q room, is) (record { there = Contains-push old q; after = inr refl })
 
 -- A state that is there is added by doing nothing.
-pub adds_nothing : (flags : List Bool) (states old : List ℕ) (len q : ℕ) → IsListed flags states len → take len states ≡ old
+pub adds_nothing : (flags : List Bool) (states old : List ℕ) (len q : ℕ) → IsListed flags states len
+    → take len states ≡ old
     → get_or flags q false ≡ true → AddsState q old old
 adds_nothing flags states old len q listed is told =
     record { there = rw (← is) (listed.told q told); after = inl refl }

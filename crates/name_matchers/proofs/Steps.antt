@@ -19,7 +19,8 @@ module _ (nfa : Nfa) (name : List ℕ) where
   -- From a closed state, a match goes on behind the byte.
   goes_on : (at : ℕ) (states next : List ℕ) → IsClosed nfa name at states → at < length name
       → Reads nfa (get_or name at 0) states [] next
-      → (end q i : ℕ) → i ≡ at → Contains states q → Accepts nfa name (length name) end q i → SomeSucceeds nfa name (at + 1) next
+      → (end q i : ℕ) → i ≡ at → Contains states q → Accepts nfa name (length name) end q i
+      → SomeSucceeds nfa name (at + 1) next
   goes_on at states next closed h reads end q i same there (matched _ _ is e) = absurd (closed.unmatched q there is)
   goes_on at states next closed h reads end q i same there (skipped _ _ r edge rest) =
       goes_on at states next closed h reads end r i same (closed.targets q r there (rw same at edge)) rest
@@ -44,19 +45,31 @@ module _ (nfa : Nfa) (name : List ℕ) where
   comes_from at states next h reads (r, there, succeeds) =
       ⊎_elim
       (λ (none : Contains [] r). absurd (omega (arith, none.1)))
-      (λ (from : (q : ℕ) × Contains states q × (next_on nfa.transitions.items (state_of nfa q) (get_or name at 0) ≡ Some r)).
-      (from.0, from.1, (omega arith, (succeeds.1.0, consumed from.0 at r (get_or name at 0, byte_here at h, from.2) succeeds.1.1))))
+      (λ (from : (q : ℕ) × Contains states q
+      × (next_on nfa.transitions.items (state_of nfa q) (get_or name at 0) ≡ Some r)). (
+        from.0,
+        from.1,
+        (
+          omega arith,
+          (succeeds.1.0, consumed from.0 at r (get_or name at 0, byte_here at h, from.2) succeeds.1.1),
+        ),
+      ))
       (reads.added r there)
 
   -- A match begins in the old states or at the start just where one goes on in the states with the start.
-  begins_in : (at : ℕ) (old states : List ℕ) → AddsState nfa.start old states → SomeSucceeds nfa name at states → Begins nfa name at old
+  begins_in : (at : ℕ) (old states : List ℕ) → AddsState nfa.start old states
+      → SomeSucceeds nfa name at states → Begins nfa name at old
   begins_in at old states adds (q, there, succeeds) =
-      ⊎_elim (λ before. inl (q, before, succeeds)) (λ (same : nfa.start ≡ q). inr (subst (λ p. Succeeds nfa name at p) (sym same) succeeds)) (cases_of nfa.start old states q adds there)
+      ⊎_elim (λ before. inl (q, before, succeeds))
+      (λ (same : nfa.start ≡ q). inr (subst (λ p. Succeeds nfa name at p) (sym same) succeeds))
+      (cases_of nfa.start old states q adds there)
 
-  goes_in : (at : ℕ) (old states : List ℕ) → AddsState nfa.start old states → Begins nfa name at old → SomeSucceeds nfa name at states
+  goes_in : (at : ℕ) (old states : List ℕ) → AddsState nfa.start old states → Begins nfa name at old
+      → SomeSucceeds nfa name at states
   goes_in at old states adds begins =
       ⊎_elim
-      (λ (some : SomeSucceeds nfa name at old). (some.0, keeps old states some.0 (extends_of nfa.start old states adds) some.1, some.2))
+      (λ (some : SomeSucceeds nfa name at old).
+      (some.0, keeps old states some.0 (extends_of nfa.start old states adds) some.1, some.2))
       (λ (start : Succeeds nfa name at nfa.start). (nfa.start, adds.there, start))
       begins
 
@@ -65,12 +78,14 @@ module _ (nfa : Nfa) (name : List ℕ) where
       → Closes nfa name at states new true → Steps nfa name at old next true
   steps_matched at old states new next adds closes = begins_in at old states adds closes
 
-  from_closed : (at : ℕ) (states new : List ℕ) → IsClosing nfa name at states new → SomeSucceeds nfa name at states → SomeSucceeds nfa name at new
+  from_closed : (at : ℕ) (states new : List ℕ) → IsClosing nfa name at states new
+      → SomeSucceeds nfa name at states → SomeSucceeds nfa name at new
   from_closed at states new closing (q, there, succeeds) = (q, keeps states new q closing.kept there, succeeds)
 
   -- A step over a byte.
   pub steps_over : (at : ℕ) (old states new next : List ℕ) → at < length name → AddsState nfa.start old states
-      → Closes nfa name at states new false → Reads nfa (get_or name at 0) new [] next → Steps nfa name at old next false
+      → Closes nfa name at states new false → Reads nfa (get_or name at 0) new [] next
+      → Steps nfa name at old next false
   steps_over at old states new next h adds closing reads = (
     λ begins.
         let some = from_closed at states new closing (goes_in at old states adds begins) in
@@ -91,4 +106,6 @@ module _ (nfa : Nfa) (name : List ℕ) where
   -- The states with the start among them.
   pub within_started : (old states : List ℕ) → AreStates nfa old → AddsState nfa.start old states → AreStates nfa states
   within_started old states within adds q there =
-      ⊎_elim (λ before. within q before) (λ (same : nfa.start ≡ q). subst (λ p. p < vec_len nfa.states) same nfa.start_in) (cases_of nfa.start old states q adds there)
+      ⊎_elim (λ before. within q before)
+      (λ (same : nfa.start ≡ q). subst (λ p. p < vec_len nfa.states) same nfa.start_in)
+      (cases_of nfa.start old states q adds there)

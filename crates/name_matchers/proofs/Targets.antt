@@ -22,7 +22,8 @@ keeps old new r (added, is) there = rw is (Contains-append_left old added r ther
 
 -- A list extends one that extends a third.
 pub extends_on : (old mid new : List ℕ) → Extends old mid → Extends mid new → Extends old new
-extends_on old mid new (first, is) (second, next) = (first ++ second, next ∙ ap (λ l. l ++ second) is ∙ append_assoc old first second)
+extends_on old mid new (first, is) (second, next) =
+    (first ++ second, next ∙ ap (λ l. l ++ second) is ∙ append_assoc old first second)
 
 -- A state of the new list is an old one or the one that was added.
 pub cases_of : (q : ℕ) (old new : List ℕ) (r : ℕ) → AddsState q old new → Contains new r → Contains old r ⊎ (q ≡ r)
@@ -35,15 +36,18 @@ cases_of q old new r adds there =
 module _ (nfa : Nfa) (name : List ℕ) (at q : ℕ) where
   -- Where one state is added, to which alone a state leads.
   pub adds_one : (target : ℕ) (old new : List ℕ) → EmptyEdge nfa name at q target
-      → ((r : ℕ) → EmptyEdge nfa name at q r → target ≡ r) → AddsState target old new → AddsTargets nfa name at q old new
+      → ((r : ℕ) → EmptyEdge nfa name at q r → target ≡ r) → AddsState target old new
+      → AddsTargets nfa name at q old new
   adds_one target old new edge only adds = record {
     kept = extends_of target old new adds;
     added = λ r there.
-        ⊎_elim (λ before. inl before) (λ (same : target ≡ r). inr (rw same at edge)) (cases_of target old new r adds there);
+        ⊎_elim (λ before. inl before) (λ (same : target ≡ r). inr (rw same at edge))
+        (cases_of target old new r adds there);
     all = λ r to. rw (only r to) at adds.there;
   }
 
-  split_edge : (first second r : ℕ) → state_of nfa q ≡ Split first second → EmptyEdge nfa name at q r → (first ≡ r) ⊎ (second ≡ r)
+  split_edge : (first second r : ℕ) → state_of nfa q ≡ Split first second → EmptyEdge nfa name at q r
+      → (first ≡ r) ⊎ (second ≡ r)
   split_edge first second r is (by_first other e) = inl (cc)
   split_edge first second r is (by_second other e) = inr (cc)
   split_edge first second r is (by_save slot e) = absurd (cc)
@@ -55,7 +59,8 @@ module _ (nfa : Nfa) (name : List ℕ) (at q : ℕ) where
   save_edge slot next r is (by_save other e) = cc
   save_edge slot next r is (by_look l e ok) = absurd (cc)
 
-  look_edge : (l : look.Look) (next r : ℕ) → state_of nfa q ≡ Look l next → EmptyEdge nfa name at q r → (next ≡ r) × (holds l name at ≡ true)
+  look_edge : (l : look.Look) (next r : ℕ) → state_of nfa q ≡ Look l next → EmptyEdge nfa name at q r
+      → (next ≡ r) × (holds l name at ≡ true)
   look_edge l next r is (by_first other e) = absurd (cc)
   look_edge l next r is (by_second other e) = absurd (cc)
   look_edge l next r is (by_save other e) = absurd (cc)
@@ -70,7 +75,8 @@ module _ (nfa : Nfa) (name : List ℕ) (at q : ℕ) where
     added = λ r there.
         ⊎_elim
         (λ (between : Contains mid r).
-        ⊎_elim (λ before. inl before) (λ (same : first ≡ r). inr (rw (← same) (by_first second is))) (cases_of first old mid r one between))
+        ⊎_elim (λ before. inl before) (λ (same : first ≡ r). inr (rw (← same) (by_first second is)))
+        (cases_of first old mid r one between))
         (λ (same : second ≡ r). inr (rw (← same) (by_second first is)))
         (cases_of second mid new r two there);
     all = λ r to.
@@ -84,6 +90,8 @@ module _ (nfa : Nfa) (name : List ℕ) (at q : ℕ) where
       → AddsTargets nfa name at q old new
   save_targets slot next old new is adds = adds_one next old new (by_save slot is) (λ r. save_edge slot next r is) adds
 
-  pub look_targets : (l : look.Look) (next : ℕ) (old new : List ℕ) → state_of nfa q ≡ Look l next → holds l name at ≡ true
+  pub look_targets : (l : look.Look) (next : ℕ) (old new : List ℕ) → state_of nfa q ≡ Look l next
+      → holds l name at ≡ true
       → AddsState next old new → AddsTargets nfa name at q old new
-  look_targets l next old new is ok adds = adds_one next old new (by_look l is ok) (λ r to. (look_edge l next r is to).0) adds
+  look_targets l next old new is ok adds =
+      adds_one next old new (by_look l is ok) (λ r to. (look_edge l next r is to).0) adds

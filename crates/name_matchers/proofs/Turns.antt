@@ -27,7 +27,8 @@ module _ (nfa : Nfa) where
   pub states_after_even : (at : ℕ) (a b : List ℕ) → at % 2 ≡ 0 → AreStates nfa b → AreStates nfa (in_turn (at + 1) a b)
   states_after_even at a b h states = subst (λ (l : List ℕ). AreStates nfa l) (sym (odd_next at a b h)) states
 
-  pub states_after_odd : (at : ℕ) (a b : List ℕ) → (at % 2 ≡ 0 → ⊥) → AreStates nfa a → AreStates nfa (in_turn (at + 1) a b)
+  pub states_after_odd : (at : ℕ) (a b : List ℕ) → (at % 2 ≡ 0 → ⊥) → AreStates nfa a
+      → AreStates nfa (in_turn (at + 1) a b)
   states_after_odd at a b h states = subst (λ (l : List ℕ). AreStates nfa l) (sym (even_next at a b h)) states
 
 module _ (nfa : Nfa) (name : List ℕ) where

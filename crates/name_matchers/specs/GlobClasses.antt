@@ -41,14 +41,18 @@ start_behind start (Reach byte) = start
 abbrev pub WritesItems : ℕ → List ℕ → List ClassItem → List ℕ → Type 0
 WritesItems start text [] rest = text ≡ 93 ∷ rest
 WritesItems start text (item ∷ items) rest =
-    (mid : List ℕ) × WritesItem start text item mid × WritesItems (start_behind start item) mid items rest
+    (mid : List ℕ) × WritesItem start text item mid
+    × WritesItems (start_behind start item) mid items rest
 
--- The text writes the first byte, whatever it is within ASCII, the items, a closing bracket and the rest.
+-- The text writes the first byte, whatever it is within ASCII, the items, a closing bracket and the
+-- rest.
 abbrev pub WritesBody : List ℕ → ℕ → List ClassItem → List ℕ → Type 0
 WritesBody text first items rest =
-    (behind : List ℕ) × (text ≡ first ∷ behind) × (first < 128) × WritesItems first behind items rest
+    (behind : List ℕ) × (text ≡ first ∷ behind) × (first < 128)
+    × WritesItems first behind items rest
 
--- The text is the sign of a negated class and the body, or the body alone, which begins with no sign.
+-- The text is the sign of a negated class and the body, or the body alone, which begins with no
+-- sign.
 abbrev pub WritesNegation : Bool → List ℕ → List ℕ → Type 0
 WritesNegation true text body = (text ≡ 33 ∷ body) ⊎ (text ≡ 94 ∷ body)
 WritesNegation false text body =
@@ -57,13 +61,15 @@ WritesNegation false text body =
 -- The text behind an opening bracket writes the class and the rest.
 abbrev pub WritesClass : List ℕ → GlobClass → List ℕ → Type 0
 WritesClass text class rest =
-    (body : List ℕ) × WritesNegation class.negated text body × WritesBody body class.first class.items rest
+    (body : List ℕ) × WritesNegation class.negated text body
+    × WritesBody body class.first class.items rest
 
 -- whether a byte is in the range from start to end or in one that the items write: a byte of its
 -- own starts a range, which is that byte alone unless the next items reach on
 abbrev pub in_items : ℕ → ℕ → List ClassItem → ℕ → Bool
 in_items start end [] byte = in_range (start, end) byte
-in_items start end (Own next ∷ items) byte = in_range (start, end) byte || in_items next next items byte
+in_items start end (Own next ∷ items) byte =
+    in_range (start, end) byte || in_items next next items byte
 in_items start end (Reach next ∷ items) byte = in_items start next items byte
 
 -- whether the byte is in the class
@@ -97,12 +103,14 @@ ReadsRanges text ranges rest =
 -- The text writes one class and one rest: these.
 abbrev pub WritesOneClass : List ℕ → GlobClass → List ℕ → Type 0
 WritesOneClass text class rest =
-    (other : GlobClass) (left : List ℕ) → WritesClass text other left ↔ ((other ≡ class) × (left ≡ rest))
+    (other : GlobClass) (left : List ℕ)
+    → WritesClass text other left ↔ ((other ≡ class) × (left ≡ rest))
 
 -- Memory ran out, or the text writes no class without its sign.
 abbrev pub NoBody : List ℕ → GlobFault → Type 0
 NoBody text fault =
-    (fault ≡ Memory) ⊎ ((first : ℕ) (items : List ClassItem) (rest : List ℕ) → WritesBody text first items rest → ⊥)
+    (fault ≡ Memory) ⊎ ((first : ℕ) (items : List ClassItem) (rest : List ℕ)
+    → WritesBody text first items rest → ⊥)
 
 -- Memory ran out, or the text writes no class.
 abbrev pub NoClass : List ℕ → GlobFault → Type 0

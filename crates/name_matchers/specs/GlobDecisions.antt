@@ -42,12 +42,14 @@ abbrev mutual
   row_takes (part this row) bytes = splits_into (part_takes this) (row_takes row) bytes
   row_takes (class this row) bytes = splits_into (one_byte (in_class this)) (row_takes row) bytes
   row_takes (group branches row) bytes =
-      splits_into (λ front. some_takes branches front || (are_empty branches && no_bytes front)) (row_takes row) bytes
+      splits_into (λ front. some_takes branches front || (are_empty branches && no_bytes front))
+      (row_takes row) bytes
 
   -- whether one of the branches that are not empty takes bytes
   pub some_takes : Branches → List ℕ → Bool
   some_takes (only row) bytes = not (is_empty row) && row_takes row bytes
-  some_takes (also row branches) bytes = (not (is_empty row) && row_takes row bytes) || some_takes branches bytes
+  some_takes (also row branches) bytes =
+      (not (is_empty row) && row_takes row bytes) || some_takes branches bytes
 
 -- whether there is a row that takes bytes
 abbrev pub is_taken : Option Row → List ℕ → Bool

@@ -17,7 +17,8 @@ BeginsFolders place text = (rest : List ℕ) × (text ≡ 42 ∷ 42 ∷ 47 ∷ r
 
 -- The last stars of a branch of folders stand at the front of the text.
 abbrev pub BeginsLast : Bool → Place → List ℕ → Type 0
-BeginsLast inside place text = (rest : List ℕ) × (text ≡ 42 ∷ 42 ∷ rest) × (is_last inside place rest ≡ true)
+BeginsLast inside place text =
+    (rest : List ℕ) × (text ≡ 42 ∷ 42 ∷ rest) × (is_last inside place rest ≡ true)
 
 -- The part stands at the front of the text and has so many bytes, or no part does.
 abbrev pub ReadsPart : Bool → Place → List ℕ → Result (GlobPart × ℕ) GlobFault → Type 0
@@ -35,7 +36,8 @@ IsSkipped step =
 abbrev pub IsMatched : (Row → Row) → Re → Type 0
 IsMatched step re =
     (row : Row) → (is_empty (step row) ≡ false)
-    × ((tail : Re) → MatchesKind (RowTakes row) tail → MatchesKind (RowTakes (step row)) (cat re tail))
+    × ((tail : Re) → MatchesKind (RowTakes row) tail
+    → MatchesKind (RowTakes (step row)) (cat re tail))
 
 module _ (inside : Bool) (levels : ℕ) where
   -- A row that the text writes is some piece, always the same, in front of a row that the rest writes
@@ -50,12 +52,14 @@ module _ (inside : Bool) (levels : ℕ) where
   -- Memory ran out, or the text writes no row from this place on.
   abbrev pub NoRow : Place → List ℕ → GlobFault → Type 0
   NoRow place text fault =
-      (fault ≡ Memory) ⊎ ((row : Row) (rest : List ℕ) → WritesRow inside levels place text row rest → ⊥)
+      (fault ≡ Memory) ⊎ ((row : Row) (rest : List ℕ)
+      → WritesRow inside levels place text row rest → ⊥)
 
   -- The text writes one row and one rest: these.
   abbrev pub WritesOneRow : List ℕ → Row → List ℕ → Type 0
   WritesOneRow text row rest =
-      (other : Row) (left : List ℕ) → WritesRow inside levels Start text other left ↔ ((other ≡ row) × (left ≡ rest))
+      (other : Row) (left : List ℕ)
+      → WritesRow inside levels Start text other left ↔ ((other ≡ row) × (left ≡ rest))
 
 -- whether there is no pattern
 abbrev pub is_nil : List Hir → Bool
@@ -75,7 +79,8 @@ ReadsRow inside levels text hirs rest =
 -- The text writes one list of branches and one rest: these.
 abbrev pub WritesOneGroup : ℕ → List ℕ → Branches → List ℕ → Type 0
 WritesOneGroup levels text branches rest =
-    (other : Branches) (left : List ℕ) → WritesBranches levels text other left ↔ ((other ≡ branches) × (left ≡ rest))
+    (other : Branches) (left : List ℕ)
+    → WritesBranches levels text other left ↔ ((other ≡ branches) × (left ≡ rest))
 
 -- The pattern matches what one of the branches takes. There is none where all are empty.
 abbrev pub GroupPattern : Branches → Option Hir → Type 0
@@ -98,8 +103,8 @@ NoGroup levels text fault =
 abbrev pub AddsPattern : Option Hir → List Hir → List Hir → Type 0
 AddsPattern pattern old new = MatchOption pattern (new ≡ old) (λ hir. new ≡ old ++ hir ∷ [])
 
--- The new patterns are the old ones, and behind them one that matches what those of a branch do, one
--- behind another, if the branch has any.
+-- The new patterns are the old ones, and behind them one that matches what those of a branch do,
+-- one behind another, if the branch has any.
 abbrev pub AddsBranch : List Hir → List Hir → List Hir → Type 0
 AddsBranch [] old new = new ≡ old
 AddsBranch (first ∷ others) old new =

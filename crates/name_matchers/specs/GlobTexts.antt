@@ -38,7 +38,8 @@ begins_negated (byte ∷ text) = byte == 33 || byte == 94
 -- the byte to which a range with this start reaches
 abbrev pub reach_in : ℕ → List ℕ → Leading ClassItem
 reach_in start [] = None
-reach_in start (byte ∷ text) = if nat_lt byte 128 && nat_le start byte then Some (Reach byte, text) else None
+reach_in start (byte ∷ text) =
+    if nat_lt byte 128 && nat_le start byte then Some (Reach byte, text) else None
 
 -- the item behind a range with this start, where no closing bracket stands
 abbrev pub item_in : ℕ → List ℕ → Leading ClassItem
@@ -67,7 +68,8 @@ class_body_in negated (first ∷ text) =
 
 -- the class behind an opening bracket
 abbrev pub class_in : List ℕ → Leading GlobClass
-class_in text = if begins_negated text then class_body_in true (drop 1 text) else class_body_in false text
+class_in text =
+    if begins_negated text then class_body_in true (drop 1 text) else class_body_in false text
 
 -- ---- parts
 
@@ -107,8 +109,10 @@ module _ (groups : List ℕ → Leading Branches) (inside : Bool) where
   abbrev pub piece_in : (Place → List ℕ → Leading Row) → Place → List ℕ → Leading Row
   piece_in rows place [] = None
   piece_in rows place (byte ∷ text) =
-      if byte == 91 then find_behind (λ this rest. found_with (class this) (rows Elsewhere rest)) (class_in text)
-      else if byte == 123 then find_behind (λ this rest. found_with (group this) (rows Elsewhere rest)) (groups text)
+      if byte == 91 then
+      find_behind (λ this rest. found_with (class this) (rows Elsewhere rest)) (class_in text)
+      else if byte == 123 then
+      find_behind (λ this rest. found_with (group this) (rows Elsewhere rest)) (groups text)
       else find_behind (λ this rest. found_with (part this) (rows (behind place this) rest))
       (part_in inside place (byte ∷ text))
 
@@ -135,7 +139,8 @@ branches_in rows (suc most) text = find_behind (branch_in (branches_in rows most
 unfoldable pub nested_branches_in : ℕ → List ℕ → Leading Branches
 nested_branches_in zero text = None
 nested_branches_in (suc levels) text =
-    branches_in (λ rest. row_in (nested_branches_in levels) true (length rest + 1) Start rest) (length text + 1) text
+    branches_in (λ rest. row_in (nested_branches_in levels) true (length rest + 1) Start rest)
+    (length text + 1) text
 
 -- the row that is the whole text, if it is
 abbrev pub whole_row : Leading Row → Option Row

@@ -97,7 +97,8 @@ abbrev mutual
   WritesRow inside levels place text end rest = (text ≡ rest) × (ends_row inside text ≡ true)
   WritesRow inside levels place text (part this row) rest =
       (ends_row inside text ≡ false)
-      × ((mid : List ℕ) × WritesPart inside place text this mid × WritesRow inside levels (behind place this) mid row rest)
+      × ((mid : List ℕ) × WritesPart inside place text this mid
+      × WritesRow inside levels (behind place this) mid row rest)
   WritesRow inside levels place text (class this row) rest =
       (inner : List ℕ) × (mid : List ℕ) × (text ≡ 91 ∷ inner) × WritesClass inner this mid
       × WritesRow inside levels Elsewhere mid row rest
@@ -109,7 +110,8 @@ abbrev mutual
   pub WritesBranches : ℕ → List ℕ → Branches → List ℕ → Type 0
   WritesBranches levels text (only row) rest = WritesRow true levels Start text row (125 ∷ rest)
   WritesBranches levels text (also row branches) rest =
-      (next : List ℕ) × WritesRow true levels Start text row (44 ∷ next) × WritesBranches levels next branches rest
+      (next : List ℕ) × WritesRow true levels Start text row (44 ∷ next)
+      × WritesBranches levels next branches rest
 
 abbrev mutual
   -- whether the row is empty: it has no part and no class, and each branch of its groups is empty
@@ -145,12 +147,14 @@ abbrev mutual
   RowTakes (part this row) bytes = Joins (PartTakes this) (RowTakes row) bytes
   RowTakes (class this row) bytes = Joins (ClassTakes this) (RowTakes row) bytes
   RowTakes (group branches row) bytes =
-      Joins (λ front. SomeTakes branches front ⊎ ((are_empty branches ≡ true) × (front ≡ []))) (RowTakes row) bytes
+      Joins (λ front. SomeTakes branches front ⊎ ((are_empty branches ≡ true) × (front ≡ [])))
+      (RowTakes row) bytes
 
   -- One of the branches that are not empty takes these bytes.
   pub SomeTakes : Branches → List ℕ → Type 0
   SomeTakes (only row) bytes = (is_empty row ≡ false) × RowTakes row bytes
-  SomeTakes (also row branches) bytes = ((is_empty row ≡ false) × RowTakes row bytes) ⊎ SomeTakes branches bytes
+  SomeTakes (also row branches) bytes =
+      ((is_empty row ≡ false) × RowTakes row bytes) ⊎ SomeTakes branches bytes
 
 -- The text writes a row of which groups nest at most 250 deep, and nothing else.
 abbrev pub WritesGlob : List ℕ → Row → Type 0
@@ -171,4 +175,5 @@ IsPlain text = All (λ byte. is_special byte ≡ false) text
 -- The automaton finds a match just in the names that the glob takes.
 abbrev pub IsGlobMachine : List ℕ → Nfa → Type 0
 IsGlobMachine text nfa =
-    (name : List ℕ) → All (λ byte. byte < 256) name → (finds nfa name ≡ true) ↔ GlobMatches text name
+    (name : List ℕ) → All (λ byte. byte < 256) name
+    → (finds nfa name ≡ true) ↔ GlobMatches text name

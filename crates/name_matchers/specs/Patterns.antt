@@ -9,7 +9,8 @@ use Rattle.name_matchers.specs.declared.glob.part.GlobPart.{GlobPart}
 -- Between these places of the name stand bytes of this kind.
 abbrev pub StandsBetween : (List ℕ → Type 0) → List ℕ → ℕ → ℕ → Type 0
 StandsBetween Kind name i j =
-    (front : List ℕ) × (rest : List ℕ) × (drop i name ≡ front ++ rest) × (j ≡ i + length front) × Kind front
+    (front : List ℕ) × (rest : List ℕ) × (drop i name ≡ front ++ rest) × (j ≡ i + length front)
+    × Kind front
 
 -- The pattern matches bytes of this kind and no others.
 abbrev pub MatchesKind : (List ℕ → Type 0) → Re → Type 0

@@ -67,12 +67,14 @@ module _ (nfa : Nfa) (name : List ℕ) where
 -- The new states are the old ones and that to which the state leads on the byte, if there is one.
 abbrev pub ReadsState : Nfa → ℕ → ℕ → List ℕ → List ℕ → Type 0
 ReadsState nfa byte q old new =
-    MatchOption (next_on nfa.transitions.items (state_of nfa q) byte) (new ≡ old) (λ r. AddsState r old new)
+    MatchOption (next_on nfa.transitions.items (state_of nfa q) byte) (new ≡ old)
+    (λ r. AddsState r old new)
 
 -- The new states are the old ones and those to which some state leads on the byte.
 pub record Reads (nfa : Nfa) (byte : ℕ) (states old new : List ℕ) : Type 0 where
   pub added : (r : ℕ) → Contains new r → Contains old r
-      ⊎ ((q : ℕ) × Contains states q × (next_on nfa.transitions.items (state_of nfa q) byte ≡ Some r))
+      ⊎ ((q : ℕ) × Contains states q
+      × (next_on nfa.transitions.items (state_of nfa q) byte ≡ Some r))
   pub all : (q r : ℕ) → Contains states q
       → next_on nfa.transitions.items (state_of nfa q) byte ≡ Some r → Contains new r
   pub kept : Extends old new

@@ -29,7 +29,9 @@ use Rattle.nextest_config.specs.Laws.{AcceptedFiles, meant_by, parents_by, profi
 use Rattle.nextest_config.proofs.GiveTheSame.{give_the_same}
 use Rattle.nextest_config.proofs.HaveSameProfile.{all_lead}
 
-module _ {M K P : Type 0} (engines : Readings M K P) (platforms : BuildPlatforms P) (a : AcceptedFiles engines) (name parent : Name) (chain : List Name) (only : Each (λ s. WritesOnlyParent name (tree_in s)) (sources_in a.files))
+module _ {M K P : Type 0} (engines : Readings M K P) (platforms : BuildPlatforms P)
+    (a : AcceptedFiles engines) (name parent : Name) (chain : List Name)
+    (only : Each (λ s. WritesOnlyParent name (tree_in s)) (sources_in a.files))
     (has : parents_by engines a name ≡ Some parent) (is : IsChain (parents_by engines a) parent chain) where
   abbrev layers : List (Layer M K)
   layers = (meant_by engines a).config.layers
@@ -43,26 +45,31 @@ module _ {M K P : Type 0} (engines : Readings M K P) (platforms : BuildPlatforms
   other : name ≢ default_name
   other = not_default engines a.features a.files a.rules_hold name parent has
 
-  each_nothing : (ss : List SourceText) → Each (λ s. Leads (tree_in s)) ss → Each (λ s. WritesOnlyParent name (tree_in s)) ss → Each (λ s. HasNothingOf name (source_layer engines s)) ss
+  each_nothing : (ss : List SourceText) → Each (λ s. Leads (tree_in s)) ss
+      → Each (λ s. WritesOnlyParent name (tree_in s)) ss → Each (λ s. HasNothingOf name (source_layer engines s)) ss
   each_nothing [] leads writes = tt
   each_nothing (s ∷ ss) leads writes = (
-    source_has_nothing engines name s (only_has_none (node_of_profile name (own_tree s)) (own_only name other s leads.0 writes.0)),
+    source_has_nothing engines name s
+        (only_has_none (node_of_profile name (own_tree s)) (own_only name other s leads.0 writes.0)),
     each_nothing ss leads.1 writes.1,
   )
 
   nothing : Each (HasNothingOf name) layers
   nothing =
       each_reversed (HasNothingOf name) (map (source_layer engines) (sources_in a.files))
-      (each_mapped (HasNothingOf name) (source_layer engines) (sources_in a.files) (each_nothing (sources_in a.files) (all_lead engines a) only))
+      (each_mapped (HasNothingOf name) (source_layer engines) (sources_in a.files)
+      (each_nothing (sources_in a.files) (all_lead engines a) only))
 
   same_overrides : p.overrides ≡ q.overrides
-  same_overrides = ap (map (rule_on engines.meets platforms)) (overrides_behind name (with_default chain) layers nothing)
+  same_overrides = ap (map (rule_on engines.meets platforms))
+      (overrides_behind name (with_default chain) layers nothing)
 
   same_rules : p.script_rules ≡ q.script_rules
   same_rules = ap (map (rule_on engines.meets platforms)) (script_rules_behind name (with_default chain) layers nothing)
 
   same_filter : p.default_filter ≡ q.default_filter
-  same_filter = λ i. default_filter_of (same_overrides i) (nearest_behind name (with_default chain) layers nothing i) (match_all_filter engines.match_all)
+  same_filter = λ i. default_filter_of (same_overrides i)
+      (nearest_behind name (with_default chain) layers nothing i) (match_all_filter engines.match_all)
 
   pub fields_more : p.facts.fields ≡ fields_in (table no_entries) ∷ q.facts.fields
   fields_more =
@@ -70,12 +77,16 @@ module _ {M K P : Type 0} (engines : Readings M K P) (platforms : BuildPlatforms
       let writes = merged_only name other (sources_in a.files) (all_lead engines a) only in
       let written = sym (parent_in_config engines name (sources_in a.files)) ∙ has in
       ap (λ found. cons_option found (fields_of (meant_by engines a).config.profiles (with_default chain)))
-      (ap (option_map (λ (r : MergedProfile). r.fields)) (profile_in_config engines name (sources_in a.files)) ∙ only_parent_fields parent o writes written)
+      (ap (option_map (λ (r : MergedProfile). r.fields)) (profile_in_config engines name (sources_in a.files))
+      ∙ only_parent_fields parent o writes written)
 
   pub alias_gives : GiveTheSame engines p q
-  alias_gives = give_the_same engines p q same_filter same_overrides same_rules (λ mode s. ap (λ fs. fallback_of fs mode s) fields_more ∙ same_fallback q.facts.fields mode s) (λ id. refl) (λ id. refl)
+  alias_gives = give_the_same engines p q same_filter same_overrides same_rules
+      (λ mode s. ap (λ fs. fallback_of fs mode s) fields_more ∙ same_fallback q.facts.fields mode s)
+      (λ id. refl) (λ id. refl)
 
   pub alias_chain : IsChain (parents_by engines a) name (name ∷ chain)
   alias_chain =
       let Leads' : Name → Type 0 = λ v. LeadToDefault (parents_by engines a) v chain in
-      is_chain (parents_by engines a) name (name ∷ chain) (refl, other, subst Leads' (sym (ap (λ o. unwrap_or o default_name) has)) is.leads)
+      is_chain (parents_by engines a) name (name ∷ chain)
+      (refl, other, subst Leads' (sym (ap (λ o. unwrap_or o default_name) has)) is.leads)

@@ -15,26 +15,32 @@ use Rattle.nextest_tables.specs.Written.{Name}
 use Rattle.nextest_tree.specs.Schema.{is_one_of}
 use Rattle.nextest_profiles.proofs.KnowsScripts.{fused}
 
-key_at : {X : Type 0} (found same : Bool) (x : X) (later : Option X) (seen : Bool) → found ≡ same → is_some later ≡ seen → is_some (cond found (Some x) later) ≡ (same || seen)
+key_at : {X : Type 0} (found same : Bool) (x : X) (later : Option X) (seen : Bool) → found ≡ same
+    → is_some later ≡ seen → is_some (cond found (Some x) later) ≡ (same || seen)
 key_at true same x later seen is rest = ap (λ b. b || seen) is
 key_at false same x later seen is rest = rest ∙ ap (λ b. b || seen) is
 
 -- a name is one of these exactly where the map has it
 known_at : {X : Type 0} (es : List (String Global × X)) (name : Name)
-    → is_some (lookup (is_at (λ key. slice_cmp nat_cmp name (string_bytes key))) es) ≡ is_one_of (map (λ e. string_bytes e.0) es) name
+    → is_some (lookup (is_at (λ key. slice_cmp nat_cmp name (string_bytes key))) es)
+    ≡ is_one_of (map (λ e. string_bytes e.0) es) name
 known_at [] name = refl
 known_at (e ∷ es) name =
     key_at (is_at (λ key. slice_cmp nat_cmp name (string_bytes key)) e.0) (bytes_eq (string_bytes e.0) name) e.1
-    (lookup (is_at (λ key. slice_cmp nat_cmp name (string_bytes key))) es) (is_one_of (map (λ e. string_bytes e.0) es) name)
+    (lookup (is_at (λ key. slice_cmp nat_cmp name (string_bytes key))) es)
+    (is_one_of (map (λ e. string_bytes e.0) es) name)
     (is_eq-slice_cmp name (string_bytes e.0) ∙ nat_list_eq_equiv.symm name (string_bytes e.0)) (known_at es name)
 
 -- the same, of the names in what contracts see of the map
 pub known_in : {X Y : Type 0} (f : X → Y) (es : List (String Global × X)) (name : Name)
-    → is_some (lookup (is_at (λ key. slice_cmp nat_cmp name (string_bytes key))) es) ≡ is_one_of (names_in (by_name f es)) name
-known_in f es name = known_at es name ∙ ap (λ names. is_one_of names name) (sym (fused (λ p. p.0) (λ e. (string_bytes e.0, f e.1)) es))
+    → is_some (lookup (is_at (λ key. slice_cmp nat_cmp name (string_bytes key))) es)
+    ≡ is_one_of (names_in (by_name f es)) name
+known_in f es name = known_at es name
+    ∙ ap (λ names. is_one_of names name) (sym (fused (λ p. p.0) (λ e. (string_bytes e.0, f e.1)) es))
 
 -- the names in what contracts see of a map
-pub names_of_view : {X Y : Type 0} (f : X → Y) (es : List (String Global × X)) → names_in (by_name f es) ≡ map (λ e. string_bytes e.0) es
+pub names_of_view : {X Y : Type 0} (f : X → Y) (es : List (String Global × X))
+    → names_in (by_name f es) ≡ map (λ e. string_bytes e.0) es
 names_of_view f es = fused (λ p. p.0) (λ e. (string_bytes e.0, f e.1)) es
 
 -- whether a look-up finds something
@@ -48,7 +54,8 @@ below_names k [] h = tt
 below_names k (l ∷ ks) h = (h.0, below_names k ks h.1)
 
 -- the names of a map ascend
-pub names_ascend : (ks : List (String Global)) → IsStrictlySortedBy string_cmp ks → IsStrictlySortedBy (slice_cmp nat_cmp) (map string_bytes ks)
+pub names_ascend : (ks : List (String Global)) → IsStrictlySortedBy string_cmp ks
+    → IsStrictlySortedBy (slice_cmp nat_cmp) (map string_bytes ks)
 unfolding IsStrictlySortedBy
 names_ascend [] h = tt
 names_ascend (k ∷ ks) h = (below_names k ks h.0, names_ascend ks h.1)

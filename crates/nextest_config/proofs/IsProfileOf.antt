@@ -6,10 +6,14 @@ use Rattle.nextest_profiles.specs.Profiles.{IsProfileOf}
 use Rattle.nextest_settings.specs.Profile.{Configured, EarlyModel, profile_of}
 use Rattle.nextest_tables.specs.Written.{Name}
 
-pub moved : {M K : Type 0} (configured : Configured M K) (root : List ℕ) (known name : Name) (profile : EarlyModel M K) → root ≡ configured.root → known ≡ name
-    → IsProfileOf (record { root = root; config = configured.config; scripts = configured.scripts }) known profile → IsProfileOf configured name profile
+pub moved : {M K : Type 0} (configured : Configured M K) (root : List ℕ) (known name : Name)
+    (profile : EarlyModel M K) → root ≡ configured.root → known ≡ name
+    → IsProfileOf (record { root = root; config = configured.config; scripts = configured.scripts }) known
+    profile → IsProfileOf configured name profile
 moved configured root known name profile same_root same p = record {
   chain = p.chain;
   is_chain = subst (λ n. IsChain (parents_in (config_parents configured.config)) n p.chain) same p.is_chain;
-  is_profile = p.is_profile ∙ (λ i. profile_of (record { root = same_root i; config = configured.config; scripts = configured.scripts }) (same i) p.chain);
+  is_profile = p.is_profile
+      ∙ (λ i. profile_of (record
+      { root = same_root i; config = configured.config; scripts = configured.scripts }) (same i) p.chain);
 }

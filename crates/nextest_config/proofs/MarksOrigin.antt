@@ -4,7 +4,8 @@ use Rattle.nextest_settings.specs.Queries.{Origin}
 use Rattle.nextest_settings.specs.SourceView.{MarksOrigin}
 
 -- what a mark tells of an origin
-pub marked : {S : Type 0} (f : S → Origin) (source : S) (o : Option Origin) → MarksOrigin (λ s origin. f s ≡ origin) (Some source) o → o ≡ Some (f source)
+pub marked : {S : Type 0} (f : S → Origin) (source : S) (o : Option Origin)
+    → MarksOrigin (λ s origin. f s ≡ origin) (Some source) o → o ≡ Some (f source)
 marked f source None marks = absurd marks
 marked f source (Some origin) marks = ap Some (sym marks)
 

@@ -24,13 +24,17 @@ use Rattle.nextest_config.specs.RunView.{TellsEnding, run_view}
 
 module _ {M K P : Type 0} (engines : Readings M K P) (request : Request P) (wold wnew : List Warning) where
   -- a load that is refused
-  pub load_refused : (numbers : List ℕ) (refusal : Refusal) (o : Ending) → WentThrough (steps_for engines request) wold wnew o
-      → (o ≡ no_memory) ⊎ (¬ RulesHold engines request) → ((fault : LoadFault) → o ≡ refused fault → IsExact request.files fault) → (o ≡ passed → ⊥) → TellsEnding o refusal
+  pub load_refused : (numbers : List ℕ) (refusal : Refusal) (o : Ending)
+      → WentThrough (steps_for engines request) wold wnew o
+      → (o ≡ no_memory) ⊎ (¬ RulesHold engines request)
+      → ((fault : LoadFault) → o ≡ refused fault → IsExact request.files fault) → (o ≡ passed → ⊥)
+      → TellsEnding o refusal
       → Resolves engines request (run_view (Err refusal) wold wnew numbers numbers)
   load_refused numbers refusal passed went verdict exact unpassed tells = absurd (unpassed refl)
   load_refused numbers refusal (refused fault) went verdict exact unpassed tells =
       let P : Refusal → Type 0 = λ r. Resolves engines request (run_view (Err r) wold wnew numbers numbers) in
-      let broken : ¬ RulesHold engines request = elim verdict [ inl memory ↦ absurd (other memory) | inr fails ↦ fails ] in
+      let broken : ¬ RulesHold engines request =
+      elim verdict [ inl memory ↦ absurd (other memory) | inr fails ↦ fails ] in
       subst P (sym tells) (record {
         acceptance = tt;
         refusal = record { broken = broken; first = went.0; is_fault = refl };
@@ -62,12 +66,22 @@ module _ {M K P : Type 0} (engines : Readings M K P) (request : Request P) (wold
 
   -- the question that a request puts to its configuration
   abbrev pub question_of : Question P
-  question_of = record { profile = request.profile; platforms = request.platforms; mode = request.mode; tests = request.tests }
+  question_of = record {
+    profile = request.profile;
+    platforms = request.platforms;
+    mode =
+        request.mode;
+    tests = request.tests;
+  }
 
-  module _ (holds : RulesHold engines request) (went : WentThrough (steps_for engines request) wold wnew passed) (configured : Configured M K)
+  module _ (holds : RulesHold engines request)
+      (went : WentThrough (steps_for engines request) wold wnew passed) (configured : Configured M K)
       (root : configured.root ≡ request.root) (means : configured.config ≡ config_of engines (sources_in request.files))
-      (are_scripts : AreScriptsOf (sources_in request.files) configured.scripts) (closed : IsClosed engines.matches_binary configured.config configured.scripts) where
-    are_rows : (rows : List Row) (numbers : List ℕ) → AreAskedRows engines.meets engines.matches_test configured question_of rows numbers → AreRows engines request rows numbers
+      (are_scripts : AreScriptsOf (sources_in request.files) configured.scripts)
+      (closed : IsClosed engines.matches_binary configured.config configured.scripts) where
+    are_rows : (rows : List Row) (numbers : List ℕ)
+        → AreAskedRows engines.meets engines.matches_test configured question_of rows numbers
+        → AreRows engines request rows numbers
     are_rows rows numbers asked = record {
       known = subst (λ c. IsIn (names_in c.profiles) request.profile) means asked.known;
       scripts = configured.scripts;
@@ -75,20 +89,26 @@ module _ {M K P : Type 0} (engines : Readings M K P) (request : Request P) (wold
       profile = asked.profile;
       is_profile = record {
         chain = asked.is_profile.chain;
-        is_chain = subst (λ c. IsChain (parents_in (config_parents c)) request.profile asked.is_profile.chain) means asked.is_profile.is_chain;
+        is_chain = subst (λ c. IsChain (parents_in (config_parents c)) request.profile asked.is_profile.chain)
+            means asked.is_profile.is_chain;
         is_profile = asked.is_profile.is_profile
-            ∙ (λ i. profile_on engines.meets request.platforms (profile_of (record { root = root i; config = means i; scripts = configured.scripts }) request.profile asked.is_profile.chain));
+            ∙ (λ i. profile_on engines.meets request.platforms
+            (profile_of (record { root = root i; config = means i; scripts = configured.scripts })
+            request.profile asked.is_profile.chain));
       };
       closure = subst (λ c. IsClosed engines.matches_binary c configured.scripts) means closed;
       each = asked.are_rows.each;
       evaluated = asked.are_rows.evaluated;
-      rising = λ test. all_rise asked.profile.overrides asked.profile.script_rules (map (λ s w. is_set w.settings request.mode s) settings) ((λ (w : ScriptUse). is_some w.run_wrapper) ∷ []) (query_in engines.matches_test asked.profile test);
+      rising = λ test. all_rise asked.profile.overrides asked.profile.script_rules
+          (map (λ s w. is_set w.settings request.mode s) settings)
+          ((λ (w : ScriptUse). is_some w.run_wrapper) ∷ []) (query_in engines.matches_test asked.profile test);
       exactly = λ test. test_exactly (query_in engines.matches_test asked.profile test) request.mode asked.profile;
       count = λ test. test_count (query_in engines.matches_test asked.profile test) request.mode asked.profile;
     }
 
     -- a load that is accepted
-    pub load_accepted : (nold nnew : List ℕ) (answer : Result (List Row) Refusal) → Answers engines.meets engines.matches_test configured question_of answer nold nnew
+    pub load_accepted : (nold nnew : List ℕ) (answer : Result (List Row) Refusal)
+        → Answers engines.meets engines.matches_test configured question_of answer nold nnew
         → Resolves engines request (run_view answer wold wnew nold nnew)
     load_accepted nold nnew (Ok rows) answers = record {
       acceptance = holds;
@@ -127,7 +147,11 @@ module _ {M K P : Type 0} (engines : Readings M K P) (request : Request P) (wold
       exact = tt;
       absence = tt;
       unasked = tt;
-      warnings = (warnings_before (steps_for engines request), ([], sym (append-nil (warnings_before (steps_for engines request)))), went.1);
+      warnings = (
+        warnings_before (steps_for engines request),
+        ([], sym (append-nil (warnings_before (steps_for engines request)))),
+        went.1,
+      );
       numbers = answers.numbers;
       tally = answers.tally;
       rows = tt;

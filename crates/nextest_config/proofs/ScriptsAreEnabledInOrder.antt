@@ -21,16 +21,19 @@ module _ {X : Type 0} where
   passing_part passes [] = refl
   passing_part passes (x ∷ xs) = kept_at (passes x) x (filter passes xs) xs (passing_part passes xs)
 
-  both_at : (b c : Bool) (x : X) (ys zs : List X) → (b ≡ true → c ≡ true) → IsSublist ys zs → IsSublist (cond b (x ∷ ys) ys) (cond c (x ∷ zs) zs)
+  both_at : (b c : Bool) (x : X) (ys zs : List X) → (b ≡ true → c ≡ true) → IsSublist ys zs
+      → IsSublist (cond b (x ∷ ys) ys) (cond c (x ∷ zs) zs)
   both_at true true x ys zs f h = inr (ys, refl, h)
   both_at true false x ys zs f h = let bad : false ≡ true = f refl in absurd cc
   both_at false true x ys zs f h = inl h
   both_at false false x ys zs f h = h
 
   -- where more passes, the part is a part of the larger one
-  pub more_passing : (passes more : X → Bool) → ((x : X) → passes x ≡ true → more x ≡ true) → (xs : List X) → IsSublist (filter passes xs) (filter more xs)
+  pub more_passing : (passes more : X → Bool) → ((x : X) → passes x ≡ true → more x ≡ true) → (xs : List X)
+      → IsSublist (filter passes xs) (filter more xs)
   more_passing passes more f [] = refl
-  more_passing passes more f (x ∷ xs) = both_at (passes x) (more x) x (filter passes xs) (filter more xs) (f x) (more_passing passes more f xs)
+  more_passing passes more f (x ∷ xs) =
+      both_at (passes x) (more x) x (filter passes xs) (filter more xs) (f x) (more_passing passes more f xs)
 
 module _ {X Y : Type 0} (passes : Y → Bool) (f : X → Y) where
   found_in : (xs : List X) → list_any passes (map f xs) ≡ true → (x : X) × Contains xs x × (passes (f x) ≡ true)
@@ -51,7 +54,8 @@ module _ {X Y : Type 0} (passes : Y → Bool) (f : X → Y) where
   ]
 
   -- what some of these pass, some of more pass
-  pub some_of_more : (xs more : List X) → ((x : X) → Contains xs x → Contains more x) → list_any passes (map f xs) ≡ true → list_any passes (map f more) ≡ true
+  pub some_of_more : (xs more : List X) → ((x : X) → Contains xs x → Contains more x)
+      → list_any passes (map f xs) ≡ true → list_any passes (map f more) ≡ true
   some_of_more xs more all h = let r = found_in xs h in any_with more r.0 (all r.0 r.1) r.2
 
 pub in_order : {M K P : Type 0} (engines : Readings M K P) (p : EvaluatableModel M) → ScriptsAreEnabledInOrder engines p
@@ -60,6 +64,7 @@ in_order {M = M} engines p =
     let query : Test → QueryContext M = query_in engines.matches_test p in
     record {
       some_of_all = λ tests. passing_part (λ e. list_any (asks e.0) (map query tests)) p.facts.scripts.setup;
-      at_least_the_same = λ tests more all. more_passing (λ e. list_any (asks e.0) (map query tests)) (λ e. list_any (asks e.0) (map query more))
+      at_least_the_same = λ tests more all. more_passing (λ e. list_any (asks e.0) (map query tests))
+          (λ e. list_any (asks e.0) (map query more))
           (λ e h. some_of_more (asks e.0) query tests more all h) p.facts.scripts.setup;
     }

@@ -16,7 +16,9 @@ use Rattle.nextest_settings.proofs.Deciding.{winner_without, value_same, origin_
 use Rattle.nextest_settings.proofs.FirstOf.{first_without}
 use Rattle.nextest_config.specs.Laws.{GiveTestTheSame, held_on, with_overrides, IsChosenFilter}
 
-module _ {M K P : Type 0} (engines : Readings M K P) (platforms : BuildPlatforms P) (p : EarlyModel M K) (before : List (Compiled M K (OverrideUse M))) (rule : Compiled M K (OverrideUse M)) (after : List (Compiled M K (OverrideUse M))) (test : Test)
+module _ {M K P : Type 0} (engines : Readings M K P) (platforms : BuildPlatforms P) (p : EarlyModel M K)
+    (before : List (Compiled M K (OverrideUse M))) (rule : Compiled M K (OverrideUse M))
+    (after : List (Compiled M K (OverrideUse M))) (test : Test)
     (is : p.overrides ≡ before ++ rule ∷ after) where
   abbrev held : Compiled M K (OverrideUse M) → EvaluatedRule M (OverrideUse M)
   held r = held_on engines platforms r
@@ -35,26 +37,37 @@ module _ {M K P : Type 0} (engines : Readings M K P) (platforms : BuildPlatforms
 
   pub filter_stays : ¬ IsChosenFilter (map held before) (held rule) → whole.default_filter ≡ rest.default_filter
   filter_stays unchosen =
-      let not_both : IsSome (filter_of_override (held rule)) → first_of filter_of_override (map held before) ≡ None → ⊥ = λ one none. unchosen (record { has_one = one; first = none }) in
+      let not_both : IsSome (filter_of_override (held rule))
+      → first_of filter_of_override (map held before) ≡ None → ⊥ =
+      λ one none. unchosen (record { has_one = one; first = none }) in
       ap (λ o. unwrap_or (option_or o p.nearest_filter) (match_all_filter p.match_all))
-      (ap (first_of filter_of_override) with_rule ∙ first_without filter_of_override (map held before) (held rule) (map held after) not_both ∙ ap (first_of filter_of_override) (sym without_rule))
+      (ap (first_of filter_of_override) with_rule
+      ∙ first_without filter_of_override (map held before) (held rule) (map held after) not_both
+      ∙ ap (first_of filter_of_override) (sym without_rule))
 
-  winners_stay : (query : QueryContext M) → rule_holds query (held rule) ≡ false → (wants : OverrideUse M → Bool) → winner query wants (map held p.overrides) ≡ winner query wants (map held (before ++ after))
+  winners_stay : (query : QueryContext M) → rule_holds query (held rule) ≡ false
+      → (wants : OverrideUse M → Bool)
+      → winner query wants (map held p.overrides) ≡ winner query wants (map held (before ++ after))
   winners_stay query fails wants =
       ap (winner query wants) with_rule
       ∙ winner_without query wants (map held before) (held rule) (map held after) fails
       ∙ ap (winner query wants) (sym without_rule)
 
-  pub test_stays : rule_holds (query_in engines.matches_test whole test) (held rule) ≡ false → ¬ IsChosenFilter (map held before) (held rule) → GiveTestTheSame engines whole rest test
+  pub test_stays : rule_holds (query_in engines.matches_test whole test) (held rule) ≡ false
+      → ¬ IsChosenFilter (map held before) (held rule) → GiveTestTheSame engines whole rest test
   test_stays fails unchosen mode s =
       let query = query_in engines.matches_test whole test in
       let filter = filter_stays unchosen in
       let decides_same = winners_stay query fails (λ w. is_set w.settings mode s) in
       record {
         value =
-            ap (λ o. option_or o (fallback_of p.facts.fields mode s)) (value_same query mode whole.overrides rest.overrides whole.script_rules s decides_same)
-            ∙ ap (λ choice. value_by (test_query engines.matches_test choice.filter test) mode rest.overrides rest.script_rules p.facts.fields s) filter;
+            ap (λ o. option_or o (fallback_of p.facts.fields mode s))
+            (value_same query mode whole.overrides rest.overrides whole.script_rules s decides_same)
+            ∙ ap (λ choice. value_by (test_query engines.matches_test choice.filter test) mode rest.overrides
+            rest.script_rules p.facts.fields s) filter;
         origin =
-            ap (λ o. option_or o (fallback_origin s)) (origin_same query mode whole.overrides rest.overrides whole.script_rules s decides_same)
-            ∙ ap (λ choice. origin_by (test_query engines.matches_test choice.filter test) mode rest.overrides rest.script_rules s) filter;
+            ap (λ o. option_or o (fallback_origin s))
+            (origin_same query mode whole.overrides rest.overrides whole.script_rules s decides_same)
+            ∙ ap (λ choice. origin_by (test_query engines.matches_test choice.filter test) mode rest.overrides
+            rest.script_rules s) filter;
       }

@@ -10,7 +10,8 @@ use Rattle.nextest_sources.specs.declared.error.ConfigParseErrorKind.TheVariants
 use Rattle.nextest_config.specs.Headline.{bad_config, out_of_memory}
 use Rattle.nextest_config.specs.RunView.{TellsEnding, fault_of_ending}
 
-at_cause : (source : Source) (cause : Option LoadCause) → TellsEnding (ending_at source cause) (bad_config (fault_of_ending (ending_at source cause)))
+at_cause : (source : Source) (cause : Option LoadCause)
+    → TellsEnding (ending_at source cause) (bad_config (fault_of_ending (ending_at source cause)))
 at_cause source (Some cause) = refl
 at_cause source None = tt
 
@@ -21,7 +22,8 @@ with_source (Some source) kind is = at_cause source (cause_view kind)
 with_source None kind is = cc
 
 -- a refusal without a source is want of memory
-pub without_source : (source : Option Source) (kind : ConfigParseErrorKind) → is_some source ≡ false → is_some source ≡ not (is_memory kind)
+pub without_source : (source : Option Source) (kind : ConfigParseErrorKind) → is_some source ≡ false
+    → is_some source ≡ not (is_memory kind)
     → TellsEnding (ending_with source kind) out_of_memory
 without_source (Some source) kind is placed = cc
 without_source None (kinds.DuplicateToolConfigFile tool first) is placed = cc
@@ -44,7 +46,8 @@ without_source None (kinds.ProfileScriptErrors errors known_scripts) is placed =
 without_source None kinds.Memory is placed = refl
 
 -- whether a source is there, by whether its path is
-pub same_some : {X Y Z : Type 0} (f : X → Z) (g : Y → Z) (o : Option X) (r : Option Y) → option_map f o ≡ option_map g r → is_some r ≡ is_some o
+pub same_some : {X Y Z : Type 0} (f : X → Z) (g : Y → Z) (o : Option X) (r : Option Y)
+    → option_map f o ≡ option_map g r → is_some r ≡ is_some o
 same_some f g None None e = refl
 same_some f g None (Some y) e = cc
 same_some f g (Some x) None e = cc

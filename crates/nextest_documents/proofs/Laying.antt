@@ -15,7 +15,8 @@ cmp = slice_cmp nat_cmp
 pub turned : (l k : List ℕ) (o : Ordering) → cmp l k ≡ o → cmp k l ≡ ordering_reverse o
 turned l k o h = nat_list_cmp_total.antisymm k l ∙ ap ordering_reverse h
 
-commute_at : (o p : Ordering) (l k x : List ℕ) (w v d : Node) (ms : Entries) → cmp k x ≡ o → cmp l x ≡ p → cmp l k ≡ Less → put l w (put k v ms) ≡ put k v (put l w ms)
+commute_at : (o p : Ordering) (l k x : List ℕ) (w v d : Node) (ms : Entries) → cmp k x ≡ o → cmp l x ≡ p
+    → cmp l k ≡ Less → put l w (put k v ms) ≡ put k v (put l w ms)
     → put l w (put k v (entry x d ms)) ≡ put k v (put l w (entry x d ms))
 commute_at Less p l k x w v d ms ek el h ih =
     let lx : cmp l x ≡ Less = nat_list_cmp_total.trans l k x h ek in
@@ -40,7 +41,8 @@ commute l k w v no_entries h =
     simp (h, kl)
 commute l k w v (entry x d ms) h = commute_at (cmp k x) (cmp l x) l k x w v d ms refl refl h (commute l k w v ms h)
 
-same_at : (o : Ordering) (k x : List ℕ) (d e : Node) (ms : Entries) → cmp k x ≡ o → get k (put k d ms) ≡ Some d → get k (put k d (entry x e ms)) ≡ Some d
+same_at : (o : Ordering) (k x : List ℕ) (d e : Node) (ms : Entries) → cmp k x ≡ o
+    → get k (put k d ms) ≡ Some d → get k (put k d (entry x e ms)) ≡ Some d
 same_at Less k x d e ms is ih = simp (is, tied_itself nat_list_cmp_total k)
 same_at Equal k x d e ms is ih = simp is
 same_at Greater k x d e ms is ih = simp is ih
@@ -50,7 +52,8 @@ pub get-put_same : (k : List ℕ) (d : Node) (ms : Entries) → get k (put k d m
 get-put_same k d no_entries = simp (tied_itself nat_list_cmp_total k)
 get-put_same k d (entry x e ms) = same_at (cmp k x) k x d e ms refl (get-put_same k d ms)
 
-other_at : (o p r : Ordering) (q k x : List ℕ) (d e : Node) (ms : Entries) → cmp k x ≡ o → cmp q x ≡ p → cmp q k ≡ r → (r ≡ Equal → ⊥) → get q (put k d ms) ≡ get q ms
+other_at : (o p r : Ordering) (q k x : List ℕ) (d e : Node) (ms : Entries) → cmp k x ≡ o → cmp q x ≡ p
+    → cmp q k ≡ r → (r ≡ Equal → ⊥) → get q (put k d ms) ≡ get q ms
     → get q (put k d (entry x e ms)) ≡ get q (entry x e ms)
 other_at o p Equal q k x d e ms ek eq er ne ih = absurd (ne refl)
 other_at Less p Less q k x d e ms ek eq er ne ih = simp (ek, er)
@@ -73,7 +76,8 @@ none_at Greater d ne = refl
 -- what another key has after a put
 pub get-put_other : (q k : List ℕ) (d : Node) (ms : Entries) → (cmp q k ≡ Equal → ⊥) → get q (put k d ms) ≡ get q ms
 get-put_other q k d no_entries ne = none_at (cmp q k) d ne
-get-put_other q k d (entry x e ms) ne = other_at (cmp k x) (cmp q x) (cmp q k) q k x d e ms refl refl refl ne (get-put_other q k d ms ne)
+get-put_other q k d (entry x e ms) ne =
+    other_at (cmp k x) (cmp q x) (cmp q k) q k x d e ms refl refl refl ne (get-put_other q k d ms ne)
 
 abbrev pub equal_text : (q k : List ℕ) → cmp q k ≡ Equal → q ≡ k
 equal_text = exact_bytes
@@ -83,16 +87,20 @@ abbrev pub laid_over : Option Node → Option Node → Option Node
 laid_over None below = below
 laid_over (Some d) below = Some (option_map_or (λ lower. over d lower) below d)
 
-over_at : (o : Ordering) (q k : List ℕ) (d : Node) (ms below : Entries) → cmp q k ≡ o → get q (entries_over ms below) ≡ laid_over (get q ms) (get q below)
+over_at : (o : Ordering) (q k : List ℕ) (d : Node) (ms below : Entries) → cmp q k ≡ o
+    → get q (entries_over ms below) ≡ laid_over (get q ms) (get q below)
     → get q (entries_over (entry k d ms) below) ≡ laid_over (get q (entry k d ms)) (get q below)
-over_at Less q k d ms below is ih = simp is (get-put_other q k _ (entries_over ms below) (λ e. let no : Less ≡ Equal = sym is ∙ e in cc) ∙ ih)
-over_at Greater q k d ms below is ih = simp is (get-put_other q k _ (entries_over ms below) (λ e. let no : Greater ≡ Equal = sym is ∙ e in cc) ∙ ih)
+over_at Less q k d ms below is ih =
+    simp is (get-put_other q k _ (entries_over ms below) (λ e. let no : Less ≡ Equal = sym is ∙ e in cc) ∙ ih)
+over_at Greater q k d ms below is ih =
+    simp is (get-put_other q k _ (entries_over ms below) (λ e. let no : Greater ≡ Equal = sym is ∙ e in cc) ∙ ih)
 over_at Equal q k d ms below is ih =
     let same : q ≡ k = equal_text q k is in
     rw (is, same) (get-put_same k _ (entries_over ms below))
 
 -- what a key has in members laid over others
-pub get-entries_over : (q : List ℕ) (ms below : Entries) → get q (entries_over ms below) ≡ laid_over (get q ms) (get q below)
+pub get-entries_over : (q : List ℕ) (ms below : Entries)
+    → get q (entries_over ms below) ≡ laid_over (get q ms) (get q below)
 get-entries_over q no_entries below = refl
 get-entries_over q (entry k d ms) below = over_at (cmp q k) q k d ms below refl (get-entries_over q ms below)
 
@@ -114,7 +122,8 @@ with_last no_entries k d = entry k d no_entries
 with_last (entry l e ms) k d = entry l e (with_last ms k d)
 
 last_goes : (ms below : Entries) (k : List ℕ) (d : Node) → AllBelow k ms
-    → entries_over (with_last ms k d) below ≡ put k (option_map_or (λ lower. over d lower) (get k below) d) (entries_over ms below)
+    → entries_over (with_last ms k d) below
+    ≡ put k (option_map_or (λ lower. over d lower) (get k below) d) (entries_over ms below)
 last_goes no_entries below k d h = refl
 last_goes (entry l e ms) below k d h =
     ap (λ xs. put l (option_map_or (λ lower. over e lower) (get l below) e) xs) (last_goes ms below k d h.1)
@@ -122,5 +131,6 @@ last_goes (entry l e ms) below k d h =
 
 -- one more entry, above the others, is laid over last
 pub entries_over-last : (ms below : Entries) (k : List ℕ) (d : Node) → AllBelow k ms
-    → entries_over (with_last ms k d) below ≡ put k (option_map_or (λ lower. over d lower) (get k (entries_over ms below)) d) (entries_over ms below)
+    → entries_over (with_last ms k d) below
+    ≡ put k (option_map_or (λ lower. over d lower) (get k (entries_over ms below)) d) (entries_over ms below)
 entries_over-last ms below k d h = rw (get-entries_over k ms below, get-above k ms h) (last_goes ms below k d h)

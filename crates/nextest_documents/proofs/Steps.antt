@@ -19,30 +19,39 @@ laid above lower = option_map_or (λ d. over (tree_view above) d) lower (tree_vi
 
 pub put_found : (k : List ℕ) (above found merged : Tree) (es : List Entry) → IsStrictlySortedBy string_cmp (keys_of es)
     → lookup (is_at (text_cmp k)) es ≡ Some found → tree_view merged ≡ over (tree_view above) (tree_view found)
-    → entries_view (set_value (is_at (text_cmp k)) es merged) ≡ put k (laid above (get k (entries_view es))) (entries_view es)
+    → entries_view (set_value (is_at (text_cmp k)) es merged)
+    ≡ put k (laid above (get k (entries_view es))) (entries_view es)
 put_found k above found merged es sorted at is =
-    let there : get k (entries_view es) ≡ Some (tree_view found) = sym (members-lookup k es) ∙ ap (option_map tree_view) at in
+    let there : get k (entries_view es) ≡ Some (tree_view found) =
+    sym (members-lookup k es) ∙ ap (option_map tree_view) at in
     members-set_value k es merged found sorted at ∙ rw (there, is)
 
 pub put_new : (name : String Global) (k : List ℕ) (above merged : Tree) (es : List Entry)
     → lookup (is_at (text_cmp k)) es ≡ None → string_bytes name ≡ k → tree_view merged ≡ tree_view above
-    → entries_view (insert_entry string_cmp es name merged) ≡ put k (laid above (get k (entries_view es))) (entries_view es)
+    → entries_view (insert_entry string_cmp es name merged)
+    ≡ put k (laid above (get k (entries_view es))) (entries_view es)
 put_new name k above merged es at named is =
     let there : get k (entries_view es) ≡ None = sym (members-lookup k es) ∙ ap (option_map tree_view) at in
     members-insert_entry es name merged ∙ rw (there, named, is)
 
-members-last : (done : List Entry) (e : Entry) → entries_view (done ++ e ∷ []) ≡ with_last (entries_view done) (string_bytes e.0) (tree_view e.1)
+members-last : (done : List Entry) (e : Entry)
+    → entries_view (done ++ e ∷ []) ≡ with_last (entries_view done) (string_bytes e.0) (tree_view e.1)
 members-last [] e = refl
 members-last (x ∷ done) e = ap (entry (string_bytes x.0) (tree_view x.1)) (members-last done e)
 
-below_all : (done : List Entry) (e : Entry) (rest : List Entry) → IsStrictlySortedBy string_cmp (keys_of (done ++ e ∷ rest)) → AllBelow (string_bytes e.0) (entries_view done)
+below_all : (done : List Entry) (e : Entry) (rest : List Entry)
+    → IsStrictlySortedBy string_cmp (keys_of (done ++ e ∷ rest)) → AllBelow (string_bytes e.0) (entries_view done)
 unfolding IsStrictlySortedBy
 below_all [] e rest h = tt
 below_all (x ∷ done) e rest h = (below_middle x done e rest h.0, below_all done e rest h.1)
 
 -- one more entry of the higher map is laid over
-pub laid_last : (done : List Entry) (e : Entry) (rest : List Entry) (below now : Entries) → IsStrictlySortedBy string_cmp (keys_of (done ++ e ∷ rest))
+pub laid_last : (done : List Entry) (e : Entry) (rest : List Entry) (below now : Entries)
+    → IsStrictlySortedBy string_cmp (keys_of (done ++ e ∷ rest))
     → now ≡ entries_over (entries_view done) below
-    → put (string_bytes e.0) (laid e.1 (get (string_bytes e.0) now)) now ≡ entries_over (entries_view (done ++ e ∷ [])) below
+    → put (string_bytes e.0) (laid e.1 (get (string_bytes e.0) now)) now
+    ≡ entries_over (entries_view (done ++ e ∷ [])) below
 laid_last done e rest below now sorted is =
-    rw (is, members-last done e) (sym (entries_over-last (entries_view done) below (string_bytes e.0) (tree_view e.1) (below_all done e rest sorted)))
+    rw (is, members-last done e)
+    (sym (entries_over-last (entries_view done) below (string_bytes e.0) (tree_view e.1)
+    (below_all done e rest sorted)))

@@ -10,7 +10,9 @@ use Rattle.nextest_documents.specs.Value.{from_members}
 abbrev pub entries_in : List ℕ → Entries
 entries_in text = unwrap_or (option_map from_members (parse_document text)) no_entries
 
-table_of : (o : Option Members) → unwrap_or (option_map (λ ms. table (from_members ms)) o) (table no_entries) ≡ table (unwrap_or (option_map from_members o) no_entries)
+table_of : (o : Option Members)
+    → unwrap_or (option_map (λ ms. table (from_members ms)) o) (table no_entries)
+    ≡ table (unwrap_or (option_map from_members o) no_entries)
 table_of None = refl
 table_of (Some ms) = refl
 

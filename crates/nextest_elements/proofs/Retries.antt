@@ -16,7 +16,8 @@ use Rattle.nextest_elements.specs.RetryPolicy.{backoff_at, count_at, is_below, I
 use Rattle.nextest_elements.specs.RetryFunction.{retry_table, policy_of}
 
 -- what is read at a key, or what stands for it
-pub leaf_defaulted : {X : Type 0} (read : Node → Result X FaultCause) (d : X) (o : Option Node) (x : X) → IsDefaulted d (λ n x. read n ≡ Ok x) o x → unwrap_or (leaf_at read o) d ≡ x
+pub leaf_defaulted : {X : Type 0} (read : Node → Result X FaultCause) (d : X) (o : Option Node) (x : X)
+    → IsDefaulted d (λ n x. read n ≡ Ok x) o x → unwrap_or (leaf_at read o) d ≡ x
 leaf_defaulted read d None x h = sym h
 leaf_defaulted read d (Some n) x h = rw h refl
 
@@ -34,7 +35,8 @@ fixed es count delay jitter h =
       leaf_defaulted bool_at false (get (key_text Jitter) es) jitter h.says_jitter,
     ) refl
 
-exponential : (es : Entries) (count delay : ℕ) (jitter : Bool) (max_delay : Option ℕ) → IsExponentialRetry es count delay jitter max_delay
+exponential : (es : Entries) (count delay : ℕ) (jitter : Bool) (max_delay : Option ℕ)
+    → IsExponentialRetry es count delay jitter max_delay
     → option_and_then policy_of (retry_table es) ≡ Some (policies.Exponential count delay jitter max_delay)
 exponential es count delay jitter max_delay h =
     rw (
@@ -46,6 +48,7 @@ exponential es count delay jitter max_delay h =
     ) (unless_below (is_below max_delay (Some delay)) _ h.not_below)
 
 -- The fields of a table give the policy that it says.
-pub retry_by_fields : (es : Entries) (p : RetryPolicy) → IsRetryTable es p → option_and_then policy_of (retry_table es) ≡ Some p
+pub retry_by_fields : (es : Entries) (p : RetryPolicy) → IsRetryTable es p
+    → option_and_then policy_of (retry_table es) ≡ Some p
 retry_by_fields es (policies.Fixed count delay jitter) h = fixed es count delay jitter h
 retry_by_fields es (policies.Exponential count delay jitter max_delay) h = exponential es count delay jitter max_delay h

@@ -22,7 +22,8 @@ pub record Test : Type 0 where
   pub binary : Binary
   pub name : List ℕ
 
--- The test of a name in the binary of an id that is built for the target, of which no more is known.
+-- The test of a name in the binary of an id that is built for the target, of which no more is
+-- known.
 abbrev pub named_test : (binary_id name : List ℕ) → Test
 named_test binary_id name = record {
   binary = record {

@@ -13,6 +13,7 @@ lines_more f xs i x d below same now new was is =
     ∙ ap (flat_map f) (ap (λ y. take i xs ++ y ∷ []) same ∙ sym (take_more xs i d below))
 
 -- the lines of values are those of what contracts see of them
-pub lines_of_views : {X Y : Type 0} (f : Y → List ℕ) (view : X → Y) (xs : List X) → flat_map (λ x. f (view x)) xs ≡ flat_map f (map view xs)
+pub lines_of_views : {X Y : Type 0} (f : Y → List ℕ) (view : X → Y) (xs : List X)
+    → flat_map (λ x. f (view x)) xs ≡ flat_map f (map view xs)
 lines_of_views f view [] = refl
 lines_of_views f view (x ∷ xs) = ap (λ rest. f (view x) ++ rest) (lines_of_views f view xs)

@@ -14,9 +14,11 @@ seen_through None file same = ap (option_map file_view) same
 seen_through (Some f) file same = ap (option_map file_view) same
 
 -- one more of each of two lists
-pub files_more : {A B Y : Type 0} (R : A → Y → Type 0) (view : B → Y) (named : List A) (i : ℕ) (x d : A) → i < length named → x ≡ get_or named i d
+pub files_more : {A B Y : Type 0} (R : A → Y → Type 0) (view : B → Y) (named : List A) (i : ℕ) (x d : A)
+    → i < length named → x ≡ get_or named i d
     → (now new : List B) (file : B) → AllZip R (take i named) (map view now) → R x (view file) → new ≡ now ++ file ∷ []
     → AllZip R (take (i + 1) named) (map view new)
 files_more R view named i x d below same now new file before is more =
-    let taken : take (i + 1) named ≡ take i named ++ x ∷ [] = take_more named i d below ∙ ap (λ y. take i named ++ y ∷ []) (sym same) in
+    let taken : take (i + 1) named ≡ take i named ++ x ∷ [] =
+    take_more named i d below ∙ ap (λ y. take i named ++ y ∷ []) (sym same) in
     rw (taken, more, map-append view now (file ∷ [])) (zip_push R (take i named) (map view now) x (view file) before is)

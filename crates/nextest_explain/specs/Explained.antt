@@ -35,8 +35,8 @@ asked_test command = record {
   name = command.test.now;
 }
 
--- A command asks a request over files: of its root, its profile, its features, the platforms that it
--- names, its mode and its one test.
+-- A command asks a request over files: of its root, its profile, its features, the platforms that
+-- it names, its mode and its one test.
 pub record Asks (command : Command) (files : LoadInputs) (request : Request (String Global))
     : Type 0 where
   pub root : request.root ≡ command.root.now

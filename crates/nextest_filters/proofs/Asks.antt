@@ -25,7 +25,8 @@ nests : (o : Option (Nested Re × Names)) → IsSomeAnd o (λ (written, names). 
 nests None is = absurd is
 nests (Some p) is = le-leb p.0.depth 250 is
 
-nested : (o : Option (Nested Re × Names)) → nests_within o ≡ true → IsSomeAnd o (λ (written, names). written.depth ≤ 250)
+nested : (o : Option (Nested Re × Names)) → nests_within o ≡ true
+    → IsSomeAnd o (λ (written, names). written.depth ≤ 250)
 nested None e = absurd (cc)
 nested (Some p) e = leb-true p.0.depth 250 e
 
@@ -70,10 +71,12 @@ or_true false b e = e
 begins : (part text : List ℕ) → is_some (after_prefix part text) ≡ true → HasSubslice text part
 begins part text e = let it = some_is (after_prefix part text) e in ([], it.0, after_is part text it.0 it.1)
 
-either_there : (part text : List ℕ) (c : ℕ) (b d : Bool) → is_some (after_prefix part (c ∷ text)) ≡ b → has_part part text ≡ d → (b || d) ≡ true
+either_there : (part text : List ℕ) (c : ℕ) (b d : Bool) → is_some (after_prefix part (c ∷ text)) ≡ b
+    → has_part part text ≡ d → (b || d) ≡ true
     → (has_part part text ≡ true → HasSubslice text part) → HasSubslice (c ∷ text) part
 either_there part text c true d first later one known = begins part (c ∷ text) first
-either_there part text c false d first later one known = let it = known (later ∙ one) in (c ∷ it.0, it.1, ap (λ l. c ∷ l) it.2)
+either_there part text c false d first later one known = let it = known (later ∙ one) in
+    (c ∷ it.0, it.1, ap (λ l. c ∷ l) it.2)
 
 part_there : (part text : List ℕ) → has_part part text ≡ true → HasSubslice text part
 part_there part [] e = begins part [] e
@@ -87,17 +90,20 @@ part_found part [] [] b e = found_first part [] b e
 part_found part [] (x ∷ a) b e = absurd (cc)
 part_found part (c ∷ text) [] b e = rw (found_first part (c ∷ text) b e) refl
 part_found part (c ∷ text) (x ∷ a) b e =
-    let rest : text ≡ a ++ (part ++ b) = cc in or_true (is_some (after_prefix part (c ∷ text))) (has_part part text) (part_found part text a b rest)
+    let rest : text ≡ a ++ (part ++ b) = cc in
+    or_true (is_some (after_prefix part (c ∷ text))) (has_part part text) (part_found part text a b rest)
 
 part_decides : (part text : List ℕ) → Decides (has_part part text) (HasSubslice text part)
 part_decides part text = (part_there part text, λ it. part_found part text it.0 it.1 it.2)
 
 -- A match of a regex.
-match_decides : (o : Option (Nested Re × Names)) (name : List ℕ) → Decides (found_in o name) (IsSomeAnd o (λ (written, names). IsSome (find written.value name 0)))
+match_decides : (o : Option (Nested Re × Names)) (name : List ℕ)
+    → Decides (found_in o name) (IsSomeAnd o (λ (written, names). IsSome (find written.value name 0)))
 match_decides None name = (λ e. absurd (let clash : false ≡ true = e in cc), λ is. absurd is)
 match_decides (Some p) name = (λ e. e, λ e. e)
 
-regex_decides : (text name : List ℕ) → Decides (found_in (read default_config (chars text)) name) (RegexMatches text name)
+regex_decides : (text name : List ℕ)
+    → Decides (found_in (read default_config (chars text)) name) (RegexMatches text name)
 unfolding RegexMatches
 regex_decides text name = match_decides (read default_config (chars text)) name
 

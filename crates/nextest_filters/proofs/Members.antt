@@ -33,7 +33,8 @@ or_right true b e = refl
 or_right false b e = e
 
 same_place : (a b : ℕ) → (a == b) ≡ true → a ≡ b
-same_place a b e = elim (eqb_tells a b) [ inl same ↦ same.1 | inr other ↦ absurd (let clash : false ≡ true = sym other.0 ∙ e in cc) ]
+same_place a b e = elim (eqb_tells a b)
+    [ inl same ↦ same.1 | inr other ↦ absurd (let clash : false ≡ true = sym other.0 ∙ e in cc) ]
 
 is_itself : (a : ℕ) → (a == a) ≡ true
 is_itself a = elim (eqb_tells a a) [ inl same ↦ same.0 | inr other ↦ absurd (other.1 refl) ]
@@ -41,7 +42,8 @@ is_itself a = elim (eqb_tells a a) [ inl same ↦ same.0 | inr other ↦ absurd 
 -- What is reached over some edges is reached with one more before them.
 more_edges : (e : Edge) (edges : List Edge) {a b : ℕ} → Reaches edges a b → Reaches (e ∷ edges) a b
 more_edges e edges (itself c) = itself c
-more_edges e edges (onward x y z (k, below, is) rest) = onward x y z (suc k, omega (arith, below), is) (more_edges e edges rest)
+more_edges e edges (onward x y z (k, below, is) rest) =
+    onward x y z (suc k, omega (arith, below), is) (more_edges e edges rest)
 
 is_reached : (edges : List Edge) (a b : ℕ) → reaches edges a b ≡ true → Reaches edges a b
 is_reached [] a b e = let same : a ≡ b = same_place a b e in subst (λ (x : ℕ). Reaches [] a x) same (itself a)
@@ -61,7 +63,8 @@ reach_itself [] a = is_itself a
 reach_itself (e ∷ edges) a = or_left (reaches edges a a) _ (reach_itself edges a)
 
 -- One more dependency in front of what is reached.
-reach_onward : (edges : List Edge) (a b c : ℕ) → DependsOn edges a b → reaches edges b c ≡ true → reaches edges a c ≡ true
+reach_onward : (edges : List Edge) (a b c : ℕ) → DependsOn edges a b → reaches edges b c ≡ true
+    → reaches edges a c ≡ true
 reach_onward [] a b c (k, below, is) t = absurd (omega (arith, below))
 reach_onward (e ∷ edges) a b c (zero, below, is) t =
     let from : e.from ≡ a = ap (λ (x : Edge). x.from) is in
@@ -69,7 +72,8 @@ reach_onward (e ∷ edges) a b c (zero, below, is) t =
     let start : reaches edges a e.from ≡ true = rw from (reach_itself edges a) in
     elim (one_of (reaches edges b c) (reaches edges b e.from && reaches edges e.to c) t) [
       | inl without ↦ or_right (reaches edges a c) _ (and_true _ _ start (rw to without))
-      | inr over ↦ or_right (reaches edges a c) _ (and_true _ _ start (both (reaches edges b e.from) (reaches edges e.to c) over).1)
+      | inr over ↦ or_right (reaches edges a c) _
+          (and_true _ _ start (both (reaches edges b e.from) (reaches edges e.to c) over).1)
     ]
 reach_onward (e ∷ edges) a b c (suc k, below, is) t =
     let step : DependsOn edges a b = (k, omega (arith, below), is) in
@@ -100,11 +104,13 @@ any_of test (y ∷ xs) x (zero, below, is) e = or_left (test y) _ (rw is e)
 any_of test (y ∷ xs) x (suc k, below, is) e = or_right (test y) _ (any_of test xs x (k, omega (arith, below), is) e)
 
 -- A package has a name that passes a test.
-has_name : (test : List ℕ → Bool) (found : Option (List ℕ)) → name_has test found ≡ true → (name : List ℕ) × (found ≡ Some name) × (test name ≡ true)
+has_name : (test : List ℕ → Bool) (found : Option (List ℕ)) → name_has test found ≡ true
+    → (name : List ℕ) × (found ≡ Some name) × (test name ≡ true)
 has_name test None e = absurd (cc)
 has_name test (Some name) e = (name, refl, e)
 
-names : (test : List ℕ → Bool) (found : Option (List ℕ)) (name : List ℕ) → found ≡ Some name → test name ≡ true → name_has test found ≡ true
+names : (test : List ℕ → Bool) (found : Option (List ℕ)) (name : List ℕ) → found ≡ Some name
+    → test name ≡ true → name_has test found ≡ true
 names test found name is e = ap (name_has test) is ∙ e
 
 -- Members with an accepted name, each beside one of a name, for any relation that is decided.
@@ -128,27 +134,37 @@ module _ (graph : Graph) (accepts : List ℕ → Bool) (name : List ℕ) (joins 
       let b = other.0 in
       let ends = both (is_named graph (λ x. bytes_eq x name) b) (joins a b) other.2 in
       let one = has_name accepts (slice_get graph.names a) parts.0 in
-      let two = has_name (λ x. bytes_eq x name) (slice_get graph.names b) ends.0 in
-      (a, b, (one.0, (first.1, one.1), one.2), (other.1, two.1 ∙ ap Some ((bytes_eq-Decides two.0 name).0 two.2)), sound a b ends.1)
+      let two = has_name (λ x. bytes_eq x name) (slice_get graph.names b) ends.0 in (
+        a,
+        b,
+        (one.0, (first.1, one.1), one.2),
+        (other.1, two.1 ∙ ap Some ((bytes_eq-Decides two.0 name).0 two.2)),
+        sound a b ends.1,
+      )
 
   joined_found : AreJoined → list_any is_one graph.members ≡ true
   joined_found (a, b, one, two, join) =
       any_of is_one graph.members a one.1.0
       (and_true _ _ (names accepts (slice_get graph.names a) one.0 one.1.1 one.2)
       (any_of (is_other a) graph.members b two.0
-      (and_true _ _ (names (λ x. bytes_eq x name) (slice_get graph.names b) name two.1 ((bytes_eq-Decides name name).1 refl)) (complete a b join))))
+      (and_true _ _ (names (λ x. bytes_eq x name) (slice_get graph.names b) name two.1
+      ((bytes_eq-Decides name name).1 refl)) (complete a b join))))
 
   joined_decides : Decides (list_any is_one graph.members) AreJoined
   joined_decides = (joined_there, joined_found)
 
 pub dependencies_are : (graph : Graph) (accepts : List ℕ → Bool) (set : MemberSet)
-    → ((name : List ℕ) → IsTrue (has_member set name) ↔ IsDependency graph accepts name) → has_member set ≡ is_dependency graph accepts
+    → ((name : List ℕ) → IsTrue (has_member set name) ↔ IsDependency graph accepts name)
+    → has_member set ≡ is_dependency graph accepts
 dependencies_are graph accepts set h =
     fun_ext (λ name. same_from_decides (has_member set name) (is_dependency graph accepts name) (h name)
-    (joined_decides graph accepts name (λ a b. reaches graph.edges a b) (λ a b. Reaches graph.edges a b) (λ a b. is_reached graph.edges a b) (λ a b r. reached_is graph.edges r)))
+    (joined_decides graph accepts name (λ a b. reaches graph.edges a b) (λ a b. Reaches graph.edges a b)
+    (λ a b. is_reached graph.edges a b) (λ a b r. reached_is graph.edges r)))
 
 pub dependents_are : (graph : Graph) (accepts : List ℕ → Bool) (set : MemberSet)
-    → ((name : List ℕ) → IsTrue (has_member set name) ↔ IsDependent graph accepts name) → has_member set ≡ is_dependent graph accepts
+    → ((name : List ℕ) → IsTrue (has_member set name) ↔ IsDependent graph accepts name)
+    → has_member set ≡ is_dependent graph accepts
 dependents_are graph accepts set h =
     fun_ext (λ name. same_from_decides (has_member set name) (is_dependent graph accepts name) (h name)
-    (joined_decides graph accepts name (λ a b. reaches graph.edges b a) (λ a b. Reaches graph.edges b a) (λ a b. is_reached graph.edges b a) (λ a b r. reached_is graph.edges r)))
+    (joined_decides graph accepts name (λ a b. reaches graph.edges b a) (λ a b. Reaches graph.edges b a)
+    (λ a b. is_reached graph.edges b a) (λ a b r. reached_is graph.edges r)))

@@ -14,8 +14,10 @@ pub read_ok : (engine : NextestFilters) (kind : FiltersetKind) (text : List ℕ)
 read_ok engine kind text m e = ap (result_map_both (λ (x : Filter). x) message) e
 
 pub read_err : (engine : NextestFilters) (kind : FiltersetKind) (text : List ℕ) (fault : FiltersetFault) (told : List ℕ)
-    → filter_in (compiled_in engine) (is_some engine.graph) kind text ≡ Err fault → told ≡ message fault → read_filter engine kind text ≡ Err told
-read_err engine kind text fault told e is = ap (result_map_both (λ (x : Filter). x) message) e ∙ ap Err (is_told told fault is)
+    → filter_in (compiled_in engine) (is_some engine.graph) kind text ≡ Err fault → told ≡ message fault
+    → read_filter engine kind text ≡ Err told
+read_err engine kind text fault told e is =
+    ap (result_map_both (λ (x : Filter). x) message) e ∙ ap Err (is_told told fault is)
   where
     is_told : (a : List ℕ) (f : FiltersetFault) → a ≡ message f → message f ≡ a
     is_told a f h = let back : message f ≡ a = cc in back

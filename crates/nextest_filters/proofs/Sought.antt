@@ -10,15 +10,19 @@ use Rattle.nextest_filters.specs.declared.engine.NextestFilters.{NextestFilters}
 use Rattle.nextest_filters.specs.Compiling.{sought_with, sought, compiled_in}
 use Rattle.nextest_filters.specs.Names.{question_in, asks}
 
-pub sought_known : (found : Option PackageGraph) (graph : PackageGraph) (field : Field) (accepts : List ℕ → Bool) → found ≡ Some graph
+pub sought_known : (found : Option PackageGraph) (graph : PackageGraph) (field : Field)
+    (accepts : List ℕ → Bool) → found ≡ Some graph
     → sought found field accepts ≡ sought_with graph field accepts
 sought_known found graph field accepts e = ap (λ g. sought g field accepts) e
 
-pub sought_unknown : (found : Option PackageGraph) (field : Field) (accepts : List ℕ → Bool) → found ≡ None → sought found field accepts ≡ accepts
+pub sought_unknown : (found : Option PackageGraph) (field : Field) (accepts : List ℕ → Bool) → found ≡ None
+    → sought found field accepts ≡ accepts
 sought_unknown found field accepts e = ap (λ g. sought g field accepts) e
 
-pub compiled_ok : (engine : NextestFilters) (field : Field) (sign : Sign) (text : List ℕ) (q : NameQuestion) (names : List ℕ → Bool)
-    → Ok q ≡ question_in sign text → names ≡ sought engine.graph field (asks q) → Ok names ≡ compiled_in engine field sign text
+pub compiled_ok : (engine : NextestFilters) (field : Field) (sign : Sign) (text : List ℕ) (q : NameQuestion)
+    (names : List ℕ → Bool)
+    → Ok q ≡ question_in sign text → names ≡ sought engine.graph field (asks q)
+    → Ok names ≡ compiled_in engine field sign text
 compiled_ok engine field sign text q names is same =
     ap Ok same ∙ ap (result_map_both (λ p. sought engine.graph field (asks p)) (λ (f : PatternFault). f)) is
 

@@ -36,7 +36,8 @@ sought None field accepts = accepts
 sought (Some graph) field accepts = sought_with graph field accepts
 
 -- The names that a text asks for behind a sign, where a field is asked, or why it asks for none.
-abbrev pub compiled_in : NextestFilters → Field → Sign → List ℕ → Result (List ℕ → Bool) PatternFault
+abbrev pub compiled_in : NextestFilters → Field → Sign → List ℕ
+    → Result (List ℕ → Bool) PatternFault
 compiled_in engine field sign text =
     result_map_both (λ question. sought engine.graph field (asks question)) (λ fault. fault)
     (question_in sign text)

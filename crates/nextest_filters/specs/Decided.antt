@@ -13,7 +13,8 @@ use Rattle.nextest_filters.specs.Compiling.{compiled_in}
 use Rattle.nextest_filters.specs.Engine.{Filter, read_filter, is_among, filter_holds_binary}
 
 -- What is read without a message is read.
-read_itself : (found : Result Filter FiltersetFault) (m : Filter) → result_map_both (λ marks. marks) message found ≡ Ok m → found ≡ Ok m
+read_itself : (found : Result Filter FiltersetFault) (m : Filter)
+    → result_map_both (λ marks. marks) message found ≡ Ok m → found ≡ Ok m
 read_itself (Ok marks) m e = cc
 read_itself (Err fault) m e = absurd (cc)
 
@@ -21,5 +22,7 @@ pub default_filter_answers : (engine : NextestFilters) (text : List ℕ) (m : Fi
     → read_filter engine DefaultFilter text ≡ Ok m → leaves m ≡ []
     → (binary : Binary) (default : Filter) → IsSome (filter_holds_binary m binary default)
 default_filter_answers engine text m read none binary default =
-    default_filters_answer is_among (compiled_in engine) (is_some engine.graph) text m default binary
-    (read_itself (filter_in (compiled_in engine) (is_some engine.graph) DefaultFilter text) m read) none
+    default_filters_answer is_among (compiled_in engine) (is_some engine.graph) text m default
+    binary
+    (read_itself (filter_in (compiled_in engine) (is_some engine.graph) DefaultFilter text) m
+    read) none

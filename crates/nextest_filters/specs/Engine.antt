@@ -35,7 +35,8 @@ abbrev pub filter_holds : Filter → Test → Filter → Bool
 filter_holds filter test default =
     says_true (marks_value_beside is_among (of_test test) default filter)
 
--- Whether a filter matches a binary, beside a default filter, or none where that depends on the test.
+-- Whether a filter matches a binary, beside a default filter, or none where that depends on the
+-- test.
 abbrev pub filter_holds_binary : Filter → Binary → Filter → Option Bool
 filter_holds_binary filter binary default =
     marks_value_beside is_among (subject_of binary None) default filter

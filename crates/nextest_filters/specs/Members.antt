@@ -22,13 +22,19 @@ is_named graph accepts place = name_has accepts (slice_get graph.names place)
 -- Whether a member with an accepted name reaches a member of this name.
 abbrev pub is_dependency : Graph → (List ℕ → Bool) → List ℕ → Bool
 is_dependency graph accepts name =
-    list_any (λ a. is_named graph accepts a
-    && list_any (λ b. is_named graph (λ other. bytes_eq other name) b && reaches graph.edges a b) graph.members)
+    list_any
+    (λ a. is_named graph accepts a
+    && list_any
+    (λ b. is_named graph (λ other. bytes_eq other name) b && reaches graph.edges a b)
+    graph.members)
     graph.members
 
 -- Whether a member of this name reaches a member with an accepted name.
 abbrev pub is_dependent : Graph → (List ℕ → Bool) → List ℕ → Bool
 is_dependent graph accepts name =
-    list_any (λ a. is_named graph accepts a
-    && list_any (λ b. is_named graph (λ other. bytes_eq other name) b && reaches graph.edges b a) graph.members)
+    list_any
+    (λ a. is_named graph accepts a
+    && list_any
+    (λ b. is_named graph (λ other. bytes_eq other name) b && reaches graph.edges b a)
+    graph.members)
     graph.members

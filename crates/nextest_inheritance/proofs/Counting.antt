@@ -28,7 +28,8 @@ is_until last [] = refl
 is_until last (x ∷ xs) = until_at last x xs (bytes_eq last x) (is_until last xs)
 
 -- a way that comes to the last for the first time repeats no name
-pub lead_distinct : (parents : Parents) (last x : Name) (xs : List Name) → LeadTo parents last (x ∷ xs) → (In last xs → ⊥) → IsDistinct bytes_eq (x ∷ xs)
+pub lead_distinct : (parents : Parents) (last x : Name) (xs : List Name) → LeadTo parents last (x ∷ xs)
+    → (In last xs → ⊥) → IsDistinct bytes_eq (x ∷ xs)
 unfolding IsDistinct
 lead_distinct parents last x [] leads out = (tt, tt)
 lead_distinct parents last x (y ∷ ys) leads out =
@@ -63,12 +64,15 @@ until_out last [] i = elim i [ ]
 until_out last (x ∷ xs) i = until_out_at last x xs (bytes_eq last x) refl (until_out last xs) i
 
 -- the ancestors of a name with a parent
-ancestors_some : (parents : Parents) (n : ℕ) (x y : Name) → parents x ≡ Some y → ancestors parents (suc n) x ≡ y ∷ ancestors parents n y
+ancestors_some : (parents : Parents) (n : ℕ) (x y : Name) → parents x ≡ Some y
+    → ancestors parents (suc n) x ≡ y ∷ ancestors parents n y
 ancestors_some parents n x y is = rw is refl
 
 -- the ancestors before a name comes lead to it
-up_to_at : (parents : Parents) (last x y : Name) (names : List Name) (same : Bool) → bytes_eq last y ≡ same → parents x ≡ Some y → In last (y ∷ names)
-    → (In last names → LeadTo parents last (y ∷ until last names)) → LeadTo parents last (x ∷ cond same [] (y ∷ until last names))
+up_to_at : (parents : Parents) (last x y : Name) (names : List Name) (same : Bool) → bytes_eq last y ≡ same
+    → parents x ≡ Some y → In last (y ∷ names)
+    → (In last names → LeadTo parents last (y ∷ until last names))
+    → LeadTo parents last (x ∷ cond same [] (y ∷ until last names))
 up_to_at parents last x y names true same is i more = (is ∙ ap Some (sym ((bytes_eq-Decides last y).0 same)), tt)
 up_to_at parents last x y names false same is here more =
     let bad : true ≡ false = sym (nat_list_eq_equiv.refl last) ∙ same in cc
@@ -82,7 +86,8 @@ up_to_step parents last n x None is more i = elim i [ ]
 up_to_step parents last n x (Some y) is more i =
     up_to_at parents last x y (ancestors parents n y) (bytes_eq last y) refl is i (more y)
 
-up_to : (parents : Parents) (last : Name) (n : ℕ) (x : Name) → In last (ancestors parents n x) → LeadTo parents last (x ∷ until last (ancestors parents n x))
+up_to : (parents : Parents) (last : Name) (n : ℕ) (x : Name) → In last (ancestors parents n x)
+    → LeadTo parents last (x ∷ until last (ancestors parents n x))
 up_to parents last zero x i = elim i [ ]
 up_to parents last (suc n) x i = up_to_step parents last n x (parents x) refl (λ y j. up_to parents last n y j) i
 
@@ -91,7 +96,8 @@ pub record IsUpTo (parents : Parents) (last x : Name) (n : ℕ) (names : List Na
   pub comes : In last (ancestors parents n x)
   pub is : until last (ancestors parents n x) ≡ names
 
-is_up_to : (parents : Parents) (last x : Name) (n : ℕ) (names : List Name) → LeadTo parents last (x ∷ names) → (In last names → ⊥) → length names + 1 ≤ n → IsUpTo parents last x n names
+is_up_to : (parents : Parents) (last x : Name) (n : ℕ) (names : List Name) → LeadTo parents last (x ∷ names)
+    → (In last names → ⊥) → length names + 1 ≤ n → IsUpTo parents last x n names
 is_up_to parents last x zero names leads out room = absurd (omega arith)
 is_up_to parents last x (suc n) [] leads out room =
     let all = ancestors_some parents n x last leads.0 in record {
@@ -107,19 +113,23 @@ is_up_to parents last x (suc n) (y ∷ ys) leads out room =
     }
 
 -- tests of each name
-all_pass : (test : Name → Bool) (names : List Name) → list_all test names ≡ true → AllByRecursion (λ name. test name ≡ true) names
+all_pass : (test : Name → Bool) (names : List Name) → list_all test names ≡ true
+    → AllByRecursion (λ name. test name ≡ true) names
 all_pass test [] is = tt
 all_pass test (x ∷ xs) is = let p = and_parts (test x) (list_all test xs) is in (p.0, all_pass test xs p.1)
 
-pass_all : (test : Name → Bool) (names : List Name) → AllByRecursion (λ name. test name ≡ true) names → list_all test names ≡ true
+pass_all : (test : Name → Bool) (names : List Name) → AllByRecursion (λ name. test name ≡ true) names
+    → list_all test names ≡ true
 pass_all test [] all = refl
 pass_all test (x ∷ xs) all = and_from (test x) (list_all test xs) all.0 (pass_all test xs all.1)
 
-all_plain : (names : List Name) → AllByRecursion (λ name. not (is_base name) ≡ true) names → AllByRecursion (λ name. is_base name ≡ false) names
+all_plain : (names : List Name) → AllByRecursion (λ name. not (is_base name) ≡ true) names
+    → AllByRecursion (λ name. is_base name ≡ false) names
 all_plain [] all = tt
 all_plain (x ∷ xs) all = (not-true (is_base x) all.0, all_plain xs all.1)
 
-plain_all : (names : List Name) → AllByRecursion (λ name. is_base name ≡ false) names → AllByRecursion (λ name. not (is_base name) ≡ true) names
+plain_all : (names : List Name) → AllByRecursion (λ name. is_base name ≡ false) names
+    → AllByRecursion (λ name. not (is_base name) ≡ true) names
 plain_all [] all = tt
 plain_all (x ∷ xs) all = (not_from_false (is_base x) all.0, plain_all xs all.1)
 
@@ -132,7 +142,8 @@ record IsPlainFrom (least : Name) (others : List Name) : Type 0 where
 plain_from : (least : Name) (others : List Name) → is_cycle least others ≡ true → IsPlainFrom least others
 plain_from least [] is = cc
 plain_from least (x ∷ xs) is =
-    let p = and_parts (list_all (λ name. not (is_base name)) (least ∷ x ∷ xs)) (list_all (precedes least) (x ∷ xs)) is in record {
+    let p = and_parts (list_all (λ name. not (is_base name)) (least ∷ x ∷ xs))
+    (list_all (precedes least) (x ∷ xs)) is in record {
       several = λ none. cc;
       plain = all_plain (least ∷ x ∷ xs) (all_pass (λ name. not (is_base name)) (least ∷ x ∷ xs) p.0);
       lowest = all_pass (precedes least) (x ∷ xs) p.1;
@@ -151,12 +162,15 @@ pub record IsCounted (parents : Parents) (name : Name) (cycle : List Name) : Typ
   pub is : IsCycleFrom parents name others
 
 counted_in : (parents : Parents) (n : ℕ) (name : Name) (cycle : List Name) (test : Bool)
-    → (is_member bytes_eq (ancestors parents n name) name && is_cycle name (before_first (bytes_eq name) (ancestors parents n name))) ≡ test
-    → cond test (Some (name ∷ before_first (bytes_eq name) (ancestors parents n name))) None ≡ Some cycle → IsCounted parents name cycle
+    → (is_member bytes_eq (ancestors parents n name) name
+    && is_cycle name (before_first (bytes_eq name) (ancestors parents n name))) ≡ test
+    → cond test (Some (name ∷ before_first (bytes_eq name) (ancestors parents n name))) None ≡ Some cycle
+    → IsCounted parents name cycle
 counted_in parents n name cycle false is e = cc
 counted_in parents n name cycle true is e = record {
   others = others;
-  begins = let f : name ∷ before_first (bytes_eq name) all ≡ cycle = cc in sym f ∙ ap (λ l. name ∷ l) (is_until name all);
+  begins = let f : name ∷ before_first (bytes_eq name) all ≡ cycle = cc in
+      sym f ∙ ap (λ l. name ∷ l) (is_until name all);
   is = record {
     several = plain.several;
     distinct = lead_distinct parents name name others around (until_out name all);
@@ -181,14 +195,19 @@ counted_in parents n name cycle true is e = record {
     plain : IsPlainFrom name others
     plain = plain_from name others (ap (is_cycle name) (sym (is_until name all)) ∙ parts.1)
 
-pub cycle_counted : (parents : Parents) (n : ℕ) (name : Name) (cycle : List Name) → cycle_from parents n name ≡ Some cycle → IsCounted parents name cycle
+pub cycle_counted : (parents : Parents) (n : ℕ) (name : Name) (cycle : List Name)
+    → cycle_from parents n name ≡ Some cycle → IsCounted parents name cycle
 cycle_counted parents n name cycle e = counted_in parents n name cycle _ refl e
 
 -- each cycle is counted, in as many steps as it has names
-pub counted_cycle : (parents : Parents) (n : ℕ) (least : Name) (others : List Name) → IsCycleFrom parents least others → length others + 1 ≤ n → cycle_from parents n least ≡ Some (least ∷ others)
+pub counted_cycle : (parents : Parents) (n : ℕ) (least : Name) (others : List Name)
+    → IsCycleFrom parents least others → length others + 1 ≤ n → cycle_from parents n least ≡ Some (least ∷ others)
 counted_cycle parents n least others cycle room =
     let u = is_up_to parents least least n others cycle.around (distinct_head least others cycle.distinct) room in
-    let same : before_first (bytes_eq least) (ancestors parents n least) ≡ others = is_until least (ancestors parents n least) ∙ u.is in
-    let comes : is_member bytes_eq (ancestors parents n least) least ≡ true = member_in least (ancestors parents n least) u.comes in
-    let passes : is_cycle least others ≡ true = from_plain least others (record { several = cycle.several; plain = cycle.plain; lowest = cycle.lowest }) in
+    let same : before_first (bytes_eq least) (ancestors parents n least) ≡ others =
+    is_until least (ancestors parents n least) ∙ u.is in
+    let comes : is_member bytes_eq (ancestors parents n least) least ≡ true =
+    member_in least (ancestors parents n least) u.comes in
+    let passes : is_cycle least others ≡ true =
+    from_plain least others (record { several = cycle.several; plain = cycle.plain; lowest = cycle.lowest }) in
     rw (same, comes, passes) refl

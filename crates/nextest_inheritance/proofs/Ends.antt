@@ -32,21 +32,25 @@ abbrev pub AreKeys : Parents → List Name → Type 0
 AreKeys parents keys = (name parent : Name) → parents name ≡ Some parent → In name keys
 
 -- names that have parents, none twice, are no more than the keys
-pub as_many : (parents : Parents) (keys : List Name) → AreKeys parents keys → (names : List Name) → IsDistinct bytes_eq names
+pub as_many : (parents : Parents) (keys : List Name) → AreKeys parents keys → (names : List Name)
+    → IsDistinct bytes_eq names
     → ((name : Name) → In name names → (parent : Name) × (parents name ≡ Some parent)) → length names ≤ length keys
 as_many parents keys are names distinct have =
     length-le_from_is_member nat_list_eq_equiv names keys distinct
     (λ name m. let h = have name (in_member name names m) in member_in name keys (are name h.0 h.1))
 
 -- one name more, that is none of them
-pub distinct_push : (xs : List Name) (x : Name) → IsDistinct bytes_eq xs → (In x xs → ⊥) → IsDistinct bytes_eq (xs ++ x ∷ [])
+pub distinct_push : (xs : List Name) (x : Name) → IsDistinct bytes_eq xs → (In x xs → ⊥)
+    → IsDistinct bytes_eq (xs ++ x ∷ [])
 distinct_push xs x distinct out =
-    IsDistinct-push nat_list_eq_equiv xs x distinct (false_from_ne_true (is_member bytes_eq xs x) (λ m. out (in_member x xs m)))
+    IsDistinct-push nat_list_eq_equiv xs x distinct
+    (false_from_ne_true (is_member bytes_eq xs x) (λ m. out (in_member x xs m)))
 
 abbrev Outcome : Parents → Name → Type 0
 Outcome parents name = Ends parents name ⊎ Returns parents name
 
-one_before : (parents : Parents) (name parent : Name) → parents name ≡ Some parent → Outcome parents parent → Outcome parents name
+one_before : (parents : Parents) (name parent : Name) → parents name ≡ Some parent → Outcome parents parent
+    → Outcome parents name
 one_before parents name parent is (inl e) = inl (goes is e)
 one_before parents name parent is (inr r) =
     inr (record {
@@ -58,7 +62,8 @@ one_before parents name parent is (inr r) =
       leads = (let P : Name → Type 0 = λ v. parents name ≡ Some v in subst P (sym r.from) is, r.leads);
     })
 
-came_back : (parents : Parents) (seen : List Name) (name : Name) → LeadTo parents name seen → IsDistinct bytes_eq seen → In name seen → Outcome parents name
+came_back : (parents : Parents) (seen : List Name) (name : Name) → LeadTo parents name seen
+    → IsDistinct bytes_eq seen → In name seen → Outcome parents name
 came_back parents seen name leads distinct i =
     let s = split_at name seen i in
     inr (record {
@@ -70,7 +75,8 @@ came_back parents seen name leads distinct i =
       leads = tt;
     })
 
-too_many : (parents : Parents) (keys : List Name) → AreKeys parents keys → (seen : List Name) (name parent : Name) → LeadTo parents name seen → IsDistinct bytes_eq seen
+too_many : (parents : Parents) (keys : List Name) → AreKeys parents keys
+    → (seen : List Name) (name parent : Name) → LeadTo parents name seen → IsDistinct bytes_eq seen
     → parents name ≡ Some parent → (In name seen → ⊥) → length keys ≤ length seen → ⊥
 too_many parents keys are seen name parent leads distinct is out room =
     let many = as_many parents keys are (name ∷ seen) (distinct_cons name seen out distinct) (λ x i. have x i) in
@@ -80,8 +86,10 @@ too_many parents keys are seen name parent leads distinct is out room =
     have x here = (parent, is)
     have x (there i) = lead_parent parents name seen x leads i
 
-step : (parents : Parents) (seen : List Name) (name : Name) (next : Option Name) → parents name ≡ next → LeadTo parents name seen → IsDistinct bytes_eq seen
-    → ((parent : Name) → parents name ≡ Some parent → (In name seen → ⊥) → Outcome parents parent) → Outcome parents name
+step : (parents : Parents) (seen : List Name) (name : Name) (next : Option Name) → parents name ≡ next
+    → LeadTo parents name seen → IsDistinct bytes_eq seen
+    → ((parent : Name) → parents name ≡ Some parent → (In name seen → ⊥) → Outcome parents parent)
+    → Outcome parents name
 step parents seen name None is leads distinct more = inl (ends is)
 step parents seen name (Some parent) is leads distinct more =
     elim (in_or_not name seen) [
@@ -89,17 +97,20 @@ step parents seen name (Some parent) is leads distinct more =
       | inr out ↦ one_before parents name parent is (more parent is out)
     ]
 
-explore : (parents : Parents) (keys : List Name) → AreKeys parents keys → (fuel : ℕ) (seen : List Name) (name : Name) → LeadTo parents name seen → IsDistinct bytes_eq seen
+explore : (parents : Parents) (keys : List Name) → AreKeys parents keys
+    → (fuel : ℕ) (seen : List Name) (name : Name) → LeadTo parents name seen → IsDistinct bytes_eq seen
     → length keys ≤ fuel + length seen → Outcome parents name
 explore parents keys are zero seen name leads distinct room =
     step parents seen name (parents name) refl leads distinct
     (λ parent is out. absurd (too_many parents keys are seen name parent leads distinct is out (omega arith)))
 explore parents keys are (suc fuel) seen name leads distinct room =
     step parents seen name (parents name) refl leads distinct (λ parent is out.
-    explore parents keys are fuel (seen ++ name ∷ []) parent (lead_push parents name seen parent leads is) (distinct_push seen name distinct out)
+    explore parents keys are fuel (seen ++ name ∷ []) parent (lead_push parents name seen parent leads is)
+    (distinct_push seen name distinct out)
     (omega (arith, length-append seen (name ∷ []))))
 
 -- each name leads to an end, or into a way that comes back
-pub ends_or_returns : (parents : Parents) (keys : List Name) → AreKeys parents keys → (name : Name) → Ends parents name ⊎ Returns parents name
+pub ends_or_returns : (parents : Parents) (keys : List Name) → AreKeys parents keys → (name : Name)
+    → Ends parents name ⊎ Returns parents name
 unfolding IsDistinct
 ends_or_returns parents keys are name = explore parents keys are (length keys) [] name tt tt (omega arith)

@@ -19,18 +19,23 @@ abbrev pub of_default : (known : Name → Bool) → WrittenParents → List Pare
 of_default known es = filter_map (λ p. option_and_then (parent_fault known p.0) p.1) (filter (λ p. is_default p.0) es)
 
 abbrev pub of_others : (known : Name → Bool) → WrittenParents → List ParentFault
-of_others known es = filter_map (λ p. option_and_then (parent_fault known p.0) p.1) (filter (λ p. not (is_default p.0)) es)
+of_others known es = filter_map (λ p. option_and_then (parent_fault known p.0) p.1)
+    (filter (λ p. not (is_default p.0)) es)
 
-all_gathered : (known : Name → Bool) (es : WrittenParents) → parent_faults known es ≡ of_default known es ++ of_others known es
-all_gathered known es = filter_map-append (λ p. option_and_then (parent_fault known p.0) p.1) (filter (λ p. is_default p.0) es) (filter (λ p. not (is_default p.0)) es)
+all_gathered : (known : Name → Bool) (es : WrittenParents)
+    → parent_faults known es ≡ of_default known es ++ of_others known es
+all_gathered known es = filter_map-append (λ p. option_and_then (parent_fault known p.0) p.1)
+    (filter (λ p. is_default p.0) es) (filter (λ p. not (is_default p.0)) es)
 
-above : {P : Type 0} (parent : P → Option Name) (key : String Global) (es : List (String Global × P)) → AllByRecursion (λ other. string_cmp key other ≡ Less) (keys_of es)
+above : {P : Type 0} (parent : P → Option Name) (key : String Global) (es : List (String Global × P))
+    → AllByRecursion (λ other. string_cmp key other ≡ Less) (keys_of es)
     → AllByRecursion (λ other. slice_cmp nat_cmp (string_bytes key) other ≡ Less) (keys_of (parents_view parent es))
 above parent key [] all = tt
 above parent key (e ∷ es) all = (all.0, above parent key es all.1)
 
 -- the names of profiles ascend
-pub names_ascend : {P : Type 0} (parent : P → Option Name) (es : List (String Global × P)) → IsStrictlySortedBy string_cmp (keys_of es)
+pub names_ascend : {P : Type 0} (parent : P → Option Name) (es : List (String Global × P))
+    → IsStrictlySortedBy string_cmp (keys_of es)
     → IsStrictlySortedBy (slice_cmp nat_cmp) (keys_of (parents_view parent es))
 unfolding IsStrictlySortedBy
 names_ascend parent [] sorted = tt
@@ -44,7 +49,8 @@ pub record IsGathered (known : Name → Bool) (es rest : WrittenParents) (first 
 abbrev fault_of : (known : Name → Bool) → Name × Option Name → Option ParentFault
 fault_of known e = option_and_then (parent_fault known e.0) e.1
 
-past_nothing : (known : Name → Bool) (es rest : WrittenParents) (e : Name × Option Name) (first others : List ParentFault)
+past_nothing : (known : Name → Bool) (es rest : WrittenParents) (e : Name × Option Name)
+    (first others : List ParentFault)
     → fault_of known e ≡ None → IsGathered known es (e ∷ rest) first others → IsGathered known es rest first others
 past_nothing known es rest e first others none g = at (is_default e.0) refl
   where
@@ -53,22 +59,29 @@ past_nothing known es rest e first others none g = at (is_default e.0) refl
     at false is = record { is_first = rw is at g.is_first; is_others = rw (is, none) at g.is_others }
 
 -- a profile with which nothing is wrong
-pub gather_nothing : (known : Name → Bool) (es rest : WrittenParents) (name text : Name) (parent : Option Name) (error : Option InheritsError) (first others : List ParentFault)
-    → text ≡ name → option_map inherits_error_view error ≡ option_and_then (parent_fault known text) parent → error ≡ None
+pub gather_nothing : (known : Name → Bool) (es rest : WrittenParents) (name text : Name)
+    (parent : Option Name) (error : Option InheritsError) (first others : List ParentFault)
+    → text ≡ name → option_map inherits_error_view error ≡ option_and_then (parent_fault known text) parent
+    → error ≡ None
     → IsGathered known es ((name, parent) ∷ rest) first others → IsGathered known es rest first others
 gather_nothing known es rest name text parent error first others same is none g =
     let fault : option_and_then (parent_fault known name) parent ≡ None =
-    ap (λ n. option_and_then (parent_fault known n) parent) (sym same) ∙ sym is ∙ ap (option_map inherits_error_view) none in
+    ap (λ n. option_and_then (parent_fault known n) parent) (sym same) ∙ sym is
+    ∙ ap (option_map inherits_error_view) none in
     past_nothing known es rest (name, parent) first others fault g
 
-gathered_all : (known : Name → Bool) (es : WrittenParents) (first others : List ParentFault) → IsGathered known es [] first others → first ++ others ≡ parent_faults known es
+gathered_all : (known : Name → Bool) (es : WrittenParents) (first others : List ParentFault)
+    → IsGathered known es [] first others → first ++ others ≡ parent_faults known es
 gathered_all known es first others g =
     let one : first ≡ of_default known es = sym (append-nil first) ∙ g.is_first in
     let other : others ≡ of_others known es = sym (append-nil others) ∙ g.is_others in
     ap (λ l. l ++ others) one ∙ ap (λ l. of_default known es ++ l) other ∙ sym (all_gathered known es)
 
 -- all of them
-pub errors_gathered : (known : Name → Bool) (es : WrittenParents) (errors first others : List InheritsError) → errors ≡ first ++ others
-    → IsGathered known es [] (map inherits_error_view first) (map inherits_error_view others) → map inherits_error_view errors ≡ parent_faults known es
+pub errors_gathered : (known : Name → Bool) (es : WrittenParents) (errors first others : List InheritsError)
+    → errors ≡ first ++ others
+    → IsGathered known es [] (map inherits_error_view first) (map inherits_error_view others)
+    → map inherits_error_view errors ≡ parent_faults known es
 errors_gathered known es errors first others is g =
-    ap (map inherits_error_view) is ∙ map-append inherits_error_view first others ∙ gathered_all known es (map inherits_error_view first) (map inherits_error_view others) g
+    ap (map inherits_error_view) is ∙ map-append inherits_error_view first others
+    ∙ gathered_all known es (map inherits_error_view first) (map inherits_error_view others) g

@@ -46,7 +46,8 @@ entry_of (e ∷ es) name (there i) =
     let found = entry_of es name i in record { entry = found.entry; within = there found.within; is = found.is }
 
 -- a name with a parent is a key
-keyed_at : (name parent : Name) (e : Name × Option Name) (es : WrittenParents) (order : Ordering) → slice_cmp nat_cmp name e.0 ≡ order
+keyed_at : (name parent : Name) (e : Name × Option Name) (es : WrittenParents) (order : Ordering)
+    → slice_cmp nat_cmp name e.0 ≡ order
     → unwrap_or (cond (is_eq order) (Some e.1) (lookup (is_at (slice_cmp nat_cmp name)) es)) None ≡ Some parent
     → (parents_in es name ≡ Some parent → In name (keys_of es)) → In name (e.0 ∷ keys_of es)
 keyed_at name parent e es Equal order is later = here_at name e.0 (keys_of es) (exact_bytes name e.0 order)
@@ -55,7 +56,8 @@ keyed_at name parent e es Greater order is later = there (later is)
 
 pub are_keys : (es : WrittenParents) → AreKeys (parents_in es) (keys_of es)
 are_keys [] name parent is = cc
-are_keys (e ∷ es) name parent is = keyed_at name parent e es (slice_cmp nat_cmp name e.0) refl is (are_keys es name parent)
+are_keys (e ∷ es) name parent is =
+    keyed_at name parent e es (slice_cmp nat_cmp name e.0) refl is (are_keys es name parent)
 
 -- what a filter keeps
 in_kept : {Y : Type 0} (y : Y) (ys : List Y) (o : Option Y) → o ≡ Some y → In y (cons_option o ys)
@@ -66,16 +68,19 @@ in_more : {Y : Type 0} (y : Y) (ys : List Y) (o : Option Y) → In y ys → In y
 in_more y ys None i = i
 in_more y ys (Some w) i = there i
 
-pub in_filter : {X Y : Type 0} (f : X → Option Y) (x : X) (y : Y) (xs : List X) → In x xs → f x ≡ Some y → In y (filter_map f xs)
+pub in_filter : {X Y : Type 0} (f : X → Option Y) (x : X) (y : Y) (xs : List X) → In x xs → f x ≡ Some y
+    → In y (filter_map f xs)
 in_filter f x y l (here {xs = xs}) e = in_kept y (filter_map f xs) (f x) e
 in_filter f x y l (there {y = z} {xs = xs} i) e = in_more y (filter_map f xs) (f z) (in_filter f x y xs i e)
 
-all_more : {X Y : Type 0} (f : X → Option Y) (P : Y → Type 0) (x : X) (ys : List Y) (o : Option Y) → f x ≡ o → ((y : Y) → f x ≡ Some y → P y)
+all_more : {X Y : Type 0} (f : X → Option Y) (P : Y → Type 0) (x : X) (ys : List Y) (o : Option Y) → f x ≡ o
+    → ((y : Y) → f x ≡ Some y → P y)
     → AllByRecursion P ys → AllByRecursion P (cons_option o ys)
 all_more f P x ys None is each all = all
 all_more f P x ys (Some y) is each all = (each y is, all)
 
-all_filter : {X Y : Type 0} (f : X → Option Y) (P : Y → Type 0) (xs : List X) → ((x : X) (y : Y) → f x ≡ Some y → P y) → AllByRecursion P (filter_map f xs)
+all_filter : {X Y : Type 0} (f : X → Option Y) (P : Y → Type 0) (xs : List X)
+    → ((x : X) (y : Y) → f x ≡ Some y → P y) → AllByRecursion P (filter_map f xs)
 all_filter f P [] each = tt
 all_filter f P (x ∷ xs) each = all_more f P x (filter_map f xs) (f x) refl (each x) (all_filter f P xs each)
 
@@ -89,19 +94,27 @@ cycle_cmp = slice_cmp name_cmp
 abbrev BeginsAt : (Name × Option Name → Option (List Name)) → Type 0
 BeginsAt f = (e : Name × Option Name) (c : List Name) → f e ≡ Some c → (others : List Name) × (c ≡ e.0 ∷ others)
 
-above_at : (f : Name × Option Name → Option (List Name)) → BeginsAt f → (name : Name) (others : List Name) (e : Name × Option Name) (o : Option (List Name)) (ds : List (List Name))
-    → f e ≡ o → name_cmp name e.0 ≡ Less → AllByRecursion (λ d. cycle_cmp (name ∷ others) d ≡ Less) ds → AllByRecursion (λ d. cycle_cmp (name ∷ others) d ≡ Less) (cons_option o ds)
+above_at : (f : Name × Option Name → Option (List Name)) → BeginsAt f
+    → (name : Name) (others : List Name) (e : Name × Option Name) (o : Option (List Name)) (ds : List (List Name))
+    → f e ≡ o → name_cmp name e.0 ≡ Less → AllByRecursion (λ d. cycle_cmp (name ∷ others) d ≡ Less) ds
+    → AllByRecursion (λ d. cycle_cmp (name ∷ others) d ≡ Less) (cons_option o ds)
 above_at f begins name others e None ds is below all = all
 above_at f begins name others e (Some d) ds is below all =
     let b = begins e d is in (rw (b.1, below) refl, all)
 
-above : (f : Name × Option Name → Option (List Name)) → BeginsAt f → (name : Name) (others : List Name) (es : WrittenParents)
-    → AllByRecursion (λ key. name_cmp name key ≡ Less) (keys_of es) → AllByRecursion (λ d. cycle_cmp (name ∷ others) d ≡ Less) (filter_map f es)
+above : (f : Name × Option Name → Option (List Name)) → BeginsAt f
+    → (name : Name) (others : List Name) (es : WrittenParents)
+    → AllByRecursion (λ key. name_cmp name key ≡ Less) (keys_of es)
+    → AllByRecursion (λ d. cycle_cmp (name ∷ others) d ≡ Less) (filter_map f es)
 above f begins name others [] below = tt
-above f begins name others (e ∷ es) below = above_at f begins name others e (f e) (filter_map f es) refl below.0 (above f begins name others es below.1)
+above f begins name others (e ∷ es) below =
+    above_at f begins name others e (f e) (filter_map f es) refl below.0 (above f begins name others es below.1)
 
-ascending_at : (f : Name × Option Name → Option (List Name)) → BeginsAt f → (e : Name × Option Name) (o : Option (List Name)) (es : WrittenParents) → f e ≡ o
-    → AllByRecursion (λ key. name_cmp e.0 key ≡ Less) (keys_of es) → IsStrictlySortedBy cycle_cmp (filter_map f es) → IsStrictlySortedBy cycle_cmp (cons_option o (filter_map f es))
+ascending_at : (f : Name × Option Name → Option (List Name)) → BeginsAt f
+    → (e : Name × Option Name) (o : Option (List Name)) (es : WrittenParents) → f e ≡ o
+    → AllByRecursion (λ key. name_cmp e.0 key ≡ Less) (keys_of es)
+    → IsStrictlySortedBy cycle_cmp (filter_map f es)
+    → IsStrictlySortedBy cycle_cmp (cons_option o (filter_map f es))
 unfolding IsStrictlySortedBy
 ascending_at f begins e None es is below sorted = sorted
 ascending_at f begins e (Some c) es is below sorted =
@@ -109,7 +122,8 @@ ascending_at f begins e (Some c) es is below sorted =
     let P : List Name → Type 0 = λ l. AllByRecursion (λ d. cycle_cmp l d ≡ Less) (filter_map f es) in
     (subst P (sym b.1) (above f begins e.0 b.0 es below), sorted)
 
-ascending : (f : Name × Option Name → Option (List Name)) → BeginsAt f → (es : WrittenParents) → IsStrictlySortedBy name_cmp (keys_of es) → IsStrictlySortedBy cycle_cmp (filter_map f es)
+ascending : (f : Name × Option Name → Option (List Name)) → BeginsAt f → (es : WrittenParents)
+    → IsStrictlySortedBy name_cmp (keys_of es) → IsStrictlySortedBy cycle_cmp (filter_map f es)
 unfolding IsStrictlySortedBy
 ascending f begins [] sorted = tt
 ascending f begins (e ∷ es) sorted = ascending_at f begins e (f e) es refl sorted.0 (ascending f begins es sorted.1)
@@ -117,28 +131,33 @@ ascending f begins (e ∷ es) sorted = ascending_at f begins e (f e) es refl sor
 abbrev counted_from : WrittenParents → Name × Option Name → Option (List Name)
 counted_from es e = cycle_from (parents_in es) (length es) e.0
 
-is_cycle_at : (parents : Parents) (name : Name) (cycle : List Name) → IsCounted parents name cycle → IsCycle parents cycle
+is_cycle_at : (parents : Parents) (name : Name) (cycle : List Name) → IsCounted parents name cycle
+    → IsCycle parents cycle
 is_cycle_at parents name cycle c = let P : List Name → Type 0 = IsCycle parents in subst P (sym c.begins) c.is
 
 length-keys_of : (es : WrittenParents) → length (keys_of es) ≡ length es
 length-keys_of [] = refl
 length-keys_of (e ∷ es) = let more = length-keys_of es in omega (arith, more)
 
-found : (es : WrittenParents) (least : Name) (others : List Name) → IsCycleFrom (parents_in es) least others → In (least ∷ others) (cycles_in es)
+found : (es : WrittenParents) (least : Name) (others : List Name) → IsCycleFrom (parents_in es) least others
+    → In (least ∷ others) (cycles_in es)
 found es least others cycle =
-    let have = λ (x : Name) (i : In x (least ∷ others)). lead_parent (parents_in es) least (least ∷ others) x cycle.around i in
+    let have = λ (x : Name) (i : In x (least ∷ others)). lead_parent (parents_in es) least (least ∷ others) x
+    cycle.around i in
     let first = have least here in
     let entry = entry_of es least (are_keys es least first.0 first.1) in
     let room = as_many (parents_in es) (keys_of es) (are_keys es) (least ∷ others) cycle.distinct have in
     let whole = counted_cycle (parents_in es) (length es) least others cycle (omega (arith, room, length-keys_of es)) in
-    in_filter (counted_from es) entry.entry (least ∷ others) es entry.within (ap (cycle_from (parents_in es) (length es)) entry.is ∙ whole)
+    in_filter (counted_from es) entry.entry (least ∷ others) es entry.within
+    (ap (cycle_from (parents_in es) (length es)) entry.is ∙ whole)
 
 found_cycle : (es : WrittenParents) (cycle : List Name) → IsCycle (parents_in es) cycle → In cycle (cycles_in es)
 found_cycle es [] c = absurd c
 found_cycle es (least ∷ others) c = found es least others c
 
 -- the cycles that are counted are exactly the cycles
-pub are_cycles : (es : WrittenParents) → IsStrictlySortedBy (slice_cmp nat_cmp) (keys_of es) → AreCycles (parents_in es) (cycles_in es)
+pub are_cycles : (es : WrittenParents) → IsStrictlySortedBy (slice_cmp nat_cmp) (keys_of es)
+    → AreCycles (parents_in es) (cycles_in es)
 are_cycles es sorted = record {
   sound = all_filter (counted_from es) (IsCycle (parents_in es)) es
       (λ e c is. is_cycle_at (parents_in es) e.0 c (cycle_counted (parents_in es) (length es) e.0 c is));
@@ -153,7 +172,8 @@ not_itself cmp total x y less same =
     let tied : cmp x y ≡ Equal = rw same (tied_itself total y) in
     let bad : Less ≡ Equal = sym less ∙ tied in cc
 
-same_first : {X : Type 0} (cmp : X → X → Ordering) → IsTotalOrder cmp → (x y : X) (xs ys : List X) → AllByRecursion (λ z. cmp x z ≡ Less) xs → AllByRecursion (λ z. cmp y z ≡ Less) ys
+same_first : {X : Type 0} (cmp : X → X → Ordering) → IsTotalOrder cmp → (x y : X) (xs ys : List X)
+    → AllByRecursion (λ z. cmp x z ≡ Less) xs → AllByRecursion (λ z. cmp y z ≡ Less) ys
     → In x (y ∷ ys) → In y (x ∷ xs) → x ≡ y
 same_first cmp total x y xs ys up over here j = refl
 same_first cmp total x y xs ys up over (there i) here = refl
@@ -162,20 +182,25 @@ same_first cmp total x y xs ys up over (there i) (there j) =
     let back : cmp y x ≡ Less = all_at (λ z. cmp y z ≡ Less) x ys over i in
     absurd (not_itself cmp total x x (total.trans x y x below back) refl)
 
-in_rest : {X : Type 0} (cmp : X → X → Ordering) → IsTotalOrder cmp → (x y z : X) (ys : List X) → x ≡ y → cmp x z ≡ Less → In z (y ∷ ys) → In z ys
+in_rest : {X : Type 0} (cmp : X → X → Ordering) → IsTotalOrder cmp → (x y z : X) (ys : List X) → x ≡ y
+    → cmp x z ≡ Less → In z (y ∷ ys) → In z ys
 in_rest cmp total x y z ys same less here = absurd (not_itself cmp total x z less same)
 in_rest cmp total x y z ys same less (there i) = i
 
-pub ascending_one : {X : Type 0} (cmp : X → X → Ordering) → IsTotalOrder cmp → (xs ys : List X) → IsStrictlySortedBy cmp xs → IsStrictlySortedBy cmp ys
+pub ascending_one : {X : Type 0} (cmp : X → X → Ordering) → IsTotalOrder cmp → (xs ys : List X)
+    → IsStrictlySortedBy cmp xs → IsStrictlySortedBy cmp ys
     → ((z : X) → In z xs → In z ys) → ((z : X) → In z ys → In z xs) → xs ≡ ys
 ascending_one cmp total [] [] up over to from = refl
 ascending_one cmp total [] (y ∷ ys) up over to from = elim (from y here) [ ]
 ascending_one cmp total (x ∷ xs) [] up over to from = elim (to x here) [ ]
 ascending_one {X} cmp total (x ∷ xs) (y ∷ ys) up over to from =
-    let same : x ≡ y = same_first cmp total x y xs ys (sorted_head cmp x xs up) (sorted_head cmp y ys over) (to x here) (from y here) in
+    let same : x ≡ y = same_first cmp total x y xs ys (sorted_head cmp x xs up) (sorted_head cmp y ys over)
+    (to x here) (from y here) in
     let rest = ascending_one cmp total xs ys (sorted_tail cmp x xs up) (sorted_tail cmp y ys over)
-    (λ z i. in_rest cmp total x y z ys same (all_at (λ w. cmp x w ≡ Less) z xs (sorted_head cmp x xs up) i) (to z (there i)))
-    (λ z i. in_rest cmp total y x z xs (sym same) (all_at (λ w. cmp y w ≡ Less) z ys (sorted_head cmp y ys over) i) (from z (there i))) in
+    (λ z i. in_rest cmp total x y z ys same (all_at (λ w. cmp x w ≡ Less) z xs (sorted_head cmp x xs up) i)
+    (to z (there i)))
+    (λ z i. in_rest cmp total y x z xs (sym same)
+    (all_at (λ w. cmp y w ≡ Less) z ys (sorted_head cmp y ys over) i) (from z (there i))) in
     ap (λ l. x ∷ l) rest ∙ ap (λ v. v ∷ ys) same
 
 -- a list of all cycles is that of those that are counted

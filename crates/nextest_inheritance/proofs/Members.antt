@@ -92,14 +92,17 @@ member_in x l (there {y = y} {xs = xs} i) = or_right (bytes_eq x y) _ (member_in
 -- names of which none comes twice
 pub distinct_head : (x : Name) (xs : List Name) → IsDistinct bytes_eq (x ∷ xs) → In x xs → ⊥
 distinct_head x xs distinct i =
-    let other : bytes_eq x x ≡ false = all_at (λ y. bytes_eq x y ≡ false) x xs (IsDistinct-head bytes_eq x xs distinct) i in
+    let other : bytes_eq x x ≡ false =
+    all_at (λ y. bytes_eq x y ≡ false) x xs (IsDistinct-head bytes_eq x xs distinct) i in
     let bad : true ≡ false = sym (nat_list_eq_equiv.refl x) ∙ other in cc
 
 pub distinct_tail : (x : Name) (xs : List Name) → IsDistinct bytes_eq (x ∷ xs) → IsDistinct bytes_eq xs
 distinct_tail x xs distinct = IsDistinct-tail bytes_eq x xs distinct
 
 pub distinct_cons : (x : Name) (xs : List Name) → (In x xs → ⊥) → IsDistinct bytes_eq xs → IsDistinct bytes_eq (x ∷ xs)
-distinct_cons x xs out distinct = IsDistinct-cons bytes_eq x xs (all_from (λ y. bytes_eq x y ≡ false) xs (λ y i. differ y i)) distinct
+distinct_cons x xs out distinct =
+    IsDistinct-cons bytes_eq x xs (all_from (λ y. bytes_eq x y ≡ false) xs (λ y i. differ y i)) distinct
   where
     differ : (y : Name) → In y xs → bytes_eq x y ≡ false
-    differ y i = false_from_ne_true (bytes_eq x y) (λ same. out (let P : Name → Type 0 = λ z. In z xs in subst P (sym ((bytes_eq-Decides x y).0 same)) i))
+    differ y i = false_from_ne_true (bytes_eq x y)
+        (λ same. out (let P : Name → Type 0 = λ z. In z xs in subst P (sym ((bytes_eq-Decides x y).0 same)) i))

@@ -41,7 +41,8 @@ from_from x y z below (inl same) = inr (rw same below)
 from_from x y z below (inr above) = inr (below_below x y z below above)
 
 -- of two names one is below the other, or they are the same
-pub one_below : (x y : Name) (o : Ordering) → slice_cmp nat_cmp x y ≡ o → (precedes x y ≡ true) ⊎ ((x ≡ y) ⊎ (precedes y x ≡ true))
+pub one_below : (x y : Name) (o : Ordering) → slice_cmp nat_cmp x y ≡ o
+    → (precedes x y ≡ true) ⊎ ((x ≡ y) ⊎ (precedes y x ≡ true))
 one_below x y Less is = inl (below_from x y is)
 one_below x y Equal is = inr (inl (exact_bytes x y is))
 one_below x y Greater is = inr (inr (below_from y x (nat_list_cmp_total.antisymm y x ∙ ap ordering_reverse is)))
@@ -59,7 +60,8 @@ least_of_more x xs l =
       | inr other ↦ record { name = l.name; within = there l.within; least = λ y i. over x xs l other y i }
     ]
   where
-    under : (x : Name) (xs : List Name) (l : Least xs) → precedes x l.name ≡ true → (y : Name) → In y (x ∷ xs) → IsFrom x y
+    under : (x : Name) (xs : List Name) (l : Least xs) → precedes x l.name ≡ true → (y : Name) → In y (x ∷ xs)
+        → IsFrom x y
     under x xs l below y here = inl refl
     under x xs l below y (there i) = from_from x l.name y below (l.least y i)
 
@@ -67,7 +69,8 @@ least_of_more x xs l =
     at_head x y (inl same) = inl same
     at_head x y (inr below) = inr below
 
-    over : (x : Name) (xs : List Name) (l : Least xs) → (x ≡ l.name) ⊎ (precedes l.name x ≡ true) → (y : Name) → In y (x ∷ xs) → IsFrom l.name y
+    over : (x : Name) (xs : List Name) (l : Least xs) → (x ≡ l.name) ⊎ (precedes l.name x ≡ true) → (y : Name)
+        → In y (x ∷ xs) → IsFrom l.name y
     over x xs l other y here = at_head x l.name other
     over x xs l other y (there i) = l.least y i
 
@@ -85,11 +88,13 @@ pub record IsLeastRing (parents : Parents) (least : Name) (others : List Name) :
   pub lowest : AllByRecursion (λ name. precedes least name ≡ true) others
 
 -- it goes round from each of its names
-turned : (parents : Parents) (first : Name) (others front : List Name) (name : Name) (back : List Name) → IsRing parents first others
+turned : (parents : Parents) (first : Name) (others front : List Name) (name : Name) (back : List Name)
+    → IsRing parents first others
     → first ∷ others ≡ front ++ name ∷ back → IsRing parents name (back ++ front)
 turned parents first others front name back ring is = record {
   around = lead_append parents name (name ∷ back) front
-      (let P : Name → Type 0 = λ v. LeadTo parents v (name ∷ back) in subst P (sym comes) (lead_back parents first front (name ∷ back) all))
+      (let P : Name → Type 0 = λ v. LeadTo parents v (name ∷ back) in
+      subst P (sym comes) (lead_back parents first front (name ∷ back) all))
       (lead_front parents first front (name ∷ back) all);
   distinct = IsDistinct-IsPermutation bytes_eq nat_list_eq_equiv.symm (front ++ name ∷ back) (name ∷ back ++ front)
       (IsPermutation-append_comm front (name ∷ back))
@@ -103,12 +108,14 @@ turned parents first others front name back ring is = record {
     comes = sym (first_or-append first front (name ∷ back)) ∙ sym (ap (first_or first) is)
 
 -- the same from its least name
-pub turned_least : (parents : Parents) (first : Name) (others front : List Name) (name : Name) (back : List Name) → IsRing parents first others
+pub turned_least : (parents : Parents) (first : Name) (others front : List Name) (name : Name)
+    (back : List Name) → IsRing parents first others
     → first ∷ others ≡ front ++ name ∷ back → ((other : Name) → In other (first ∷ others) → IsFrom name other)
     → IsLeastRing parents name (back ++ front)
 turned_least parents first others front name back ring is least = record {
   ring = whole;
-  lowest = all_from (λ other. precedes name other ≡ true) (back ++ front) (λ other i. above other i (least other (inside other i)));
+  lowest = all_from (λ other. precedes name other ≡ true) (back ++ front)
+      (λ other i. above other i (least other (inside other i)));
 }
   where
     whole : IsRing parents name (back ++ front)

@@ -27,13 +27,16 @@ parent_found parent [] name = refl
 parent_found parent (e ∷ es) name =
     first_of parent _ e.1 _ _ (parent_found parent es name)
 
-key_at : {P : Type 0} (found same : Bool) (profile : P) (later : Option P) (seen : Bool) → found ≡ same → is_some later ≡ seen → is_some (cond found (Some profile) later) ≡ (same || seen)
+key_at : {P : Type 0} (found same : Bool) (profile : P) (later : Option P) (seen : Bool) → found ≡ same
+    → is_some later ≡ seen → is_some (cond found (Some profile) later) ≡ (same || seen)
 key_at true same profile later seen is rest = rw (← is) refl
 key_at false same profile later seen is rest = rw (← is) rest
 
 -- a name is that of a profile exactly where the map has it
 pub key_found : {P : Type 0} (parent : P → Option Name) (es : List (String Global × P)) (name : Name)
-    → is_some (lookup (is_at (λ key. slice_cmp nat_cmp name (string_bytes key))) es) ≡ is_member bytes_eq (keys_of (parents_view parent es)) name
+    → is_some (lookup (is_at (λ key. slice_cmp nat_cmp name (string_bytes key))) es)
+    ≡ is_member bytes_eq (keys_of (parents_view parent es)) name
 key_found parent [] name = refl
 key_found parent (e ∷ es) name =
-    key_at _ (bytes_eq name (string_bytes e.0)) e.1 _ _ (is_eq-slice_cmp name (string_bytes e.0)) (key_found parent es name)
+    key_at _ (bytes_eq name (string_bytes e.0)) e.1 _ _ (is_eq-slice_cmp name (string_bytes e.0))
+    (key_found parent es name)

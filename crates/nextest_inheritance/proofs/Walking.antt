@@ -26,21 +26,27 @@ or_nothing false = refl
 -- before the first step
 pub walk_start : (parents : Parents) (start : Name) (walked : Name → Bool) → IsWalk parents start walked walked [] start
 unfolding IsDistinct
-walk_start parents start walked = record { starts = refl; leads = tt; distinct = tt; walked = λ name. or_nothing (walked name) }
+walk_start parents start walked =
+    record { starts = refl; leads = tt; distinct = tt; walked = λ name. or_nothing (walked name) }
 
 -- a name that was not walked is not on the path
-fresh : (parents : Parents) (start : Name) (old new : Name → Bool) (path : List Name) (end : Name) → IsWalk parents start old new path end → new end ≡ false → In end path → ⊥
+fresh : (parents : Parents) (start : Name) (old new : Name → Bool) (path : List Name) (end : Name)
+    → IsWalk parents start old new path end → new end ≡ false → In end path → ⊥
 fresh parents start old new path end walk unwalked i =
-    let is : new end ≡ true = walk.walked end ∙ or_right (old end) (is_member bytes_eq path end) (member_in end path i) in
+    let is : new end ≡ true =
+    walk.walked end ∙ or_right (old end) (is_member bytes_eq path end) (member_in end path i) in
     let bad : true ≡ false = sym is ∙ unwalked in cc
 
-member_push : (name last : Name) (path : List Name) → is_member bytes_eq (path ++ last ∷ []) name ≡ (is_member bytes_eq path name || bytes_eq name last)
+member_push : (name last : Name) (path : List Name)
+    → is_member bytes_eq (path ++ last ∷ []) name ≡ (is_member bytes_eq path name || bytes_eq name last)
 member_push name last [] = sym (or_nothing_right (bytes_eq name last))
   where
     or_nothing_right : (b : Bool) → b ≡ (b || false)
     or_nothing_right true = refl
     or_nothing_right false = refl
-member_push name last (x ∷ path) = ap (λ b. bytes_eq name x || b) (member_push name last path) ∙ or_again (bytes_eq name x) (is_member bytes_eq path name) (bytes_eq name last)
+member_push name last (x ∷ path) =
+    ap (λ b. bytes_eq name x || b) (member_push name last path)
+    ∙ or_again (bytes_eq name x) (is_member bytes_eq path name) (bytes_eq name last)
   where
     or_again : (a b c : Bool) → (a || (b || c)) ≡ ((a || b) || c)
     or_again true b c = refl
@@ -55,8 +61,10 @@ walked_more false false true new is = is
 walked_more false false false new is = is
 
 -- one step
-pub walk_step : (parents : Parents) (start : Name) (old new newer : Name → Bool) (path : List Name) (end next : Name) → IsWalk parents start old new path end
-    → parents end ≡ Some next → new end ≡ false → ((name : Name) → newer name ≡ cond (bytes_eq end name) true (new name))
+pub walk_step : (parents : Parents) (start : Name) (old new newer : Name → Bool) (path : List Name)
+    (end next : Name) → IsWalk parents start old new path end
+    → parents end ≡ Some next → new end ≡ false
+    → ((name : Name) → newer name ≡ cond (bytes_eq end name) true (new name))
     → IsWalk parents start old newer (path ++ end ∷ []) next
 walk_step parents start old new newer path end next walk is unwalked more = record {
   starts = first_or-append next path (end ∷ []) ∙ walk.starts;
@@ -73,11 +81,13 @@ pub cycle_keys : (es : WrittenParents) → AreKeys (cycle_parents (parents_in es
 cycle_keys es name parent is = are_keys es name parent (cycle_parent_is (parents_in es) name parent is).is
 
 -- there are profiles left while a walk goes on
-pub walk_short : (es : WrittenParents) (start : Name) (old new : Name → Bool) (path : List Name) (end next : Name) → IsWalk (cycle_parents (parents_in es)) start old new path end
+pub walk_short : (es : WrittenParents) (start : Name) (old new : Name → Bool) (path : List Name)
+    (end next : Name) → IsWalk (cycle_parents (parents_in es)) start old new path end
     → cycle_parents (parents_in es) end ≡ Some next → new end ≡ false → length path + 1 ≤ length (keys_of es)
 walk_short es start old new path end next walk is unwalked =
     let room = as_many (cycle_parents (parents_in es)) (keys_of es) (cycle_keys es) (end ∷ path)
-    (distinct_cons end path (fresh (cycle_parents (parents_in es)) start old new path end walk unwalked) walk.distinct) (λ name i. have name i) in
+    (distinct_cons end path (fresh (cycle_parents (parents_in es)) start old new path end walk unwalked)
+    walk.distinct) (λ name i. have name i) in
     omega (arith, room)
   where
     have : (name : Name) → In name (end ∷ path) → (parent : Name) × (cycle_parents (parents_in es) name ≡ Some parent)
@@ -85,12 +95,15 @@ walk_short es start old new path end next walk is unwalked =
     have name (there i) = lead_parent (cycle_parents (parents_in es)) end path name walk.leads i
 
 -- the place of a name, or the end
-place_at : {X : Type 0} (test : X → Bool) (xs : List X) (below : Bool) → nat_lt (position_or_len test xs) (length xs) ≡ below
+place_at : {X : Type 0} (test : X → Bool) (xs : List X) (below : Bool)
+    → nat_lt (position_or_len test xs) (length xs) ≡ below
     → unwrap_or (cond below (Some (position_or_len test xs)) None) (length xs) ≡ position_or_len test xs
 place_at test xs true is = refl
-place_at test xs false is = omega (arith, prefix_len-le-length (λ x. not (test x)) xs, ltb-false (position_or_len test xs) (length xs) is)
+place_at test xs false is =
+    omega (arith, prefix_len-le-length (λ x. not (test x)) xs, ltb-false (position_or_len test xs) (length xs) is)
 
-place_seen : (end : Name) (names : List (Bor Name)) → position_or_len (λ name. bytes_eq end name.now) names ≡ position_or_len (bytes_eq end) (borrowed_view names)
+place_seen : (end : Name) (names : List (Bor Name))
+    → position_or_len (λ name. bytes_eq end name.now) names ≡ position_or_len (bytes_eq end) (borrowed_view names)
 place_seen end [] = refl
 place_seen end (x ∷ names) = ap (λ n. cond (not (bytes_eq end x.now)) (1 + n) 0) (place_seen end names)
 
@@ -98,28 +111,36 @@ drop_seen : (n : ℕ) (names : List (Bor Name)) → borrowed_view (drop n names)
 drop_seen n names = sym (drop-map (λ name. name.now) n names)
 
 -- what a walk's ring is
-pub ring_seen : (end : Name) (names : List (Bor Name)) (from : ℕ) → from ≡ unwrap_or (position (λ name. bytes_eq end name.now) names) (length names)
+pub ring_seen : (end : Name) (names : List (Bor Name)) (from : ℕ)
+    → from ≡ unwrap_or (position (λ name. bytes_eq end name.now) names) (length names)
     → borrowed_view (take (length names - from) (drop from names)) ≡ path_from_name end (borrowed_view names)
 ring_seen end names from is =
-    let place : from ≡ position_or_len (bytes_eq end) (borrowed_view names) = is ∙ place_at (λ name. bytes_eq end name.now) names _ refl ∙ place_seen end names in
+    let place : from ≡ position_or_len (bytes_eq end) (borrowed_view names) =
+    is ∙ place_at (λ name. bytes_eq end name.now) names _ refl ∙ place_seen end names in
     let long : length (drop from names) ≡ length names - from = length-drop from names in
-    let whole : take (length names - from) (drop from names) ≡ drop from names = ap (λ n. take n (drop from names)) (sym long) ∙ take-length (drop from names) in
+    let whole : take (length names - from) (drop from names) ≡ drop from names =
+    ap (λ n. take n (drop from names)) (sym long) ∙ take-length (drop from names) in
     ap borrowed_view whole ∙ drop_seen from names ∙ ap (λ n. drop n (borrowed_view names)) place
 
 -- a path from a name on
-from_at : (end x : Name) (path : List Name) (same : Bool) → drop (cond (not same) (1 + position_or_len (bytes_eq end) path) 0) (x ∷ path) ≡ cond same (x ∷ path) (path_from_name end path)
+from_at : (end x : Name) (path : List Name) (same : Bool)
+    → drop (cond (not same) (1 + position_or_len (bytes_eq end) path) 0) (x ∷ path)
+    ≡ cond same (x ∷ path) (path_from_name end path)
 from_at end x path true = refl
 from_at end x path false = rw one-add refl
 
-from_is : (end x : Name) (path : List Name) → path_from_name end (x ∷ path) ≡ cond (bytes_eq end x) (x ∷ path) (path_from_name end path)
+from_is : (end x : Name) (path : List Name)
+    → path_from_name end (x ∷ path) ≡ cond (bytes_eq end x) (x ∷ path) (path_from_name end path)
 from_is end x path = from_at end x path (bytes_eq end x)
 
 -- it is empty where the name is not on the path
 pub nothing_from : (end : Name) (path : List Name) → path_from_name end path ≡ [] → is_member bytes_eq path end ≡ false
 nothing_from end [] none = refl
-nothing_from end (x ∷ path) none = out (bytes_eq end x) refl (sym (from_is end x path) ∙ none) (λ later. nothing_from end path later)
+nothing_from end (x ∷ path) none =
+    out (bytes_eq end x) refl (sym (from_is end x path) ∙ none) (λ later. nothing_from end path later)
   where
-    out : (same : Bool) → bytes_eq end x ≡ same → cond same (x ∷ path) (path_from_name end path) ≡ [] → (path_from_name end path ≡ [] → is_member bytes_eq path end ≡ false)
+    out : (same : Bool) → bytes_eq end x ≡ same → cond same (x ∷ path) (path_from_name end path) ≡ []
+        → (path_from_name end path ≡ [] → is_member bytes_eq path end ≡ false)
         → (bytes_eq end x || is_member bytes_eq path end) ≡ false
     out true is none later = cc
     out false is none later = rw is (later none)
@@ -131,11 +152,14 @@ pub record FromName (end : Name) (path ring : List Name) : Type 0 where
   pub is_path : path ≡ front ++ end ∷ back
   pub is_ring : ring ≡ end ∷ back
 
-pub something_from : (end : Name) (path : List Name) (first : Name) (rest : List Name) → path_from_name end path ≡ first ∷ rest → FromName end path (first ∷ rest)
+pub something_from : (end : Name) (path : List Name) (first : Name) (rest : List Name)
+    → path_from_name end path ≡ first ∷ rest → FromName end path (first ∷ rest)
 something_from end [] first rest is = cc
-something_from end (x ∷ path) first rest is = at (bytes_eq end x) refl (sym (from_is end x path) ∙ is) (λ later. something_from end path first rest later)
+something_from end (x ∷ path) first rest is =
+    at (bytes_eq end x) refl (sym (from_is end x path) ∙ is) (λ later. something_from end path first rest later)
   where
-    at : (same : Bool) → bytes_eq end x ≡ same → cond same (x ∷ path) (path_from_name end path) ≡ first ∷ rest → (path_from_name end path ≡ first ∷ rest → FromName end path (first ∷ rest))
+    at : (same : Bool) → bytes_eq end x ≡ same → cond same (x ∷ path) (path_from_name end path) ≡ first ∷ rest
+        → (path_from_name end path ≡ first ∷ rest → FromName end path (first ∷ rest))
         → FromName end (x ∷ path) (first ∷ rest)
     at true same is later =
         let e : end ≡ x = (bytes_eq-Decides end x).0 same in record {
@@ -145,4 +169,5 @@ something_from end (x ∷ path) first rest is = at (bytes_eq end x) refl (sym (f
           is_ring = sym is ∙ ap (λ v. v ∷ path) (sym e);
         }
     at false same is later =
-        let f = later is in record { front = x ∷ f.front; back = f.back; is_path = ap (λ l. x ∷ l) f.is_path; is_ring = f.is_ring }
+        let f = later is in record
+        { front = x ∷ f.front; back = f.back; is_path = ap (λ l. x ∷ l) f.is_path; is_ring = f.is_ring }

@@ -12,10 +12,12 @@ only_one x y here = refl
 only_one x y (there i) = elim i [ ]
 
 -- names that lead to `default`, and `default` after them, come once
-pub all_different : (parents : Parents) (name : Name) (chain : List Name) → LeadToDefault parents name chain → IsDistinct bytes_eq (with_default chain)
+pub all_different : (parents : Parents) (name : Name) (chain : List Name) → LeadToDefault parents name chain
+    → IsDistinct bytes_eq (with_default chain)
 unfolding IsDistinct
 all_different parents name [] leads = distinct_cons default_name [] (λ i. elim i [ ]) tt
-all_different parents name (x ∷ xs) leads = distinct_cons x (with_default xs) nowhere (all_different parents (parent_or_default parents name) xs leads.2)
+all_different parents name (x ∷ xs) leads =
+    distinct_cons x (with_default xs) nowhere (all_different parents (parent_or_default parents name) xs leads.2)
   where
     nowhere : In x (with_default xs) → ⊥
     nowhere i = elim (in_either x xs (default_name ∷ []) i) [

@@ -60,7 +60,8 @@ rest_at : (source : Source) (c : Option LoadCause) (steps : List LoadStep) → P
 rest_at source None steps h = h
 rest_at source (Some c) steps h = cc
 
-check_passes : (source : Source) (c : Option LoadCause) (steps : List LoadStep) → c ≡ None → Pass steps → Pass (check source c ∷ steps)
+check_passes : (source : Source) (c : Option LoadCause) (steps : List LoadStep) → c ≡ None → Pass steps
+    → Pass (check source c ∷ steps)
 check_passes source c steps is h = rw is h
 
 warnings_pass : {X : Type 0} (w : List X → Warning) (xs : List X) → Pass (warn_if_some w xs)
@@ -120,52 +121,68 @@ outcome_to kind (failed message) h = absurd h
 
 -- the law of what sources define
 abbrev pub DefinitionsLaw : Features → Type 0
-DefinitionsLaw features = (source : Source) (file : FileText) → Pass (definition_steps features source file) ↔ AreAcceptedDefinitions features source file
+DefinitionsLaw features = (source : Source) (file : FileText)
+    → Pass (definition_steps features source file) ↔ AreAcceptedDefinitions features source file
 
 -- the law of rules
 abbrev pub RulesLaw : {M K P : Type 0} → Readings M K P → Type 0
-RulesLaw engines = (lower : NameSet) (known : KnownNames) (source : Source) (file : FileText) → IsStrictlySortedBy (slice_cmp nat_cmp) (names_in file.profiles)
+RulesLaw engines = (lower : NameSet) (known : KnownNames) (source : Source) (file : FileText)
+    → IsStrictlySortedBy (slice_cmp nat_cmp) (names_in file.profiles)
     → Pass (rule_steps engines lower (sets_of known) source file) ↔ AreAcceptedRules engines lower known file
 
 -- the law of tools' files
 abbrev pub ToolsLaw : Type 0
 ToolsLaw = (tools : List ToolFile) → (first_fault (tool_steps [] tools) ≡ None) ↔ HaveOneFileEach tools
 
-module _ {M K P : Type 0} (engines : Readings M K P) (features : Features) (definitions : DefinitionsLaw features) (rules : RulesLaw engines) where
-  source_from : (below : List SourceText) (s : SourceText) → Pass (source_steps engines features below s) → IsAcceptedSource engines features below s
+module _ {M K P : Type 0} (engines : Readings M K P) (features : Features)
+    (definitions : DefinitionsLaw features) (rules : RulesLaw engines) where
+  source_from : (below : List SourceText) (s : SourceText) → Pass (source_steps engines features below s)
+      → IsAcceptedSource engines features below s
   source_from below s h =
       let own = own_tree s in
       let file = own_file s in
       let lower = map own_file below in
       let defined = definition_steps features s.source file in
       let ruled = rule_steps engines (profiles_in lower) (sets_of (known_to lower file)) s.source file in
-      let after_document = rest_at s.source (document_cause (tree_of s.text)) (file_steps engines features lower s.source own) h in
+      let after_document = rest_at s.source (document_cause (tree_of s.text))
+      (file_steps engines features lower s.source own) h in
       let after_own = pass_right (own_steps s.source own) (defined ++ ruled) after_document in
       record {
-        document = document_from (tree_of s.text) (cause_at s.source (document_cause (tree_of s.text)) (file_steps engines features lower s.source own) h);
-        elements = elements_from own (cause_at s.source (element_cause own) (unknown_steps s.source own) (pass_left (own_steps s.source own) (defined ++ ruled) after_document));
+        document = document_from (tree_of s.text)
+            (cause_at s.source (document_cause (tree_of s.text)) (file_steps engines features lower s.source own) h);
+        elements = elements_from own
+            (cause_at s.source (element_cause own) (unknown_steps s.source own)
+            (pass_left (own_steps s.source own) (defined ++ ruled) after_document));
         definitions = (definitions s.source file).0 (pass_left defined ruled after_own);
-        rules = (rules (lower_profiles below) (known_to lower file) s.source file (profiles_ascend own (own_sorted s))).0 (pass_right defined ruled after_own);
+        rules = (rules (lower_profiles below) (known_to lower file) s.source file
+            (profiles_ascend own (own_sorted s))).0 (pass_right defined ruled after_own);
       }
 
-  source_to : (below : List SourceText) (s : SourceText) → IsAcceptedSource engines features below s → Pass (source_steps engines features below s)
+  source_to : (below : List SourceText) (s : SourceText) → IsAcceptedSource engines features below s
+      → Pass (source_steps engines features below s)
   source_to below s h =
       let own = own_tree s in
       let file = own_file s in
       let lower = map own_file below in
       let defined = definition_steps features s.source file in
       let ruled = rule_steps engines (profiles_in lower) (sets_of (known_to lower file)) s.source file in
-      check_passes s.source (document_cause (tree_of s.text)) (file_steps engines features lower s.source own) (document_to (tree_of s.text) h.document)
-      (pass_both (own_steps s.source own) (defined ++ ruled) (check_passes s.source (element_cause own) (unknown_steps s.source own) (elements_to own h.elements) (unknown_passes s.source own))
+      check_passes s.source (document_cause (tree_of s.text)) (file_steps engines features lower s.source own)
+      (document_to (tree_of s.text) h.document)
+      (pass_both (own_steps s.source own) (defined ++ ruled)
+      (check_passes s.source (element_cause own) (unknown_steps s.source own) (elements_to own h.elements)
+      (unknown_passes s.source own))
       (pass_both defined ruled ((definitions s.source file).1 h.definitions)
-      ((rules (lower_profiles below) (known_to lower file) s.source file (profiles_ascend own (own_sorted s))).1 h.rules)))
+      ((rules (lower_profiles below) (known_to lower file) s.source file
+      (profiles_ascend own (own_sorted s))).1 h.rules)))
 
   -- each source is accepted over those below it, from some on
   AllFrom : List SourceText → List SourceText → Type 0
   AllFrom under [] = Unit {0}
   AllFrom under (s ∷ ss) = IsAcceptedSource engines features under s × AllFrom (under ++ s ∷ []) ss
 
-  all_over : (under ss : List SourceText) → AllFrom under ss → (below : List SourceText) (s : SourceText) (above : List SourceText) → ss ≡ below ++ s ∷ above → IsAcceptedSource engines features (under ++ below) s
+  all_over : (under ss : List SourceText) → AllFrom under ss
+      → (below : List SourceText) (s : SourceText) (above : List SourceText) → ss ≡ below ++ s ∷ above
+      → IsAcceptedSource engines features (under ++ below) s
   unfolding AllFrom
   all_over under [] h [] s above e = cc
   all_over under [] h (x ∷ below) s above e = cc
@@ -175,14 +192,20 @@ module _ {M K P : Type 0} (engines : Readings M K P) (features : Features) (defi
   all_over under (y ∷ ys) h (x ∷ below) s above e =
       let others : ys ≡ below ++ s ∷ above = cc in
       let head : y ≡ x = cc in
-      subst (λ (bs : List SourceText). IsAcceptedSource engines features bs s) (append_assoc under (y ∷ []) below ∙ ap (λ z. under ++ z ∷ below) head) (all_over (under ++ y ∷ []) ys h.1 below s above others)
+      subst (λ (bs : List SourceText). IsAcceptedSource engines features bs s)
+      (append_assoc under (y ∷ []) below ∙ ap (λ z. under ++ z ∷ below) head)
+      (all_over (under ++ y ∷ []) ys h.1 below s above others)
 
-  over_all : (under ss : List SourceText) → ((below : List SourceText) (s : SourceText) (above : List SourceText) → ss ≡ below ++ s ∷ above → IsAcceptedSource engines features (under ++ below) s) → AllFrom under ss
+  over_all : (under ss : List SourceText)
+      → ((below : List SourceText) (s : SourceText) (above : List SourceText) → ss ≡ below ++ s ∷ above
+      → IsAcceptedSource engines features (under ++ below) s) → AllFrom under ss
   unfolding AllFrom
   over_all under [] h = tt
   over_all under (y ∷ ys) h = (
     subst (λ (bs : List SourceText). IsAcceptedSource engines features bs y) (append-nil under) (h [] y ys refl),
-    over_all (under ++ y ∷ []) ys (λ below s above e. subst (λ (bs : List SourceText). IsAcceptedSource engines features bs s) (sym (append_assoc under (y ∷ []) below)) (h (y ∷ below) s above (ap (λ ss. y ∷ ss) e))),
+    over_all (under ++ y ∷ []) ys
+        (λ below s above e. subst (λ (bs : List SourceText). IsAcceptedSource engines features bs s)
+        (sym (append_assoc under (y ∷ []) below)) (h (y ∷ below) s above (ap (λ ss. y ∷ ss) e))),
   )
 
   -- inputs pass exactly where each is read or may be missing, and each source is accepted
@@ -190,7 +213,8 @@ module _ {M K P : Type 0} (engines : Readings M K P) (features : Features) (defi
     outcomes : Each (λ i. IsReadOrMissing i.source.kind i.outcome) is
     sources : AllFrom under (flat_map source_texts_of is)
 
-  no_text_from : (under : List SourceText) (i : Input) (is : List Input) → source_texts_of i ≡ [] → Pass (one_input_steps engines features under i ++ input_steps engines features (under ++ source_texts_of i) is)
+  no_text_from : (under : List SourceText) (i : Input) (is : List Input) → source_texts_of i ≡ []
+      → Pass (one_input_steps engines features under i ++ input_steps engines features (under ++ source_texts_of i) is)
       → (Pass (input_steps engines features under is) → Fine under is) → Fine under (i ∷ is)
   no_text_from under i is none h ih =
       let cause = outcome_cause i.source.kind i.outcome in
@@ -199,11 +223,19 @@ module _ {M K P : Type 0} (engines : Readings M K P) (features : Features) (defi
       let same : under ++ source_texts_of i ≡ under = ap (λ ts. under ++ ts) none ∙ append-nil under in
       let more = ih (subst (λ (us : List SourceText). Pass (input_steps engines features us is)) same rest) in
       record {
-        outcomes = (outcome_from i.source.kind i.outcome (cause_at i.source cause (flat_map (source_steps engines features under) (source_texts_of i)) (pass_left here (input_steps engines features (under ++ source_texts_of i) is) h)), more.outcomes);
-        sources = subst (λ (ts : List SourceText). AllFrom under (ts ++ flat_map source_texts_of is)) (sym none) more.sources;
+        outcomes = (
+          outcome_from i.source.kind i.outcome
+              (cause_at i.source cause (flat_map (source_steps engines features under) (source_texts_of i))
+              (pass_left here (input_steps engines features (under ++ source_texts_of i) is) h)),
+          more.outcomes,
+        );
+        sources = subst (λ (ts : List SourceText). AllFrom under (ts ++ flat_map source_texts_of is))
+            (sym none) more.sources;
       }
 
-  text_from : (under : List SourceText) (i : Input) (s : SourceText) (is : List Input) → source_texts_of i ≡ s ∷ [] → Pass (one_input_steps engines features under i ++ input_steps engines features (under ++ source_texts_of i) is)
+  text_from : (under : List SourceText) (i : Input) (s : SourceText) (is : List Input)
+      → source_texts_of i ≡ s ∷ []
+      → Pass (one_input_steps engines features under i ++ input_steps engines features (under ++ source_texts_of i) is)
       → (Pass (input_steps engines features (under ++ s ∷ []) is) → Fine (under ++ s ∷ []) is) → Fine under (i ∷ is)
   unfolding AllFrom
   text_from under i s is one h ih =
@@ -211,58 +243,87 @@ module _ {M K P : Type 0} (engines : Readings M K P) (features : Features) (defi
       let here = one_input_steps engines features under i in
       let rest = pass_right here (input_steps engines features (under ++ source_texts_of i) is) h in
       let first_part = pass_left here (input_steps engines features (under ++ source_texts_of i) is) h in
-      let said = rest_at i.source cause (flat_map (source_steps engines features under) (source_texts_of i)) first_part in
-      let only : flat_map (source_steps engines features under) (source_texts_of i) ≡ source_steps engines features under s = rw one (append-nil (source_steps engines features under s)) in
+      let said = rest_at i.source cause (flat_map (source_steps engines features under) (source_texts_of i))
+      first_part in
+      let only : flat_map (source_steps engines features under) (source_texts_of i)
+      ≡ source_steps engines features under s = rw one (append-nil (source_steps engines features under s)) in
       let more = ih (subst (λ (ts : List SourceText). Pass (input_steps engines features (under ++ ts) is)) one rest) in
       record {
-        outcomes = (outcome_from i.source.kind i.outcome (cause_at i.source cause (flat_map (source_steps engines features under) (source_texts_of i)) first_part), more.outcomes);
-        sources = subst (λ (ts : List SourceText). AllFrom under (ts ++ flat_map source_texts_of is)) (sym one) (source_from under s (subst Pass only said), more.sources);
+        outcomes = (
+          outcome_from i.source.kind i.outcome
+              (cause_at i.source cause (flat_map (source_steps engines features under) (source_texts_of i))
+              first_part),
+          more.outcomes,
+        );
+        sources = subst (λ (ts : List SourceText). AllFrom under (ts ++ flat_map source_texts_of is))
+            (sym one) (source_from under s (subst Pass only said), more.sources);
       }
 
   input_from : (under : List SourceText) (source : Source) (o : Outcome) (is : List Input)
       → let i : Input = record { source = source; outcome = o } in Pass (input_steps engines features under (i ∷ is))
       → ((us : List SourceText) → Pass (input_steps engines features us is) → Fine us is) → Fine under (i ∷ is)
-  input_from under source (text t) is h ih = text_from under (record { source = source; outcome = text t }) (record { source = source; text = t }) is refl h (ih (under ++ record { source = source; text = t } ∷ []))
-  input_from under source not_found is h ih = no_text_from under (record { source = source; outcome = not_found }) is refl h (ih under)
-  input_from under source not_a_directory is h ih = no_text_from under (record { source = source; outcome = not_a_directory }) is refl h (ih under)
-  input_from under source (failed message) is h ih = no_text_from under (record { source = source; outcome = failed message }) is refl h (ih under)
+  input_from under source (text t) is h ih =
+      text_from under (record { source = source; outcome = text t }) (record { source = source; text = t }) is
+      refl h (ih (under ++ record { source = source; text = t } ∷ []))
+  input_from under source not_found is h ih =
+      no_text_from under (record { source = source; outcome = not_found }) is refl h (ih under)
+  input_from under source not_a_directory is h ih =
+      no_text_from under (record { source = source; outcome = not_a_directory }) is refl h (ih under)
+  input_from under source (failed message) is h ih =
+      no_text_from under (record { source = source; outcome = failed message }) is refl h (ih under)
 
-  inputs_from : (under : List SourceText) (is : List Input) → Pass (input_steps engines features under is) → Fine under is
+  inputs_from : (under : List SourceText) (is : List Input) → Pass (input_steps engines features under is)
+      → Fine under is
   unfolding AllFrom
   inputs_from under [] h = record { outcomes = tt; sources = tt }
   inputs_from under (i ∷ is) h = input_from under i.source i.outcome is h (λ us. inputs_from us is)
 
-  no_text_to : (under : List SourceText) (i : Input) (is : List Input) → source_texts_of i ≡ [] → IsReadOrMissing i.source.kind i.outcome → Pass (input_steps engines features under is)
+  no_text_to : (under : List SourceText) (i : Input) (is : List Input) → source_texts_of i ≡ []
+      → IsReadOrMissing i.source.kind i.outcome → Pass (input_steps engines features under is)
       → Pass (one_input_steps engines features under i ++ input_steps engines features (under ++ source_texts_of i) is)
   no_text_to under i is none read h =
       let cause = outcome_cause i.source.kind i.outcome in
       let nothing : Pass (flat_map (source_steps engines features under) (source_texts_of i)) = rw none refl in
       let same : under ≡ under ++ source_texts_of i = sym (ap (λ ts. under ++ ts) none ∙ append-nil under) in
-      pass_both (one_input_steps engines features under i) (input_steps engines features (under ++ source_texts_of i) is)
-      (check_passes i.source cause (flat_map (source_steps engines features under) (source_texts_of i)) (outcome_to i.source.kind i.outcome read) nothing)
+      pass_both (one_input_steps engines features under i)
+      (input_steps engines features (under ++ source_texts_of i) is)
+      (check_passes i.source cause (flat_map (source_steps engines features under) (source_texts_of i))
+      (outcome_to i.source.kind i.outcome read) nothing)
       (subst (λ (us : List SourceText). Pass (input_steps engines features us is)) same h)
 
-  text_to : (under : List SourceText) (i : Input) (s : SourceText) (is : List Input) → source_texts_of i ≡ s ∷ [] → IsReadOrMissing i.source.kind i.outcome → IsAcceptedSource engines features under s → Pass (input_steps engines features (under ++ s ∷ []) is)
+  text_to : (under : List SourceText) (i : Input) (s : SourceText) (is : List Input)
+      → source_texts_of i ≡ s ∷ [] → IsReadOrMissing i.source.kind i.outcome
+      → IsAcceptedSource engines features under s → Pass (input_steps engines features (under ++ s ∷ []) is)
       → Pass (one_input_steps engines features under i ++ input_steps engines features (under ++ source_texts_of i) is)
   text_to under i s is one read accepted h =
       let cause = outcome_cause i.source.kind i.outcome in
-      let only : flat_map (source_steps engines features under) (source_texts_of i) ≡ source_steps engines features under s = rw one (append-nil (source_steps engines features under s)) in
-      pass_both (one_input_steps engines features under i) (input_steps engines features (under ++ source_texts_of i) is)
-      (check_passes i.source cause (flat_map (source_steps engines features under) (source_texts_of i)) (outcome_to i.source.kind i.outcome read) (subst Pass (sym only) (source_to under s accepted)))
+      let only : flat_map (source_steps engines features under) (source_texts_of i)
+      ≡ source_steps engines features under s = rw one (append-nil (source_steps engines features under s)) in
+      pass_both (one_input_steps engines features under i)
+      (input_steps engines features (under ++ source_texts_of i) is)
+      (check_passes i.source cause (flat_map (source_steps engines features under) (source_texts_of i))
+      (outcome_to i.source.kind i.outcome read) (subst Pass (sym only) (source_to under s accepted)))
       (subst (λ (ts : List SourceText). Pass (input_steps engines features (under ++ ts) is)) (sym one) h)
 
   input_to : (under : List SourceText) (source : Source) (o : Outcome) (is : List Input)
-      → let i : Input = record { source = source; outcome = o } in IsReadOrMissing source.kind o → AllFrom under (source_texts_of i ++ flat_map source_texts_of is)
-      → ((us : List SourceText) → AllFrom us (flat_map source_texts_of is) → Pass (input_steps engines features us is)) → Pass (input_steps engines features under (i ∷ is))
+      → let i : Input = record { source = source; outcome = o } in IsReadOrMissing source.kind o
+      → AllFrom under (source_texts_of i ++ flat_map source_texts_of is)
+      → ((us : List SourceText) → AllFrom us (flat_map source_texts_of is)
+      → Pass (input_steps engines features us is)) → Pass (input_steps engines features under (i ∷ is))
   unfolding AllFrom
   input_to under source (text t) is read h ih =
       let s : SourceText = record { source = source; text = t } in
       text_to under (record { source = source; outcome = text t }) s is refl read h.0 (ih (under ++ s ∷ []) h.1)
-  input_to under source not_found is read h ih = no_text_to under (record { source = source; outcome = not_found }) is refl read (ih under h)
-  input_to under source not_a_directory is read h ih = no_text_to under (record { source = source; outcome = not_a_directory }) is refl read (ih under h)
-  input_to under source (failed message) is read h ih = no_text_to under (record { source = source; outcome = failed message }) is refl read (ih under h)
+  input_to under source not_found is read h ih =
+      no_text_to under (record { source = source; outcome = not_found }) is refl read (ih under h)
+  input_to under source not_a_directory is read h ih =
+      no_text_to under (record { source = source; outcome = not_a_directory }) is refl read (ih under h)
+  input_to under source (failed message) is read h ih =
+      no_text_to under (record { source = source; outcome = failed message }) is refl read (ih under h)
 
-  inputs_to : (under : List SourceText) (is : List Input) → Each (λ i. IsReadOrMissing i.source.kind i.outcome) is → AllFrom under (flat_map source_texts_of is) → Pass (input_steps engines features under is)
+  inputs_to : (under : List SourceText) (is : List Input)
+      → Each (λ i. IsReadOrMissing i.source.kind i.outcome) is → AllFrom under (flat_map source_texts_of is)
+      → Pass (input_steps engines features under is)
   inputs_to under [] read h = refl
   inputs_to under (i ∷ is) read h = input_to under i.source i.outcome is read.0 h (λ us. inputs_to us is read.1)
 
@@ -284,9 +345,11 @@ module _ {M K P : Type 0} (engines : Readings M K P) (features : Features) (defi
           tools = (tools files.tools).0 (pass_left first_part (inputs ++ whole) h);
           outcomes = fine.outcomes;
           sources = all_over [] ss fine.sources;
-          merged_elements = elements_from n (cause_at (repository_of files) (element_cause n) (check (repository_of files) parents ∷ []) last);
+          merged_elements = elements_from n
+              (cause_at (repository_of files) (element_cause n) (check (repository_of files) parents ∷ []) last);
           merged_parents = (sound_parents (is_known no_profiles written) written (parents_ascend n (whole_sorted ss))).0
-              (some_none bad_parents _ (cause_at (repository_of files) parents [] (rest_at (repository_of files) (element_cause n) (check (repository_of files) parents ∷ []) last)));
+              (some_none bad_parents _ (cause_at (repository_of files) parents []
+              (rest_at (repository_of files) (element_cause n) (check (repository_of files) parents ∷ []) last)));
         }
 
     pub accepted_to : IsAccepted engines features files → Pass (load_steps engines features files)
@@ -297,21 +360,28 @@ module _ {M K P : Type 0} (engines : Readings M K P) (features : Features) (defi
         let n = merged_tree ss in
         let parents = parent_cause no_profiles (merged_file ss).profiles in
         let written = written_parents (merged_file ss).profiles in
-        let none = (sound_parents (is_known no_profiles written) written (parents_ascend n (whole_sorted ss))).1 h.merged_parents in
+        let none = (sound_parents (is_known no_profiles written) written
+        (parents_ascend n (whole_sorted ss))).1 h.merged_parents in
         let sound : parents ≡ None = ap (if_some bad_parents) none in
         pass_both (tool_steps [] files.tools) (inputs ++ whole) ((tools files.tools).1 h.tools)
         (pass_both inputs whole (inputs_to [] (inputs_of files) h.outcomes (over_all [] ss h.sources))
-        (check_passes (repository_of files) (element_cause n) (check (repository_of files) parents ∷ []) (elements_to n h.merged_elements)
+        (check_passes (repository_of files) (element_cause n) (check (repository_of files) parents ∷ [])
+        (elements_to n h.merged_elements)
         (check_passes (repository_of files) parents [] sound refl)))
 
-    refusal_is : (old new : List Warning) (e : ConfigParseError) (o : Ending) → error_view e ≡ o → WentThrough (load_steps engines features files) old new o → IsMemory e ⊎ (IsAccepted engines features files → ⊥)
+    refusal_is : (old new : List Warning) (e : ConfigParseError) (o : Ending) → error_view e ≡ o
+        → WentThrough (load_steps engines features files) old new o
+        → IsMemory e ⊎ (IsAccepted engines features files → ⊥)
     refusal_is old new e passed is h = absurd (not_passed e is)
-    refusal_is old new e (refused fault) is h = inr (λ fine. let bad : Some fault ≡ None = sym h.0 ∙ accepted_to fine in cc)
+    refusal_is old new e (refused fault) is h =
+        inr (λ fine. let bad : Some fault ≡ None = sym h.0 ∙ accepted_to fine in cc)
     refusal_is old new e no_memory is h = inl is
     refusal_is old new e malformed is h = absurd h
 
     -- what the end of a load says of its files
-    pub verdict : {T : Type 0} {old new : List Warning} (r : Result T ConfigParseError) → Ran (load_steps engines features files) old new (ending r)
-        → MatchResult r (λ _. IsAccepted engines features files) (λ e. IsMemory e ⊎ (IsAccepted engines features files → ⊥))
+    pub verdict : {T : Type 0} {old new : List Warning} (r : Result T ConfigParseError)
+        → Ran (load_steps engines features files) old new (ending r)
+        → MatchResult r (λ _. IsAccepted engines features files)
+        (λ e. IsMemory e ⊎ (IsAccepted engines features files → ⊥))
     verdict (Ok x) ran = accepted_from ran.is.0
     verdict {T} {old} {new} (Err e) ran = refusal_is old new e (error_view e) refl ran.is

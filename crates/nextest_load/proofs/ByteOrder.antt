@@ -30,7 +30,8 @@ below_lower : (t u : List ℕ) (ts : List (List ℕ)) → cmp t u ≡ Less → I
 below_lower t u [] h b = tt
 below_lower t u (v ∷ ts) h b = (nat_list_cmp_total.trans t u v h b.0, below_lower t u ts h b.1)
 
-below_at : (o : Ordering) (s t u : List ℕ) (ts : List (List ℕ)) → cmp s t ≡ Less → IsBelow s (u ∷ ts) → IsBelow s (insert_text t ts)
+below_at : (o : Ordering) (s t u : List ℕ) (ts : List (List ℕ)) → cmp s t ≡ Less → IsBelow s (u ∷ ts)
+    → IsBelow s (insert_text t ts)
     → IsBelow s (match_ordering o (t ∷ u ∷ ts) (u ∷ ts) (u ∷ insert_text t ts))
 below_at Less s t u ts h b ih = (h, b)
 below_at Equal s t u ts h b ih = b
@@ -40,7 +41,8 @@ below_insert : (s t : List ℕ) (ts : List (List ℕ)) → cmp s t ≡ Less → 
 below_insert s t [] h b = (h, tt)
 below_insert s t (u ∷ ts) h b = below_at (cmp t u) s t u ts h b (below_insert s t ts h b.1)
 
-insert_at : (o : Ordering) (t u : List ℕ) (ts : List (List ℕ)) → cmp t u ≡ o → IsStrictlySortedBy cmp (u ∷ ts) → IsStrictlySortedBy cmp (insert_text t ts)
+insert_at : (o : Ordering) (t u : List ℕ) (ts : List (List ℕ)) → cmp t u ≡ o → IsStrictlySortedBy cmp (u ∷ ts)
+    → IsStrictlySortedBy cmp (insert_text t ts)
     → IsStrictlySortedBy cmp (match_ordering o (t ∷ u ∷ ts) (u ∷ ts) (u ∷ insert_text t ts))
 unfolding IsStrictlySortedBy
 insert_at Less t u ts is s ih = ((is, below_lower t u ts is s.0), s)
@@ -57,7 +59,8 @@ unfolding IsStrictlySortedBy
 ordered [] = tt
 ordered (t ∷ ts) = inserted t (in_byte_order ts) (ordered ts)
 
-to_insert_at : (o : Ordering) (t u z : List ℕ) (ts : List (List ℕ)) → cmp t u ≡ o → In z (t ∷ u ∷ ts) → (In z (t ∷ ts) → In z (insert_text t ts))
+to_insert_at : (o : Ordering) (t u z : List ℕ) (ts : List (List ℕ)) → cmp t u ≡ o → In z (t ∷ u ∷ ts)
+    → (In z (t ∷ ts) → In z (insert_text t ts))
     → In z (match_ordering o (t ∷ u ∷ ts) (u ∷ ts) (u ∷ insert_text t ts))
 to_insert_at Less t u z ts is i ih = i
 to_insert_at Equal t u z ts is here ih = here_at t u ts (exact_bytes t u is)
@@ -123,10 +126,12 @@ equal_from Equal h = refl
 equal_from Greater h = cc
 
 -- a set has a text exactly where the text is that of a key
-set_in : (z : List ℕ) (ks : List (String Global)) → list_any (is_at (λ k. slice_cmp nat_cmp z (string_bytes k))) ks ≡ true → In z (map string_bytes ks)
+set_in : (z : List ℕ) (ks : List (String Global))
+    → list_any (is_at (λ k. slice_cmp nat_cmp z (string_bytes k))) ks ≡ true → In z (map string_bytes ks)
 set_in z [] h = cc
 set_in z (k ∷ ks) h =
-    elim (or_cases (is_eq (slice_cmp nat_cmp z (string_bytes k))) (list_any (is_at (λ k. slice_cmp nat_cmp z (string_bytes k))) ks) h) [
+    elim (or_cases (is_eq (slice_cmp nat_cmp z (string_bytes k)))
+    (list_any (is_at (λ k. slice_cmp nat_cmp z (string_bytes k))) ks) h) [
       | inl same ↦ here_at z (string_bytes k) (map string_bytes ks) (exact_bytes z (string_bytes k) (equal_from _ same))
       | inr more ↦ there (set_in z ks more)
     ]
@@ -135,7 +140,8 @@ or_second : (a b : Bool) → b ≡ true → (a || b) ≡ true
 or_second true b h = refl
 or_second false b h = h
 
-in_set : (z : List ℕ) (ts : List (List ℕ)) (ks : List (String Global)) → ts ≡ map string_bytes ks → In z ts → list_any (is_at (λ k. slice_cmp nat_cmp z (string_bytes k))) ks ≡ true
+in_set : (z : List ℕ) (ts : List (List ℕ)) (ks : List (String Global)) → ts ≡ map string_bytes ks → In z ts
+    → list_any (is_at (λ k. slice_cmp nat_cmp z (string_bytes k))) ks ≡ true
 in_set z [] ks e i = elim i [ ]
 in_set z (t ∷ ts) [] e i = cc
 in_set z (t ∷ ts) (k ∷ ks) e here =
@@ -145,24 +151,30 @@ in_set z (t ∷ ts) (k ∷ ks) e (there i) =
     let rest : ts ≡ map string_bytes ks = cc in
     or_second (is_eq (slice_cmp nat_cmp z (string_bytes k))) _ (in_set z ts ks rest i)
 
-below_texts : (k : String Global) (ks : List (String Global)) → AllByRecursion (λ y. string_cmp k y ≡ Less) ks → IsBelow (string_bytes k) (map string_bytes ks)
+below_texts : (k : String Global) (ks : List (String Global)) → AllByRecursion (λ y. string_cmp k y ≡ Less) ks
+    → IsBelow (string_bytes k) (map string_bytes ks)
 below_texts k [] h = tt
 below_texts k (l ∷ ks) h = (h.0, below_texts k ks h.1)
 
-texts_ascend : (ks : List (String Global)) → IsStrictlySortedBy string_cmp ks → IsStrictlySortedBy cmp (map string_bytes ks)
+texts_ascend : (ks : List (String Global)) → IsStrictlySortedBy string_cmp ks
+    → IsStrictlySortedBy cmp (map string_bytes ks)
 unfolding IsStrictlySortedBy
 texts_ascend [] h = tt
 texts_ascend (k ∷ ks) h = (below_texts k ks h.0, texts_ascend ks h.1)
 
 -- the keys of a set that has the same texts are these texts in the order of their bytes
-pub keys_in_order : (set : BTreeSet (String Global)) (all : List (List ℕ)) → IsStrictlySortedBy string_cmp set.keys → ((q : List ℕ) → contains_text set q ≡ is_one_of all q) → map string_bytes set.keys ≡ in_byte_order all
+pub keys_in_order : (set : BTreeSet (String Global)) (all : List (List ℕ))
+    → IsStrictlySortedBy string_cmp set.keys → ((q : List ℕ) → contains_text set q ≡ is_one_of all q)
+    → map string_bytes set.keys ≡ in_byte_order all
 keys_in_order set all sorted same =
-    ascending_one cmp nat_list_cmp_total (map string_bytes set.keys) (in_byte_order all) (texts_ascend set.keys sorted) (ordered all)
+    ascending_one cmp nat_list_cmp_total (map string_bytes set.keys) (in_byte_order all)
+    (texts_ascend set.keys sorted) (ordered all)
     (λ z i. to_order z all (one_in z all (sym (same z) ∙ in_set z (map string_bytes set.keys) set.keys refl i)))
     (λ z i. set_in z set.keys (same z ∙ in_one z all (from_order z all i)))
 
 -- an empty set tells of nothing
-pub nothing_told : (warning : List (List ℕ) → Warning) (set : BTreeSet (String Global)) (all : List (List ℕ)) → IsStrictlySortedBy string_cmp set.keys → ((q : List ℕ) → contains_text set q ≡ is_one_of all q)
+pub nothing_told : (warning : List (List ℕ) → Warning) (set : BTreeSet (String Global)) (all : List (List ℕ))
+    → IsStrictlySortedBy string_cmp set.keys → ((q : List ℕ) → contains_text set q ≡ is_one_of all q)
     → length set.keys ≡ 0 → warn_if_some warning (in_byte_order all) ≡ []
 nothing_told warning set all sorted same empty = by set.keys refl empty
   where
@@ -171,10 +183,15 @@ nothing_told warning set all sorted same empty = by set.keys refl empty
     by (k ∷ ks) is none = absurd (omega (arith, none))
 
 -- any other tells of its texts
-pub texts_told : (warning : List (List ℕ) → Warning) (set : BTreeSet (String Global)) (all : List (List ℕ)) → IsStrictlySortedBy string_cmp set.keys → ((q : List ℕ) → contains_text set q ≡ is_one_of all q)
-    → (length set.keys ≡ 0 → ⊥) → warn_if_some warning (in_byte_order all) ≡ warn (warning (map string_bytes set.keys)) ∷ []
+pub texts_told : (warning : List (List ℕ) → Warning) (set : BTreeSet (String Global)) (all : List (List ℕ))
+    → IsStrictlySortedBy string_cmp set.keys → ((q : List ℕ) → contains_text set q ≡ is_one_of all q)
+    → (length set.keys ≡ 0 → ⊥)
+    → warn_if_some warning (in_byte_order all) ≡ warn (warning (map string_bytes set.keys)) ∷ []
 texts_told warning set all sorted same some = by set.keys refl some
   where
-    by : (ks : List (String Global)) → set.keys ≡ ks → (length ks ≡ 0 → ⊥) → warn_if_some warning (in_byte_order all) ≡ warn (warning (map string_bytes set.keys)) ∷ []
+    by : (ks : List (String Global)) → set.keys ≡ ks → (length ks ≡ 0 → ⊥)
+        → warn_if_some warning (in_byte_order all) ≡ warn (warning (map string_bytes set.keys)) ∷ []
     by [] is none = absurd (none refl)
-    by (k ∷ ks) is none = ap (warn_if_some warning) (sym (keys_in_order set all sorted same) ∙ ap (map string_bytes) is) ∙ ap (λ l. warn (warning (map string_bytes l)) ∷ []) (sym is)
+    by (k ∷ ks) is none = ap (warn_if_some warning)
+        (sym (keys_in_order set all sorted same) ∙ ap (map string_bytes) is)
+        ∙ ap (λ l. warn (warning (map string_bytes l)) ∷ []) (sym is)

@@ -31,10 +31,12 @@ among_is [] id = refl
 among_is (x ∷ ids) id = λ i. turned id x i || among_is ids id i
 
 -- an id of an order stands in its table, and no other
-pub stands_is : (path : Path) (text : List ℕ) (ids : List Name) → IsOrder path text ids → (id : Name) → is_one_of ids id ≡ stands_in path text id
+pub stands_is : (path : Path) (text : List ℕ) (ids : List Name) → IsOrder path text ids → (id : Name)
+    → is_one_of ids id ≡ stands_in path text id
 stands_is path text ids order id = sym (among_is ids id) ∙ order.exact id
 
-one_before : (path : Path) (text : List ℕ) (a : Name) (ids : List Name) (b : Name) → AllByRecursion (IsBefore path text a) ids → is_one_of ids b ≡ true → IsBefore path text a b
+one_before : (path : Path) (text : List ℕ) (a : Name) (ids : List Name) (b : Name)
+    → AllByRecursion (IsBefore path text a) ids → is_one_of ids b ≡ true → IsBefore path text a b
 one_before path text a [] b h k = absurd (true≢false (sym k))
 one_before path text a (x ∷ ids) b h k =
     elim (or_cases (bytes_eq x b) (is_one_of ids b) k) [
@@ -43,7 +45,8 @@ one_before path text a (x ∷ ids) b h k =
     ]
 
 -- of two ids of an order, the first is before the other
-before_in_order : (path : Path) (text : List ℕ) (ids : List Name) (a b : Name) → AllBefore path text ids → comes_first ids a b ≡ true → is_one_of ids b ≡ true → IsBefore path text a b
+before_in_order : (path : Path) (text : List ℕ) (ids : List Name) (a b : Name) → AllBefore path text ids
+    → comes_first ids a b ≡ true → is_one_of ids b ≡ true → IsBefore path text a b
 before_in_order path text [] a b h first k = absurd (true≢false (sym k))
 before_in_order path text (x ∷ ids) a b h first k =
     let parts = and_parts _ (bytes_eq x a || comes_first ids a b) first in
@@ -60,7 +63,8 @@ before_in_order path text (x ∷ ids) a b h first k =
     ]
 
 -- the first of two names of tables is defined before the other
-defined_before : (sections : List Section) (names : List Name) (a b : Name) → AreIdsOf sections names → comes_first names a b ≡ true → IsDefinedBefore sections a b
+defined_before : (sections : List Section) (names : List Name) (a b : Name) → AreIdsOf sections names
+    → comes_first names a b ≡ true → IsDefinedBefore sections a b
 defined_before [] names a b none first = absurd (true≢false (sym first ∙ ap (λ ns. comes_first ns a b) none))
 defined_before (s ∷ sections) names a b (own, more, is, order, rest) h =
     let first : comes_first (own ++ more) a b ≡ true = ap (λ ns. comes_first ns a b) (sym is) ∙ h in
@@ -102,23 +106,37 @@ defined_before (s ∷ sections) names a b (own, more, is, order, rest) h =
     ]
 
 -- so it is for all ids that stand in the order of names
-pub all_defined_before : (sections : List Section) (names ids : List Name) → AreIdsOf sections names → AllComeFirst names ids → AllDefinedBefore sections ids
+pub all_defined_before : (sections : List Section) (names ids : List Name) → AreIdsOf sections names
+    → AllComeFirst names ids → AllDefinedBefore sections ids
 all_defined_before sections names [] are h = h
-all_defined_before sections names (id ∷ ids) are h =
-    (all_map (λ other first. defined_before sections names id other are first) ids h.0, all_defined_before sections names ids are h.1)
+all_defined_before sections names (id ∷ ids) are h = (
+  all_map (λ other first. defined_before sections names id other are first) ids h.0,
+  all_defined_before
+      sections names ids are h.1,
+)
 
 -- the ids of some tables, and then of others
-pub ids_of_both : (some others : List Section) (names more : List Name) → AreIdsOf some names → AreIdsOf others more → AreIdsOf (some ++ others) (names ++ more)
+pub ids_of_both : (some others : List Section) (names more : List Name) → AreIdsOf some names
+    → AreIdsOf others more → AreIdsOf (some ++ others) (names ++ more)
 ids_of_both [] others names more none are = subst (AreIdsOf others) (ap (λ ns. ns ++ more) (sym none)) are
-ids_of_both (s ∷ some) others names more (own, rest, is, order, after) are =
-    (own, rest ++ more, ap (λ ns. ns ++ more) is ∙ append_assoc own rest more, order, ids_of_both some others rest more after are)
+ids_of_both (s ∷ some) others names more (own, rest, is, order, after) are = (
+  own,
+  rest ++ more,
+  ap (λ ns. ns ++ more) is
+      ∙ append_assoc own rest more,
+  order,
+  ids_of_both some others rest more after are,
+)
 
 -- the ids of one table more
-pub ids_with_last : (path : Path) (ss : List SourceText) (s : SourceText) (names own : List Name) → AreIdsOf (sections_at path ss) names → IsOrder path s.text own → AreIdsOf (sections_at path (ss ++ s ∷ [])) (names ++ own)
+pub ids_with_last : (path : Path) (ss : List SourceText) (s : SourceText) (names own : List Name)
+    → AreIdsOf (sections_at path ss) names → IsOrder path s.text own
+    → AreIdsOf (sections_at path (ss ++ s ∷ [])) (names ++ own)
 ids_with_last path ss s names own are order =
     let one = λ (t : SourceText). let section : Section = record { path = path; text = t.text } in section in
     let last : AreIdsOf (sections_at path (s ∷ [])) own = (own, [], sym (nil_last own), order, refl) in
-    subst (λ (sections : List Section). AreIdsOf sections (names ++ own)) (sym (map-append one ss (s ∷ []))) (ids_of_both (sections_at path ss) (sections_at path (s ∷ [])) names own are last)
+    subst (λ (sections : List Section). AreIdsOf sections (names ++ own)) (sym (map-append one ss (s ∷ [])))
+    (ids_of_both (sections_at path ss) (sections_at path (s ∷ [])) names own are last)
   where
     nil_last : (xs : List Name) → xs ++ [] ≡ xs
     nil_last [] = refl

@@ -14,11 +14,13 @@ use Rattle.nextest_sources.proofs.Ends.{refusal_found, memory_found}
 use Rattle.nextest_tables.specs.Tables.{a_file}
 use Rattle.nextest_load.specs.Steps.{element_cause}
 
-passes : (fs : List Fault) (paths : List (List ℕ)) (at new : ReadState) → outcome fs paths at ≡ Ok new → (fs ≡ []) × (noting paths at ≡ new)
+passes : (fs : List Fault) (paths : List (List ℕ)) (at new : ReadState) → outcome fs paths at ≡ Ok new
+    → (fs ≡ []) × (noting paths at ≡ new)
 passes [] paths at new h = (refl, cc)
 passes (f ∷ fs) paths at new h = cc
 
-fails : (fs : List Fault) (paths : List (List ℕ)) (at : ReadState) (f : Fault) → outcome fs paths at ≡ Err f → first fs ≡ Some f
+fails : (fs : List Fault) (paths : List (List ℕ)) (at : ReadState) (f : Fault) → outcome fs paths at ≡ Err f
+    → first fs ≡ Some f
 fails [] paths at f h = cc
 fails (g ∷ fs) paths at f h = cc
 
@@ -28,7 +30,8 @@ unfolding reading start
 none_found s n new h = (passes (faults s [] n) (unknown s [] n) start new h).0
 
 -- and it has noted the unknown paths, and no others
-pub noted_are : (s : Schema) (n : Node) (w : Walk) → reading s n start ≡ Ok (walk_view w) → (q : List ℕ) → contains_text w.unknown q ≡ is_one_of (unknown s [] n) q
+pub noted_are : (s : Schema) (n : Node) (w : Walk) → reading s n start ≡ Ok (walk_view w) → (q : List ℕ)
+    → contains_text w.unknown q ≡ is_one_of (unknown s [] n) q
 unfolding reading start walk_view
 noted_are s n w h q = sym (ap (λ at. at.is_noted q) (passes (faults s [] n) (unknown s [] n) start (walk_view w) h).1)
 
@@ -41,9 +44,16 @@ pub no_cause : (n : Node) (new : ReadState) → reading a_file n start ≡ Ok ne
 no_cause n new h = rw (none_found a_file n new h) refl
 
 -- how the refusal of a reader is told
-tells : (source : Source) (n : Node) (e : ConfigParseError) (t : Option Fault) → ((f : Fault) → t ≡ Some f → reading a_file n start ≡ Err f) → (t ≡ None → error_view e ≡ no_memory) → Refuses e (option_map (λ f. at_source source (bad_element f)) t) → Found (option_map (at_source source) (element_cause n)) (error_view e)
+tells : (source : Source) (n : Node) (e : ConfigParseError) (t : Option Fault)
+    → ((f : Fault) → t ≡ Some f → reading a_file n start ≡ Err f) → (t ≡ None → error_view e ≡ no_memory)
+    → Refuses e (option_map (λ f. at_source source (bad_element f)) t)
+    → Found (option_map (at_source source) (element_cause n)) (error_view e)
 tells source n e None fault memory h = memory_found _ e (memory refl)
-tells source n e (Some f) fault memory h = rw (first_found a_file n f (fault f refl)) (refusal_found (at_source source (bad_element f)) e h)
+tells source n e (Some f) fault memory h =
+    rw (first_found a_file n f (fault f refl)) (refusal_found (at_source source (bad_element f)) e h)
 
-pub refusal_told : (source : Source) (n : Node) (fault : ElementFault) (e : ConfigParseError) → Fails fault (reading a_file n start) → (fault_view fault ≡ None → error_view e ≡ no_memory) → Refuses e (option_map (λ f. at_source source (bad_element f)) (fault_view fault)) → Found (option_map (at_source source) (element_cause n)) (error_view e)
+pub refusal_told : (source : Source) (n : Node) (fault : ElementFault) (e : ConfigParseError)
+    → Fails fault (reading a_file n start) → (fault_view fault ≡ None → error_view e ≡ no_memory)
+    → Refuses e (option_map (λ f. at_source source (bad_element f)) (fault_view fault))
+    → Found (option_map (at_source source) (element_cause n)) (error_view e)
 refusal_told source n fault e h memory refuses = tells source n e (fault_view fault) h memory refuses

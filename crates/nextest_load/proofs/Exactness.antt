@@ -44,7 +44,8 @@ abbrev StaysApart : Option LoadCause → Type 0
 StaysApart None = Unit {0}
 StaysApart (Some cause) = is_apart cause ≡ true
 
-apart_list : {X : Type 0} (cause : List X → LoadCause) → ((xs : List X) → is_apart (cause xs) ≡ true) → (xs : List X) → StaysApart (if_some cause xs)
+apart_list : {X : Type 0} (cause : List X → LoadCause) → ((xs : List X) → is_apart (cause xs) ≡ true)
+    → (xs : List X) → StaysApart (if_some cause xs)
 apart_list cause h [] = tt
 apart_list cause h (x ∷ xs) = h (x ∷ xs)
 
@@ -89,7 +90,8 @@ module _ (files : LoadInputs) where
 
   just : (source : Source) (cause : LoadCause) → IsExact files (at_source source cause) → Finds source (Some cause)
   just source cause h = record {
-    told = λ other is. let same : cause ≡ other = cc in subst (λ (c : LoadCause). IsExact files (at_source source c)) same h;
+    told = λ other is. let same : cause ≡ other = cc in
+        subst (λ (c : LoadCause). IsExact files (at_source source c)) same h;
   }
 
   of_no_tree : (source : Source) (cause : LoadCause) → is_apart cause ≡ true → IsExact files (at_source source cause)
@@ -102,7 +104,8 @@ module _ (files : LoadInputs) where
   apart source None h = nothing source
   apart source (Some cause) h = just source cause (of_no_tree source cause h)
 
-  element_of : (source : Source) (n : Node) → Checks files source n → (found : Option Fault) → ((fault : Fault) → option_map bad_element found ≡ Some (bad_element fault) → IsLeastFault n fault)
+  element_of : (source : Source) (n : Node) → Checks files source n → (found : Option Fault)
+      → ((fault : Fault) → option_map bad_element found ≡ Some (bad_element fault) → IsLeastFault n fault)
       → Finds source (option_map bad_element found)
   element_of source n checks None least = nothing source
   element_of source n checks (Some fault) least = just source (bad_element fault) (record {
@@ -111,102 +114,137 @@ module _ (files : LoadInputs) where
   })
 
   finds_elements : (source : Source) (n : Node) → Checks files source n → IsSorted n → Finds source (element_cause n)
-  finds_elements source n checks sorted = element_of source n checks (first (faults a_file [] n)) (refuses_least n sorted)
+  finds_elements source n checks sorted =
+      element_of source n checks (first (faults a_file [] n)) (refuses_least n sorted)
 
-  parents_of : (source : Source) (n : Node) → Checks files source n → (found : List ParentFault) → TellCycles (file_text n) found → Finds source (if_some bad_parents found)
+  parents_of : (source : Source) (n : Node) → Checks files source n → (found : List ParentFault)
+      → TellCycles (file_text n) found → Finds source (if_some bad_parents found)
   parents_of source n checks [] tells = nothing source
   parents_of source n checks (f ∷ fs) tells = just source (bad_parents (f ∷ fs)) (record {
     elements = λ fault is. cc;
-    parents = λ faults is. let same : f ∷ fs ≡ faults = cc in (n, checks, subst (λ (found : List ParentFault). TellCycles (file_text n) found) same tells);
+    parents = λ faults is. let same : f ∷ fs ≡ faults = cc in
+        (n, checks, subst (λ (found : List ParentFault). TellCycles (file_text n) found) same tells);
   })
 
-  finds_parents : (lower : NameSet) (source : Source) (n : Node) → Checks files source n → IsSorted n → Finds source (parent_cause lower (file_text n).profiles)
-  finds_parents lower source n checks sorted = parents_of source n checks (inheritance_faults lower (written_parents (file_text n).profiles)) (refuses_cycles lower n sorted)
+  finds_parents : (lower : NameSet) (source : Source) (n : Node) → Checks files source n → IsSorted n
+      → Finds source (parent_cause lower (file_text n).profiles)
+  finds_parents lower source n checks sorted =
+      parents_of source n checks (inheritance_faults lower (written_parents (file_text n).profiles))
+      (refuses_cycles lower n sorted)
 
   -- ---- steps
 
   no_step : AreExact []
   no_step = record { first = λ fault is. cc }
 
-  checked : (source : Source) (found : Option LoadCause) (steps : List LoadStep) → Finds source found → AreExact steps → AreExact (check source found ∷ steps)
+  checked : (source : Source) (found : Option LoadCause) (steps : List LoadStep) → Finds source found
+      → AreExact steps → AreExact (check source found ∷ steps)
   checked source None steps finds rest = record { first = λ fault is. rest.first fault is }
   checked source (Some cause) steps finds rest = record {
-    first = λ fault is. let same : at_source source cause ≡ fault = cc in subst (λ (f : LoadFault). IsExact files f) same (finds.told cause refl);
+    first = λ fault is. let same : at_source source cause ≡ fault = cc in
+        subst (λ (f : LoadFault). IsExact files f) same (finds.told cause refl);
   }
 
-  one_of : (a b : Option LoadFault) → ((fault : LoadFault) → a ≡ Some fault → IsExact files fault) → ((fault : LoadFault) → b ≡ Some fault → IsExact files fault)
+  one_of : (a b : Option LoadFault) → ((fault : LoadFault) → a ≡ Some fault → IsExact files fault)
+      → ((fault : LoadFault) → b ≡ Some fault → IsExact files fault)
       → (fault : LoadFault) → option_or a b ≡ Some fault → IsExact files fault
   one_of None b h k fault is = k fault is
   one_of (Some f) b h k fault is = h fault is
 
   both : (xs ys : List LoadStep) → AreExact xs → AreExact ys → AreExact (xs ++ ys)
-  both xs ys h k = record { first = λ fault is. one_of (first_fault xs) (first_fault ys) h.first k.first fault (sym (first_fault-append xs ys) ∙ is) }
+  both xs ys h k = record {
+    first =
+        λ fault is. one_of (first_fault xs) (first_fault ys) h.first k.first fault
+        (sym (first_fault-append xs ys) ∙ is);
+  }
 
   warned : {X : Type 0} (w : List X → Warning) (xs : List X) → AreExact (warn_if_some w xs)
   warned w [] = no_step
   warned w (x ∷ xs) = record { first = λ fault is. cc }
 
-  definitions : (features : Features) (source : Source) (file : FileText) → AreExact (definition_steps features source file)
+  definitions : (features : Features) (source : Source) (file : FileText)
+      → AreExact (definition_steps features source file)
   definitions features source file =
       let by_tool = source_class source.kind in
-      checked source (group_name_cause source file) _ (apart source _ (apart_list (λ names. ill_named_groups by_tool (is_one_of names)) (λ names. refl) _))
+      checked source (group_name_cause source file) _
+      (apart source _ (apart_list (λ names. ill_named_groups by_tool (is_one_of names)) (λ names. refl) _))
       (checked source (key_cause file) _ (apart source _ (apart_test both_script_keys refl _))
       (both (deprecated_steps source file) _ (warned (λ _. deprecated_scripts source) file.old_setup_scripts)
       (checked source (feature_cause features file) _ (apart source _ (apart_list missing_features (λ missing. refl) _))
-      (checked source (kind_cause file) _ (apart source _ (apart_list (λ names. both_script_kinds (is_one_of names)) (λ names. refl) _))
-      (checked source (script_name_cause source file) _ (apart source _ (apart_list (λ names. ill_named_scripts by_tool (is_one_of names)) (λ names. refl) _))
+      (checked source (kind_cause file) _
+      (apart source _ (apart_list (λ names. both_script_kinds (is_one_of names)) (λ names. refl) _))
+      (checked source (script_name_cause source file) _
+      (apart source _ (apart_list (λ names. ill_named_scripts by_tool (is_one_of names)) (λ names. refl) _))
       (warned (reserved_profiles source) _))))))
 
-  empty_sections_of : {M K : Type 0} (source : Source) (order : List (Name × LayerProfile M K)) → AreExact (empty_steps_in source order)
+  empty_sections_of : {M K : Type 0} (source : Source) (order : List (Name × LayerProfile M K))
+      → AreExact (empty_steps_in source order)
   empty_sections_of source [] = no_step
   empty_sections_of source (p ∷ order) =
       both (empty_steps_of source p.0 p.1) (empty_steps_in source order)
-      (warned (λ rules. empty_sections source p.0 (length rules)) (filter (λ r. names_none r.writes) p.1.script_rules)) (empty_sections_of source order)
+      (warned (λ rules. empty_sections source p.0 (length rules))
+      (filter (λ r. names_none r.writes) p.1.script_rules)) (empty_sections_of source order)
 
-  names_of_rules : {M K : Type 0} (leaves : M → List (List ℕ)) (known : KnownSets) (source : Source) (order : List (Name × LayerProfile M K)) → AreExact (name_steps leaves known source order)
+  names_of_rules : {M K : Type 0} (leaves : M → List (List ℕ)) (known : KnownSets) (source : Source)
+      (order : List (Name × LayerProfile M K)) → AreExact (name_steps leaves known source order)
   names_of_rules leaves known source order =
-      checked source (group_cause_in known.groups order) _ (apart source _ (apart_list (λ faults. unknown_groups faults (with_global known.groups)) (λ faults. refl) _))
+      checked source (group_cause_in known.groups order) _
+      (apart source _ (apart_list (λ faults. unknown_groups faults (with_global known.groups)) (λ faults. refl) _))
       (both (empty_steps_in source order) _ (empty_sections_of source order)
-      (checked source (script_cause_in leaves known order) [] (apart source _ (apart_test (bad_scripts (script_faults_in leaves known order) (known_scripts known)) refl _)) no_step))
+      (checked source (script_cause_in leaves known order) []
+      (apart source _ (apart_test
+      (bad_scripts (script_faults_in leaves known order) (known_scripts known)) refl _)) no_step))
 
   module _ {M K P : Type 0} (engines : Readings M K P) (features : Features) where
-    rules : (lower : NameSet) (known : KnownSets) (source : Source) (n : Node) → Checks files source n → IsSorted n → AreExact (rule_steps engines lower known source (file_text n))
+    rules : (lower : NameSet) (known : KnownSets) (source : Source) (n : Node) → Checks files source n
+        → IsSorted n → AreExact (rule_steps engines lower known source (file_text n))
     rules lower known source n checks sorted =
         let profiles = (file_text n).profiles in
         checked source (parent_cause lower profiles) _ (finds_parents lower source n checks sorted)
-        (checked source (compile_cause engines profiles) _ (apart source _ (apart_list compile_refusals (λ refusals. refl) (compile_faults engines profiles)))
+        (checked source (compile_cause engines profiles) _
+        (apart source _ (apart_list compile_refusals (λ refusals. refl) (compile_faults engines profiles)))
         (names_of_rules engines.leaves known source (default_first (layer_of engines source profiles).profiles)))
 
-    of_source : (below : List SourceText) (s : SourceText) → Contains (sources_in files) s → AreExact (source_steps engines features below s)
+    of_source : (below : List SourceText) (s : SourceText) → Contains (sources_in files) s
+        → AreExact (source_steps engines features below s)
     of_source below s is_one =
         let n = own_tree s in
         let lower = map own_file below in
         let defined = definition_steps features s.source (own_file s) in
-        let ruled = rule_steps engines (profiles_in lower) (sets_of (known_to lower (own_file s))) s.source (own_file s) in
-        checked s.source (document_cause (tree_of s.text)) (file_steps engines features lower s.source n) (apart s.source _ (apart_document (tree_of s.text)))
+        let ruled = rule_steps engines (profiles_in lower) (sets_of (known_to lower (own_file s))) s.source
+        (own_file s) in
+        checked s.source (document_cause (tree_of s.text)) (file_steps engines features lower s.source n)
+        (apart s.source _ (apart_document (tree_of s.text)))
         (both (own_steps s.source n) (defined ++ ruled)
-        (checked s.source (element_cause n) (unknown_steps s.source n) (finds_elements s.source n (at_own_tree s is_one) (own_sorted s)) (warned (unknown_keys s.source) _))
+        (checked s.source (element_cause n) (unknown_steps s.source n)
+        (finds_elements s.source n (at_own_tree s is_one) (own_sorted s)) (warned (unknown_keys s.source) _))
         (both defined ruled (definitions features s.source (own_file s))
-        (rules (profiles_in lower) (sets_of (known_to lower (own_file s))) s.source n (at_own_tree s is_one) (own_sorted s))))
+        (rules (profiles_in lower) (sets_of (known_to lower (own_file s))) s.source n (at_own_tree s is_one)
+        (own_sorted s))))
 
     -- what stands in all of these is a source of the load
     abbrev AreSources : List SourceText → Type 0
     AreSources ss = (s : SourceText) → Contains ss s → Contains (sources_in files) s
 
-    of_texts : (below ss : List SourceText) → AreSources ss → AreExact (flat_map (source_steps engines features below) ss)
+    of_texts : (below ss : List SourceText) → AreSources ss
+        → AreExact (flat_map (source_steps engines features below) ss)
     of_texts below [] are = no_step
     of_texts below (s ∷ ss) are =
         both (source_steps engines features below s) (flat_map (source_steps engines features below) ss)
         (of_source below s (are s (Contains-append_left (s ∷ []) ss s (0, omega arith, refl))))
         (of_texts below ss (λ t is. are t (Contains-append_right (s ∷ []) ss t is)))
 
-    of_inputs : (below : List SourceText) (is : List Input) → AreSources (flat_map source_texts_of is) → AreExact (input_steps engines features below is)
+    of_inputs : (below : List SourceText) (is : List Input) → AreSources (flat_map source_texts_of is)
+        → AreExact (input_steps engines features below is)
     of_inputs below [] are = no_step
     of_inputs below (i ∷ is) are =
         both (one_input_steps engines features below i) (input_steps engines features (below ++ source_texts_of i) is)
-        (checked i.source (outcome_cause i.source.kind i.outcome) _ (apart i.source _ (apart_outcome i.source.kind i.outcome))
-        (of_texts below (source_texts_of i) (λ s at. are s (Contains-append_left (source_texts_of i) (flat_map source_texts_of is) s at))))
-        (of_inputs (below ++ source_texts_of i) is (λ s at. are s (Contains-append_right (source_texts_of i) (flat_map source_texts_of is) s at)))
+        (checked i.source (outcome_cause i.source.kind i.outcome) _
+        (apart i.source _ (apart_outcome i.source.kind i.outcome))
+        (of_texts below (source_texts_of i)
+        (λ s at. are s (Contains-append_left (source_texts_of i) (flat_map source_texts_of is) s at))))
+        (of_inputs (below ++ source_texts_of i) is
+        (λ s at. are s (Contains-append_right (source_texts_of i) (flat_map source_texts_of is) s at)))
 
     of_tools : (before tools : List ToolFile) → AreExact (tool_steps before tools)
     of_tools before [] = no_step
@@ -218,7 +256,8 @@ module _ (files : LoadInputs) where
         let n = merged_tree (sources_in files) in
         let sorted = whole_sorted (sources_in files) in
         checked (repository_of files) (element_cause n) _ (finds_elements (repository_of files) n at_merged_tree sorted)
-        (checked (repository_of files) (parent_cause no_profiles (file_text n).profiles) [] (finds_parents no_profiles (repository_of files) n at_merged_tree sorted) no_step)
+        (checked (repository_of files) (parent_cause no_profiles (file_text n).profiles) []
+        (finds_parents no_profiles (repository_of files) n at_merged_tree sorted) no_step)
 
     of_load : AreExact (load_steps engines features files)
     of_load =
@@ -227,12 +266,16 @@ module _ (files : LoadInputs) where
         both (tool_steps [] files.tools) (inputs ++ whole) (of_tools [] files.tools)
         (both inputs whole (of_inputs [] (inputs_of files) (λ s at. at)) of_merged)
 
-    went_exact : (old new : List Warning) (end : Ending) → WentThrough (load_steps engines features files) old new end → (fault : LoadFault) → end ≡ refused fault → IsExact files fault
+    went_exact : (old new : List Warning) (end : Ending)
+        → WentThrough (load_steps engines features files) old new end → (fault : LoadFault)
+        → end ≡ refused fault → IsExact files fault
     went_exact old new passed went fault is = cc
-    went_exact old new (refused f) went fault is = let same : f ≡ fault = cc in subst (λ (f : LoadFault). IsExact files f) same (of_load.first f went.0)
+    went_exact old new (refused f) went fault is = let same : f ≡ fault = cc in
+        subst (λ (f : LoadFault). IsExact files f) same (of_load.first f went.0)
     went_exact old new no_memory went fault is = cc
     went_exact old new malformed went fault is = cc
 
     -- the fault that a load ended with is exact
-    pub exact : {old new : List Warning} {end : Ending} → Ran (load_steps engines features files) old new end → (fault : LoadFault) → end ≡ refused fault → IsExact files fault
+    pub exact : {old new : List Warning} {end : Ending} → Ran (load_steps engines features files) old new end
+        → (fault : LoadFault) → end ≡ refused fault → IsExact files fault
     exact {old} {new} {end} ran = went_exact old new end ran.is

@@ -91,13 +91,17 @@ higher_end : (q : List ℕ) (n m : Node) → Laid n m → HasKey [] q n → HasK
 higher_end q n m (united {xs = xs} {ys = ys}) h = rw (get-entries_over q xs ys) (some_above (get q xs) (get q ys) h)
 higher_end q n m (replaced e apart) h = rw e h
 
-higher_at : (P : Node → Type 0) (o p : Option Node) → ((n m : Node) → P n → P (over n m)) → There P o → There P (laid_over o p)
+higher_at : (P : Node → Type 0) (o p : Option Node) → ((n m : Node) → P n → P (over n m)) → There P o
+    → There P (laid_over o p)
 higher_at P None p ih h = absurd h
 higher_at P (Some n) None ih h = h
 higher_at P (Some n) (Some m) ih h = ih n m h
 
-higher_more : (k : List ℕ) (path : KeyPath) (q : List ℕ) (n m : Node) → Laid n m → ((x y : Node) → HasKey path q x → HasKey path q (over x y)) → HasKey (k ∷ path) q n → HasKey (k ∷ path) q (over n m)
-higher_more k path q n m (united {xs = xs} {ys = ys}) ih h = rw (get-entries_over k xs ys) (higher_at (HasKey path q) (get k xs) (get k ys) ih h)
+higher_more : (k : List ℕ) (path : KeyPath) (q : List ℕ) (n m : Node) → Laid n m
+    → ((x y : Node) → HasKey path q x → HasKey path q (over x y)) → HasKey (k ∷ path) q n
+    → HasKey (k ∷ path) q (over n m)
+higher_more k path q n m (united {xs = xs} {ys = ys}) ih h =
+    rw (get-entries_over k xs ys) (higher_at (HasKey path q) (get k xs) (get k ys) ih h)
 higher_more k path q n m (replaced e apart) ih h = rw e h
 
 higher_key : (path : KeyPath) (q : List ℕ) (n m : Node) → HasKey path q n → HasKey path q (over n m)
@@ -106,16 +110,21 @@ higher_key (k ∷ path) q n m h = higher_more k path q n m (laid n m) (higher_ke
 
 -- a key of the lower node, where tables lead along the path in the higher one
 lower_end : (q : List ℕ) (n m : Node) → Laid n m → IsTable n → HasKey [] q m → HasKey [] q (over n m)
-lower_end q n m (united {xs = xs} {ys = ys}) leads h = rw (get-entries_over q xs ys) (some_below (get q xs) (get q ys) h)
+lower_end q n m (united {xs = xs} {ys = ys}) leads h =
+    rw (get-entries_over q xs ys) (some_below (get q xs) (get q ys) h)
 lower_end q n m (replaced e apart) leads h = absurd (apart leads (some_table q m h))
 
-lower_at : (P Q : Node → Type 0) (o p : Option Node) → ((n m : Node) → Q n → P m → P (over n m)) → IfThere Q o → There P p → There P (laid_over o p)
+lower_at : (P Q : Node → Type 0) (o p : Option Node) → ((n m : Node) → Q n → P m → P (over n m)) → IfThere Q o
+    → There P p → There P (laid_over o p)
 lower_at P Q None p ih leads h = h
 lower_at P Q (Some n) None ih leads h = absurd h
 lower_at P Q (Some n) (Some m) ih leads h = ih n m leads h
 
-lower_more : (k : List ℕ) (path : KeyPath) (q : List ℕ) (n m : Node) → Laid n m → ((x y : Node) → LeadsAlong path x → HasKey path q y → HasKey path q (over x y)) → LeadsAlong (k ∷ path) n → HasKey (k ∷ path) q m → HasKey (k ∷ path) q (over n m)
-lower_more k path q n m (united {xs = xs} {ys = ys}) ih leads h = rw (get-entries_over k xs ys) (lower_at (HasKey path q) (LeadsAlong path) (get k xs) (get k ys) ih leads.1 h)
+lower_more : (k : List ℕ) (path : KeyPath) (q : List ℕ) (n m : Node) → Laid n m
+    → ((x y : Node) → LeadsAlong path x → HasKey path q y → HasKey path q (over x y))
+    → LeadsAlong (k ∷ path) n → HasKey (k ∷ path) q m → HasKey (k ∷ path) q (over n m)
+lower_more k path q n m (united {xs = xs} {ys = ys}) ih leads h =
+    rw (get-entries_over k xs ys) (lower_at (HasKey path q) (LeadsAlong path) (get k xs) (get k ys) ih leads.1 h)
 lower_more k path q n m (replaced e apart) ih leads h = absurd (apart leads.0 (there_table (HasKey path q) k m h))
 
 lower_key : (path : KeyPath) (q : List ℕ) (n m : Node) → LeadsAlong path n → HasKey path q m → HasKey path q (over n m)
@@ -127,16 +136,21 @@ either_end : (q : List ℕ) (n m : Node) → Laid n m → HasKey [] q (over n m)
 either_end q n m (united {xs = xs} {ys = ys}) h = some_either (get q xs) (get q ys) (rw (get-entries_over q xs ys) at h)
 either_end q n m (replaced e apart) h = inl (rw e at h)
 
-either_at : (P : Node → Type 0) (o p : Option Node) → ((n m : Node) → P (over n m) → P n ⊎ P m) → There P (laid_over o p) → There P o ⊎ There P p
+either_at : (P : Node → Type 0) (o p : Option Node) → ((n m : Node) → P (over n m) → P n ⊎ P m)
+    → There P (laid_over o p) → There P o ⊎ There P p
 either_at P None p ih h = inr h
 either_at P (Some n) None ih h = inl h
 either_at P (Some n) (Some m) ih h = ih n m h
 
-either_more : (k : List ℕ) (path : KeyPath) (q : List ℕ) (n m : Node) → Laid n m → ((x y : Node) → HasKey path q (over x y) → HasKey path q x ⊎ HasKey path q y) → HasKey (k ∷ path) q (over n m) → HasKey (k ∷ path) q n ⊎ HasKey (k ∷ path) q m
-either_more k path q n m (united {xs = xs} {ys = ys}) ih h = either_at (HasKey path q) (get k xs) (get k ys) ih (rw (get-entries_over k xs ys) at h)
+either_more : (k : List ℕ) (path : KeyPath) (q : List ℕ) (n m : Node) → Laid n m
+    → ((x y : Node) → HasKey path q (over x y) → HasKey path q x ⊎ HasKey path q y)
+    → HasKey (k ∷ path) q (over n m) → HasKey (k ∷ path) q n ⊎ HasKey (k ∷ path) q m
+either_more k path q n m (united {xs = xs} {ys = ys}) ih h =
+    either_at (HasKey path q) (get k xs) (get k ys) ih (rw (get-entries_over k xs ys) at h)
 either_more k path q n m (replaced e apart) ih h = inl (rw e at h)
 
-pub either_key : (path : KeyPath) (q : List ℕ) (n m : Node) → HasKey path q (over n m) → HasKey path q n ⊎ HasKey path q m
+pub either_key : (path : KeyPath) (q : List ℕ) (n m : Node) → HasKey path q (over n m)
+    → HasKey path q n ⊎ HasKey path q m
 either_key [] q n m h = either_end q n m (laid n m) h
 either_key (k ∷ path) q n m h = either_more k path q n m (laid n m) (either_key path q) h
 
@@ -145,13 +159,17 @@ alone_end : (n m : Node) → Laid n m → LeadsAlong [] (over n m) → LeadsAlon
 alone_end n m (united {xs = xs} {ys = ys}) h = tt
 alone_end n m (replaced e apart) h = rw e at h
 
-alone_at : (P : Node → Type 0) (o p : Option Node) → ((n m : Node) → P (over n m) → P n) → IfThere P (laid_over o p) → IfThere P o
+alone_at : (P : Node → Type 0) (o p : Option Node) → ((n m : Node) → P (over n m) → P n)
+    → IfThere P (laid_over o p) → IfThere P o
 alone_at P None p ih h = tt
 alone_at P (Some n) None ih h = h
 alone_at P (Some n) (Some m) ih h = ih n m h
 
-alone_more : (k : List ℕ) (path : KeyPath) (n m : Node) → Laid n m → ((x y : Node) → LeadsAlong path (over x y) → LeadsAlong path x) → LeadsAlong (k ∷ path) (over n m) → LeadsAlong (k ∷ path) n
-alone_more k path n m (united {xs = xs} {ys = ys}) ih h = (tt, alone_at (LeadsAlong path) (get k xs) (get k ys) ih (rw (get-entries_over k xs ys) at h.1))
+alone_more : (k : List ℕ) (path : KeyPath) (n m : Node) → Laid n m
+    → ((x y : Node) → LeadsAlong path (over x y) → LeadsAlong path x) → LeadsAlong (k ∷ path) (over n m)
+    → LeadsAlong (k ∷ path) n
+alone_more k path n m (united {xs = xs} {ys = ys}) ih h =
+    (tt, alone_at (LeadsAlong path) (get k xs) (get k ys) ih (rw (get-entries_over k xs ys) at h.1))
 alone_more k path n m (replaced e apart) ih h = rw e at h
 
 pub leads_alone : (path : KeyPath) (n m : Node) → LeadsAlong path (over n m) → LeadsAlong path n
@@ -159,20 +177,27 @@ leads_alone [] n m h = alone_end n m (laid n m) h
 leads_alone (k ∷ path) n m h = alone_more k path n m (laid n m) (leads_alone path) h
 
 -- layers keep the keys of what is below them
-layers_keep : (path : KeyPath) (q : List ℕ) (base : Node) (layers : List Node) → AllByRecursion (LeadsAlong path) layers → HasKey path q base → HasKey path q (merged base layers)
+layers_keep : (path : KeyPath) (q : List ℕ) (base : Node) (layers : List Node)
+    → AllByRecursion (LeadsAlong path) layers → HasKey path q base → HasKey path q (merged base layers)
 layers_keep path q base [] leads h = h
-layers_keep path q base (n ∷ layers) leads h = layers_keep path q (over n base) layers leads.1 (lower_key path q n base leads.0 h)
+layers_keep path q base (n ∷ layers) leads h =
+    layers_keep path q (over n base) layers leads.1 (lower_key path q n base leads.0 h)
 
 -- and give their own
-pub layers_give : (path : KeyPath) (q : List ℕ) (base : Node) (below : List Node) (n : Node) (above : List Node) → AllByRecursion (LeadsAlong path) (below ++ n ∷ above) → HasKey path q (over n base) → HasKey path q (merged base (below ++ n ∷ above))
+pub layers_give : (path : KeyPath) (q : List ℕ) (base : Node) (below : List Node) (n : Node)
+    (above : List Node) → AllByRecursion (LeadsAlong path) (below ++ n ∷ above) → HasKey path q (over n base)
+    → HasKey path q (merged base (below ++ n ∷ above))
 layers_give path q base below n above leads h =
     elim (either_key path q n base h) [
       | inl own ↦ own_given path q base below n above leads own
       | inr lower ↦ layers_keep path q base (below ++ n ∷ above) leads lower
     ]
   where
-    own_given : (path : KeyPath) (q : List ℕ) (base : Node) (below : List Node) (n : Node) (above : List Node) → AllByRecursion (LeadsAlong path) (below ++ n ∷ above) → HasKey path q n → HasKey path q (merged base (below ++ n ∷ above))
-    own_given path q base [] n above leads own = layers_keep path q (over n base) above leads.1 (higher_key path q n base own)
+    own_given : (path : KeyPath) (q : List ℕ) (base : Node) (below : List Node) (n : Node) (above : List Node)
+        → AllByRecursion (LeadsAlong path) (below ++ n ∷ above) → HasKey path q n
+        → HasKey path q (merged base (below ++ n ∷ above))
+    own_given path q base [] n above leads own =
+        layers_keep path q (over n base) above leads.1 (higher_key path q n base own)
     own_given path q base (m ∷ below) n above leads own = own_given path q (over m base) below n above leads.1 own
 
 key_at : (o : Ordering) (rest : Option Node) (m : Node) → IsSome rest → IsSome (match_ordering o rest (Some m) rest)
@@ -193,7 +218,9 @@ either_true : (b : Bool) → (b || true) ≡ true
 either_true true = refl
 either_true false = refl
 
-there_at : (o : Ordering) (q l : List ℕ) (m : Node) (es : Entries) → cmp q l ≡ o → (IsSome (get q es) → is_one_of (tree.keys es) q ≡ true) → IsSome (match_ordering o (get q es) (Some m) (get q es)) → is_one_of (l ∷ tree.keys es) q ≡ true
+there_at : (o : Ordering) (q l : List ℕ) (m : Node) (es : Entries) → cmp q l ≡ o
+    → (IsSome (get q es) → is_one_of (tree.keys es) q ≡ true)
+    → IsSome (match_ordering o (get q es) (Some m) (get q es)) → is_one_of (l ∷ tree.keys es) q ≡ true
 there_at Less q l m es is ih h = rw (ih h) (either_true (bytes_eq l q))
 there_at Equal q l m es is ih h = rw ((bytes_eq-Decides l q).1 (sym (equal_text q l is))) refl
 there_at Greater q l m es is ih h = rw (ih h) (either_true (bytes_eq l q))
@@ -225,10 +252,12 @@ has_table q (Some (bool b)) h = cc
 has_table q (Some opaque) h = cc
 
 -- the same of a table in a table
-pub inner_has : (k q : List ℕ) (o : Option Node) → is_one_of (keys_of_table (member_of k (unwrap_or o (table no_entries)))) q ≡ true → There (HasKey (k ∷ []) q) o
+pub inner_has : (k q : List ℕ) (o : Option Node)
+    → is_one_of (keys_of_table (member_of k (unwrap_or o (table no_entries)))) q ≡ true → There (HasKey (k ∷ []) q) o
 inner_has k q None h = cc
 inner_has k q (Some n) h = table_has q (member_of k n) h
 
-pub has_inner : (k q : List ℕ) (o : Option Node) → There (HasKey (k ∷ []) q) o → is_one_of (keys_of_table (member_of k (unwrap_or o (table no_entries)))) q ≡ true
+pub has_inner : (k q : List ℕ) (o : Option Node) → There (HasKey (k ∷ []) q) o
+    → is_one_of (keys_of_table (member_of k (unwrap_or o (table no_entries)))) q ≡ true
 has_inner k q None h = absurd h
 has_inner k q (Some n) h = has_table q (member_of k n) h

@@ -14,7 +14,8 @@ use Rattle.nextest_tree.specs.Node.{Node, table, array, text, int, bool, opaque,
 use Rattle.nextest_tree.specs.Schema.{FaultCause, Schema, map_of, below, faults, field_faults}
 use Rattle.nextest_load.proofs.Keeping.{IfThere, IsTable, LeadsAlong}
 
-map_table : (test : List ℕ → Option FaultCause) (s : Schema) (p : List ℕ) (n : Node) → faults (map_of test s) p n ≡ [] → IsTable n
+map_table : (test : List ℕ → Option FaultCause) (s : Schema) (p : List ℕ) (n : Node)
+    → faults (map_of test s) p n ≡ [] → IsTable n
 map_table test s p (table es) h = tt
 map_table test s p (array ns) h = cc
 map_table test s p (text t) h = cc
@@ -23,7 +24,8 @@ map_table test s p (bool b) h = cc
 map_table test s p opaque h = cc
 
 -- what stands at a field without fault
-map_field : (k : Key) (must : Bool) (test : List ℕ → Option FaultCause) (s : Schema) (p : List ℕ) (o : Option Node) → field_faults k must (faults (map_of test s)) p o ≡ [] → IfThere IsTable o
+map_field : (k : Key) (must : Bool) (test : List ℕ → Option FaultCause) (s : Schema) (p : List ℕ)
+    (o : Option Node) → field_faults k must (faults (map_of test s)) p o ≡ [] → IfThere IsTable o
 unfolding field_faults
 map_field k must test s p None h = tt
 map_field k must test s p (Some n) h = map_table test s (below p (key_text k)) n h
@@ -45,7 +47,8 @@ scripts_lead p (int z) h = cc
 scripts_lead p (bool b) h = cc
 scripts_lead p opaque h = cc
 
-scripts_field : (p : List ℕ) (o : Option Node) → field_faults keys.Scripts false (faults a_scripts_table) p o ≡ [] → IfThere ScriptsLead o
+scripts_field : (p : List ℕ) (o : Option Node)
+    → field_faults keys.Scripts false (faults a_scripts_table) p o ≡ [] → IfThere ScriptsLead o
 unfolding field_faults
 scripts_field p None h = tt
 scripts_field p (Some n) h = scripts_lead (below p (key_text keys.Scripts)) n h
@@ -72,9 +75,21 @@ unfolding a_file
 readable_leads (table es) h =
     let free = struct_free file_fields [] es h in
     let scripts = scripts_field [] (get (key_text keys.Scripts) es) free.1.1.1.1.1.0 in record {
-      profiles = (tt, map_field keys.Profile true any_key a_profile [] (get (key_text keys.Profile) es) free.1.1.1.1.1.1.0);
-      groups = (tt, map_field keys.TestGroups false identifier_cause group_config [] (get (key_text keys.TestGroups) es) free.1.1.1.0);
-      old_setup = (tt, map_field keys.Script false identifier_cause a_setup_script [] (get (key_text keys.Script) es) free.1.1.1.1.0);
+      profiles = (
+        tt,
+        map_field keys.Profile true any_key a_profile [] (get (key_text keys.Profile) es)
+            free.1.1.1.1.1.1.0,
+      );
+      groups = (
+        tt,
+        map_field keys.TestGroups false identifier_cause group_config []
+            (get (key_text keys.TestGroups) es) free.1.1.1.0,
+      );
+      old_setup = (
+        tt,
+        map_field keys.Script false identifier_cause a_setup_script []
+            (get (key_text keys.Script) es) free.1.1.1.1.0,
+      );
       new_setup = (tt, first_lead (get (key_text keys.Scripts) es) scripts);
       wrapper = (tt, second_lead (get (key_text keys.Scripts) es) scripts);
     }

@@ -17,14 +17,25 @@ use Rattle.nextest_load.specs.Laws.{IsLeastFault, RefusesCycles, RefusesLeast}
 use Rattle.nextest_load.proofs.SortedTrees.{parents_ascend}
 
 -- the first of causes that ascend is the least
-least_of : (n : Node) (fault : Fault) (xs : List SitedCause) (fs : List Fault) → sited_causes a_file n ≡ xs → fs ≡ map (fault_at_place []) xs → Ascends xs → option_map bad_element (first fs) ≡ Some (bad_element fault) → IsLeastFault n fault
+least_of : (n : Node) (fault : Fault) (xs : List SitedCause) (fs : List Fault) → sited_causes a_file n ≡ xs
+    → fs ≡ map (fault_at_place []) xs → Ascends xs
+    → option_map bad_element (first fs) ≡ Some (bad_element fault) → IsLeastFault n fault
 least_of n fault [] [] all same ascend is = cc
 least_of n fault [] (f ∷ fs) all same ascend is = cc
 least_of n fault (x ∷ xs) [] all same ascend is = cc
 least_of n fault (x ∷ xs) (f ∷ fs) all same ascend is =
     let told : fault ≡ f = cc in
     let here : f ≡ fault_at_place [] x = cc in
-    record { before = []; least = x; after = xs; splits = all; is = told ∙ here; first_of_before = tt; first_of_after = ascend.0 }
+    record {
+      before = [];
+      least = x;
+      after = xs;
+      splits = all;
+      is = told ∙ here;
+      first_of_before =
+          tt;
+      first_of_after = ascend.0;
+    }
 
 pub refuses_least : (n : Node) → IsSorted n → RefusesLeast n
 refuses_least n s fault is =
@@ -36,6 +47,7 @@ pub refuses_cycles : (lower : NameSet) (n : Node) → IsSorted n → RefusesCycl
 refuses_cycles lower n s =
     let written = written_parents (file_text n).profiles in
     let ordered = parents_ascend n s in record {
-      cycles = name_cycles (is_known lower written) written (parents_in written) (cycles_in written) (are_cycles written ordered);
+      cycles = name_cycles (is_known lower written) written (parents_in written) (cycles_in written)
+          (are_cycles written ordered);
       stranded = tell_stranded (is_known lower written) written (cycles_in written) (are_cycles written ordered);
     }

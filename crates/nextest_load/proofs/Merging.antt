@@ -23,7 +23,8 @@ use Rattle.nextest_load.specs.Steps.{element_cause, no_profiles, tree_steps}
 use Rattle.nextest_load.specs.declared.loaded_config.MergedProfile.{MergedProfile}
 
 -- profiles that are seen have the parents that they write
-parents_are : (es : List (String Global × MergedProfile)) → parents_view parent_in es ≡ map (λ p. (p.0, p.1.parent)) (by_name merged_profile_view es)
+parents_are : (es : List (String Global × MergedProfile))
+    → parents_view parent_in es ≡ map (λ p. (p.0, p.1.parent)) (by_name merged_profile_view es)
 parents_are [] = refl
 parents_are (e ∷ es) = ap (λ ps. (string_bytes e.0, parent_in e.1) ∷ ps) (parents_are es)
 
@@ -31,7 +32,8 @@ pub parents_of : (ps : List (Name × ProfileText)) → map (λ p. (p.0, p.1.pare
 parents_of [] = refl
 parents_of (p ∷ ps) = ap (λ qs. (p.0, p.1.parent) ∷ qs) (parents_of ps)
 
-pub parents_seen : (es : List (String Global × MergedProfile)) (ps : List (Name × ProfileText)) → by_name merged_profile_view es ≡ profiles_of ps → parents_view parent_in es ≡ written_parents ps
+pub parents_seen : (es : List (String Global × MergedProfile)) (ps : List (Name × ProfileText))
+    → by_name merged_profile_view es ≡ profiles_of ps → parents_view parent_in es ≡ written_parents ps
 parents_seen es ps same = parents_are es ∙ ap (map (λ p. (p.0, p.1.parent))) same ∙ parents_of ps
 
 -- the names of two lists
@@ -40,11 +42,18 @@ one_of_both xs ys id = list_any-append (λ name. bytes_eq name id) xs ys
 
 module _ (repository : Source) (n : Node) (told : List Warning) where
   -- the merged tree ended a load: by its elements
-  pub elements_ended : (e : ConfigParseError) → Found (fault_at_source repository (element_cause n)) (error_view e) → Ran (tree_steps repository n) told told (error_view e)
-  elements_ended e found = ran_first (check repository (element_cause n) ∷ []) _ told told e (ran_check repository (element_cause n) told told (error_view e) refl found)
+  pub elements_ended : (e : ConfigParseError)
+      → Found (fault_at_source repository (element_cause n)) (error_view e)
+      → Ran (tree_steps repository n) told told (error_view e)
+  elements_ended e found = ran_first (check repository (element_cause n) ∷ []) _ told told e
+      (ran_check repository (element_cause n) told told (error_view e) refl found)
 
   -- or it ended as its parents did
-  pub parents_ended : (o : Ending) → fault_at_source repository (element_cause n) ≡ None → Found (fault_at_source repository (parent_cause no_profiles (file_text n).profiles)) o → Ran (tree_steps repository n) told told o
+  pub parents_ended : (o : Ending) → fault_at_source repository (element_cause n) ≡ None
+      → Found (fault_at_source repository (parent_cause no_profiles (file_text n).profiles)) o
+      → Ran (tree_steps repository n) told told o
   parents_ended o passes found =
       let parents = parent_cause no_profiles (file_text n).profiles in
-      ran_next (check repository (element_cause n) ∷ []) (check repository parents ∷ []) told told told o (ran_check repository (element_cause n) told told passed refl passes) (ran_check repository parents told told o refl found)
+      ran_next (check repository (element_cause n) ∷ []) (check repository parents ∷ []) told told told o
+      (ran_check repository (element_cause n) told told passed refl passes)
+      (ran_check repository parents told told o refl found)

@@ -27,7 +27,8 @@ default_has_none : HasNoRules profile_default
 unfolding profile_default key_text
 default_has_none = record { overrides = refl; script_rules = refl; default_filter = refl }
 
-found : (o : Ordering) (n : Node) (rest : Option Node) → HasNoRules n → IfThere HasNoRules rest → IfThere HasNoRules (match_ordering o rest (Some n) rest)
+found : (o : Ordering) (n : Node) (rest : Option Node) → HasNoRules n → IfThere HasNoRules rest
+    → IfThere HasNoRules (match_ordering o rest (Some n) rest)
 found Less n rest here later = later
 found Equal n rest here later = here
 found Greater n rest here later = later
@@ -36,9 +37,13 @@ found Greater n rest here later = later
 pub defaults_have_none : (name : Name) → IfThere HasNoRules (node_of_profile name defaults)
 unfolding defaults profiles_default key_text
 defaults_have_none name =
-    found (slice_cmp nat_cmp name default_name) profile_default _ default_has_none (found (slice_cmp nat_cmp name miri_name) (table no_entries) None empty_has_none tt)
+    found (slice_cmp nat_cmp name default_name) profile_default _ default_has_none
+    (found (slice_cmp nat_cmp name miri_name) (table no_entries) None empty_has_none tt)
 
 -- so where a source has nothing of a profile, it has no rule of it over the defaults
-pub absent_has_none : (name : Name) (s : SourceText) → Leads (tree_in s) → node_of_profile name (tree_in s) ≡ None → IfThere HasNoRules (node_of_profile name (own_tree s))
+pub absent_has_none : (name : Name) (s : SourceText) → Leads (tree_in s)
+    → node_of_profile name (tree_in s) ≡ None → IfThere HasNoRules (node_of_profile name (own_tree s))
 absent_has_none name s leads none =
-    subst (IfThere HasNoRules) (sym (own_profile name s leads ∙ ap (λ o. laid_over o (node_of_profile name defaults)) none)) (defaults_have_none name)
+    subst (IfThere HasNoRules)
+    (sym (own_profile name s leads ∙ ap (λ o. laid_over o (node_of_profile name defaults)) none))
+    (defaults_have_none name)

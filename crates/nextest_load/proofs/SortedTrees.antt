@@ -40,7 +40,8 @@ sources_sorted (s ∷ ss) = (source_sorted s, sources_sorted ss)
 pub whole_sorted : (ss : List SourceText) → IsSorted (merged_tree ss)
 whole_sorted ss = merged_sorted defaults (map tree_in ss) sorted (sources_sorted ss)
 
-found_at : (o : Ordering) (m : Node) (rest : Option Node) → IsSorted m → Holds IsSorted rest → Holds IsSorted (match_ordering o rest (Some m) rest)
+found_at : (o : Ordering) (m : Node) (rest : Option Node) → IsSorted m → Holds IsSorted rest
+    → Holds IsSorted (match_ordering o rest (Some m) rest)
 found_at Less m rest h s = s
 found_at Equal m rest h s = just h
 found_at Greater m rest h s = s
@@ -65,7 +66,8 @@ as_sorted (int z) s = tt
 as_sorted (bool b) s = tt
 as_sorted opaque s = tt
 
-table_sorted : (o : Option Node) → Holds IsSorted o → EntriesAreSorted (unwrap_or (option_and_then as_table o) no_entries)
+table_sorted : (o : Option Node) → Holds IsSorted o
+    → EntriesAreSorted (unwrap_or (option_and_then as_table o) no_entries)
 table_sorted None nothing = tt
 table_sorted (Some n) (just h) = as_sorted n h
 
@@ -73,11 +75,13 @@ table_sorted (Some n) (just h) = as_sorted n h
 pub entries_sorted : (k : Key) (n : Node) → IsSorted n → EntriesAreSorted (entries_at k n)
 entries_sorted k n s = table_sorted (at_key k n) (member (key_text k) n s)
 
-before_names : {X : Type 0} (f : Node → X) (k : List ℕ) (es : Entries) → PrecedesKeys k es → AllByRecursion (λ y. slice_cmp nat_cmp k y ≡ Less) (names_in (each_in f es))
+before_names : {X : Type 0} (f : Node → X) (k : List ℕ) (es : Entries) → PrecedesKeys k es
+    → AllByRecursion (λ y. slice_cmp nat_cmp k y ≡ Less) (names_in (each_in f es))
 before_names f k no_entries h = tt
 before_names f k (entry l n es) h = (h.0, before_names f k es h.1)
 
-names_ascend : {X : Type 0} (f : Node → X) (es : Entries) → EntriesAreSorted es → IsStrictlySortedBy (slice_cmp nat_cmp) (names_in (each_in f es))
+names_ascend : {X : Type 0} (f : Node → X) (es : Entries) → EntriesAreSorted es
+    → IsStrictlySortedBy (slice_cmp nat_cmp) (names_in (each_in f es))
 unfolding IsStrictlySortedBy
 names_ascend f no_entries h = tt
 names_ascend f (entry k n es) h = (before_names f k es h.0, names_ascend f es h.2)
@@ -91,5 +95,7 @@ same_keys [] = refl
 same_keys (p ∷ ps) = ap (λ names. p.0 ∷ names) (same_keys ps)
 
 -- and so do those that their parents stand under
-pub parents_ascend : (n : Node) → IsSorted n → IsStrictlySortedBy (slice_cmp nat_cmp) (keys_of (written_parents (file_text n).profiles))
-parents_ascend n s = let P : List Name → Type 0 = IsStrictlySortedBy (slice_cmp nat_cmp) in subst P (same_keys (file_text n).profiles) (profiles_ascend n s)
+pub parents_ascend : (n : Node) → IsSorted n
+    → IsStrictlySortedBy (slice_cmp nat_cmp) (keys_of (written_parents (file_text n).profiles))
+parents_ascend n s = let P : List Name → Type 0 = IsStrictlySortedBy (slice_cmp nat_cmp) in
+    subst P (same_keys (file_text n).profiles) (profiles_ascend n s)

@@ -36,7 +36,9 @@ abbrev pub OnlyAt : Option Node → Type 0
 OnlyAt o = (key : List ℕ) → IsSome (option_and_then (member_of key) o) → key ≡ key_text keys.Inherits
 
 only_both : (a c : Node) → OnlyAt (Some a) → OnlyAt (Some c) → OnlyAt (Some (over a c))
-only_both (table xs) (table ys) ha hc key h = elim (some_either (get key xs) (get key ys) (rw (get-entries_over key xs ys) at h)) [ inl x ↦ ha key x | inr y ↦ hc key y ]
+only_both (table xs) (table ys) ha hc key h =
+    elim (some_either (get key xs) (get key ys) (rw (get-entries_over key xs ys) at h))
+    [ inl x ↦ ha key x | inr y ↦ hc key y ]
 only_both a c ha hc key h = ha key h
 
 only_laid : (o r : Option Node) → OnlyAt o → OnlyAt r → OnlyAt (laid_over o r)
@@ -46,7 +48,8 @@ only_laid (Some a) (Some c) ho hr = only_both a c ho hr
 
 module _ (name : Name) where
   -- the defaults have nothing below it, but for `default`
-  found_default : (o : Ordering) (d : Node) (rest : Option Node) → (o ≡ Equal → ⊥) → OnlyAt rest → OnlyAt (match_ordering o rest (Some d) rest)
+  found_default : (o : Ordering) (d : Node) (rest : Option Node) → (o ≡ Equal → ⊥) → OnlyAt rest
+      → OnlyAt (match_ordering o rest (Some d) rest)
   found_default Less d rest other h = h
   found_default Equal d rest other h = absurd (other refl)
   found_default Greater d rest other h = h
@@ -59,21 +62,29 @@ module _ (name : Name) where
   pub defaults_only : name ≢ default_name → OnlyAt (node_of_profile name defaults)
   unfolding defaults profiles_default key_text
   defaults_only other =
-      found_default (slice_cmp nat_cmp name default_name) _ _ (λ e. other (exact_bytes name default_name e)) (found_empty (slice_cmp nat_cmp name miri_name))
+      found_default (slice_cmp nat_cmp name default_name) _ _ (λ e. other (exact_bytes name default_name e))
+      (found_empty (slice_cmp nat_cmp name miri_name))
 
-  only_over : (a c : Node) → Leads a → Leads c → OnlyAt (node_of_profile name a) → OnlyAt (node_of_profile name c) → OnlyAt (node_of_profile name (over a c))
-  only_over a c la lc ha hc = subst OnlyAt (sym (profile_over name a c la lc)) (only_laid (node_of_profile name a) (node_of_profile name c) ha hc)
+  only_over : (a c : Node) → Leads a → Leads c → OnlyAt (node_of_profile name a)
+      → OnlyAt (node_of_profile name c) → OnlyAt (node_of_profile name (over a c))
+  only_over a c la lc ha hc =
+      subst OnlyAt (sym (profile_over name a c la lc))
+      (only_laid (node_of_profile name a) (node_of_profile name c) ha hc)
 
-  pub own_only : name ≢ default_name → (s : SourceText) → Leads (tree_in s) → WritesOnlyParent name (tree_in s) → OnlyAt (node_of_profile name (own_tree s))
+  pub own_only : name ≢ default_name → (s : SourceText) → Leads (tree_in s)
+      → WritesOnlyParent name (tree_in s) → OnlyAt (node_of_profile name (own_tree s))
   own_only other s leads only = only_over (tree_in s) defaults leads defaults_lead only (defaults_only other)
 
-  merged_over : (ss : List SourceText) (base : Node) → Leads base → OnlyAt (node_of_profile name base) → Each (λ s. Leads (tree_in s)) ss → Each (λ s. WritesOnlyParent name (tree_in s)) ss
+  merged_over : (ss : List SourceText) (base : Node) → Leads base → OnlyAt (node_of_profile name base)
+      → Each (λ s. Leads (tree_in s)) ss → Each (λ s. WritesOnlyParent name (tree_in s)) ss
       → OnlyAt (node_of_profile name (merged base (map tree_in ss)))
   merged_over [] base leads only all_lead all_only = only
   merged_over (s ∷ ss) base leads only all_lead all_only =
-      merged_over ss (over (tree_in s) base) (leads_over (tree_in s) base all_lead.0 leads) (only_over (tree_in s) base all_lead.0 leads all_only.0 only) all_lead.1 all_only.1
+      merged_over ss (over (tree_in s) base) (leads_over (tree_in s) base all_lead.0 leads)
+      (only_over (tree_in s) base all_lead.0 leads all_only.0 only) all_lead.1 all_only.1
 
-  pub merged_only : name ≢ default_name → (ss : List SourceText) → Each (λ s. Leads (tree_in s)) ss → Each (λ s. WritesOnlyParent name (tree_in s)) ss → OnlyAt (node_of_profile name (merged_tree ss))
+  pub merged_only : name ≢ default_name → (ss : List SourceText) → Each (λ s. Leads (tree_in s)) ss
+      → Each (λ s. WritesOnlyParent name (tree_in s)) ss → OnlyAt (node_of_profile name (merged_tree ss))
   merged_only other ss all_lead all_only = merged_over ss defaults defaults_lead (defaults_only other) all_lead all_only
 
 -- two texts that are not equal by the test are two texts
@@ -114,8 +125,10 @@ module _ (n : Node) (only : OnlyAt (Some n)) where
   pub has_no_rules : HasNoRules n
   unfolding key_text
   has_no_rules = record {
-    overrides = ap (λ o. each_node override_text (unwrap_or (option_and_then as_array o) no_nodes)) (absent keys.Overrides (apart _ _ refl));
-    script_rules = ap (λ o. each_node script_rule_text (unwrap_or (option_and_then as_array o) no_nodes)) (absent keys.Scripts (apart _ _ refl));
+    overrides = ap (λ o. each_node override_text (unwrap_or (option_and_then as_array o) no_nodes))
+        (absent keys.Overrides (apart _ _ refl));
+    script_rules = ap (λ o. each_node script_rule_text (unwrap_or (option_and_then as_array o) no_nodes))
+        (absent keys.Scripts (apart _ _ refl));
     default_filter = ap (option_and_then as_text) (absent keys.DefaultFilter (apart _ _ refl));
   }
 
@@ -124,6 +137,7 @@ only_has_none None only = tt
 only_has_none (Some n) only = has_no_rules n only
 
 -- the merged node of a profile with a parent writes no field
-pub only_parent_fields : (parent : Name) (o : Option Node) → OnlyAt o → parent_node o ≡ Some parent → option_map (λ (r : MergedProfile). r.fields) (merged_node o) ≡ Some (fields_in (table no_entries))
+pub only_parent_fields : (parent : Name) (o : Option Node) → OnlyAt o → parent_node o ≡ Some parent
+    → option_map (λ (r : MergedProfile). r.fields) (merged_node o) ≡ Some (fields_in (table no_entries))
 only_parent_fields parent None only has = absurd cc
 only_parent_fields parent (Some n) only has = ap Some (no_fields n only)

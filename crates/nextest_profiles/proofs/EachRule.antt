@@ -26,7 +26,8 @@ each_before P f [] h = tt
 each_before P f (x ∷ xs) h = (h.0, each_before P f xs h.1)
 
 -- a fact of each name holds of one of them
-pub each_at : (P : Name → Type 0) (names : List Name) (name : Name) → is_one_of names name ≡ true → Each P names → P name
+pub each_at : (P : Name → Type 0) (names : List Name) (name : Name) → is_one_of names name ≡ true
+    → Each P names → P name
 each_at P [] name is h = cc
 each_at P (n ∷ names) name is h =
     elim (or_cases (bytes_eq n name) (is_one_of names name) is) [
@@ -34,16 +35,24 @@ each_at P (n ∷ names) name is h =
       | inr later ↦ each_at P names name later h.1
     ]
 
-looked_up : {K Y X : Type 0} (P : X → Type 0) (f : Y → List X) (test : K → Bool) (es : List (K × Y)) → Each (λ e. Each P (f e.1)) es → Each P (unwrap_or (option_map f (lookup test es)) [])
+looked_up : {K Y X : Type 0} (P : X → Type 0) (f : Y → List X) (test : K → Bool) (es : List (K × Y))
+    → Each (λ e. Each P (f e.1)) es → Each P (unwrap_or (option_map f (lookup test es)) [])
 looked_up P f test [] h = tt
-looked_up P f test (e ∷ es) h = elim (test e.0) as (λ b. Each P (unwrap_or (option_map f (cond b (Some e.1) (lookup test es))) [])) [ true ↦ h.0 | false ↦ looked_up P f test es h.1 ]
+looked_up P f test (e ∷ es) h =
+    elim (test e.0) as (λ b. Each P (unwrap_or (option_map f (cond b (Some e.1) (lookup test es))) []))
+    [ true ↦ h.0 | false ↦ looked_up P f test es h.1 ]
 
 module _ {M K X : Type 0} (P : X → Type 0) (f : LayerProfile M K → List X) where
-  in_layers : (name : Name) (ls : List (Layer M K)) → Each (λ l. Each (λ p. Each P (f p.1)) l.profiles) ls → Each P (flat_map (in_layer f name) ls)
+  in_layers : (name : Name) (ls : List (Layer M K)) → Each (λ l. Each (λ p. Each P (f p.1)) l.profiles) ls
+      → Each P (flat_map (in_layer f name) ls)
   in_layers name [] h = tt
-  in_layers name (l ∷ ls) h = joined P (in_layer f name l) (flat_map (in_layer f name) ls) (looked_up P f _ l.profiles h.0) (in_layers name ls h.1)
+  in_layers name (l ∷ ls) h =
+      joined P (in_layer f name l) (flat_map (in_layer f name) ls) (looked_up P f _ l.profiles h.0)
+      (in_layers name ls h.1)
 
   -- of each rule that is gathered
-  pub each_gathered : (ls : List (Layer M K)) (names : List Name) → Each (λ l. Each (λ p. Each P (f p.1)) l.profiles) ls → Each P (in_order f ls names)
+  pub each_gathered : (ls : List (Layer M K)) (names : List Name)
+      → Each (λ l. Each (λ p. Each P (f p.1)) l.profiles) ls → Each P (in_order f ls names)
   each_gathered ls [] h = tt
-  each_gathered ls (name ∷ names) h = joined P (flat_map (in_layer f name) ls) (in_order f ls names) (in_layers name ls h) (each_gathered ls names h)
+  each_gathered ls (name ∷ names) h =
+      joined P (flat_map (in_layer f name) ls) (in_order f ls names) (in_layers name ls h) (each_gathered ls names h)

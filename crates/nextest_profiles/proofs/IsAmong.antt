@@ -24,7 +24,9 @@ use Rattle.nextest_profiles.proofs.EachRule.{each_image, each_gathered}
 -- what holds of each element holds of the one that is found
 each_found : {X : Type 0} (P : X → Type 0) (passes : X → Bool) (xs : List X) → Each P xs → IfSome (find passes xs) P
 each_found P passes [] h = tt
-each_found P passes (x ∷ xs) h = elim (passes x) as (λ b. IfSome (cond b (Some x) (find passes xs)) P) [ true ↦ h.0 | false ↦ each_found P passes xs h.1 ]
+each_found P passes (x ∷ xs) h =
+    elim (passes x) as (λ b. IfSome (cond b (Some x) (find passes xs)) P)
+    [ true ↦ h.0 | false ↦ each_found P passes xs h.1 ]
 
 module _ (names : List Name) where
   or_global : (o : Option TestGroup) → IsAmong names o → IsAmong names (option_or o (Some Global))
@@ -40,17 +42,23 @@ module _ (names : List Name) where
   of_override None h = tt
   of_override (Some r) h = or_global r.writes.settings.test_group h
 
-module _ {M K P : Type 0} (meets : K → P → Option Bool) (platforms : BuildPlatforms P) (configured : Configured M K) (name : Name) (chain : List Name)
-    (groups : EachOverride (λ r. IsAmong (names_in configured.config.groups) r.writes.settings.test_group) configured.config) where
+module _ {M K P : Type 0} (meets : K → P → Option Bool) (platforms : BuildPlatforms P)
+    (configured : Configured M K) (name : Name) (chain : List Name)
+    (groups : EachOverride (λ r. IsAmong (names_in configured.config.groups) r.writes.settings.test_group)
+    configured.config) where
   abbrev profile : EvaluatableModel M
   profile = profile_on meets platforms (profile_of configured name chain)
 
   known : Each (WritesKnown (names_in configured.config.groups)) profile.overrides
   known =
-      each_image (WritesKnown (names_in configured.config.groups)) (rule_on meets platforms) (overrides_of configured.config.layers (with_default chain))
-      (each_gathered (λ r. IsAmong (names_in configured.config.groups) r.writes.settings.test_group) (λ p. p.overrides) configured.config.layers (with_default chain) groups)
+      each_image (WritesKnown (names_in configured.config.groups)) (rule_on meets platforms)
+      (overrides_of configured.config.layers (with_default chain))
+      (each_gathered (λ r. IsAmong (names_in configured.config.groups) r.writes.settings.test_group)
+      (λ p. p.overrides) configured.config.layers (with_default chain) groups)
 
-  pub group_known : (query : QueryContext M) (mode : NextestRunMode) → IsAmong (names_in configured.config.groups) (setting_value query mode profile at.TestGroup)
+  pub group_known : (query : QueryContext M) (mode : NextestRunMode)
+      → IsAmong (names_in configured.config.groups) (setting_value query mode profile at.TestGroup)
   group_known query mode =
       of_override (names_in configured.config.groups) (deciding_override query mode profile.overrides at.TestGroup)
-      (each_found (WritesKnown (names_in configured.config.groups)) (decides query (λ w. is_set w.settings mode at.TestGroup)) profile.overrides known)
+      (each_found (WritesKnown (names_in configured.config.groups))
+      (decides query (λ w. is_set w.settings mode at.TestGroup)) profile.overrides known)

@@ -32,5 +32,6 @@ or-false true = refl
 or-false false = refl
 
 -- the names of groups
-pub names_of_entries : (es : List (CustomTestGroup × TestGroupConfig)) → names_in (groups_view es) ≡ map (λ e. custom_group_text e.0) es
+pub names_of_entries : (es : List (CustomTestGroup × TestGroupConfig))
+    → names_in (groups_view es) ≡ map (λ e. custom_group_text e.0) es
 names_of_entries es = fused (λ p. p.0) (λ e. (custom_group_text e.0, Some e.1)) es

@@ -23,13 +23,17 @@ fused f g (x ∷ xs) = ap (λ ys. f (g x) ∷ ys) (fused f g xs)
 abbrev pub uses_of : {M K : Type 0} → List (Compiled M K ScriptUse) → List ScriptUse
 uses_of rules = map (λ r. r.writes) rules
 
-module _ {E N M K : Type 0} (f : E → M) (g : N → K) (matches : BinaryMatch M) (config : ConfigModel E N) (scripts : ScriptTables) (closed : IsClosed matches (config_meaning f g config) scripts) (names : List Name) where
-  same_uses : uses_of (script_rules_of (map (layer_meaning f g) config.layers) names) ≡ uses_of (script_rules_of config.layers names)
+module _ {E N M K : Type 0} (f : E → M) (g : N → K) (matches : BinaryMatch M) (config : ConfigModel E N)
+    (scripts : ScriptTables) (closed : IsClosed matches (config_meaning f g config) scripts) (names : List Name) where
+  same_uses : uses_of (script_rules_of (map (layer_meaning f g) config.layers) names)
+      ≡ uses_of (script_rules_of config.layers names)
   same_uses =
       ap uses_of (sym (script_rules_meaning f g config.layers names))
       ∙ fused (λ r. r.writes) (script_rule_meaning f g) (script_rules_of config.layers names)
 
-  of_uses : (Q : ScriptUse → Type 0) → Each (λ l. Each (λ p. Each (λ r. Q r.writes) p.1.script_rules) l.profiles) (map (layer_meaning f g) config.layers)
+  of_uses : (Q : ScriptUse → Type 0)
+      → Each (λ l. Each (λ p. Each (λ r. Q r.writes) p.1.script_rules) l.profiles)
+      (map (layer_meaning f g) config.layers)
       → Each Q (uses_of (script_rules_of config.layers names))
   of_uses Q all =
       subst (Each Q) same_uses
@@ -39,11 +43,14 @@ module _ {E N M K : Type 0} (f : E → M) (g : N → K) (matches : BinaryMatch M
   pub knows_scripts : KnowsScripts scripts (uses_of (script_rules_of config.layers names))
   knows_scripts = record {
     setup = of_uses (λ named. Each (IsIn (names_in scripts.setup)) named.setup) closed.setup_scripts;
-    list_wrappers = of_uses (λ named. IfWritten named.list_wrapper (IsIn (names_in scripts.wrapper))) closed.list_wrappers;
+    list_wrappers = of_uses (λ named. IfWritten named.list_wrapper (IsIn (names_in scripts.wrapper)))
+        closed.list_wrappers;
     run_wrappers = of_uses (λ named. IfWritten named.run_wrapper (IsIn (names_in scripts.wrapper))) closed.run_wrappers;
   }
 
-  pub filters_answer : Each (AnswersBinaries matches) (map (script_rule_meaning f g) (script_rules_of config.layers names))
+  pub filters_answer : Each (AnswersBinaries matches)
+      (map (script_rule_meaning f g) (script_rules_of config.layers names))
   filters_answer =
       subst (Each (AnswersBinaries matches)) (sym (script_rules_meaning f g config.layers names))
-      (each_gathered (AnswersBinaries matches) (λ p. p.script_rules) (map (layer_meaning f g) config.layers) names closed.list_filters)
+      (each_gathered (AnswersBinaries matches) (λ p. p.script_rules) (map (layer_meaning f g) config.layers)
+      names closed.list_filters)

@@ -21,7 +21,8 @@ abbrev pub parents_written : List (Name × MergedProfile') → WrittenParents
 parents_written profiles = map (λ p. (p.0, p.1.parent)) profiles
 
 -- the parents that the profiles of a map write are those of what contracts see of them
-pub parents_same : (es : List (String Global × MergedProfile)) → parents_view parent_in es ≡ parents_written (by_name merged_profile_view es)
+pub parents_same : (es : List (String Global × MergedProfile))
+    → parents_view parent_in es ≡ parents_written (by_name merged_profile_view es)
 parents_same [] = refl
 parents_same (e ∷ es) = ap (λ rest. (string_bytes e.0, parent_in e.1) ∷ rest) (parents_same es)
 
@@ -30,12 +31,17 @@ pub keys_same : (profiles : List (Name × MergedProfile')) → keys_of (parents_
 keys_same [] = refl
 keys_same (p ∷ profiles) = ap (λ names. p.0 ∷ names) (keys_same profiles)
 
-cond_parent : {X Y : Type 0} (f : X → Option Y) (found : Bool) (x : X) (later : Option X) (seen : Option (Option Y)) → unwrap_or seen None ≡ option_and_then f later
+cond_parent : {X Y : Type 0} (f : X → Option Y) (found : Bool) (x : X) (later : Option X)
+    (seen : Option (Option Y)) → unwrap_or seen None ≡ option_and_then f later
     → unwrap_or (cond found (Some (f x)) seen) None ≡ option_and_then f (cond found (Some x) later)
 cond_parent f true x later seen same = refl
 cond_parent f false x later seen same = same
 
 -- the parent of a name is the one of the profile at it
-pub parent_there : (profiles : List (Name × MergedProfile')) (name : Name) → parents_in (parents_written profiles) name ≡ option_and_then (λ p. p.parent) (at_name name profiles)
+pub parent_there : (profiles : List (Name × MergedProfile')) (name : Name)
+    → parents_in (parents_written profiles) name ≡ option_and_then (λ p. p.parent) (at_name name profiles)
 parent_there [] name = refl
-parent_there (p ∷ profiles) name = cond_parent (λ q. q.parent) (is_at (slice_cmp nat_cmp name) p.0) p.1 (lookup (is_at (slice_cmp nat_cmp name)) profiles) (lookup (is_at (slice_cmp nat_cmp name)) (parents_written profiles)) (parent_there profiles name)
+parent_there (p ∷ profiles) name =
+    cond_parent (λ q. q.parent) (is_at (slice_cmp nat_cmp name) p.0) p.1
+    (lookup (is_at (slice_cmp nat_cmp name)) profiles)
+    (lookup (is_at (slice_cmp nat_cmp name)) (parents_written profiles)) (parent_there profiles name)

@@ -10,7 +10,8 @@ use Rattle.nextest_settings.specs.declared.evaluated.EvaluatedRules.{EvaluatedRu
 use Rattle.nextest_profiles.specs.Meaning.{choice_meaning, profile_meaning}
 use Rattle.nextest_profiles.proofs.KnowsScripts.{fused}
 
-module _ {F S E T N P M : Type 0} {filters : FilterGhosts.Ghosts F E T} {tally : TallyGhosts.Ghosts T} {specs : SpecGhosts.Ghosts S N P}
+module _ {F S E T N P M : Type 0} {filters : FilterGhosts.Ghosts F E T} {tally : TallyGhosts.Ghosts T}
+    {specs : SpecGhosts.Ghosts S N P}
     (f : E → M) (facts : ProfileFacts) (rules : EvaluatedRules F S E T N P filters tally specs) where
   -- a profile, as its model has it
   abbrev pub held : EvaluatableModel E

@@ -21,7 +21,8 @@ pub record AreSettingsOf {F S Src E T N P M : Type 0} (meaning : E → M) (query
   -- each origin is that of this rule, else of the fallback
   pub origins : (s : Setting) → origin_at settings s ≡ setting_origin query mode profile s
   -- the override that is handed out has the filter of the one that decides, and writes the same
-  pub overrides : (s : Setting) → option_map (override_text_meaning meaning) (override_at settings s)
+  pub overrides : (s : Setting)
+      → option_map (override_text_meaning meaning) (override_at settings s)
       ≡ option_map rule_text (deciding_override query mode profile.overrides s)
   -- the script rule that is handed out writes what the one writes that names the wrapper
   pub script_rule : wrapping_use_at settings

@@ -9,16 +9,19 @@ use Rattle.nextest_tree.specs.Node.{Node, Entries, no_entries, entry, get}
 use Rattle.nextest_rules.specs.Rules.{at_name}
 
 module _ {X Y : Type 0} (h : Name → X → Y) (name : Name) where
-  mapped_step : (o : Ordering) (key : Name) (x : X) (later : Option Y) (r : Option X) → slice_cmp nat_cmp name key ≡ o → later ≡ option_map (h name) r
+  mapped_step : (o : Ordering) (key : Name) (x : X) (later : Option Y) (r : Option X)
+      → slice_cmp nat_cmp name key ≡ o → later ≡ option_map (h name) r
       → cond (is_eq o) (Some (h key x)) later ≡ option_map (h name) (cond (is_eq o) (Some x) r)
   mapped_step Less key x later r is rest = rest
   mapped_step Equal key x later r is rest = ap (λ n. Some (h n x)) (sym (exact_bytes name key is))
   mapped_step Greater key x later r is rest = rest
 
   -- what stands at a name, where each element is made of its name and its value
-  pub at_mapped : (es : List (Name × X)) → at_name name (map (λ e. (e.0, h e.0 e.1)) es) ≡ option_map (h name) (at_name name es)
+  pub at_mapped : (es : List (Name × X))
+      → at_name name (map (λ e. (e.0, h e.0 e.1)) es) ≡ option_map (h name) (at_name name es)
   at_mapped [] = refl
-  at_mapped (e ∷ es) = mapped_step (slice_cmp nat_cmp name e.0) e.0 e.1 (at_name name (map (λ e. (e.0, h e.0 e.1)) es)) (at_name name es) refl (at_mapped es)
+  at_mapped (e ∷ es) = mapped_step (slice_cmp nat_cmp name e.0) e.0 e.1
+      (at_name name (map (λ e. (e.0, h e.0 e.1)) es)) (at_name name es) refl (at_mapped es)
 
 module _ {X : Type 0} (f : Node → X) (name : Name) where
   each_step : (o : Ordering) (n : Node) (later : Option X) (r : Option Node) → later ≡ option_map f r
@@ -30,11 +33,14 @@ module _ {X : Type 0} (f : Node → X) (name : Name) where
   -- what is read at a name
   pub at_each : (es : Entries) → at_name name (each_in f es) ≡ option_map f (get name es)
   at_each no_entries = refl
-  at_each (entry k n es) = each_step (slice_cmp nat_cmp name k) n (at_name name (each_in f es)) (get name es) (at_each es)
+  at_each (entry k n es) = each_step (slice_cmp nat_cmp name k) n (at_name name (each_in f es)) (get name es)
+      (at_each es)
 
 -- what stands at a name among those that pass
 module _ {X : Type 0} (passes : Name → Bool) (id : Name) where
-  filtered_step : (o : Ordering) (b c : Bool) (x : X) (rest found : Option X) → (o ≡ Equal → b ≡ c) → rest ≡ cond c found None → cond b (cond (is_eq o) (Some x) rest) rest ≡ cond c (cond (is_eq o) (Some x) found) None
+  filtered_step : (o : Ordering) (b c : Bool) (x : X) (rest found : Option X) → (o ≡ Equal → b ≡ c)
+      → rest ≡ cond c found None
+      → cond b (cond (is_eq o) (Some x) rest) rest ≡ cond c (cond (is_eq o) (Some x) found) None
   filtered_step Less true c x rest found tie h = h
   filtered_step Less false c x rest found tie h = h
   filtered_step Greater true c x rest found tie h = h
@@ -44,7 +50,9 @@ module _ {X : Type 0} (passes : Name → Bool) (id : Name) where
   filtered_step Equal false true x rest found tie h = let bad : false ≡ true = tie refl in absurd cc
   filtered_step Equal false false x rest found tie h = h
 
-  through : (b : Bool) (e : Name × X) (es : List (Name × X)) → at_name id (cond b (e ∷ es) es) ≡ cond b (cond (is_eq (slice_cmp nat_cmp id e.0)) (Some e.1) (at_name id es)) (at_name id es)
+  through : (b : Bool) (e : Name × X) (es : List (Name × X))
+      → at_name id (cond b (e ∷ es) es)
+      ≡ cond b (cond (is_eq (slice_cmp nat_cmp id e.0)) (Some e.1) (at_name id es)) (at_name id es)
   through true e es = refl
   through false e es = refl
 
@@ -52,8 +60,11 @@ module _ {X : Type 0} (passes : Name → Bool) (id : Name) where
   nothing true = refl
   nothing false = refl
 
-  pub at_filtered : (es : List (Name × X)) → at_name id (filter (λ e. passes e.0) es) ≡ cond (passes id) (at_name id es) None
+  pub at_filtered : (es : List (Name × X))
+      → at_name id (filter (λ e. passes e.0) es) ≡ cond (passes id) (at_name id es) None
   at_filtered [] = nothing (passes id)
   at_filtered (e ∷ es) =
       through (passes e.0) e (filter (λ e. passes e.0) es)
-      ∙ filtered_step (slice_cmp nat_cmp id e.0) (passes e.0) (passes id) e.1 (at_name id (filter (λ e. passes e.0) es)) (at_name id es) (λ tie. ap passes (sym (exact_bytes id e.0 tie))) (at_filtered es)
+      ∙ filtered_step (slice_cmp nat_cmp id e.0) (passes e.0) (passes id) e.1
+      (at_name id (filter (λ e. passes e.0) es)) (at_name id es)
+      (λ tie. ap passes (sym (exact_bytes id e.0 tie))) (at_filtered es)

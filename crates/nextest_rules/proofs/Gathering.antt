@@ -45,7 +45,8 @@ module _ {K : Type 0} (cmp : K → K → Ordering) (text : K → Name) (ordered 
       let same : text k ≡ text x = exact_bytes (text k) (text x) (sym (ordered k x) ∙ is) in
       rw same (or_again (bytes_eq (text x) q) (is_one_of (map text xs) q))
   inserted_at Greater x xs k q is next =
-      ap (λ b. bytes_eq (text x) q || b) next ∙ or_assoc (bytes_eq (text x) q) (is_one_of (map text xs) q) (bytes_eq (text k) q)
+      ap (λ b. bytes_eq (text x) q || b) next
+      ∙ or_assoc (bytes_eq (text x) q) (is_one_of (map text xs) q) (bytes_eq (text k) q)
 
   -- the names of a set with one key more
   pub inserted : (ks : List K) (k : K) (q : Name)
@@ -56,13 +57,15 @@ module _ {K : Type 0} (cmp : K → K → Ordering) (text : K → Name) (ordered 
   -- a name that passes is gathered
   pub gathered : (p : Name → Bool) (old new : List K) (key copy : K) (rest : List Name) (q : Name)
       → new ≡ insert_key cmp old copy → text copy ≡ text key → p (text key) ≡ true
-      → (is_one_of (map text new) q || is_one_of (filter p rest) q) ≡ (is_one_of (map text old) q || is_one_of (filter p (text key ∷ rest)) q)
+      → (is_one_of (map text new) q || is_one_of (filter p rest) q)
+      ≡ (is_one_of (map text old) q || is_one_of (filter p (text key ∷ rest)) q)
   gathered p old new key copy rest q is same passes =
       rw (is, inserted old copy q, same, passes)
       (sym (or_assoc (is_one_of (map text old) q) (bytes_eq (text key) q) (is_one_of (filter p rest) q)))
 
 -- a name that does not pass is no such name
-pub passed_over : (p : Name → Bool) (name : Name) (rest : List Name) → p name ≡ false → filter p rest ≡ filter p (name ∷ rest)
+pub passed_over : (p : Name → Bool) (name : Name) (rest : List Name) → p name ≡ false
+    → filter p rest ≡ filter p (name ∷ rest)
 passed_over p name rest fails = rw fails refl
 
 has_head : (name : Name) (names : List Name) → is_one_of (name ∷ names) name ≡ true
@@ -70,22 +73,27 @@ has_head name names = ap (λ b. b || is_one_of names name) ((bytes_eq-Decides na
 
 none_if : (xs ys : List Name) → ((q : Name) → is_one_of xs q ≡ is_one_of ys q) → xs ≡ [] → ys ≡ []
 none_if xs [] same none = refl
-none_if xs (y ∷ ys) same none = let here = sym (has_head y ys) ∙ sym (same y) ∙ ap (λ names. is_one_of names y) none in cc
+none_if xs (y ∷ ys) same none = let here =
+    sym (has_head y ys) ∙ sym (same y) ∙ ap (λ names. is_one_of names y) none in cc
 
 -- names that were gathered tell nothing where there is none
-pub gathered_none : (cause : NameSet → LoadCause) (found names : List Name) → ((q : Name) → is_one_of found q ≡ is_one_of names q)
+pub gathered_none : (cause : NameSet → LoadCause) (found names : List Name)
+    → ((q : Name) → is_one_of found q ≡ is_one_of names q)
     → found ≡ [] → if_some (λ names. cause (is_one_of names)) names ≡ None
 gathered_none cause found names same none = rw (none_if found names same none) refl
 
-some_cause : (cause : NameSet → LoadCause) (found names : List Name) → ((q : Name) → is_one_of found q ≡ is_one_of names q)
+some_cause : (cause : NameSet → LoadCause) (found names : List Name)
+    → ((q : Name) → is_one_of found q ≡ is_one_of names q)
     → (names ≡ [] → ⊥) → if_some (λ names. cause (is_one_of names)) names ≡ Some (cause (is_one_of found))
 some_cause cause found [] same some = absurd (some refl)
 some_cause cause found (name ∷ names) same some = ap (λ set. Some (cause set)) (λ i q. sym (same q) i)
 
 -- and else all of them
-pub gathered_some : (cause : NameSet → LoadCause) (found names : List Name) → ((q : Name) → is_one_of found q ≡ is_one_of names q)
+pub gathered_some : (cause : NameSet → LoadCause) (found names : List Name)
+    → ((q : Name) → is_one_of found q ≡ is_one_of names q)
     → (found ≡ [] → ⊥) → if_some (λ names. cause (is_one_of names)) names ≡ Some (cause (is_one_of found))
-gathered_some cause found names same some = some_cause cause found names same (λ none. some (none_if names found (λ q. sym (same q)) none))
+gathered_some cause found names same some =
+    some_cause cause found names same (λ none. some (none_if names found (λ q. sym (same q)) none))
 
 -- a list without elements maps to one
 pub none_mapped : {X Y : Type 0} (f : X → Y) (xs : List X) → length xs ≡ 0 → map f xs ≡ []
@@ -101,8 +109,11 @@ pub two_parts : (p : Name → Bool) (xs ys : List Name) (q : Name) (a b : Bool) 
     → b ≡ (a || is_one_of (filter p ys) q) → b ≡ is_one_of (filter p (xs ++ ys)) q
 two_parts p xs ys q a b first next =
     next ∙ ap (λ x. x || is_one_of (filter p ys) q) first
-    ∙ sym (ap (λ names. is_one_of names q) (filter-append p xs ys) ∙ list_any-append (λ name. bytes_eq name q) (filter p xs) (filter p ys))
+    ∙ sym (ap (λ names. is_one_of names q) (filter-append p xs ys)
+    ∙ list_any-append (λ name. bytes_eq name q) (filter p xs) (filter p ys))
 
 pub three_parts : (p : Name → Bool) (xs ys zs : List Name) (q : Name) (a b c : Bool) → a ≡ is_one_of (filter p xs) q
-    → b ≡ (a || is_one_of (filter p ys) q) → c ≡ (b || is_one_of (filter p zs) q) → c ≡ is_one_of (filter p (xs ++ ys ++ zs)) q
-three_parts p xs ys zs q a b c first second third = two_parts p (xs ++ ys) zs q b c (two_parts p xs ys q a b first second) third
+    → b ≡ (a || is_one_of (filter p ys) q) → c ≡ (b || is_one_of (filter p zs) q)
+    → c ≡ is_one_of (filter p (xs ++ ys ++ zs)) q
+three_parts p xs ys zs q a b c first second third =
+    two_parts p (xs ++ ys) zs q b c (two_parts p xs ys q a b first second) third

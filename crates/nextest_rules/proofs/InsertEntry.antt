@@ -11,14 +11,17 @@ use Rattle.std.specs.String.{string_cmp}
 use Rattle.nextest_tables.specs.View.{by_name}
 use Rattle.nextest_tables.specs.Written.{Name}
 
-below_middle : {X : Type 0} (first : String Global) (es : List (String Global × X)) (e : String Global × X) (more : List (String Global × X))
+below_middle : {X : Type 0} (first : String Global) (es : List (String Global × X)) (e : String Global × X)
+    (more : List (String Global × X))
     → AllByRecursion (λ y. string_cmp first y ≡ Less) (keys_of (es ++ e ∷ more)) → string_cmp first e.0 ≡ Less
 below_middle first [] e more h = h.0
 below_middle first (x ∷ es) e more h = below_middle first es e more h.1
 
 -- a value under the next name goes last
-pub goes_last : {X Y : Type 0} (done : List (String Global × X)) (e : String Global × X) (more : List (String Global × X)) (ys : List (String Global × Y))
-    (k : String Global) (y : Y) → IsStrictlySortedBy string_cmp (keys_of (done ++ e ∷ more)) → map string_bytes (keys_of ys) ≡ map string_bytes (keys_of done)
+pub goes_last : {X Y : Type 0} (done : List (String Global × X)) (e : String Global × X)
+    (more : List (String Global × X)) (ys : List (String Global × Y))
+    (k : String Global) (y : Y) → IsStrictlySortedBy string_cmp (keys_of (done ++ e ∷ more))
+    → map string_bytes (keys_of ys) ≡ map string_bytes (keys_of done)
     → string_bytes k ≡ string_bytes e.0 → insert_entry string_cmp ys k y ≡ ys ++ (k, y) ∷ []
 unfolding IsStrictlySortedBy
 goes_last [] e more [] k y h same key = refl
@@ -38,13 +41,15 @@ last_name [] k x = refl
 last_name (e ∷ xs) k x = ap (λ names. string_bytes e.0 ∷ names) (last_name xs k x)
 
 -- the same names, with one more
-pub names_more : {X Y : Type 0} (xs : List (String Global × X)) (ys : List (String Global × Y)) (k l : String Global) (x : X) (y : Y)
+pub names_more : {X Y : Type 0} (xs : List (String Global × X)) (ys : List (String Global × Y))
+    (k l : String Global) (x : X) (y : Y)
     → map string_bytes (keys_of xs) ≡ map string_bytes (keys_of ys) → string_bytes k ≡ string_bytes l
     → map string_bytes (keys_of (xs ++ (k, x) ∷ [])) ≡ map string_bytes (keys_of (ys ++ (l, y) ∷ []))
 names_more xs ys k l x y same key = last_name xs k x ∙ (λ i. same i ++ key i ∷ []) ∙ sym (last_name ys l y)
 
 -- the values that are seen, with one more
-pub seen_more : {X Y : Type 0} (f : X → Y) (xs : List (String Global × X)) (k : String Global) (x : X) (y : Y) (rest : List (Name × Y)) → f x ≡ y
+pub seen_more : {X Y : Type 0} (f : X → Y) (xs : List (String Global × X)) (k : String Global) (x : X) (y : Y)
+    (rest : List (Name × Y)) → f x ≡ y
     → by_name f (xs ++ (k, x) ∷ []) ++ rest ≡ by_name f xs ++ (string_bytes k, y) ∷ rest
 seen_more f [] k x y rest h = ap (λ v. (string_bytes k, v) ∷ rest) h
 seen_more f (e ∷ xs) k x y rest h = ap (λ es. (string_bytes e.0, f e.1) ∷ es) (seen_more f xs k x y rest h)

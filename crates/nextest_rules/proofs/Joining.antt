@@ -23,12 +23,14 @@ no_faults = record { unknown_scripts = []; wrong_scripts = []; list_filters = []
 pub are_joined : (a b : ScriptFaults) → AreMore a b (joined a b)
 are_joined a b = record { unknown = refl; wrong = refl; lists = refl }
 
-regroup : {X : Type 0} (now one next rest both all : List X) → next ≡ now ++ one → both ≡ one ++ rest → all ≡ now ++ both → all ≡ next ++ rest
+regroup : {X : Type 0} (now one next rest both all : List X) → next ≡ now ++ one → both ≡ one ++ rest
+    → all ≡ now ++ both → all ≡ next ++ rest
 regroup now one next rest both all more split so_far =
     so_far ∙ ap (λ l. now ++ l) split ∙ sym (append_assoc now one rest) ∙ ap (λ l. l ++ rest) (sym more)
 
 -- one part more is there
-pub part_more : (now one next rest both all : ScriptFaults) → AreMore now one next → AreMore one rest both → AreMore now both all → AreMore next rest all
+pub part_more : (now one next rest both all : ScriptFaults) → AreMore now one next → AreMore one rest both
+    → AreMore now both all → AreMore next rest all
 part_more now one next rest both all more split so_far = record {
   unknown = regroup _ one.unknown_scripts _ _ _ _ more.unknown split.unknown so_far.unknown;
   wrong = regroup _ one.wrong_scripts _ _ _ _ more.wrong split.wrong so_far.wrong;
@@ -43,11 +45,14 @@ all_there now old more h = record {
   lists = sym (h.lists ∙ append-nil now.list_filters);
 }
 
-joins : {X : Type 0} (old a mid b new both : List X) → mid ≡ old ++ a → new ≡ mid ++ b → both ≡ a ++ b → new ≡ old ++ both
-joins old a mid b new both first second is = second ∙ ap (λ l. l ++ b) first ∙ append_assoc old a b ∙ ap (λ l. old ++ l) (sym is)
+joins : {X : Type 0} (old a mid b new both : List X) → mid ≡ old ++ a → new ≡ mid ++ b → both ≡ a ++ b
+    → new ≡ old ++ both
+joins old a mid b new both first second is =
+    second ∙ ap (λ l. l ++ b) first ∙ append_assoc old a b ∙ ap (λ l. old ++ l) (sym is)
 
 -- one part after another
-pub part_then : (old a mid b new both : ScriptFaults) → AreMore old a mid → AreMore mid b new → AreMore a b both → AreMore old both new
+pub part_then : (old a mid b new both : ScriptFaults) → AreMore old a mid → AreMore mid b new
+    → AreMore a b both → AreMore old both new
 part_then old a mid b new both first second is = record {
   unknown = joins _ a.unknown_scripts _ _ _ _ first.unknown second.unknown is.unknown;
   wrong = joins _ a.wrong_scripts _ _ _ _ first.wrong second.wrong is.wrong;

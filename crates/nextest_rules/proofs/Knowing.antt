@@ -27,7 +27,8 @@ keys_named text see (e ∷ es) = ap (λ names. text e.0 ∷ names) (keys_named t
 pub one_of_both : (xs ys : List Name) (q : Name) → is_one_of (xs ++ ys) q ≡ (is_one_of xs q || is_one_of ys q)
 one_of_both xs ys q = list_any-append (λ name. bytes_eq name q) xs ys
 
-file_more : (g : FileText → List Name) (below : List FileText) (f : FileText) → flat_map g (below ++ f ∷ []) ≡ flat_map g below ++ g f
+file_more : (g : FileText → List Name) (below : List FileText) (f : FileText)
+    → flat_map g (below ++ f ∷ []) ≡ flat_map g below ++ g f
 file_more g below f = flat_map-append g below (f ∷ []) ∙ ap (λ names. flat_map g below ++ names) (append-nil (g f))
 
 -- one file more
@@ -50,7 +51,8 @@ two_more old mid new xs ys first next q =
     ∙ ap (λ b. old q || b) (sym (one_of_both xs ys q))
 
 -- the same names, kind by kind
-pub same_sets : (a b : KnownSets) → a.groups ≡ b.groups → a.setup_scripts ≡ b.setup_scripts → a.wrapper_scripts ≡ b.wrapper_scripts
+pub same_sets : (a b : KnownSets) → a.groups ≡ b.groups → a.setup_scripts ≡ b.setup_scripts
+    → a.wrapper_scripts ≡ b.wrapper_scripts
     → a.profiles ≡ b.profiles → a ≡ b
 same_sets a b groups setup wrapper profiles =
     λ i. record { groups = groups i; setup_scripts = setup i; wrapper_scripts = wrapper i; profiles = profiles i }
@@ -61,13 +63,15 @@ either_nonempty [] ys = refl
 either_nonempty (x ∷ xs) ys = refl
 
 -- a table without entries names nothing
-pub names_any : {X : Type 0} (name : X → Name) (es : List X) (b : Bool) → IsTrue b ↔ (length es ≡ 0) → not b ≡ is_nonempty (map name es)
+pub names_any : {X : Type 0} (name : X → Name) (es : List X) (b : Bool) → IsTrue b ↔ (length es ≡ 0)
+    → not b ≡ is_nonempty (map name es)
 names_any name [] true empty = refl
 names_any name [] false empty = absurd (false≢true (empty.1 refl))
 names_any name (e ∷ es) true empty = let none = empty.0 refl in absurd (omega arith)
 names_any name (e ∷ es) false empty = refl
 
-key_at : {V : Type 0} (found same : Bool) (value : V) (later : Option V) (others : Bool) → found ≡ same → is_some later ≡ others
+key_at : {V : Type 0} (found same : Bool) (value : V) (later : Option V) (others : Bool) → found ≡ same
+    → is_some later ≡ others
     → is_some (cond found (Some value) later) ≡ (same || others)
 key_at true same value later others is rest = rw (← is) refl
 key_at false same value later others is rest = rw (← is) rest
@@ -77,4 +81,5 @@ pub key_there : {K V : Type 0} (text : K → Name) (es : List (K × V)) (name : 
     → is_some (lookup (is_at (λ key. slice_cmp nat_cmp name (text key))) es) ≡ is_one_of (map (λ e. text e.0) es) name
 key_there text [] name = refl
 key_there text (e ∷ es) name =
-    key_at _ (bytes_eq (text e.0) name) e.1 _ _ (is_eq-slice_cmp name (text e.0) ∙ nat_list_eq_equiv.symm name (text e.0)) (key_there text es name)
+    key_at _ (bytes_eq (text e.0) name) e.1 _ _
+    (is_eq-slice_cmp name (text e.0) ∙ nat_list_eq_equiv.symm name (text e.0)) (key_there text es name)

@@ -1,8 +1,10 @@
 pub mod AcceptedDefinitions
 pub mod AcceptedRules
+pub mod AcceptedScripts
 pub mod AtName
 pub mod Compiling
 pub mod Composing
+pub mod EachPart
 pub mod Emptying
 pub mod Gathering
 pub mod Grouping

@@ -28,14 +28,16 @@ no_more None b = (λ h. (refl, h), λ p. p.1)
 no_more (Some x) b = (λ h. cc, λ p. p.0)
 
 -- two lists of steps have no fault exactly where neither has one
-pub both_pass : (xs ys : List LoadStep) → (first_fault (xs ++ ys) ≡ None) ↔ ((first_fault xs ≡ None) × (first_fault ys ≡ None))
+pub both_pass : (xs ys : List LoadStep)
+    → (first_fault (xs ++ ys) ≡ None) ↔ ((first_fault xs ≡ None) × (first_fault ys ≡ None))
 both_pass xs ys =
     let split = no_more (first_fault xs) (first_fault ys) in
     let same = first_fault-append xs ys in
     (λ h. split.0 (sym same ∙ h), λ p. same ∙ split.1 p)
 
 -- a check has no fault exactly where it has no cause
-pub check_passes : (s : Source) (c : Option LoadCause) (steps : List LoadStep) → (first_fault (check s c ∷ steps) ≡ None) ↔ ((c ≡ None) × (first_fault steps ≡ None))
+pub check_passes : (s : Source) (c : Option LoadCause) (steps : List LoadStep)
+    → (first_fault (check s c ∷ steps) ≡ None) ↔ ((c ≡ None) × (first_fault steps ≡ None))
 check_passes s None steps = (λ h. (refl, h), λ p. p.1)
 check_passes s (Some c) steps = (λ h. cc, λ p. absurd (some_is_none c p.0))
   where
@@ -91,7 +93,8 @@ pub flat_none : {X Y : Type 0} (f : X → List Y) (xs : List X) → (flat_map f 
 flat_none f [] = (λ h. tt, λ h. refl)
 flat_none f (x ∷ xs) = iff_trans (both_empty (f x) (flat_map f xs)) (iff_both (λ h. h, λ h. h) (flat_none f xs))
 
-filtered_at : {X : Type 0} (p : X → Bool) (x : X) (xs : List X) (b : Bool) → p x ≡ b → (filter p xs ≡ []) ↔ Each (λ y. p y ≡ false) xs
+filtered_at : {X : Type 0} (p : X → Bool) (x : X) (xs : List X) (b : Bool) → p x ≡ b
+    → (filter p xs ≡ []) ↔ Each (λ y. p y ≡ false) xs
     → (filter p (x ∷ xs) ≡ []) ↔ ((p x ≡ false) × Each (λ y. p y ≡ false) xs)
 filtered_at p x xs true is rest = (λ h. absurd (some_kept (rw is at h)), λ q. absurd (false≢true (sym q.0 ∙ is)))
   where

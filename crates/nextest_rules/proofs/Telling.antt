@@ -13,12 +13,15 @@ use Rattle.nextest_sources.proofs.Ends.{refusal_found}
 
 -- a refusal of a cause is what a check finds that finds it
 pub told_at : (source : Source) (found : Option LoadCause) (cause : LoadCause) (e : ConfigParseError)
-    → found ≡ Some cause → Refuses e (Some (at_source source cause)) → Found (fault_at_source source found) (error_view e)
+    → found ≡ Some cause → Refuses e (Some (at_source source cause))
+    → Found (fault_at_source source found) (error_view e)
 told_at source found cause e is refuses =
-    subst (λ c. Found (fault_at_source source c) (error_view e)) (sym is) (refusal_found (at_source source cause) e refuses)
+    subst (λ c. Found (fault_at_source source c) (error_view e)) (sym is)
+    (refusal_found (at_source source cause) e refuses)
 
 -- the same of a kind that tells the cause
-pub told : (source : Source) (found : Option LoadCause) (cause : LoadCause) (kind : ConfigParseErrorKind) (e : ConfigParseError)
+pub told : (source : Source) (found : Option LoadCause) (cause : LoadCause) (kind : ConfigParseErrorKind)
+    (e : ConfigParseError)
     → found ≡ Some cause → cause_view kind ≡ Some cause → Refuses e (option_map (at_source source) (cause_view kind))
     → Found (fault_at_source source found) (error_view e)
 told source found cause kind e is says refuses =
@@ -30,18 +33,22 @@ none_left [] h = refl
 none_left (x ∷ xs) h = absurd (omega arith)
 
 -- a list that was found tells nothing where it is empty
-pub listed_none : {X Y : Type 0} (cause : List Y → LoadCause) (see : X → Y) (v : Vec X Global) (ys : List Y) {b : Bool} → map see v.items ≡ ys
+pub listed_none : {X Y : Type 0} (cause : List Y → LoadCause) (see : X → Y) (v : Vec X Global) (ys : List Y)
+    {b : Bool} → map see v.items ≡ ys
     → b ≡ (vec_len v == 0) → b ≡ true → if_some cause ys ≡ None
 listed_none cause see v ys seen empty is =
     let none : v.items ≡ [] = none_left v.items (sym v.ok.0 ∙ eqb-true (vec_len v) 0 (sym empty ∙ is)) in
     rw (← seen, none) refl
 
-some_listed : {X Y : Type 0} (cause : List Y → LoadCause) (see : X → Y) (xs : List X) → (length xs ≡ 0 → ⊥) → if_some cause (map see xs) ≡ Some (cause (map see xs))
+some_listed : {X Y : Type 0} (cause : List Y → LoadCause) (see : X → Y) (xs : List X) → (length xs ≡ 0 → ⊥)
+    → if_some cause (map see xs) ≡ Some (cause (map see xs))
 some_listed cause see [] some = absurd (some refl)
 some_listed cause see (x ∷ xs) some = refl
 
 -- and else all of it
-pub listed_some : {X Y : Type 0} (cause : List Y → LoadCause) (see : X → Y) (v : Vec X Global) (ys : List Y) {b : Bool} → map see v.items ≡ ys
+pub listed_some : {X Y : Type 0} (cause : List Y → LoadCause) (see : X → Y) (v : Vec X Global) (ys : List Y)
+    {b : Bool} → map see v.items ≡ ys
     → b ≡ (vec_len v == 0) → b ≡ false → if_some cause ys ≡ Some (cause (map see v.items))
 listed_some cause see v ys seen empty is =
-    rw (← seen) (some_listed cause see v.items (λ none. false≢true (sym is ∙ empty ∙ eq-eqb (vec_len v) 0 (v.ok.0 ∙ none))))
+    rw (← seen) (some_listed cause see v.items
+    (λ none. false≢true (sym is ∙ empty ∙ eq-eqb (vec_len v) 0 (v.ok.0 ∙ none))))

@@ -10,7 +10,8 @@ use Rattle.nextest_documents.specs.Shown.{Path, node_at}
 use Rattle.nextest_documents.specs.Text.{tree_of}
 use Rattle.nextest_script_order.specs.Standing.{has_id, ids_in_text, is_among, keys_at, stands_in}
 
-among_or : (o : Ordering) (b : Bool) (rest : List (List ℕ)) (id : List ℕ) (n : Node) (found : Option Node) → is_eq o ≡ b → is_among rest id ≡ is_some found
+among_or : (o : Ordering) (b : Bool) (rest : List (List ℕ)) (id : List ℕ) (n : Node) (found : Option Node)
+    → is_eq o ≡ b → is_among rest id ≡ is_some found
     → (b || is_among rest id) ≡ is_some (match_ordering o found (Some n) found)
 among_or Less b rest id n found e more = rw (← e) more
 among_or Equal b rest id n found e more = rw (← e) refl
@@ -18,7 +19,9 @@ among_or Greater b rest id n found e more = rw (← e) more
 
 among_keys : (es : Entries) (id : List ℕ) → is_among (keys es) id ≡ is_some (get id es)
 among_keys no_entries id = refl
-among_keys (entry l n es) id = among_or (slice_cmp nat_cmp id l) (bytes_eq id l) (keys es) id n (get id es) (is_eq-slice_cmp id l) (among_keys es id)
+among_keys (entry l n es) id =
+    among_or (slice_cmp nat_cmp id l) (bytes_eq id l) (keys es) id n (get id es) (is_eq-slice_cmp id l)
+    (among_keys es id)
 
 some_there : (o : Option Node) → is_some o ≡ is_some (option_and_then (node_at []) o)
 some_there None = refl
@@ -43,7 +46,8 @@ among_path (k ∷ path) (int z) id = refl
 among_path (k ∷ path) (bool b) id = refl
 among_path (k ∷ path) opaque id = refl
 
-among_in : (path : Path) (id : List ℕ) (o : Option Node) → is_among (option_map_or (keys_at path) o []) id ≡ option_map_or (λ document. has_id path document id) o false
+among_in : (path : Path) (id : List ℕ) (o : Option Node)
+    → is_among (option_map_or (keys_at path) o []) id ≡ option_map_or (λ document. has_id path document id) o false
 among_in path id None = refl
 among_in path id (Some n) = among_path path n id
 

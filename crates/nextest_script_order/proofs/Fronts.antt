@@ -10,19 +10,25 @@ pub more_left : (d : ℕ) (cs : List ℕ) → (length (d ∷ cs) == 0) ≡ false
 more_left d cs = grind (arith, nat_tests)
 
 -- a line ends where the lines up to it do
-pub end_at : (text : List ℕ) (start k : ℕ) → k < length (line_ends start text) → get_or (line_ends start text) k 0 ≡ start + length (first_lines (suc k) text)
+pub end_at : (text : List ℕ) (start k : ℕ) → k < length (line_ends start text)
+    → get_or (line_ends start text) k 0 ≡ start + length (first_lines (suc k) text)
 end_at [] start k h = absurd (omega arith)
-end_at (c ∷ []) start zero h = elim (cases_Bool (c == 10)) [ inl lf ↦ rw lf (omega arith) | inr other ↦ rw other (omega arith) ]
-end_at (c ∷ []) start (suc k) h = elim (cases_Bool (c == 10)) [ inl lf ↦ let g = rw lf at h in absurd (omega arith) | inr other ↦ let g = rw other at h in absurd (omega arith) ]
+end_at (c ∷ []) start zero h =
+    elim (cases_Bool (c == 10)) [ inl lf ↦ rw lf (omega arith) | inr other ↦ rw other (omega arith) ]
+end_at (c ∷ []) start (suc k) h =
+    elim (cases_Bool (c == 10))
+    [ inl lf ↦ let g = rw lf at h in absurd (omega arith) | inr other ↦ let g = rw other at h in absurd (omega arith) ]
 end_at (c ∷ d ∷ cs) start zero h =
     elim (cases_Bool (c == 10)) [
       | inl lf ↦ rw lf (omega arith)
-      | inr other ↦ let g = rw (other, more_left d cs) at h in rw (other, more_left d cs) (end_at (d ∷ cs) (start + 1) zero g ∙ omega arith)
+      | inr other ↦ let g = rw (other, more_left d cs) at h in
+          rw (other, more_left d cs) (end_at (d ∷ cs) (start + 1) zero g ∙ omega arith)
     ]
 end_at (c ∷ d ∷ cs) start (suc k) h =
     elim (cases_Bool (c == 10)) [
       | inl lf ↦ let g = rw lf at h in rw lf (end_at (d ∷ cs) (start + 1) k (omega arith) ∙ omega arith)
-      | inr other ↦ let g = rw (other, more_left d cs) at h in rw (other, more_left d cs) (end_at (d ∷ cs) (start + 1) (suc k) g ∙ omega arith)
+      | inr other ↦ let g = rw (other, more_left d cs) at h in
+          rw (other, more_left d cs) (end_at (d ∷ cs) (start + 1) (suc k) g ∙ omega arith)
     ]
 
 -- the first lines are a front
@@ -43,11 +49,13 @@ later : (c : ℕ) (cs : List ℕ) (n : ℕ) → EndsLine cs n → EndsLine (c �
 later c cs n (inl all) = inl (ap suc all)
 later c cs n (inr at) = let (j, e, within, lf) = at in inr (suc j, ap suc e, omega arith, lf)
 
-pub none_left : (n : ℕ) (cs : List ℕ) → length (first_lines (suc n) cs) ≡ 0 → length (first_lines (suc n) cs) ≡ length cs
+pub none_left : (n : ℕ) (cs : List ℕ) → length (first_lines (suc n) cs) ≡ 0
+    → length (first_lines (suc n) cs) ≡ length cs
 none_left n [] e = refl
 none_left n (d ∷ cs) e = absurd (omega arith)
 
-pub front_ends : (n : ℕ) (text : List ℕ) → (length (first_lines n text) ≡ 0) ⊎ EndsLine text (length (first_lines n text))
+pub front_ends : (n : ℕ) (text : List ℕ)
+    → (length (first_lines n text) ≡ 0) ⊎ EndsLine text (length (first_lines n text))
 front_ends zero text = inl refl
 front_ends (suc n) [] = inl refl
 front_ends (suc n) (c ∷ cs) =
@@ -68,12 +76,14 @@ front_boundary n text utf8 =
       | inl none ↦ rw none (IsCharBoundary-start text utf8)
       | inr at ↦ elim at [
         | inl all ↦ rw all (IsCharBoundary-end text)
-        | inr line ↦ let (j, e, within, lf) = line in rw (e, ← add-one) (IsCharBoundary-after_ascii text j utf8 within (omega arith))
+        | inr line ↦ let (j, e, within, lf) = line in
+            rw (e, ← add-one) (IsCharBoundary-after_ascii text j utf8 within (omega arith))
       ]
     ]
 
 -- the end that the code looks up
-pub end_of : (text ends : List ℕ) (count : ℕ) → ends ≡ line_ends 0 text → count ≤ length ends → ¬ (count ≡ 0) → get_or ends (count - 1) 0 ≡ length (first_lines count text)
+pub end_of : (text ends : List ℕ) (count : ℕ) → ends ≡ line_ends 0 text → count ≤ length ends → ¬ (count ≡ 0)
+    → get_or ends (count - 1) 0 ≡ length (first_lines count text)
 end_of text ends zero e within some = absurd (some refl)
 end_of text ends (suc k) e within some =
     let less : suc k - 1 ≡ k = omega arith in

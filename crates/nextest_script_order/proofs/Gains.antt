@@ -46,7 +46,8 @@ away j k l here other =
       | inr apart ↦ apart
     ]
 
-get_insert : (j k : List ℕ) (x : Node) (ns : Nodes) → get_node k ns ≡ None → get_node j (insert k x ns) ≡ cond (same_key j k) (Some x) (get_node j ns)
+get_insert : (j k : List ℕ) (x : Node) (ns : Nodes) → get_node k ns ≡ None
+    → get_node j (insert k x ns) ≡ cond (same_key j k) (Some x) (get_node j ns)
 get_insert j k x no_nodes none = refl
 get_insert j k x (node l y ns) none =
     elim (cases_ordering (slice_cmp nat_cmp k l)) [
@@ -62,7 +63,8 @@ get_insert j k x (node l y ns) none =
       ]
     ]
 
-get_replace : (j k : List ℕ) (y : Node) (ns : Nodes) (x : Node) → get_node k ns ≡ Some x → get_node j (replace k y ns) ≡ cond (same_key j k) (Some y) (get_node j ns)
+get_replace : (j k : List ℕ) (y : Node) (ns : Nodes) (x : Node) → get_node k ns ≡ Some x
+    → get_node j (replace k y ns) ≡ cond (same_key j k) (Some y) (get_node j ns)
 get_replace j k y no_nodes x found = absurd (none-some x found)
 get_replace j k y (node l z ns) x found =
     elim (cases_Bool (same_key k l)) [
@@ -79,7 +81,8 @@ get_replace j k y (node l z ns) x found =
       ])
     ]
 
-added : (j k : List ℕ) (path : List (List ℕ)) (ns : Nodes) (x : Node) (s : Standing) → get_node k ns ≡ None → standing path (close_node x) ≡ s
+added : (j k : List ℕ) (path : List (List ℕ)) (ns : Nodes) (x : Node) (s : Standing) → get_node k ns ≡ None
+    → standing path (close_node x) ≡ s
     → at_node j path (insert k x ns) ≡ or_then (at_node j path ns) (cond (same_key j k) s missing)
 added j k path ns x s none is =
     rw (get_insert j k x ns none) (elim (cases_Bool (same_key j k)) [
@@ -90,7 +93,8 @@ added j k path ns x s none is =
       | inr there ↦ rw there (or_missing _)
     ])
 
-changed : (j k : List ℕ) (path : List (List ℕ)) (ns : Nodes) (x y : Node) (s : Standing) → get_node k ns ≡ Some x → standing path (close_node y) ≡ or_then (standing path (close_node x)) s
+changed : (j k : List ℕ) (path : List (List ℕ)) (ns : Nodes) (x y : Node) (s : Standing)
+    → get_node k ns ≡ Some x → standing path (close_node y) ≡ or_then (standing path (close_node x)) s
     → at_node j path (replace k y ns) ≡ or_then (at_node j path ns) (cond (same_key j k) s missing)
 changed j k path ns x y s found is =
     rw (get_replace j k y ns x found) (elim (cases_Bool (same_key j k)) [
@@ -106,7 +110,8 @@ abbrev pub Gain : Type 0
 Gain = List ℕ → List (List ℕ) → Standing
 
 abbrev pub Gains : Edit → Gain → Type 0
-Gains edit f = (ns ms : Nodes) → edit ns ≡ Some ms → (j : List ℕ) (path : List (List ℕ)) → at_node j path ms ≡ or_then (at_node j path ns) (f j path)
+Gains edit f = (ns ms : Nodes) → edit ns ≡ Some ms → (j : List ℕ) (path : List (List ℕ))
+    → at_node j path ms ≡ or_then (at_node j path ns) (f j path)
 
 abbrev pub below : Gain → List (List ℕ) → Standing
 below f [] = seen
@@ -118,103 +123,139 @@ along k f j path = cond (same_key j k) (below f path) missing
 abbrev pub at_last : List ℕ → Definition → Gain
 at_last k what j path = cond (same_key j k) (standing path (close_node (new_node what))) missing
 
-empty_below : (path : List (List ℕ)) (s : Standing) (ns : Nodes) → standing path (table (close ns)) ≡ or_then (standing path (table (close ns))) (standing path (close_node (open_table header no_nodes)))
+empty_below : (path : List (List ℕ)) (s : Standing) (ns : Nodes)
+    → standing path (table (close ns))
+    ≡ or_then (standing path (table (close ns))) (standing path (close_node (open_table header no_nodes)))
 empty_below [] s ns = refl
 empty_below (k ∷ path) s ns = or_missing _
 
-array_stays : (path : List (List ℕ)) (x y : Node) (s : Standing) → ((k : List ℕ) (rest : List (List ℕ)) → standing (k ∷ rest) (close_node x) ≡ stuck) → ((k : List ℕ) (rest : List (List ℕ)) → standing (k ∷ rest) (close_node y) ≡ stuck)
+array_stays : (path : List (List ℕ)) (x y : Node) (s : Standing)
+    → ((k : List ℕ) (rest : List (List ℕ)) → standing (k ∷ rest) (close_node x) ≡ stuck)
+    → ((k : List ℕ) (rest : List (List ℕ)) → standing (k ∷ rest) (close_node y) ≡ stuck)
     → standing path (close_node y) ≡ or_then (standing path (close_node x)) s
 array_stays [] x y s a b = refl
 array_stays (k ∷ path) x y s a b = rw (a k path, b k path) refl
 
-redefine_gains : (what : Definition) (x y : Node) (path : List (List ℕ)) → redefine what x ≡ Some y → standing path (close_node y) ≡ or_then (standing path (close_node x)) (standing path (close_node (new_node what)))
+redefine_gains : (what : Definition) (x y : Node) (path : List (List ℕ)) → redefine what x ≡ Some y
+    → standing path (close_node y) ≡ or_then (standing path (close_node x)) (standing path (close_node (new_node what)))
 redefine_gains std_table (open_table implicit inner) y path h =
-    subst (λ n. standing path (close_node n) ≡ or_then (standing path (table (close inner))) (standing path (close_node (open_table header no_nodes)))) (same_Some _ y h) (empty_below path missing inner)
+    subst (λ n. standing path (close_node n)
+    ≡ or_then (standing path (table (close inner)))
+    (standing path (close_node (open_table header no_nodes)))) (same_Some _ y h) (empty_below path missing inner)
 redefine_gains array_table (open_array done last) y path h =
-    subst (λ n. standing path (close_node n) ≡ or_then (standing path (close_node (open_array done last))) (standing path (close_node (new_node array_table)))) (same_Some _ y h)
-    (array_stays path (open_array done last) (open_array (push_item done (table (close last))) no_nodes) (standing path (close_node (new_node array_table))) (λ k rest. refl) (λ k rest. refl))
+    subst (λ n. standing path (close_node n)
+    ≡ or_then (standing path (close_node (open_array done last)))
+    (standing path (close_node (new_node array_table)))) (same_Some _ y h)
+    (array_stays path (open_array done last) (open_array (push_item done (table (close last))) no_nodes)
+    (standing path (close_node (new_node array_table))) (λ k rest. refl) (λ k rest. refl))
 redefine_gains what x y path h = absurd (none-some y h)
 
-found_gains : (k : List ℕ) (what : Definition) (ns ms : Nodes) (o : Option Node) → get_node k ns ≡ o → at_found k what ns o ≡ Some ms → (j : List ℕ) (path : List (List ℕ))
+found_gains : (k : List ℕ) (what : Definition) (ns ms : Nodes) (o : Option Node) → get_node k ns ≡ o
+    → at_found k what ns o ≡ Some ms → (j : List ℕ) (path : List (List ℕ))
     → at_node j path ms ≡ or_then (at_node j path ns) (at_last k what j path)
 found_gains k what ns ms None at h j path =
-    subst (λ m. at_node j path m ≡ or_then (at_node j path ns) (at_last k what j path)) (same_Some _ ms h) (added j k path ns (new_node what) (standing path (close_node (new_node what))) at refl)
+    subst (λ m. at_node j path m ≡ or_then (at_node j path ns) (at_last k what j path)) (same_Some _ ms h)
+    (added j k path ns (new_node what) (standing path (close_node (new_node what))) at refl)
 found_gains k what ns ms (Some x) at h j path =
     let (y, made, is) = map_some (λ y. replace k y ns) (redefine what x) ms h in
-    subst (λ m. at_node j path m ≡ or_then (at_node j path ns) (at_last k what j path)) is (changed j k path ns x y (standing path (close_node (new_node what))) at (redefine_gains what x y path made))
+    subst (λ m. at_node j path m ≡ or_then (at_node j path ns) (at_last k what j path)) is
+    (changed j k path ns x y (standing path (close_node (new_node what))) at (redefine_gains what x y path made))
 
 at_key_gains : (k : List ℕ) (what : Definition) → Gains (at_key k what) (at_last k what)
 unfolding at_key
 at_key_gains k what = λ ns ms h j path. found_gains k what ns ms (get_node k ns) refl h j path
 
-map_or_map : (path : List (List ℕ)) (o : Option Node) → option_map_or (standing path) (option_map close_node o) missing ≡ option_map_or (λ x. standing path (close_node x)) o missing
+map_or_map : (path : List (List ℕ)) (o : Option Node)
+    → option_map_or (standing path) (option_map close_node o) missing
+    ≡ option_map_or (λ x. standing path (close_node x)) o missing
 map_or_map path None = refl
 map_or_map path (Some x) = refl
 
-pub in_table : (j : List ℕ) (path : List (List ℕ)) (ns : Nodes) → standing (j ∷ path) (table (close ns)) ≡ at_node j path ns
+pub in_table : (j : List ℕ) (path : List (List ℕ)) (ns : Nodes)
+    → standing (j ∷ path) (table (close ns)) ≡ at_node j path ns
 in_table j path ns = rw (get_close j ns) (map_or_map path (get_node j ns))
 
-table_gains : (edit : Edit) (f : Gain) → Gains edit f → (inner more : Nodes) → edit inner ≡ Some more → (path : List (List ℕ))
+table_gains : (edit : Edit) (f : Gain) → Gains edit f → (inner more : Nodes) → edit inner ≡ Some more
+    → (path : List (List ℕ))
     → standing path (table (close more)) ≡ or_then (standing path (table (close inner))) (below f path)
 table_gains edit f g inner more made [] = refl
-table_gains edit f g inner more made (j ∷ path) = in_table j path more ∙ g inner more made j path ∙ ap (λ s. or_then s (f j path)) (sym (in_table j path inner))
+table_gains edit f g inner more made (j ∷ path) =
+    in_table j path more ∙ g inner more made j path ∙ ap (λ s. or_then s (f j path)) (sym (in_table j path inner))
 
-new_table : (edit : Edit) (f : Gain) → Gains edit f → (new : Nodes) → edit no_nodes ≡ Some new → (path : List (List ℕ)) → standing path (table (close new)) ≡ below f path
+new_table : (edit : Edit) (f : Gain) → Gains edit f → (new : Nodes) → edit no_nodes ≡ Some new
+    → (path : List (List ℕ)) → standing path (table (close new)) ≡ below f path
 new_table edit f g new made [] = refl
 new_table edit f g new made (j ∷ path) = in_table j path new ∙ g no_nodes new made j path
 
-header_node_gains : (edit : Edit) (f : Gain) → Gains edit f → (x y : Node) (path : List (List ℕ)) → header_node edit x ≡ Some y → standing path (close_node y) ≡ or_then (standing path (close_node x)) (below f path)
+header_node_gains : (edit : Edit) (f : Gain) → Gains edit f → (x y : Node) (path : List (List ℕ))
+    → header_node edit x ≡ Some y → standing path (close_node y) ≡ or_then (standing path (close_node x)) (below f path)
 header_node_gains edit f g (value d) y path h = absurd (none-some y h)
 header_node_gains edit f g (open_table origin inner) y path h =
     let (more, made, is) = map_some (open_table origin) (edit inner) y h in
-    subst (λ n. standing path (close_node n) ≡ or_then (standing path (table (close inner))) (below f path)) is (table_gains edit f g inner more made path)
+    subst (λ n. standing path (close_node n) ≡ or_then (standing path (table (close inner))) (below f path))
+    is (table_gains edit f g inner more made path)
 header_node_gains edit f g (open_array done last) y path h =
     let (more, made, is) = map_some (open_array done) (edit last) y h in
-    subst (λ n. standing path (close_node n) ≡ or_then (standing path (close_node (open_array done last))) (below f path)) is
+    subst (λ n. standing path (close_node n)
+    ≡ or_then (standing path (close_node (open_array done last))) (below f path)) is
     (array_stays path (open_array done last) (open_array done more) (below f path) (λ k rest. refl) (λ k rest. refl))
 
-dot_node_gains : (edit : Edit) (f : Gain) → Gains edit f → (x y : Node) (path : List (List ℕ)) → dot_node edit x ≡ Some y → standing path (close_node y) ≡ or_then (standing path (close_node x)) (below f path)
+dot_node_gains : (edit : Edit) (f : Gain) → Gains edit f → (x y : Node) (path : List (List ℕ))
+    → dot_node edit x ≡ Some y → standing path (close_node y) ≡ or_then (standing path (close_node x)) (below f path)
 dot_node_gains edit f g (value d) y path h = absurd (none-some y h)
 dot_node_gains edit f g (open_table header inner) y path h = absurd (none-some y h)
 dot_node_gains edit f g (open_table implicit inner) y path h =
     let (more, made, is) = map_some (open_table dotted) (edit inner) y h in
-    subst (λ n. standing path (close_node n) ≡ or_then (standing path (table (close inner))) (below f path)) is (table_gains edit f g inner more made path)
+    subst (λ n. standing path (close_node n) ≡ or_then (standing path (table (close inner))) (below f path))
+    is (table_gains edit f g inner more made path)
 dot_node_gains edit f g (open_table dotted inner) y path h =
     let (more, made, is) = map_some (open_table dotted) (edit inner) y h in
-    subst (λ n. standing path (close_node n) ≡ or_then (standing path (table (close inner))) (below f path)) is (table_gains edit f g inner more made path)
+    subst (λ n. standing path (close_node n) ≡ or_then (standing path (table (close inner))) (below f path))
+    is (table_gains edit f g inner more made path)
 dot_node_gains edit f g (open_array done last) y path h = absurd (none-some y h)
 
-by_header_gains : (k : List ℕ) (edit : Edit) (f : Gain) → Gains edit f → (ns ms : Nodes) (o : Option Node) → get_node k ns ≡ o → by_header k edit ns o ≡ Some ms → (j : List ℕ) (path : List (List ℕ))
+by_header_gains : (k : List ℕ) (edit : Edit) (f : Gain) → Gains edit f → (ns ms : Nodes) (o : Option Node)
+    → get_node k ns ≡ o → by_header k edit ns o ≡ Some ms → (j : List ℕ) (path : List (List ℕ))
     → at_node j path ms ≡ or_then (at_node j path ns) (along k f j path)
 by_header_gains k edit f g ns ms None at h j path =
     let (new, made, is) = map_some (λ new. insert k (open_table implicit new) ns) (edit no_nodes) ms h in
-    subst (λ m. at_node j path m ≡ or_then (at_node j path ns) (along k f j path)) is (added j k path ns (open_table implicit new) (below f path) at (new_table edit f g new made path))
+    subst (λ m. at_node j path m ≡ or_then (at_node j path ns) (along k f j path)) is
+    (added j k path ns (open_table implicit new) (below f path) at (new_table edit f g new made path))
 by_header_gains k edit f g ns ms (Some x) at h j path =
     let (y, made, is) = map_some (λ y. replace k y ns) (header_node edit x) ms h in
-    subst (λ m. at_node j path m ≡ or_then (at_node j path ns) (along k f j path)) is (changed j k path ns x y (below f path) at (header_node_gains edit f g x y path made))
+    subst (λ m. at_node j path m ≡ or_then (at_node j path ns) (along k f j path)) is
+    (changed j k path ns x y (below f path) at (header_node_gains edit f g x y path made))
 
-by_dot_gains : (k : List ℕ) (edit : Edit) (f : Gain) → Gains edit f → (ns ms : Nodes) (o : Option Node) → get_node k ns ≡ o → by_dot k edit ns o ≡ Some ms → (j : List ℕ) (path : List (List ℕ))
+by_dot_gains : (k : List ℕ) (edit : Edit) (f : Gain) → Gains edit f → (ns ms : Nodes) (o : Option Node)
+    → get_node k ns ≡ o → by_dot k edit ns o ≡ Some ms → (j : List ℕ) (path : List (List ℕ))
     → at_node j path ms ≡ or_then (at_node j path ns) (along k f j path)
 by_dot_gains k edit f g ns ms None at h j path =
     let (new, made, is) = map_some (λ new. insert k (open_table dotted new) ns) (edit no_nodes) ms h in
-    subst (λ m. at_node j path m ≡ or_then (at_node j path ns) (along k f j path)) is (added j k path ns (open_table dotted new) (below f path) at (new_table edit f g new made path))
+    subst (λ m. at_node j path m ≡ or_then (at_node j path ns) (along k f j path)) is
+    (added j k path ns (open_table dotted new) (below f path) at (new_table edit f g new made path))
 by_dot_gains k edit f g ns ms (Some x) at h j path =
     let (y, made, is) = map_some (λ y. replace k y ns) (dot_node edit x) ms h in
-    subst (λ m. at_node j path m ≡ or_then (at_node j path ns) (along k f j path)) is (changed j k path ns x y (below f path) at (dot_node_gains edit f g x y path made))
+    subst (λ m. at_node j path m ≡ or_then (at_node j path ns) (along k f j path)) is
+    (changed j k path ns x y (below f path) at (dot_node_gains edit f g x y path made))
 
 abbrev pub all_along : List (List ℕ) → Gain → Gain
 all_along [] f = f
 all_along (k ∷ ks) f = along k (all_along ks f)
 
-header_gains : (ks : List (List ℕ)) (edit : Edit) (f : Gain) → Gains edit f → Gains (along_header ks edit) (all_along ks f)
+header_gains : (ks : List (List ℕ)) (edit : Edit) (f : Gain) → Gains edit f
+    → Gains (along_header ks edit) (all_along ks f)
 unfolding along_header
 header_gains [] edit f g = g
-header_gains (k ∷ ks) edit f g = λ ns ms h j path. by_header_gains k (along_header ks edit) (all_along ks f) (header_gains ks edit f g) ns ms (get_node k ns) refl h j path
+header_gains (k ∷ ks) edit f g =
+    λ ns ms h j path. by_header_gains k (along_header ks edit) (all_along ks f) (header_gains ks edit f g) ns
+    ms (get_node k ns) refl h j path
 
 dots_gains : (ks : List (List ℕ)) (edit : Edit) (f : Gain) → Gains edit f → Gains (along_dots ks edit) (all_along ks f)
 unfolding along_dots
 dots_gains [] edit f g = g
-dots_gains (k ∷ ks) edit f g = λ ns ms h j path. by_dot_gains k (along_dots ks edit) (all_along ks f) (dots_gains ks edit f g) ns ms (get_node k ns) refl h j path
+dots_gains (k ∷ ks) edit f g =
+    λ ns ms h j path. by_dot_gains k (along_dots ks edit) (all_along ks f) (dots_gains ks edit f g) ns ms
+    (get_node k ns) refl h j path
 
 -- what an expression adds under a section, and the section after it
 abbrev pub gained : List (List ℕ) → List (List ℕ) × List ℕ → Definition → Gain
@@ -227,29 +268,41 @@ section_after section key what = key.0 ++ key.1 ∷ []
 
 -- the document after an expression
 pub record IsDefined (doc next : Document) (key : List (List ℕ) × List ℕ) (what : Definition) : Type 0 where
-  pub adds : (j : List ℕ) (path : List (List ℕ)) → at_node j path next.0 ≡ or_then (at_node j path doc.0) (gained doc.1 key what j path)
+  pub adds : (j : List ℕ) (path : List (List ℕ))
+      → at_node j path next.0 ≡ or_then (at_node j path doc.0) (gained doc.1 key what j path)
   pub section : next.1 ≡ section_after doc.1 key what
 
 table_header_gains : (doc next : Document) (key : List (List ℕ) × List ℕ) (what : Definition)
     → option_map (λ root. (root, key.0 ++ key.1 ∷ [])) (along_header key.0 (at_key key.1 what) doc.0) ≡ Some next
-    → ((j : List ℕ) (path : List (List ℕ)) → at_node j path next.0 ≡ or_then (at_node j path doc.0) (all_along key.0 (at_last key.1 what) j path)) × (next.1 ≡ key.0 ++ key.1 ∷ [])
+    → ((j : List ℕ) (path : List (List ℕ))
+    → at_node j path next.0 ≡ or_then (at_node j path doc.0)
+    (all_along key.0 (at_last key.1 what) j path)) × (next.1 ≡ key.0 ++ key.1 ∷ [])
 table_header_gains doc next key what h =
-    let (root, made, is) = map_some (λ root. (root, key.0 ++ key.1 ∷ [])) (along_header key.0 (at_key key.1 what) doc.0) next h in (
-      λ j path. subst (λ d. at_node j path d.0 ≡ or_then (at_node j path doc.0) (all_along key.0 (at_last key.1 what) j path)) is (header_gains key.0 (at_key key.1 what) (at_last key.1 what) (at_key_gains key.1 what) doc.0 root made j path),
+    let (root, made, is) = map_some (λ root. (root, key.0 ++ key.1 ∷ []))
+    (along_header key.0 (at_key key.1 what) doc.0) next h in (
+      λ j path. subst (λ d. at_node j path d.0
+          ≡ or_then (at_node j path doc.0) (all_along key.0 (at_last key.1 what) j path)) is
+          (header_gains key.0 (at_key key.1 what) (at_last key.1 what) (at_key_gains key.1 what) doc.0 root
+          made j path),
       ap (λ d. d.1) (sym is),
     )
 
-define_as_gains : (doc next : Document) (key : List (List ℕ) × List ℕ) (what : Definition) → define_as doc key what ≡ Some next → IsDefined doc next key what
+define_as_gains : (doc next : Document) (key : List (List ℕ) × List ℕ) (what : Definition)
+    → define_as doc key what ≡ Some next → IsDefined doc next key what
 define_as_gains doc next key (key_value d) h =
     let (root, made, is) = map_some (λ root. (root, doc.1)) (along_header doc.1 (put key d) doc.0) next h in
     let f = all_along key.0 (at_last key.1 (key_value d)) in
     record {
       adds = λ j path. subst (λ m. at_node j path m.0 ≡ or_then (at_node j path doc.0) (all_along doc.1 f j path)) is
-          (header_gains doc.1 (put key d) f (dots_gains key.0 (at_key key.1 (key_value d)) (at_last key.1 (key_value d)) (at_key_gains key.1 (key_value d))) doc.0 root made j path);
+          (header_gains doc.1 (put key d) f
+          (dots_gains key.0 (at_key key.1 (key_value d)) (at_last key.1 (key_value d))
+          (at_key_gains key.1 (key_value d))) doc.0 root made j path);
       section = ap (λ m. m.1) (sym is);
     }
-define_as_gains doc next key std_table h = let (a, b) = table_header_gains doc next key std_table h in record { adds = a; section = b }
-define_as_gains doc next key array_table h = let (a, b) = table_header_gains doc next key array_table h in record { adds = a; section = b }
+define_as_gains doc next key std_table h = let (a, b) = table_header_gains doc next key std_table h in
+    record { adds = a; section = b }
+define_as_gains doc next key array_table h = let (a, b) = table_header_gains doc next key array_table h in
+    record { adds = a; section = b }
 
 pub define_gains : (doc next : Document) (e : Expression) → define doc e ≡ Some next → IsDefined doc next e.0 e.1
 unfolding define

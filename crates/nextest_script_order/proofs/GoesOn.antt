@@ -22,7 +22,8 @@ within x y here = omega arith
 within x y (next c xs ys g) = omega (arith, within xs ys g)
 
 -- after a byte that is no newline
-pub after_first : {behind : List ℕ} → (x y : List ℕ) → GoesOn behind x y → (first x == 10) ≡ false → GoesOn behind (drop 1 x) (drop 1 y)
+pub after_first : {behind : List ℕ} → (x y : List ℕ) → GoesOn behind x y → (first x == 10) ≡ false
+    → GoesOn behind (drop 1 x) (drop 1 y)
 after_first x y here h = absurd (true≢false h)
 after_first x y (next c xs ys g) h = g
 
@@ -30,13 +31,15 @@ pub after_any : {behind : List ℕ} → (x y : List ℕ) → GoesOn behind x y �
 after_any x y here = inl refl
 after_any x y (next c xs ys g) = inr g
 
-pub second_same : {behind : List ℕ} → (x y : List ℕ) → GoesOn behind x y → (first x == 10) ≡ false → slice_index x 1 ≡ slice_index y 1
+pub second_same : {behind : List ℕ} → (x y : List ℕ) → GoesOn behind x y → (first x == 10) ≡ false
+    → slice_index x 1 ≡ slice_index y 1
 second_same x y here h = absurd (true≢false h)
 second_same x y (next c xs ys g) h = first_same xs ys g
 
 -- a run of bytes that holds no newline
 pub run_same : {behind : List ℕ} → (p : ℕ → Bool) (x y : List ℕ) → GoesOn behind x y → p 10 ≡ false
-    → (prefix_len p x ≡ prefix_len p y) × GoesOn behind (drop (prefix_len p x) x) (drop (prefix_len p x) y) × (take (prefix_len p x) x ≡ take (prefix_len p x) y)
+    → (prefix_len p x ≡ prefix_len p y) × GoesOn behind (drop (prefix_len p x) x) (drop (prefix_len p x) y)
+    × (take (prefix_len p x) x ≡ take (prefix_len p x) y)
 run_same p x y here none = rw none (refl, here, refl)
 run_same p x y (next c xs ys g) none =
     elim (cases_Bool (p c)) [
@@ -55,7 +58,8 @@ skip_ws_grown x y g =
     rw (← same) rest
 
 -- white space, newlines and comments
-pub skip_grown : {behind : List ℕ} → (comments : Bool) (x y : List ℕ) → GoesOn behind x y → (inside : Bool) → Left behind (skip_from comments inside x) (skip_from comments inside y)
+pub skip_grown : {behind : List ℕ} → (comments : Bool) (x y : List ℕ) → GoesOn behind x y → (inside : Bool)
+    → Left behind (skip_from comments inside x) (skip_from comments inside y)
 unfolding skip_from
 skip_grown comments x y here inside = inl refl
 skip_grown comments x y (next c xs ys g) inside =

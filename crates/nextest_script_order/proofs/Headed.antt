@@ -19,11 +19,13 @@ unfolding skip_bom
 not_bom [] h = refl
 not_bom (c ∷ x) h = rw h refl
 
-agree_header : (key : Key) (what : Definition) → (what ≡ std_table) ⊎ (what ≡ array_table) → (one two : List (List ℕ)) → Agree one two (key, what)
+agree_header : (key : Key) (what : Definition) → (what ≡ std_table) ⊎ (what ≡ array_table)
+    → (one two : List (List ℕ)) → Agree one two (key, what)
 agree_header key what (inl is) one two = rw is (record { gains = refl; sections = refl })
 agree_header key what (inr is) one two = rw is (record { gains = refl; sections = refl })
 
-bind_some : {A B : Type 0} (o : Option A) (f : A → Option B) (y : B) → option_and_then f o ≡ Some y → (x : A) × (o ≡ Some x) × (f x ≡ Some y)
+bind_some : {A B : Type 0} (o : Option A) (f : A → Option B) (y : B) → option_and_then f o ≡ Some y
+    → (x : A) × (o ≡ Some x) × (f x ≡ Some y)
 bind_some None f y h = absurd (none-some y h)
 bind_some (Some x) f y h = (x, refl, h)
 
@@ -36,15 +38,18 @@ header_expression x e h read =
     let is : (first x == 91) ≡ true = rw h refl in
     elim (cases_Bool (slice_index x 1 == 91)) [
       | inl double ↦
-          let (k, found, more) = bind_some (header_key (drop 2 x)) (λ k. option_map (λ rest. ((k.0, array_table), rest)) (after_byte 93 k.1)) e (rw (is, double) at read) in
+          let (k, found, more) = bind_some (header_key (drop 2 x))
+          (λ k. option_map (λ rest. ((k.0, array_table), rest)) (after_byte 93 k.1)) e (rw (is, double) at read) in
           let (rest, at, made) = map_some (λ rest. ((k.0, array_table), rest)) (after_byte 93 k.1) e more in
           inr (ap (λ p. p.0.1) (sym made))
       | inr single ↦
-          let (k, found, made) = map_some (λ p. ((p.0, std_table), p.1)) (header_key (drop 1 x)) e (rw (is, single) at read) in
+          let (k, found, made) = map_some (λ p. ((p.0, std_table), p.1)) (header_key (drop 1 x)) e
+          (rw (is, single) at read) in
           inl (ap (λ p. p.0.1) (sym made))
     ]
 
-line_expression : (x : List ℕ) (o : Read Expression) (e : Expression × List ℕ) → option_and_then (λ p. cond (ends_line (skip_ws p.1)) (Some p) None) o ≡ Some e → o ≡ Some e
+line_expression : (x : List ℕ) (o : Read Expression) (e : Expression × List ℕ)
+    → option_and_then (λ p. cond (ends_line (skip_ws p.1)) (Some p) None) o ≡ Some e → o ≡ Some e
 line_expression x None e h = absurd (none-some e h)
 line_expression x (Some p) e h =
     elim (cases_Bool (ends_line (skip_ws p.1))) [
@@ -52,7 +57,8 @@ line_expression x (Some p) e h =
       | inr goes ↦ absurd (none-some e (rw goes at h))
     ]
 
-pub headed : (x : List ℕ) → first x ≡ 91 → (e : Expression × List ℕ) → line (skip_blank x) ≡ Some e → (one two : List (List ℕ)) → Agree one two e.0
+pub headed : (x : List ℕ) → first x ≡ 91 → (e : Expression × List ℕ) → line (skip_blank x) ≡ Some e
+    → (one two : List (List ℕ)) → Agree one two e.0
 unfolding line
 headed x h e read one two =
     let plain = rw (not_blank x h) at read in

@@ -19,7 +19,8 @@ or_assoc stuck b c = refl
 -- two documents gained the same at a path
 abbrev pub SameGain : List ℕ → List (List ℕ) → Document → Document → Document → Document → Type 0
 SameGain j path small large s l =
-    (g : Standing) × (at_node j path s.0 ≡ or_then (at_node j path small.0) g) × (at_node j path l.0 ≡ or_then (at_node j path large.0) g)
+    (g : Standing) × (at_node j path s.0 ≡ or_then (at_node j path small.0) g)
+    × (at_node j path l.0 ≡ or_then (at_node j path large.0) g)
 
 -- an expression adds the same under two sections
 pub record Agree (one two : List (List ℕ)) (e : Expression) : Type 0 where
@@ -27,10 +28,12 @@ pub record Agree (one two : List (List ℕ)) (e : Expression) : Type 0 where
   pub sections : section_after one e.0 e.1 ≡ section_after two e.0 e.1
 
 agree_same : (one two : List (List ℕ)) (e : Expression) → one ≡ two → Agree one two e
-agree_same one two e is = record { gains = ap (λ t. gained t e.0 e.1) is; sections = ap (λ t. section_after t e.0 e.1) is }
+agree_same one two e is =
+    record { gains = ap (λ t. gained t e.0 e.1) is; sections = ap (λ t. section_after t e.0 e.1) is }
 
 module _ (j : List ℕ) (path : List (List ℕ)) where
-  both_defined : (small large s l : Document) (e : Expression) (o p : Option Document) → define small e ≡ o → define large e ≡ p → Agree small.1 large.1 e → (f h : Document → Option Document)
+  both_defined : (small large s l : Document) (e : Expression) (o p : Option Document) → define small e ≡ o
+      → define large e ≡ p → Agree small.1 large.1 e → (f h : Document → Option Document)
       → ((a b : Document) → a.1 ≡ b.1 → f a ≡ Some s → h b ≡ Some l → SameGain j path a b s l)
       → option_and_then f o ≡ Some s → option_and_then h p ≡ Some l → SameGain j path small large s l
   both_defined small large s l e None p is_o is_p agree f h rec x y = absurd (none-some s x)
@@ -42,18 +45,24 @@ module _ (j : List ℕ) (path : List (List ℕ)) where
       let f1 = gained small.1 e.0 e.1 in (
         or_then (f1 j path) g,
         u ∙ ap (λ t. or_then t g) (one.adds j path) ∙ or_assoc (at_node j path small.0) (f1 j path) g,
-        v ∙ ap (λ t. or_then t g) (two.adds j path ∙ ap (λ t. or_then (at_node j path large.0) (t j path)) (sym agree.gains)) ∙ or_assoc (at_node j path large.0) (f1 j path) g,
+        v ∙ ap (λ t. or_then t g)
+            (two.adds j path ∙ ap (λ t. or_then (at_node j path large.0) (t j path)) (sym agree.gains))
+            ∙ or_assoc (at_node j path large.0) (f1 j path) g,
       )
 
-  both_after : (n m : ℕ) (small large s l : Document) (r : Read Expression) → ((e : Expression × List ℕ) → r ≡ Some e → Agree small.1 large.1 e.0)
-      → ((a b : Document) (z : List ℕ) → a.1 ≡ b.1 → lines n a z ≡ Some s → lines m b z ≡ Some l → SameGain j path a b s l)
+  both_after : (n m : ℕ) (small large s l : Document) (r : Read Expression)
+      → ((e : Expression × List ℕ) → r ≡ Some e → Agree small.1 large.1 e.0)
+      → ((a b : Document) (z : List ℕ) → a.1 ≡ b.1 → lines n a z ≡ Some s → lines m b z ≡ Some l
+      → SameGain j path a b s l)
       → after_line n small r ≡ Some s → after_line m large r ≡ Some l → SameGain j path small large s l
   both_after n m small large s l None agree rec x y = absurd (none-some s x)
   both_after n m small large s l (Some e) agree rec x y =
-      both_defined small large s l e.0 (define small e.0) (define large e.0) refl refl (agree e refl) (λ next. lines n next e.1) (λ next. lines m next e.1) (λ a b same u v. rec a b e.1 same u v) x y
+      both_defined small large s l e.0 (define small e.0) (define large e.0) refl refl (agree e refl)
+      (λ next. lines n next e.1) (λ next. lines m next e.1) (λ a b same u v. rec a b e.1 same u v) x y
 
   -- the same text, read under one section over two documents
-  pub both_run : (n m : ℕ) (small large s l : Document) (x : List ℕ) → small.1 ≡ large.1 → lines n small x ≡ Some s → lines m large x ≡ Some l → SameGain j path small large s l
+  pub both_run : (n m : ℕ) (small large s l : Document) (x : List ℕ) → small.1 ≡ large.1
+      → lines n small x ≡ Some s → lines m large x ≡ Some l → SameGain j path small large s l
   unfolding lines
   both_run zero m small large s l x same a b = absurd (none-some s a)
   both_run (suc n) zero small large s l x same a b = absurd (none-some l b)
@@ -63,11 +72,14 @@ module _ (j : List ℕ) (path : List (List ℕ)) where
             let is_s : small ≡ s = same_Some small s (rw over at a) in
             let is_l : large ≡ l = same_Some large l (rw over at b) in
             (missing, rw (← is_s) (or_missing _), rw (← is_l) (or_missing _))
-        | inr more ↦ both_after n m small large s l (line (skip_blank x)) (λ e is. agree_same small.1 large.1 e.0 same) (λ c d z i u v. both_run n m c d s l z i u v) (rw more at a) (rw more at b)
+        | inr more ↦ both_after n m small large s l (line (skip_blank x))
+            (λ e is. agree_same small.1 large.1 e.0 same) (λ c d z i u v. both_run n m c d s l z i u v)
+            (rw more at a) (rw more at b)
       ]
 
   -- the same, where the text begins with a header
-  pub both_run_headed : (n m : ℕ) (small large s l : Document) (x : List ℕ) → ((e : Expression × List ℕ) → line (skip_blank x) ≡ Some e → (one two : List (List ℕ)) → Agree one two e.0)
+  pub both_run_headed : (n m : ℕ) (small large s l : Document) (x : List ℕ)
+      → ((e : Expression × List ℕ) → line (skip_blank x) ≡ Some e → (one two : List (List ℕ)) → Agree one two e.0)
       → lines n small x ≡ Some s → lines m large x ≡ Some l → SameGain j path small large s l
   unfolding lines
   both_run_headed zero m small large s l x agree a b = absurd (none-some s a)
@@ -78,12 +90,14 @@ module _ (j : List ℕ) (path : List (List ℕ)) where
             let is_s : small ≡ s = same_Some small s (rw over at a) in
             let is_l : large ≡ l = same_Some large l (rw over at b) in
             (missing, rw (← is_s) (or_missing _), rw (← is_l) (or_missing _))
-        | inr more ↦ both_after n m small large s l (line (skip_blank x)) (λ e is. agree e is small.1 large.1) (λ c d z i u v. both_run n m c d s l z i u v) (rw more at a) (rw more at b)
+        | inr more ↦ both_after n m small large s l (line (skip_blank x)) (λ e is. agree e is small.1 large.1)
+            (λ c d z i u v. both_run n m c d s l z i u v) (rw more at a) (rw more at b)
       ]
 
 -- white space, newlines and comments, up to where the text goes on
 skip_joined : {behind : List ℕ} → (comments : Bool) (x y : List ℕ) → GoesOn behind x y → (inside : Bool)
-    → ((skip_from comments inside x ≡ []) × (skip_from comments inside y ≡ skip_from comments false behind)) ⊎ GoesOn behind (skip_from comments inside x) (skip_from comments inside y)
+    → ((skip_from comments inside x ≡ []) × (skip_from comments inside y ≡ skip_from comments false behind))
+    ⊎ GoesOn behind (skip_from comments inside x) (skip_from comments inside y)
 unfolding skip_from
 skip_joined comments x y here inside = inl (refl, refl)
 skip_joined comments x y (next c xs ys g) inside =
@@ -94,13 +108,18 @@ skip_joined comments x y (next c xs ys g) inside =
     ])
 
 -- more turns
-defined_fuel : (last : Document) (f h : Document → Option Document) (o : Option Document) → ((a : Document) → f a ≡ Some last → h a ≡ Some last) → option_and_then f o ≡ Some last → option_and_then h o ≡ Some last
+defined_fuel : (last : Document) (f h : Document → Option Document) (o : Option Document)
+    → ((a : Document) → f a ≡ Some last → h a ≡ Some last) → option_and_then f o ≡ Some last
+    → option_and_then h o ≡ Some last
 defined_fuel last f h None rec x = absurd (none-some last x)
 defined_fuel last f h (Some a) rec x = rec a x
 
-after_fuel : (n m : ℕ) (doc last : Document) (r : Read Expression) → ((a : Document) (z : List ℕ) → lines n a z ≡ Some last → lines m a z ≡ Some last) → after_line n doc r ≡ Some last → after_line m doc r ≡ Some last
+after_fuel : (n m : ℕ) (doc last : Document) (r : Read Expression)
+    → ((a : Document) (z : List ℕ) → lines n a z ≡ Some last → lines m a z ≡ Some last)
+    → after_line n doc r ≡ Some last → after_line m doc r ≡ Some last
 after_fuel n m doc last None rec x = absurd (none-some last x)
-after_fuel n m doc last (Some e) rec x = defined_fuel last (λ next. lines n next e.1) (λ next. lines m next e.1) (define doc e.0) (λ a h. rec a e.1 h) x
+after_fuel n m doc last (Some e) rec x =
+    defined_fuel last (λ next. lines n next e.1) (λ next. lines m next e.1) (define doc e.0) (λ a h. rec a e.1 h) x
 
 more_fuel : (n m : ℕ) (doc last : Document) (x : List ℕ) → n ≤ m → lines n doc x ≡ Some last → lines m doc x ≡ Some last
 unfolding lines
@@ -109,10 +128,12 @@ more_fuel (suc n) zero doc last x h a = absurd (omega (arith, h))
 more_fuel (suc n) (suc m) doc last x h a =
     elim (cases_Bool (length (skip_blank x) == 0)) [
       | inl over ↦ rw over (rw over at a)
-      | inr more ↦ rw more (after_fuel n m doc last (line (skip_blank x)) (λ b z k. more_fuel n m b last z (omega (arith, h)) k) (rw more at a))
+      | inr more ↦ rw more (after_fuel n m doc last (line (skip_blank x))
+          (λ b z k. more_fuel n m b last z (omega (arith, h)) k) (rw more at a))
     ]
 
-same_blank : (n : ℕ) (doc : Document) (x y : List ℕ) → skip_blank x ≡ skip_blank y → lines (suc n) doc x ≡ lines (suc n) doc y
+same_blank : (n : ℕ) (doc : Document) (x y : List ℕ) → skip_blank x ≡ skip_blank y
+    → lines (suc n) doc x ≡ lines (suc n) doc y
 unfolding lines
 same_blank n doc x y e = rw e refl
 
@@ -120,9 +141,11 @@ same_blank n doc x y e = rw e refl
 abbrev Runs : ℕ → Document → List ℕ → Type 0
 Runs n doc x = (t : Document) × (lines n doc x ≡ Some t)
 
-front_defined : (n : ℕ) (e : Expression × List ℕ) (small large s l : Document) (o p : Option Document) (h : Document → Option Document)
+front_defined : (n : ℕ) (e : Expression × List ℕ) (small large s l : Document) (o p : Option Document)
+    (h : Document → Option Document)
     → ((a b : Document) → lines n a e.1 ≡ Some s → h b ≡ Some l → Runs n b e.1)
-    → option_and_then (λ next. lines n next e.1) o ≡ Some s → option_and_then h p ≡ Some l → (t : Document) × (option_and_then (λ next. lines n next e.1) p ≡ Some t)
+    → option_and_then (λ next. lines n next e.1) o ≡ Some s → option_and_then h p ≡ Some l
+    → (t : Document) × (option_and_then (λ next. lines n next e.1) p ≡ Some t)
 front_defined n e small large s l None p h rec x y = absurd (none-some s x)
 front_defined n e small large s l (Some a) None h rec x y = absurd (none-some l y)
 front_defined n e small large s l (Some a) (Some b) h rec x y = rec a b x y
@@ -133,9 +156,11 @@ front_after : {behind : List ℕ} → (n m : ℕ) (small large s l : Document) (
 front_after n m small large s l None q k rec x y = absurd (none-some s x)
 front_after n m small large s l (Some e) q k rec x y =
     let (w, g, same) = k in
-    front_defined n e small large s l (define small e.0) (define large e.0) (λ next. lines m next w) (λ a b u v. rec a b e.1 w g u v) x (rw same at y)
+    front_defined n e small large s l (define small e.0) (define large e.0) (λ next. lines m next w)
+    (λ a b u v. rec a b e.1 w g u v) x (rw same at y)
 
-pub front_runs : {behind : List ℕ} → (n m : ℕ) (small large s l : Document) (x y : List ℕ) → GoesOn behind x y → lines n small x ≡ Some s → lines m large y ≡ Some l → Runs n large x
+pub front_runs : {behind : List ℕ} → (n m : ℕ) (small large s l : Document) (x y : List ℕ) → GoesOn behind x y
+    → lines n small x ≡ Some s → lines m large y ≡ Some l → Runs n large x
 unfolding lines
 front_runs zero m small large s l x y g a b = absurd (none-some s a)
 front_runs (suc n) zero small large s l x y g a b = absurd (none-some l b)
@@ -145,11 +170,15 @@ front_runs (suc n) (suc m) small large s l x y g a b =
       | inr rest ↦
           let some = not_over (skip_blank x) (skip_blank y) rest in
           let some_long = not_over_long (skip_blank x) (skip_blank y) rest in
-          rw some (front_after n m small large s l (line (skip_blank x)) (line (skip_blank y)) (line_kept _ _ rest) (λ c d v w h i k. front_runs n m c d s l v w h i k) (rw some at a) (rw some_long at b))
+          rw some (front_after n m small large s l (line (skip_blank x)) (line (skip_blank y))
+          (line_kept _ _ rest) (λ c d v w h i k. front_runs n m c d s l v w h i k) (rw some at a)
+          (rw some_long at b))
     ]
 
 -- a document read on over more text
-defined_on : (mid last : Document) (f h : Document → Option Document) (o : Option Document) → ((a : Document) → f a ≡ Some mid → h a ≡ Some last) → option_and_then f o ≡ Some mid → option_and_then h o ≡ Some last
+defined_on : (mid last : Document) (f h : Document → Option Document) (o : Option Document)
+    → ((a : Document) → f a ≡ Some mid → h a ≡ Some last) → option_and_then f o ≡ Some mid
+    → option_and_then h o ≡ Some last
 defined_on mid last f h None rec x = absurd (none-some mid x)
 defined_on mid last f h (Some a) rec x = rec a x
 
@@ -159,9 +188,11 @@ joined_after : {behind : List ℕ} → (n k : ℕ) (doc mid last : Document) (r 
 joined_after n k doc mid last None q kept rec x = absurd (none-some mid x)
 joined_after n k doc mid last (Some e) q kept rec x =
     let (w, g, same) = kept in
-    rw same (defined_on mid last (λ next. lines n next e.1) (λ next. lines k next w) (define doc e.0) (λ a u. rec a e.1 w g u) x)
+    rw same (defined_on mid last (λ next. lines n next e.1) (λ next. lines k next w) (define doc e.0)
+    (λ a u. rec a e.1 w g u) x)
 
-pub joined_runs : {behind : List ℕ} → (n m : ℕ) (doc mid last : Document) (x y : List ℕ) → GoesOn behind x y → lines n doc x ≡ Some mid → lines (suc m) mid behind ≡ Some last → lines (n + m) doc y ≡ Some last
+pub joined_runs : {behind : List ℕ} → (n m : ℕ) (doc mid last : Document) (x y : List ℕ) → GoesOn behind x y
+    → lines n doc x ≡ Some mid → lines (suc m) mid behind ≡ Some last → lines (n + m) doc y ≡ Some last
 unfolding lines
 joined_runs zero m doc mid last x y g a b = absurd (none-some mid a)
 joined_runs {behind} (suc n) m doc mid last x y g a b =
@@ -169,11 +200,14 @@ joined_runs {behind} (suc n) m doc mid last x y g a b =
     elim (skip_joined true x y g false) [
       | inl over ↦
           let is : doc ≡ mid = same_Some doc mid (rw over.0 at a) in
-          rw turns (same_blank (n + m) doc y behind over.1 ∙ more_fuel (suc m) (suc (n + m)) doc last behind (omega arith) (rw is b))
+          rw turns (same_blank (n + m) doc y behind over.1
+          ∙ more_fuel (suc m) (suc (n + m)) doc last behind (omega arith) (rw is b))
       | inr rest ↦
           let some = not_over (skip_blank x) (skip_blank y) rest in
           let some_long = not_over_long (skip_blank x) (skip_blank y) rest in
-          rw (turns, some_long) (joined_after n (n + m) doc mid last (line (skip_blank x)) (line (skip_blank y)) (line_kept _ _ rest) (λ c v w h i. joined_runs n m c mid last v w h i b) (rw some at a))
+          rw (turns, some_long) (joined_after n (n + m) doc mid last (line (skip_blank x))
+          (line (skip_blank y)) (line_kept _ _ rest) (λ c v w h i. joined_runs n m c mid last v w h i b)
+          (rw some at a))
     ]
 
 -- and its end, read alone
@@ -184,14 +218,17 @@ split_defined behind mid last f h None rec x y = absurd (none-some mid x)
 split_defined behind mid last f h (Some a) rec x y = rec a x y
 
 split_after : (behind : List ℕ) (n m : ℕ) (doc mid last : Document) (r q : Read Expression) → Kept behind r q
-    → ((a : Document) (v w : List ℕ) → GoesOn behind v w → lines n a v ≡ Some mid → lines m a w ≡ Some last → (k : ℕ) × (lines k mid behind ≡ Some last))
+    → ((a : Document) (v w : List ℕ) → GoesOn behind v w → lines n a v ≡ Some mid → lines m a w ≡ Some last
+    → (k : ℕ) × (lines k mid behind ≡ Some last))
     → after_line n doc r ≡ Some mid → after_line m doc q ≡ Some last → (k : ℕ) × (lines k mid behind ≡ Some last)
 split_after behind n m doc mid last None q kept rec x y = absurd (none-some mid x)
 split_after behind n m doc mid last (Some e) q kept rec x y =
     let (w, g, same) = kept in
-    split_defined behind mid last (λ next. lines n next e.1) (λ next. lines m next w) (define doc e.0) (λ a u v. rec a e.1 w g u v) x (rw same at y)
+    split_defined behind mid last (λ next. lines n next e.1) (λ next. lines m next w) (define doc e.0)
+    (λ a u v. rec a e.1 w g u v) x (rw same at y)
 
-pub split_runs : {behind : List ℕ} → (n m : ℕ) (doc mid last : Document) (x y : List ℕ) → GoesOn behind x y → lines n doc x ≡ Some mid → lines m doc y ≡ Some last → (k : ℕ) × (lines k mid behind ≡ Some last)
+pub split_runs : {behind : List ℕ} → (n m : ℕ) (doc mid last : Document) (x y : List ℕ) → GoesOn behind x y
+    → lines n doc x ≡ Some mid → lines m doc y ≡ Some last → (k : ℕ) × (lines k mid behind ≡ Some last)
 unfolding lines
 split_runs zero m doc mid last x y g a b = absurd (none-some mid a)
 split_runs (suc n) zero doc mid last x y g a b = absurd (none-some last b)
@@ -203,5 +240,6 @@ split_runs {behind} (suc n) (suc m) doc mid last x y g a b =
       | inr rest ↦
           let some = not_over (skip_blank x) (skip_blank y) rest in
           let some_long = not_over_long (skip_blank x) (skip_blank y) rest in
-          split_after behind n m doc mid last (line (skip_blank x)) (line (skip_blank y)) (line_kept _ _ rest) (λ c v w h i k. split_runs n m c mid last v w h i k) (rw some at a) (rw some_long at b)
+          split_after behind n m doc mid last (line (skip_blank x)) (line (skip_blank y)) (line_kept _ _ rest)
+          (λ c v w h i k. split_runs n m c mid last v w h i k) (rw some at a) (rw some_long at b)
     ]

@@ -55,11 +55,13 @@ none_in_empty : (path : Path) (id : List ℕ) → stands_in path [] id ≡ false
 unfolding stands_in toml_on_literals
 none_in_empty path id = none_there path id
 
-some_document : (o : Option Node) (test : Node → Bool) → option_map_or test o false ≡ true → (n : Node) × (o ≡ Some n) × (test n ≡ true)
+some_document : (o : Option Node) (test : Node → Bool) → option_map_or test o false ≡ true
+    → (n : Node) × (o ≡ Some n) × (test n ≡ true)
 some_document None test h = absurd (false≢true h)
 some_document (Some n) test h = (n, refl, h)
 
-id_keeps : (path : Path) (x y id : List ℕ) (document : Node) → Fronts x y → stands_in path x id ≡ true → tree_of y ≡ Some document → has_id path document id ≡ true
+id_keeps : (path : Path) (x y id : List ℕ) (document : Node) → Fronts x y → stands_in path x id ≡ true
+    → tree_of y ≡ Some document → has_id path document id ≡ true
 unfolding stands_in
 id_keeps path x y id document (empty z) h is = absurd (false≢true (sym (none_in_empty path id) ∙ h))
 id_keeps path x y id document (whole z) h is = rw is at h
@@ -68,8 +70,10 @@ id_keeps path x y id document (lines text more) h is =
     longer_keep text more short document (path ++ id ∷ []) one is there
 
 -- the law
-pub appears_later : (path : Path) (text id : List ℕ) (document : Node) (m n : ℕ) → m ≤ n → appears_at path text id m ≡ true → tree_of (first_lines n text) ≡ Some document → has_id path document id ≡ true
-appears_later path text id document m n h there is = id_keeps path (first_lines m text) (first_lines n text) id document (fronts text m n h) there is
+pub appears_later : (path : Path) (text id : List ℕ) (document : Node) (m n : ℕ) → m ≤ n
+    → appears_at path text id m ≡ true → tree_of (first_lines n text) ≡ Some document → has_id path document id ≡ true
+appears_later path text id document m n h there is =
+    id_keeps path (first_lines m text) (first_lines n text) id document (fronts text m n h) there is
 
 none_of : (n : ℕ) → first_lines n [] ≡ []
 none_of zero = refl
@@ -87,11 +91,13 @@ some_line c (d ∷ cs) start =
 pub all_lines : (text : List ℕ) (start n : ℕ) → length (line_ends start text) ≤ n → first_lines n text ≡ text
 all_lines [] start n h = none_of n
 all_lines (c ∷ cs) start zero h = absurd (omega (arith, some_line c cs start))
-all_lines (c ∷ []) start (suc n) h = elim (cases_Bool (c == 10)) [ inl lf ↦ rw (lf, none_of n) refl | inr other ↦ rw other refl ]
+all_lines (c ∷ []) start (suc n) h =
+    elim (cases_Bool (c == 10)) [ inl lf ↦ rw (lf, none_of n) refl | inr other ↦ rw other refl ]
 all_lines (c ∷ d ∷ cs) start (suc n) h =
     elim (cases_Bool (c == 10)) [
       | inl lf ↦ let g = rw lf at h in rw lf (ap (λ t. c ∷ t) (all_lines (d ∷ cs) (start + 1) n (omega arith)))
-      | inr other ↦ let g = rw (other, more_left d cs) at h in rw other (ap (λ t. c ∷ t) (all_lines (d ∷ cs) (start + 1) (suc n) g))
+      | inr other ↦ let g = rw (other, more_left d cs) at h in
+          rw other (ap (λ t. c ∷ t) (all_lines (d ∷ cs) (start + 1) (suc n) g))
     ]
 
 -- each of some ids is one of them
@@ -102,24 +108,30 @@ or_true false = refl
 among_more : (id x : List ℕ) (xs : List (List ℕ)) → is_among xs id ≡ true → is_among (x ∷ xs) id ≡ true
 among_more id x xs h = rw h (or_true (bytes_eq id x))
 
-each_stands : (ids : List (List ℕ)) (stands : List ℕ → Bool) → ((id : List ℕ) → is_among ids id ≡ true → stands id ≡ true) → AllByRecursion (λ id. stands id ≡ true) ids
+each_stands : (ids : List (List ℕ)) (stands : List ℕ → Bool)
+    → ((id : List ℕ) → is_among ids id ≡ true → stands id ≡ true) → AllByRecursion (λ id. stands id ≡ true) ids
 each_stands [] stands h = search
-each_stands (x ∷ ids) stands h = (h x (rw ((bytes_eq-Decides x x).1 refl) refl), each_stands ids stands (λ id e. h id (among_more id x ids e)))
+each_stands (x ∷ ids) stands h =
+    (h x (rw ((bytes_eq-Decides x x).1 refl) refl), each_stands ids stands (λ id e. h id (among_more id x ids e)))
 
-none_at_start : (path : Path) (text : List ℕ) (ids : List (List ℕ)) → AllByRecursion (λ id. appears_before path text id 1 ≡ false) ids
+none_at_start : (path : Path) (text : List ℕ) (ids : List (List ℕ))
+    → AllByRecursion (λ id. appears_before path text id 1 ≡ false) ids
 none_at_start path text [] = search
 none_at_start path text (x ∷ ids) = (none_in_empty path x, none_at_start path text ids)
 
-stands_whole : (path : Path) (text id : List ℕ) → is_among (ids_in_text path text) id ≡ true → appears_at path text id (line_count text) ≡ true
+stands_whole : (path : Path) (text id : List ℕ) → is_among (ids_in_text path text) id ≡ true
+    → appears_at path text id (line_count text) ≡ true
 stands_whole path text id h = rw (all_lines text 0 (line_count text) (omega arith)) (sym (among_ids path text id) ∙ h)
 
 pub starts_between : (path : Path) (text : List ℕ) → AppearBetween path text 0 (line_count text) (ids_in_text path text)
 starts_between path text = record {
   later = none_at_start path text (ids_in_text path text);
-  there = each_stands (ids_in_text path text) (λ id. appears_at path text id (line_count text)) (λ id e. stands_whole path text id e);
+  there = each_stands (ids_in_text path text) (λ id. appears_at path text id (line_count text))
+      (λ id e. stands_whole path text id e);
 }
 
 -- the ids of a text are those of its document
-pub ids_whole : (path : Path) (text : List ℕ) (n : Node) → tree_of text ≡ Some n → ids_in_text path text ≡ keys_at path n
+pub ids_whole : (path : Path) (text : List ℕ) (n : Node) → tree_of text ≡ Some n
+    → ids_in_text path text ≡ keys_at path n
 unfolding ids_in_text
 ids_whole path text n e = rw e refl

@@ -14,7 +14,8 @@ cases_ordering Less = inl refl
 cases_ordering Equal = inr (inl refl)
 cases_ordering Greater = inr (inr refl)
 
-pub map_some : {A B : Type 0} (f : A → B) (o : Option A) (y : B) → option_map f o ≡ Some y → (x : A) × (o ≡ Some x) × (f x ≡ y)
+pub map_some : {A B : Type 0} (f : A → B) (o : Option A) (y : B) → option_map f o ≡ Some y
+    → (x : A) × (o ≡ Some x) × (f x ≡ y)
 map_some f None y h = absurd (none-some y h)
 map_some f (Some x) y h = (x, refl, same_Some (f x) y h)
 
@@ -34,7 +35,8 @@ abbrev seen : List (List ℕ) → Option Node → Bool
 seen path o = is_some (option_and_then (value_at path) (option_map close_node o))
 
 abbrev pub NodesGrow : Nodes → Nodes → Type 0
-NodesGrow ns ms = (k : List ℕ) (path : List (List ℕ)) → seen path (get_node k ns) ≡ true → seen path (get_node k ms) ≡ true
+NodesGrow ns ms = (k : List ℕ) (path : List (List ℕ)) → seen path (get_node k ns) ≡ true
+    → seen path (get_node k ms) ≡ true
 
 abbrev NodeGrows : Node → Node → Type 0
 NodeGrows x y = Grows (close_node x) (close_node y)
@@ -47,7 +49,8 @@ array_grows : (a b : Items) → Grows (array a) (array b)
 array_grows a b [] h = refl
 array_grows a b (k ∷ path) h = absurd (false≢true h)
 
-replace_grows : (k : List ℕ) (y : Node) (ns : Nodes) (x : Node) → get_node k ns ≡ Some x → NodeGrows x y → NodesGrow ns (replace k y ns)
+replace_grows : (k : List ℕ) (y : Node) (ns : Nodes) (x : Node) → get_node k ns ≡ Some x → NodeGrows x y
+    → NodesGrow ns (replace k y ns)
 replace_grows k y no_nodes x found g = absurd (none-some x found)
 replace_grows k y (node l z ns) x found g = λ j path h.
     elim (cases_Bool (same_key k l)) [
@@ -66,7 +69,8 @@ replace_grows k y (node l z ns) x found g = λ j path h.
 pub same_bytes : (j k : List ℕ) → same_key j k ≡ true → j ≡ k
 same_bytes j k at = (bytes_eq-Decides j k).0 (sym (is_eq-slice_cmp j k) ∙ at)
 
-missing : (j k : List ℕ) (path : List (List ℕ)) (ns : Nodes) → j ≡ k → get_node k ns ≡ None → seen path (get_node j ns) ≡ true → ⊥
+missing : (j k : List ℕ) (path : List (List ℕ)) (ns : Nodes) → j ≡ k → get_node k ns ≡ None
+    → seen path (get_node j ns) ≡ true → ⊥
 missing j k path ns same none h = let gone = rw (same, none) at h in false≢true gone
 
 insert_grows : (k : List ℕ) (x : Node) (ns : Nodes) → get_node k ns ≡ None → NodesGrow ns (insert k x ns)
@@ -93,11 +97,14 @@ abbrev pub Growing : Edit → Type 0
 Growing edit = (ns ms : Nodes) → edit ns ≡ Some ms → NodesGrow ns ms
 
 redefine_grows : (what : Definition) (x y : Node) → redefine what x ≡ Some y → NodeGrows x y
-redefine_grows std_table (open_table implicit inner) y h = subst (λ n. NodeGrows (open_table implicit inner) n) (same_Some _ y h) (λ path g. g)
-redefine_grows array_table (open_array done last) y h = subst (λ n. NodeGrows (open_array done last) n) (same_Some _ y h) (array_grows _ _)
+redefine_grows std_table (open_table implicit inner) y h =
+    subst (λ n. NodeGrows (open_table implicit inner) n) (same_Some _ y h) (λ path g. g)
+redefine_grows array_table (open_array done last) y h =
+    subst (λ n. NodeGrows (open_array done last) n) (same_Some _ y h) (array_grows _ _)
 redefine_grows what x y h = absurd (none-some y h)
 
-found_grows : (k : List ℕ) (what : Definition) (ns ms : Nodes) (o : Option Node) → get_node k ns ≡ o → at_found k what ns o ≡ Some ms → NodesGrow ns ms
+found_grows : (k : List ℕ) (what : Definition) (ns ms : Nodes) (o : Option Node) → get_node k ns ≡ o
+    → at_found k what ns o ≡ Some ms → NodesGrow ns ms
 found_grows k what ns ms None at h = subst (NodesGrow ns) (same_Some _ ms h) (insert_grows k (new_node what) ns at)
 found_grows k what ns ms (Some x) at h =
     let (y, made, is) = map_some (λ y. replace k y ns) (redefine what x) ms h in
@@ -127,7 +134,8 @@ dot_grows edit g (open_table dotted inner) y h =
     subst (NodeGrows (open_table dotted inner)) is (table_grows inner more (g inner more made))
 dot_grows edit g (open_array done last) y h = absurd (none-some y h)
 
-by_header_grows : (k : List ℕ) (edit : Edit) → Growing edit → (ns ms : Nodes) (o : Option Node) → get_node k ns ≡ o → by_header k edit ns o ≡ Some ms → NodesGrow ns ms
+by_header_grows : (k : List ℕ) (edit : Edit) → Growing edit → (ns ms : Nodes) (o : Option Node)
+    → get_node k ns ≡ o → by_header k edit ns o ≡ Some ms → NodesGrow ns ms
 by_header_grows k edit g ns ms None at h =
     let (new, made, is) = map_some (λ new. insert k (open_table implicit new) ns) (edit no_nodes) ms h in
     subst (NodesGrow ns) is (insert_grows k (open_table implicit new) ns at)
@@ -135,7 +143,8 @@ by_header_grows k edit g ns ms (Some x) at h =
     let (y, made, is) = map_some (λ y. replace k y ns) (header_node edit x) ms h in
     subst (NodesGrow ns) is (replace_grows k y ns x at (header_grows edit g x y made))
 
-by_dot_grows : (k : List ℕ) (edit : Edit) → Growing edit → (ns ms : Nodes) (o : Option Node) → get_node k ns ≡ o → by_dot k edit ns o ≡ Some ms → NodesGrow ns ms
+by_dot_grows : (k : List ℕ) (edit : Edit) → Growing edit → (ns ms : Nodes) (o : Option Node)
+    → get_node k ns ≡ o → by_dot k edit ns o ≡ Some ms → NodesGrow ns ms
 by_dot_grows k edit g ns ms None at h =
     let (new, made, is) = map_some (λ new. insert k (open_table dotted new) ns) (edit no_nodes) ms h in
     subst (NodesGrow ns) is (insert_grows k (open_table dotted new) ns at)
@@ -146,23 +155,31 @@ by_dot_grows k edit g ns ms (Some x) at h =
 header_growing : (path : List (List ℕ)) (edit : Edit) → Growing edit → Growing (along_header path edit)
 unfolding along_header
 header_growing [] edit g = g
-header_growing (k ∷ path) edit g = λ ns ms h. by_header_grows k (along_header path edit) (header_growing path edit g) ns ms (get_node k ns) refl h
+header_growing (k ∷ path) edit g =
+    λ ns ms h. by_header_grows k (along_header path edit) (header_growing path edit g) ns ms (get_node k ns) refl h
 
 dots_growing : (path : List (List ℕ)) (edit : Edit) → Growing edit → Growing (along_dots path edit)
 unfolding along_dots
 dots_growing [] edit g = g
-dots_growing (k ∷ path) edit g = λ ns ms h. by_dot_grows k (along_dots path edit) (dots_growing path edit g) ns ms (get_node k ns) refl h
+dots_growing (k ∷ path) edit g =
+    λ ns ms h. by_dot_grows k (along_dots path edit) (dots_growing path edit g) ns ms (get_node k ns) refl h
 
 table_header_grows : (doc next : Document) (key : List (List ℕ) × List ℕ) (what : Definition)
-    → option_map (λ root. (root, key.0 ++ key.1 ∷ [])) (along_header key.0 (at_key key.1 what) doc.0) ≡ Some next → NodesGrow doc.0 next.0
+    → option_map (λ root. (root, key.0 ++ key.1 ∷ [])) (along_header key.0 (at_key key.1 what) doc.0)
+    ≡ Some next → NodesGrow doc.0 next.0
 table_header_grows doc next key what h =
-    let (root, made, is) = map_some (λ root. (root, key.0 ++ key.1 ∷ [])) (along_header key.0 (at_key key.1 what) doc.0) next h in
-    subst (λ d. NodesGrow doc.0 d.0) is (header_growing key.0 (at_key key.1 what) (at_key_growing key.1 what) doc.0 root made)
+    let (root, made, is) = map_some (λ root. (root, key.0 ++ key.1 ∷ []))
+    (along_header key.0 (at_key key.1 what) doc.0) next h in
+    subst (λ d. NodesGrow doc.0 d.0) is
+    (header_growing key.0 (at_key key.1 what) (at_key_growing key.1 what) doc.0 root made)
 
-define_as_grows : (doc next : Document) (key : List (List ℕ) × List ℕ) (what : Definition) → define_as doc key what ≡ Some next → NodesGrow doc.0 next.0
+define_as_grows : (doc next : Document) (key : List (List ℕ) × List ℕ) (what : Definition)
+    → define_as doc key what ≡ Some next → NodesGrow doc.0 next.0
 define_as_grows doc next key (key_value d) h =
     let (root, made, is) = map_some (λ root. (root, doc.1)) (along_header doc.1 (put key d) doc.0) next h in
-    subst (λ d. NodesGrow doc.0 d.0) is (header_growing doc.1 (put key d) (dots_growing key.0 (at_key key.1 (key_value d)) (at_key_growing key.1 (key_value d))) doc.0 root made)
+    subst (λ d. NodesGrow doc.0 d.0) is
+    (header_growing doc.1 (put key d)
+    (dots_growing key.0 (at_key key.1 (key_value d)) (at_key_growing key.1 (key_value d))) doc.0 root made)
 define_as_grows doc next key std_table h = table_header_grows doc next key std_table h
 define_as_grows doc next key array_table h = table_header_grows doc next key array_table h
 

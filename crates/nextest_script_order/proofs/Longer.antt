@@ -22,9 +22,11 @@ get_at Greater d found seen e = e
 -- the nodes of a table's members are at the same keys
 pub get_member_is : (k : List ℕ) (ms : Members) → get k (from_members ms) ≡ option_map from_data (get_member k ms)
 get_member_is k no_members = refl
-get_member_is k (member l d ms) = get_at (slice_cmp nat_cmp k l) d (get_member k ms) (get k (from_members ms)) (get_member_is k ms)
+get_member_is k (member l d ms) =
+    get_at (slice_cmp nat_cmp k l) d (get_member k ms) (get k (from_members ms)) (get_member_is k ms)
 
-inside : (path : Path) (o : Option Data) → ((d : Data) → is_some (node_at path (from_data d)) ≡ is_some (value_at path d))
+inside : (path : Path) (o : Option Data)
+    → ((d : Data) → is_some (node_at path (from_data d)) ≡ is_some (value_at path d))
     → is_some (option_and_then (node_at path) (option_map from_data o)) ≡ is_some (option_and_then (value_at path) o)
 inside path None same = refl
 inside path (Some d) same = same d
@@ -44,10 +46,13 @@ pub document_is : (o : Option Members) (n : Node) → option_map (λ ms. nodes.t
 document_is None n h = absurd (none-some n h)
 document_is (Some ms) n h = (ms, refl, same_Some _ n h)
 
-pub longer_keep : (text more : List ℕ) (short long : Node) (path : Path) → tree_of (text ++ 10 ∷ []) ≡ Some short → tree_of (text ++ 10 ∷ more) ≡ Some long
+pub longer_keep : (text more : List ℕ) (short long : Node) (path : Path)
+    → tree_of (text ++ 10 ∷ []) ≡ Some short → tree_of (text ++ 10 ∷ more) ≡ Some long
     → is_some (node_at path short) ≡ true → is_some (node_at path long) ≡ true
 longer_keep text more short long path a b there =
     let (one, read, is) = document_is (parse_document (text ++ 10 ∷ [])) short a in
     let (two, read_long, is_long) = document_is (parse_document (text ++ 10 ∷ more)) long b in
-    let before : is_some (value_at path (table one)) ≡ true = sym (at_path path (table one)) ∙ ap (λ n. is_some (node_at path n)) is ∙ there in
-    sym (ap (λ n. is_some (node_at path n)) is_long) ∙ at_path path (table two) ∙ documents_keep text more one two read read_long path before
+    let before : is_some (value_at path (table one)) ≡ true =
+    sym (at_path path (table one)) ∙ ap (λ n. is_some (node_at path n)) is ∙ there in
+    sym (ap (λ n. is_some (node_at path n)) is_long) ∙ at_path path (table two)
+    ∙ documents_keep text more one two read read_long path before

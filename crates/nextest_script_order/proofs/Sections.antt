@@ -25,7 +25,8 @@ none_of zero = refl
 none_of (suc n) = refl
 
 -- lines after lines
-pub lines_join : (n k : ℕ) (text : List ℕ) → first_lines (n + k) text ≡ first_lines n text ++ first_lines k (after_lines n text)
+pub lines_join : (n k : ℕ) (text : List ℕ)
+    → first_lines (n + k) text ≡ first_lines n text ++ first_lines k (after_lines n text)
 lines_join zero k text = let same : 0 + k ≡ k = omega arith in rw same refl
 lines_join (suc n) k [] = rw (none_of (suc n + k), none_of k) refl
 lines_join (suc n) k (c ∷ cs) =
@@ -52,16 +53,23 @@ EndsLf n text = (a : List ℕ) × (first_lines n text ≡ a ++ 10 ∷ [])
 ends_lf : (n start : ℕ) (text : List ℕ) → suc n < length (line_ends start text) → EndsLf (suc n) text
 ends_lf n start [] h = absurd (omega (arith, h))
 ends_lf n start (c ∷ []) h =
-    elim (cases_Bool (c == 10)) [ inl lf ↦ let g = rw lf at h in absurd (omega (arith, g)) | inr other ↦ let g = rw other at h in absurd (omega (arith, g)) ]
+    elim (cases_Bool (c == 10)) [
+      | inl lf ↦ let g = rw lf at h in absurd (omega (arith, g))
+      | inr other ↦ let g = rw other at h in
+          absurd (omega (arith, g))
+    ]
 ends_lf zero start (c ∷ d ∷ cs) h =
     elim (cases_Bool (c == 10)) [
       | inl lf ↦ rw lf ([], ap (λ b. b ∷ []) (eqb-true c 10 lf))
-      | inr other ↦ let g = rw (other, more_left d cs) at h in let (a, e) = ends_lf zero (start + 1) (d ∷ cs) g in rw other (c ∷ a, ap (λ t. c ∷ t) e)
+      | inr other ↦ let g = rw (other, more_left d cs) at h in let (a, e) =
+          ends_lf zero (start + 1) (d ∷ cs) g in rw other (c ∷ a, ap (λ t. c ∷ t) e)
     ]
 ends_lf (suc n) start (c ∷ d ∷ cs) h =
     elim (cases_Bool (c == 10)) [
-      | inl lf ↦ let g = rw lf at h in let (a, e) = ends_lf n (start + 1) (d ∷ cs) (omega (arith, g)) in rw lf (c ∷ a, ap (λ t. c ∷ t) e)
-      | inr other ↦ let g = rw (other, more_left d cs) at h in let (a, e) = ends_lf (suc n) (start + 1) (d ∷ cs) g in rw other (c ∷ a, ap (λ t. c ∷ t) e)
+      | inl lf ↦ let g = rw lf at h in let (a, e) = ends_lf n (start + 1) (d ∷ cs) (omega (arith, g)) in
+          rw lf (c ∷ a, ap (λ t. c ∷ t) e)
+      | inr other ↦ let g = rw (other, more_left d cs) at h in let (a, e) =
+          ends_lf (suc n) (start + 1) (d ∷ cs) g in rw other (c ∷ a, ap (λ t. c ∷ t) e)
     ]
 
 -- how many lines follow
@@ -78,7 +86,8 @@ none_after : (n : ℕ) → after_lines n [] ≡ []
 none_after zero = refl
 none_after (suc n) = refl
 
-count_after : (n : ℕ) (text : List ℕ) (s t : ℕ) → n ≤ length (line_ends s text) → n + length (line_ends t (after_lines n text)) ≡ length (line_ends s text)
+count_after : (n : ℕ) (text : List ℕ) (s t : ℕ) → n ≤ length (line_ends s text)
+    → n + length (line_ends t (after_lines n text)) ≡ length (line_ends s text)
 count_after zero text s t h = omega (arith, start_free text s t)
 count_after (suc n) [] s t h = absurd (omega (arith, h))
 count_after (suc n) (c ∷ []) s t h =
@@ -89,7 +98,8 @@ count_after (suc n) (c ∷ []) s t h =
 count_after (suc n) (c ∷ d ∷ cs) s t h =
     elim (cases_Bool (c == 10)) [
       | inl lf ↦ let g = rw lf at h in rw lf (omega (arith, count_after n (d ∷ cs) (s + 1) t (omega (arith, g))))
-      | inr other ↦ let g = rw (other, more_left d cs) at h in rw (other, more_left d cs) (count_after (suc n) (d ∷ cs) (s + 1) t g)
+      | inr other ↦ let g = rw (other, more_left d cs) at h in
+          rw (other, more_left d cs) (count_after (suc n) (d ∷ cs) (s + 1) t g)
     ]
 
 -- a document is there
@@ -102,7 +112,8 @@ unfolding stands_in
 stands_is path x id n e = rw e refl
 
 -- the document of the first lines tells
-pub front_tells : (text : List ℕ) (low high n : ℕ) (document : Node) → low < n → n < high → tree_of (first_lines n text) ≡ Some document → TellsBetween text low high n document
+pub front_tells : (text : List ℕ) (low high n : ℕ) (document : Node) → low < n → n < high
+    → tree_of (first_lines n text) ≡ Some document → TellsBetween text low high n document
 front_tells text low high n document above below e = record {
   above = above;
   below = below;
@@ -111,10 +122,15 @@ front_tells text low high n document above below e = record {
 }
 
 -- and that of the lines after those before, where it begins with a header
-pub section_tells : (text : List ℕ) (low k r : ℕ) (document : Node) → 0 < low → 0 < k → 0 < r → low + k + r ≤ line_count text → IsDocument text low → IsDocument text (low + k + r)
-    → first (first_lines k (after_lines low text)) ≡ 91 → tree_of (first_lines k (after_lines low text)) ≡ Some document → TellsBetween text low (low + k + r) (low + k) document
-section_tells text zero k r document some_low some_k some_r room is_front is_whole head is = absurd (omega (arith, some_low))
-section_tells text (suc l) zero r document some_low some_k some_r room is_front is_whole head is = absurd (omega (arith, some_k))
+pub section_tells : (text : List ℕ) (low k r : ℕ) (document : Node) → 0 < low → 0 < k → 0 < r
+    → low + k + r ≤ line_count text → IsDocument text low → IsDocument text (low + k + r)
+    → first (first_lines k (after_lines low text)) ≡ 91
+    → tree_of (first_lines k (after_lines low text)) ≡ Some document
+    → TellsBetween text low (low + k + r) (low + k) document
+section_tells text zero k r document some_low some_k some_r room is_front is_whole head is =
+    absurd (omega (arith, some_low))
+section_tells text (suc l) zero r document some_low some_k some_r room is_front is_whole head is =
+    absurd (omega (arith, some_k))
 section_tells text (suc l) (suc m) r document some_low some_k some_r room is_front is_whole head is =
     let low = suc l in
     let k = suc m in
@@ -127,7 +143,9 @@ section_tells text (suc l) (suc m) r document some_low some_k some_r room is_fro
     lines_join low k text ∙ rw (front_text, section_text) (append_assoc a (10 ∷ []) (c ++ 10 ∷ [])) in
     let whole_text : first_lines (low + k + r) text ≡ a ++ 10 ∷ (c ++ 10 ∷ d) =
     let sum : low + k + r ≡ low + (k + r) = omega arith in
-    rw sum (lines_join low (k + r) text ∙ rw (lines_join k r rest, front_text, section_text, append_assoc c (10 ∷ []) d) (append_assoc a (10 ∷ []) (c ++ 10 ∷ d))) in
+    rw sum (lines_join low (k + r) text
+    ∙ rw (lines_join k r rest, front_text, section_text, append_assoc c (10 ∷ []) d)
+    (append_assoc a (10 ∷ []) (c ++ 10 ∷ d))) in
     let (front, front_is) = some_of (tree_of (first_lines low text)) is_front in
     let (whole, whole_is) = some_of (tree_of (first_lines (low + k + r) text)) is_whole in
     let front_at = ap tree_of (sym front_text) ∙ front_is in
@@ -137,42 +155,62 @@ section_tells text (suc l) (suc m) r document some_low some_k some_r room is_fro
     record {
       above = omega arith;
       below = omega (arith, some_r);
-      is = let (joined, joined_is, tells) = chunk_has [] a c d front document whole front_at section_at whole_at headed in rw (joined_text, joined_is) refl;
+      is = let (joined, joined_is, tells) =
+          chunk_has [] a c d front document whole front_at section_at whole_at headed in
+          rw (joined_text, joined_is) refl;
       tells = λ path id before after.
-          let (joined, joined_is, tells) = chunk_has path a c d front document whole front_at section_at whole_at headed in
-          let here = tells id (sym (stands_is path (first_lines low text) id front front_is) ∙ before) (sym (stands_is path (first_lines (low + k + r) text) id whole whole_is) ∙ after) in
+          let (joined, joined_is, tells) =
+          chunk_has path a c d front document whole front_at section_at whole_at headed in
+          let here = tells id (sym (stands_is path (first_lines low text) id front front_is) ∙ before)
+          (sym (stands_is path (first_lines (low + k + r) text) id whole whole_is) ∙ after) in
           sym here ∙ sym (stands_is path (first_lines (low + k) text) id joined (ap tree_of joined_text ∙ joined_is));
     }
 
 -- the lines between two fronts, as a part of the text
-more_front : (low high : ℕ) (text : List ℕ) → low ≤ high → length (first_lines high text) ≡ length (first_lines low text) + length (first_lines (high - low) (after_lines low text))
+more_front : (low high : ℕ) (text : List ℕ) → low ≤ high
+    → length (first_lines high text) ≡ length (first_lines low text)
+    + length (first_lines (high - low) (after_lines low text))
 more_front low high text h =
     let all : low + (high - low) ≡ high = omega (arith, h) in
-    subst (λ n. length (first_lines n text) ≡ length (first_lines low text) + length (first_lines (high - low) (after_lines low text))) all
-    (ap length (lines_join low (high - low) text) ∙ length-append (first_lines low text) (first_lines (high - low) (after_lines low text)))
+    subst (λ n. length (first_lines n text) ≡ length (first_lines low text)
+    + length (first_lines (high - low) (after_lines low text))) all
+    (ap length (lines_join low (high - low) text)
+    ∙ length-append (first_lines low text) (first_lines (high - low) (after_lines low text)))
 
-pub fronts_rise : (low high : ℕ) (text : List ℕ) → low ≤ high → length (first_lines low text) ≤ length (first_lines high text)
+pub fronts_rise : (low high : ℕ) (text : List ℕ) → low ≤ high
+    → length (first_lines low text) ≤ length (first_lines high text)
 fronts_rise low high text h = omega (arith, more_front low high text h)
 
 pub lines_between : (low high : ℕ) (text : List ℕ) → low ≤ high
-    → take (length (first_lines high text) - length (first_lines low text)) (drop (length (first_lines low text)) text) ≡ first_lines (high - low) (after_lines low text)
+    → take (length (first_lines high text) - length (first_lines low text))
+    (drop (length (first_lines low text)) text) ≡ first_lines (high - low) (after_lines low text)
 lines_between low high text h =
-    let size : length (first_lines high text) - length (first_lines low text) ≡ length (first_lines (high - low) (after_lines low text)) = omega (arith, more_front low high text h) in
+    let size : length (first_lines high text) - length (first_lines low text)
+    ≡ length (first_lines (high - low) (after_lines low text)) = omega (arith, more_front low high text h) in
     rw (size, rest_is low text) (front_is (high - low) (after_lines low text))
 
 -- the same for numbers of lines between which it stands
-pub section_between_tells : (text : List ℕ) (low middle high : ℕ) (document : Node) → 0 < low → low < middle → middle < high → high ≤ line_count text → IsDocument text low → IsDocument text high
-    → first (first_lines (middle - low) (after_lines low text)) ≡ 91 → tree_of (first_lines (middle - low) (after_lines low text)) ≡ Some document → TellsBetween text low high middle document
+pub section_between_tells : (text : List ℕ) (low middle high : ℕ) (document : Node) → 0 < low → low < middle
+    → middle < high → high ≤ line_count text → IsDocument text low → IsDocument text high
+    → first (first_lines (middle - low) (after_lines low text)) ≡ 91
+    → tree_of (first_lines (middle - low) (after_lines low text)) ≡ Some document
+    → TellsBetween text low high middle document
 section_between_tells text low middle high document some above below room is_front is_whole head is =
     let one : low + (middle - low) ≡ middle = omega (arith, above) in
     let two : low + (middle - low) + (high - middle) ≡ high = omega (arith, above, below) in
-    let told = section_tells text low (middle - low) (high - middle) document some (omega (arith, above)) (omega (arith, below)) (omega (arith, two, room)) is_front (subst (IsDocument text) (sym two) is_whole) head is in
-    subst (λ n. TellsBetween text low high n document) one (subst (λ n. TellsBetween text low n (low + (middle - low)) document) two told)
+    let told = section_tells text low (middle - low) (high - middle) document some (omega (arith, above))
+    (omega (arith, below)) (omega (arith, two, room)) is_front
+    (subst (IsDocument text) (sym two) is_whole) head is in
+    subst (λ n. TellsBetween text low high n document) one
+    (subst (λ n. TellsBetween text low n (low + (middle - low)) document) two told)
 
-pub start_tells : (text : List ℕ) (low middle high : ℕ) (document : Node) → low ≤ 0 → low < middle → middle < high → tree_of (first_lines (middle - low) (after_lines low text)) ≡ Some document → TellsBetween text low high middle document
+pub start_tells : (text : List ℕ) (low middle high : ℕ) (document : Node) → low ≤ 0 → low < middle
+    → middle < high → tree_of (first_lines (middle - low) (after_lines low text)) ≡ Some document
+    → TellsBetween text low high middle document
 start_tells text zero middle high document none above below is =
     let same : middle - 0 ≡ middle = omega arith in
-    front_tells text 0 high middle document above below (subst (λ n. tree_of (first_lines n text) ≡ Some document) same is)
+    front_tells text 0 high middle document above below
+    (subst (λ n. tree_of (first_lines n text) ≡ Some document) same is)
 start_tells text (suc low) middle high document none above below is = absurd (omega (arith, none))
 
 -- a whole text that is a document, and the empty one
@@ -188,15 +226,21 @@ or_parts : (a b : Bool) → (a || b) ≡ false → b ≡ false
 or_parts true b h = absurd (false≢true (sym h))
 or_parts false b h = h
 
-filter_same_on : (p q : List ℕ → Bool) (ids : List (List ℕ)) → AllByRecursion (λ id. p id ≡ q id) ids → filter p ids ≡ filter q ids
+filter_same_on : (p q : List ℕ → Bool) (ids : List (List ℕ)) → AllByRecursion (λ id. p id ≡ q id) ids
+    → filter p ids ≡ filter q ids
 filter_same_on p q [] h = refl
 filter_same_on p q (x ∷ ids) h = rw (h.0, filter_same_on p q ids h.1) refl
 
-module _ (path : Path) (text : List ℕ) (low high middle : ℕ) (ids : List (List ℕ)) (chunk document : Node) (between : AppearBetween path text low high ids) (at : TellsBetween text low high middle chunk) (is : tree_of (first_lines middle text) ≡ Some document) where
+module _ (path : Path) (text : List ℕ) (low high middle : ℕ) (ids : List (List ℕ)) (chunk document : Node)
+    (between : AppearBetween path text low high ids) (at : TellsBetween text low high middle chunk)
+    (is : tree_of (first_lines middle text) ≡ Some document) where
   each_told : AllByRecursion (λ id. has_id path chunk id ≡ has_id path document id) ids
   each_told =
-      all_both (λ id. appears_before path text id (suc low) ≡ false) (λ id. appears_at path text id high ≡ true) (λ id. has_id path chunk id ≡ has_id path document id)
-      (λ id later there. at.tells path id (or_parts (appears_before path text id low) (appears_at path text id low) later) there ∙ stands_is path (first_lines middle text) id document is)
+      all_both (λ id. appears_before path text id (suc low) ≡ false)
+      (λ id. appears_at path text id high ≡ true) (λ id. has_id path chunk id ≡ has_id path document id)
+      (λ id later there. at.tells path id
+      (or_parts (appears_before path text id low) (appears_at path text id low) later) there
+      ∙ stands_is path (first_lines middle text) id document is)
       ids between.later between.there
 
   pub early_told : filter (has_id path chunk) ids ≡ filter (has_id path document) ids
@@ -205,14 +249,20 @@ module _ (path : Path) (text : List ℕ) (low high middle : ℕ) (ids : List (Li
   pub late_told : filter (λ id. not (has_id path chunk id)) ids ≡ filter (λ id. not (has_id path document id)) ids
   late_told =
       filter_same_on (λ id. not (has_id path chunk id)) (λ id. not (has_id path document id)) ids
-      (all_map (λ id. has_id path chunk id ≡ has_id path document id) (λ id. not (has_id path chunk id) ≡ not (has_id path document id)) (λ id e. ap not e) ids each_told)
+      (all_map (λ id. has_id path chunk id ≡ has_id path document id)
+      (λ id. not (has_id path chunk id) ≡ not (has_id path document id)) (λ id e. ap not e) ids each_told)
 
 -- what lines tell that were read alone, where they are a document
 module _ (text : List ℕ) (low header : ℕ) where
   abbrev pub TellsAlone : Node → Type 0
-  TellsAlone document = (high : ℕ) → header < high → high ≤ line_count text → IsDocument text high → TellsBetween text low high header document
+  TellsAlone document = (high : ℕ) → header < high → high ≤ line_count text → IsDocument text high
+      → TellsBetween text low high header document
 
-  pub alone_tells : (found : Option (BTreeMap (String Global) Value)) → ((document : Node) → tree_of (first_lines (header - low) (after_lines low text)) ≡ Some document → TellsAlone document)
-      → option_map (λ t. node_of (table_view t)) found ≡ tree_of (first_lines (header - low) (after_lines low text)) → IfSome found (λ t. TellsAlone (node_of (table_view t)))
+  pub alone_tells : (found : Option (BTreeMap (String Global) Value))
+      → ((document : Node) → tree_of (first_lines (header - low) (after_lines low text)) ≡ Some document
+      → TellsAlone document)
+      → option_map (λ t. node_of (table_view t)) found
+      ≡ tree_of (first_lines (header - low) (after_lines low text))
+      → IfSome found (λ t. TellsAlone (node_of (table_view t)))
   alone_tells None tells h = search
   alone_tells (Some t) tells h = tells (node_of (table_view t)) (sym h)

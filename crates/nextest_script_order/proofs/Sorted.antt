@@ -10,7 +10,8 @@ use Rattle.nextest_tree.specs.View.{entries_view}
 use Rattle.nextest_documents.proofs.Maps.{Entry}
 use Rattle.nextest_script_order.specs.Standing.{IdsAscend}
 
-below_keys : (k : String Global) (es : List Entry) → AllByRecursion (λ y. string_cmp k y ≡ Less) (keys_of es) → AllByRecursion (λ o. slice_cmp nat_cmp (string_bytes k) o ≡ Less) (keys (entries_view es))
+below_keys : (k : String Global) (es : List Entry) → AllByRecursion (λ y. string_cmp k y ≡ Less) (keys_of es)
+    → AllByRecursion (λ o. slice_cmp nat_cmp (string_bytes k) o ≡ Less) (keys (entries_view es))
 below_keys k [] h = h
 below_keys k (e ∷ es) h = (h.0, below_keys k es h.1)
 

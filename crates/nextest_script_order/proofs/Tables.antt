@@ -24,7 +24,9 @@ node_of ms = nodes.table (from_members ms)
 abbrev has_inside : Path → List ℕ → Option Members → Bool
 has_inside path id found = option_map_or (λ inner. has_id path (node_of inner) id) found false
 
-only_tables : (path : Path) (id : List ℕ) (o : Option Data) → is_some (option_and_then (node_at (path ++ id ∷ [])) (option_map from_data o)) ≡ has_inside path id (option_and_then as_table o)
+only_tables : (path : Path) (id : List ℕ) (o : Option Data)
+    → is_some (option_and_then (node_at (path ++ id ∷ [])) (option_map from_data o))
+    ≡ has_inside path id (option_and_then as_table o)
 only_tables path id None = refl
 only_tables path id (Some (table ms)) = refl
 only_tables [] id (Some (string s)) = refl
@@ -40,14 +42,17 @@ only_tables (k ∷ path) id (Some (boolean b)) = refl
 only_tables (k ∷ path) id (Some (datetime dt)) = refl
 only_tables (k ∷ path) id (Some (array ds)) = refl
 
-has_below : (k : List ℕ) (path : Path) (id : List ℕ) (ms : Members) → has_id (k ∷ path) (node_of ms) id ≡ has_inside path id (option_and_then as_table (get_member k ms))
+has_below : (k : List ℕ) (path : Path) (id : List ℕ) (ms : Members)
+    → has_id (k ∷ path) (node_of ms) id ≡ has_inside path id (option_and_then as_table (get_member k ms))
 has_below k path id ms = rw (get_member_is k ms) (only_tables path id (get_member k ms))
 
 -- one key further along a path
-pub key_further : (path : List Key) (i : ℕ) (d : Key) (id : List ℕ) (ms : Members) (found : Option Members) → i < length path
+pub key_further : (path : List Key) (i : ℕ) (d : Key) (id : List ℕ) (ms : Members) (found : Option Members)
+    → i < length path
     → found ≡ option_and_then as_table (get_member (key_text (get_or path i d)) ms)
     → has_id (key_path_view (drop i path)) (node_of ms) id ≡ has_inside (key_path_view (drop (i + 1) path)) id found
-key_further path i d id ms found h is = rw (drop_more path i d h, is) (has_below (key_text (get_or path i d)) (key_path_view (drop (i + 1) path)) id ms)
+key_further path i d id ms found h is =
+    rw (drop_more path i d h, is) (has_below (key_text (get_or path i d)) (key_path_view (drop (i + 1) path)) id ms)
 
 some_there : (o : Option Data) → is_some (option_and_then (node_at []) (option_map from_data o)) ≡ is_some o
 some_there None = refl
@@ -63,7 +68,8 @@ some_map f (Some x) = refl
 
 -- where the path is over, the table's map has the id
 pub at_end : (path : List Key) (i : ℕ) (id : List ℕ) (es : List Entry) → length path ≤ i
-    → is_some (lookup (is_at (λ x. slice_cmp nat_cmp id (string_bytes x))) es) ≡ has_id (key_path_view (drop i path)) (node_of (members_view es)) id
+    → is_some (lookup (is_at (λ x. slice_cmp nat_cmp id (string_bytes x))) es)
+    ≡ has_id (key_path_view (drop i path)) (node_of (members_view es)) id
 at_end path i id es h =
     let over : drop i path ≡ [] = drop_all i path h in
     rw over (some_map view _ ∙ ap is_some (view-lookup id es) ∙ sym (key_there id (members_view es)))

@@ -11,7 +11,8 @@ use Rattle.nextest_script_order.proofs.GoesOn.{GoesOn, Left, here, next, first_s
 use Rattle.nextest_script_order.proofs.Kept.{Kept, KeptLeft, kept_bind, kept_map, left_map, or_end}
 
 -- a front with no newline
-pub take_same : {behind : List ℕ} → (p : ℕ → Bool) (n : ℕ) (x y : List ℕ) → GoesOn behind x y → p 10 ≡ false → n ≤ length x → list_all p (take n x) ≡ true → (take n x ≡ take n y) × GoesOn behind (drop n x) (drop n y)
+pub take_same : {behind : List ℕ} → (p : ℕ → Bool) (n : ℕ) (x y : List ℕ) → GoesOn behind x y → p 10 ≡ false
+    → n ≤ length x → list_all p (take n x) ≡ true → (take n x ≡ take n y) × GoesOn behind (drop n x) (drop n y)
 take_same p zero x y g none room all = (refl, g)
 take_same p (suc n) x y here none room all = absurd (true≢false (sym all ∙ rw none))
 take_same p (suc n) x y (next c xs ys g) none room all =
@@ -19,7 +20,8 @@ take_same p (suc n) x y (next c xs ys g) none room all =
     let (front, rest) = take_same p n xs ys g none (omega arith) others in
     (ap (λ t. c ∷ t) front, rest)
 
-hex_kept : {behind : List ℕ} → (n : ℕ) (x y : List ℕ) → GoesOn behind x y → Kept behind (hex_escape n x) (hex_escape n y)
+hex_kept : {behind : List ℕ} → (n : ℕ) (x y : List ℕ) → GoesOn behind x y
+    → Kept behind (hex_escape n x) (hex_escape n y)
 unfolding hex_escape
 hex_kept n x y g =
     let digits = list_all (λ c. is_digit c 16) (take n x) in
@@ -42,15 +44,18 @@ hex_letter c h = grind (arith, nat_tests)
 simple_letter : (c v : ℕ) → simple_escape c ≡ Some v → (c == 10) ≡ false
 simple_letter c v h = grind (arith, nat_tests)
 
-simple : {behind : List ℕ} → (o : Option ℕ) (x y : List ℕ) → o ≡ simple_escape (first x) → GoesOn behind x y → Kept behind (option_map (λ v. (v, drop 1 x)) o) (option_map (λ v. (v, drop 1 y)) o)
+simple : {behind : List ℕ} → (o : Option ℕ) (x y : List ℕ) → o ≡ simple_escape (first x) → GoesOn behind x y
+    → Kept behind (option_map (λ v. (v, drop 1 x)) o) (option_map (λ v. (v, drop 1 y)) o)
 simple None x y e g = tt
 simple (Some v) x y e g = (drop 1 y, after_first x y g (simple_letter (first x) v (sym e)), refl)
 
-pub escape_char_kept : {behind : List ℕ} → (x y : List ℕ) → GoesOn behind x y → Kept behind (escape_char x) (escape_char y)
+pub escape_char_kept : {behind : List ℕ} → (x y : List ℕ) → GoesOn behind x y
+    → Kept behind (escape_char x) (escape_char y)
 unfolding escape_char
 escape_char_kept x y g =
     rw (← first_same x y g) (elim (cases_Bool (nat_lt 0 (hex_len (first x)))) [
-      | inl hex ↦ rw hex (hex_kept (hex_len (first x)) (drop 1 x) (drop 1 y) (after_first x y g (hex_letter (first x) hex)))
+      | inl hex ↦ rw hex (hex_kept (hex_len (first x)) (drop 1 x) (drop 1 y)
+          (after_first x y g (hex_letter (first x) hex)))
       | inr other ↦ rw other (simple (simple_escape (first x)) x y refl g)
     ])
 
@@ -58,11 +63,13 @@ newline_same : {behind : List ℕ} → (x y : List ℕ) → GoesOn behind x y �
 newline_same x y here = refl
 newline_same x y (next c xs ys g) = rw (first_same xs ys g)
 
-escape_kept : {behind : List ℕ} → (multi : Bool) (x y : List ℕ) → GoesOn behind x y → KeptLeft behind (escape multi x) (escape multi y)
+escape_kept : {behind : List ℕ} → (multi : Bool) (x y : List ℕ) → GoesOn behind x y
+    → KeptLeft behind (escape multi x) (escape multi y)
 unfolding escape
 escape_kept multi x y g =
     let cut = skip_grown false x y g false in
-    rw (← newline_same (skip_ws x) (skip_ws y) (skip_ws_grown x y g)) (elim (cases_Bool (multi && starts_newline (skip_ws x))) [
+    rw (← newline_same (skip_ws x) (skip_ws y) (skip_ws_grown x y g))
+    (elim (cases_Bool (multi && starts_newline (skip_ws x))) [
       | inl ends ↦ rw ends (skip_lines y, cut, refl)
       | inr other ↦ rw other (left_map _ (escape_char x) (escape_char y) encode_utf8 (escape_char_kept x y g))
     ])
@@ -77,11 +84,13 @@ KeptPiece behind None s = Unit {0}
 KeptPiece behind (Some (None, x)) s = (y : List ℕ) × GoesOn behind x y × (s ≡ Some (None, y))
 KeptPiece behind (Some (Some b, x)) s = (y : List ℕ) × Left behind x y × (s ≡ Some (Some b, y))
 
-piece_from : (behind : List ℕ) → (r s : Read (List ℕ)) → KeptLeft behind r s → KeptPiece behind (option_map (λ p. (Some p.0, p.1)) r) (option_map (λ p. (Some p.0, p.1)) s)
+piece_from : (behind : List ℕ) → (r s : Read (List ℕ)) → KeptLeft behind r s
+    → KeptPiece behind (option_map (λ p. (Some p.0, p.1)) r) (option_map (λ p. (Some p.0, p.1)) s)
 piece_from behind None s k = tt
 piece_from behind (Some p) s k = let (y, g, e) = k in (y, g, ap (option_map (λ p. (Some p.0, p.1))) e)
 
-delims_kept : {behind : List ℕ} → (delim : ℕ) (x y : List ℕ) → GoesOn behind x y → is_delim delim ≡ true → first x ≡ delim → KeptPiece behind (at_delims delim x) (at_delims delim y)
+delims_kept : {behind : List ℕ} → (delim : ℕ) (x y : List ℕ) → GoesOn behind x y → is_delim delim ≡ true
+    → first x ≡ delim → KeptPiece behind (at_delims delim x) (at_delims delim y)
 delims_kept delim x y g d at =
     let no_newline : (10 == delim) ≡ false = grind (arith, nat_tests) in
     let other : (first x == 10) ≡ false = grind (arith, nat_tests) in
@@ -97,14 +106,17 @@ delims_kept delim x y g d at =
       ])
     ])
 
-ending : {behind : List ℕ} → (multi : Bool) (delim : ℕ) (x y : List ℕ) → GoesOn behind x y → is_delim delim ≡ true → first x ≡ delim
-    → KeptPiece behind (cond multi (at_delims delim x) (Some (None, drop 1 x))) (cond multi (at_delims delim y) (Some (None, drop 1 y)))
+ending : {behind : List ℕ} → (multi : Bool) (delim : ℕ) (x y : List ℕ) → GoesOn behind x y
+    → is_delim delim ≡ true → first x ≡ delim
+    → KeptPiece behind (cond multi (at_delims delim x) (Some (None, drop 1 x)))
+    (cond multi (at_delims delim y) (Some (None, drop 1 y)))
 ending true delim x y g d at = delims_kept delim x y g d at
 ending false delim x y g d at =
     let other : (first x == 10) ≡ false = grind (arith, nat_tests) in
     (drop 1 y, after_first x y g other, refl)
 
-pub special_kept : {behind : List ℕ} → (delim : ℕ) (multi : Bool) (x y : List ℕ) → GoesOn behind x y → is_delim delim ≡ true → KeptPiece behind (special delim multi x) (special delim multi y)
+pub special_kept : {behind : List ℕ} → (delim : ℕ) (multi : Bool) (x y : List ℕ) → GoesOn behind x y
+    → is_delim delim ≡ true → KeptPiece behind (special delim multi x) (special delim multi y)
 unfolding special
 special_kept delim multi x y g d =
     rw (← newline_same x y g, ← first_same x y g) (elim (cases_Bool (first x == delim)) [
@@ -131,32 +143,43 @@ body_end delim false (suc n) d =
     let other : (0 == delim) ≡ false = grind (arith, nat_tests) in
     rw other refl
 
-prepend_kept : (behind : List ℕ) → (b : List ℕ) (r s : Read (List ℕ)) → Kept behind r s → Kept behind (prepend b r) (prepend b s)
+prepend_kept : (behind : List ℕ) → (b : List ℕ) (r s : Read (List ℕ)) → Kept behind r s
+    → Kept behind (prepend b r) (prepend b s)
 prepend_kept behind b r s k = kept_map _ r s (λ t. b ++ t) k
 
-after_kept : (behind : List ℕ) → (p q : Option (Option (List ℕ) × List ℕ)) (f h : List ℕ → Read (List ℕ)) → KeptPiece behind p q → ((x y : List ℕ) → Left behind x y → Kept behind (f x) (h y))
+after_kept : (behind : List ℕ) → (p q : Option (Option (List ℕ) × List ℕ)) (f h : List ℕ → Read (List ℕ))
+    → KeptPiece behind p q → ((x y : List ℕ) → Left behind x y → Kept behind (f x) (h y))
     → Kept behind (option_and_then (λ p. after_piece f p.0 p.1) p) (option_and_then (λ p. after_piece h p.0 p.1) q)
 after_kept behind None q f h k more = tt
 after_kept behind (Some (None, x)) q f h k more = let (y, g, e) = k in rw e (y, g, refl)
-after_kept behind (Some (Some b, x)) q f h k more = let (y, g, e) = k in rw e (prepend_kept _ b (f x) (h y) (more x y g))
+after_kept behind (Some (Some b, x)) q f h k more = let (y, g, e) = k in
+    rw e (prepend_kept _ b (f x) (h y) (more x y g))
 
-pub body_kept : {behind : List ℕ} → (delim : ℕ) (multi : Bool) (n m : ℕ) (x y : List ℕ) → is_delim delim ≡ true → n ≤ m → GoesOn behind x y → Kept behind (body delim multi n x) (body delim multi m y)
+pub body_kept : {behind : List ℕ} → (delim : ℕ) (multi : Bool) (n m : ℕ) (x y : List ℕ)
+    → is_delim delim ≡ true → n ≤ m → GoesOn behind x y → Kept behind (body delim multi n x) (body delim multi m y)
 unfolding body
 body_kept delim multi zero m x y d room g = tt
 body_kept delim multi (suc n) zero x y d room g = absurd (omega arith)
 body_kept delim multi (suc n) (suc m) x y d room g =
-    let more = or_end (body delim multi n) (body delim multi m) (body_end delim multi n d) (λ v w k. body_kept delim multi n m v w d (omega arith) k) in
+    let more = or_end (body delim multi n) (body delim multi m) (body_end delim multi n d)
+    (λ v w k. body_kept delim multi n m v w d (omega arith) k) in
     rw (← first_same x y g) (elim (cases_Bool (is_plain delim multi (first x))) [
       | inl plain ↦ rw plain (prepend_kept _ (first x ∷ []) _ _ (more (drop 1 x) (drop 1 y) (after_any x y g)))
-      | inr other ↦ rw other (after_kept _ _ _ (body delim multi n) (body delim multi m) (special_kept delim multi x y g d) more)
+      | inr other ↦ rw other (after_kept _ _ _ (body delim multi n) (body delim multi m)
+          (special_kept delim multi x y g d) more)
     ])
 
-pub body_left : {behind : List ℕ} → (delim : ℕ) (multi : Bool) (n m : ℕ) (x y : List ℕ) → is_delim delim ≡ true → n ≤ m → Left behind x y → Kept behind (body delim multi n x) (body delim multi m y)
-body_left delim multi n m x y d room = or_end (body delim multi n) (body delim multi m) (body_end delim multi n d) (λ v w k. body_kept delim multi n m v w d room k) x y
+pub body_left : {behind : List ℕ} → (delim : ℕ) (multi : Bool) (n m : ℕ) (x y : List ℕ)
+    → is_delim delim ≡ true → n ≤ m → Left behind x y → Kept behind (body delim multi n x) (body delim multi m y)
+body_left delim multi n m x y d room =
+    or_end (body delim multi n) (body delim multi m) (body_end delim multi n d)
+    (λ v w k. body_kept delim multi n m v w d room k) x y
 
-one_line_kept : {behind : List ℕ} → (x y : List ℕ) → GoesOn behind x y → starts_string x ≡ true → Kept behind (one_line x) (one_line y)
+one_line_kept : {behind : List ℕ} → (x y : List ℕ) → GoesOn behind x y → starts_string x ≡ true
+    → Kept behind (one_line x) (one_line y)
 unfolding one_line
-one_line_kept x y g d = rw (← first_same x y g) (body_left (first x) false _ _ (drop 1 x) (drop 1 y) d (within x y g) (after_any x y g))
+one_line_kept x y g d = rw (← first_same x y g)
+    (body_left (first x) false _ _ (drop 1 x) (drop 1 y) d (within x y g) (after_any x y g))
 
 trim_left : {behind : List ℕ} → (x y : List ℕ) → GoesOn behind x y → Left behind (trim_newline x) (trim_newline y)
 trim_left x y here = inl refl
@@ -170,16 +193,19 @@ trim_left x y (next c xs ys g) =
     ])
 
 -- three delimiters
-third_same : {behind : List ℕ} → (x y : List ℕ) → GoesOn behind x y → (first x == 10) ≡ false → (slice_index x 1 == 10) ≡ false → slice_index x 2 ≡ slice_index y 2
+third_same : {behind : List ℕ} → (x y : List ℕ) → GoesOn behind x y → (first x == 10) ≡ false
+    → (slice_index x 1 == 10) ≡ false → slice_index x 2 ≡ slice_index y 2
 third_same x y here a b = absurd (true≢false a)
 third_same x y (next c xs ys g) a b = second_same xs ys g b
 
-after_three : {behind : List ℕ} → (x y : List ℕ) → GoesOn behind x y → (first x == 10) ≡ false → (slice_index x 1 == 10) ≡ false → (slice_index x 2 == 10) ≡ false → GoesOn behind (drop 3 x) (drop 3 y)
+after_three : {behind : List ℕ} → (x y : List ℕ) → GoesOn behind x y → (first x == 10) ≡ false
+    → (slice_index x 1 == 10) ≡ false → (slice_index x 2 == 10) ≡ false → GoesOn behind (drop 3 x) (drop 3 y)
 after_three x y here a b c = absurd (true≢false a)
 after_three x y (next e xs ys here) a b c = absurd (true≢false b)
 after_three x y (next e xs ys (next f us vs g)) a b c = after_first us vs g c
 
-pub quoted_kept : {behind : List ℕ} → (x y : List ℕ) → GoesOn behind x y → starts_string x ≡ true → Kept behind (quoted x) (quoted y)
+pub quoted_kept : {behind : List ℕ} → (x y : List ℕ) → GoesOn behind x y → starts_string x ≡ true
+    → Kept behind (quoted x) (quoted y)
 unfolding quoted
 quoted_kept x y g d =
     let a : (first x == 10) ≡ false = grind (arith, nat_tests) in
@@ -212,9 +238,11 @@ simple_key_kept x y g =
 -- what follows a part of a key
 abbrev key_more : ℕ → List (List ℕ) → List ℕ × List ℕ → Read Key
 key_more n path part =
-    cond (first (skip_ws part.1) == 46) (key_after n (path ++ part.0 ∷ []) (skip_ws (drop 1 (skip_ws part.1)))) (Some ((path, part.0), skip_ws part.1))
+    cond (first (skip_ws part.1) == 46)
+    (key_after n (path ++ part.0 ∷ []) (skip_ws (drop 1 (skip_ws part.1)))) (Some ((path, part.0), skip_ws part.1))
 
-pub key_kept : {behind : List ℕ} → (n : ℕ) (path : List (List ℕ)) (x y : List ℕ) → GoesOn behind x y → Kept behind (key_after n path x) (key_after n path y)
+pub key_kept : {behind : List ℕ} → (n : ℕ) (path : List (List ℕ)) (x y : List ℕ) → GoesOn behind x y
+    → Kept behind (key_after n path x) (key_after n path y)
 unfolding key_after
 key_kept zero path x y g = tt
 key_kept (suc n) path x y g =

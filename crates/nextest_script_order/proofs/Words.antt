@@ -18,11 +18,13 @@ drop_none : (n : ℕ) → drop {A = ℕ} n [] ≡ []
 drop_none zero = refl
 drop_none (suc n) = refl
 
-end_of : {behind : List ℕ} → (n : ℕ) (more : List ℕ) → GoesOn behind (drop n []) (drop n more) → GoesOn behind [] (drop n more)
+end_of : {behind : List ℕ} → (n : ℕ) (more : List ℕ) → GoesOn behind (drop n []) (drop n more)
+    → GoesOn behind [] (drop n more)
 end_of n more g = rw drop_none at g
 
 -- the fronts are the same where the rests are grown
-front_same : {behind : List ℕ} → (n : ℕ) (x y : List ℕ) → GoesOn behind x y → GoesOn behind (drop n x) (drop n y) → take n x ≡ take n y
+front_same : {behind : List ℕ} → (n : ℕ) (x y : List ℕ) → GoesOn behind x y
+    → GoesOn behind (drop n x) (drop n y) → take n x ≡ take n y
 front_same zero x y g rest = refl
 front_same {behind} (suc n) x y here rest = absurd (nothing_left (drop n behind) (end_of n behind rest))
 front_same (suc n) x y (next c xs ys g) rest = ap (λ t. c ∷ t) (front_same n xs ys g rest)
@@ -32,7 +34,8 @@ at_drop n k x = sym (get_or-drop n x k 0)
 
 -- the length, where the first run is n long
 word_len_from : (x : List ℕ) (n : ℕ) → prefix_len is_word x ≡ n
-    → word_len x ≡ cond (first (drop n x) == 32 && is_ascii_digit (slice_index (drop n x) 1)) (n + 1 + prefix_len is_word (drop 1 (drop n x))) n
+    → word_len x ≡ cond (first (drop n x) == 32 && is_ascii_digit (slice_index (drop n x) 1))
+    (n + 1 + prefix_len is_word (drop 1 (drop n x))) n
 unfolding word_len
 word_len_from x n e =
     let at : get_or (drop n x) 0 0 ≡ get_or x n 0 = rw (get_or-drop n x 0 0, add-zero) refl in
@@ -43,13 +46,15 @@ word_len_from x n e =
 drop_all : (n k : ℕ) (x : List ℕ) → drop (n + 1 + k) x ≡ drop k (drop 1 (drop n x))
 drop_all n k x = sym (ap (drop k) (drop-drop 1 n x) ∙ drop-drop k (n + 1) x)
 
-pub word_same : {behind : List ℕ} → (x y : List ℕ) → GoesOn behind x y → (word_len x ≡ word_len y) × GoesOn behind (drop (word_len x) x) (drop (word_len x) y)
+pub word_same : {behind : List ℕ} → (x y : List ℕ) → GoesOn behind x y
+    → (word_len x ≡ word_len y) × GoesOn behind (drop (word_len x) x) (drop (word_len x) y)
 word_same x y g =
     let (same, rest, front) = run_same is_word x y g refl in
     let n = prefix_len is_word x in
     let r = drop n x in
     let s = drop n y in
-    rw (word_len_from x n refl, word_len_from y n (sym same), ← first_same r s rest) (elim (cases_Bool (first r == 32)) [
+    rw (word_len_from x n refl, word_len_from y n (sym same), ← first_same r s rest)
+    (elim (cases_Bool (first r == 32)) [
       | inr other ↦ rw other (refl, rest)
       | inl gap ↦
           let no_newline : (first r == 10) ≡ false = grind (arith, nat_tests) in
@@ -61,7 +66,8 @@ word_same x y g =
           ])
     ])
 
-scalar_from : {behind : List ℕ} → (o : Option Scalar) (r s : List ℕ) → GoesOn behind r s → Kept behind (option_map (λ d. (d, r)) o) (option_map (λ d. (d, s)) o)
+scalar_from : {behind : List ℕ} → (o : Option Scalar) (r s : List ℕ) → GoesOn behind r s
+    → Kept behind (option_map (λ d. (d, r)) o) (option_map (λ d. (d, s)) o)
 scalar_from None r s g = tt
 scalar_from (Some d) r s g = (s, g, refl)
 

@@ -28,7 +28,8 @@ fails_tests c h =
     record { delimiter = backslash.0; backslash = backslash.1; single = single.1; double = double.1 }
 
 -- a plain character, in a word that is begun
-pub plain_step : (w : List ℕ) (c : ℕ) (rest : List ℕ) → is_special c ≡ false → words_from (Some w) (c ∷ rest) ≡ words_from (Some (w ++ c ∷ [])) rest
+pub plain_step : (w : List ℕ) (c : ℕ) (rest : List ℕ) → is_special c ≡ false
+    → words_from (Some w) (c ∷ rest) ≡ words_from (Some (w ++ c ∷ [])) rest
 unfolding words_from
 plain_step w c rest h = let t = fails_tests c h in rw (t.delimiter, t.backslash, t.single, t.double) refl
 
@@ -36,7 +37,9 @@ plain_step w c rest h = let t = fails_tests c h in rw (t.delimiter, t.backslash,
 pub chars_pushed : (xs : List ℕ) (c : ℕ) → IsUtf8 xs → IsScalar c → chars (xs ++ encode_utf8 c) ≡ chars xs ++ c ∷ []
 chars_pushed xs c u s =
     chars-append xs (encode_utf8 c) u
-    ∙ ap (λ ys. chars xs ++ ys) (chars_past_char (encode_utf8 c) [] c (IsUtf8-encode c s) (sym (append-nil (encode_utf8 c))) ∙ ap (λ ys. c ∷ ys) chars-nil)
+    ∙ ap (λ ys. chars xs ++ ys)
+    (chars_past_char (encode_utf8 c) [] c (IsUtf8-encode c s) (sym (append-nil (encode_utf8 c)))
+    ∙ ap (λ ys. c ∷ ys) chars-nil)
 
 -- a word that has nothing yet
 pub chars_none : chars [] ≡ []
@@ -48,7 +51,8 @@ pub comment_nil : words_from_comment [] ≡ words_from None []
 unfolding words_from
 comment_nil = refl
 
-pub comment_cons : (c : ℕ) (rest : List ℕ) → words_from_comment (c ∷ rest) ≡ cond (c == 10) (words_from None rest) (words_from_comment rest)
+pub comment_cons : (c : ℕ) (rest : List ℕ)
+    → words_from_comment (c ∷ rest) ≡ cond (c == 10) (words_from None rest) (words_from_comment rest)
 unfolding words_from
 comment_cons c rest = refl
 
@@ -56,7 +60,8 @@ pub single_nil : (w : List ℕ) → words_from_single w [] ≡ None
 unfolding words_from
 single_nil w = refl
 
-pub single_cons : (w : List ℕ) (c : ℕ) (rest : List ℕ) → words_from_single w (c ∷ rest) ≡ cond (c == 39) (words_from (Some w) rest) (words_from_single (w ++ c ∷ []) rest)
+pub single_cons : (w : List ℕ) (c : ℕ) (rest : List ℕ)
+    → words_from_single w (c ∷ rest) ≡ cond (c == 39) (words_from (Some w) rest) (words_from_single (w ++ c ∷ []) rest)
 unfolding words_from
 single_cons w c rest = refl
 
@@ -64,7 +69,10 @@ pub double_nil : (w : List ℕ) → words_from_double w [] ≡ None
 unfolding words_from
 double_nil w = refl
 
-pub double_cons : (w : List ℕ) (c : ℕ) (rest : List ℕ) → words_from_double w (c ∷ rest) ≡ cond (c == 34) (words_from (Some w) rest) (cond (c == 92) (words_from_double_escape w rest) (words_from_double (w ++ c ∷ []) rest))
+pub double_cons : (w : List ℕ) (c : ℕ) (rest : List ℕ)
+    → words_from_double w (c ∷ rest)
+    ≡ cond (c == 34) (words_from (Some w) rest)
+    (cond (c == 92) (words_from_double_escape w rest) (words_from_double (w ++ c ∷ []) rest))
 unfolding words_from
 double_cons w c rest = refl
 
@@ -72,7 +80,10 @@ pub double_escape_nil : (w : List ℕ) → words_from_double_escape w [] ≡ Non
 unfolding words_from
 double_escape_nil w = refl
 
-pub double_escape_cons : (w : List ℕ) (c : ℕ) (rest : List ℕ) → words_from_double_escape w (c ∷ rest) ≡ cond (c == 10) (words_from_double w rest) (cond (is_escapable c) (words_from_double (w ++ c ∷ []) rest) (words_from_double ((w ++ 92 ∷ []) ++ c ∷ []) rest))
+pub double_escape_cons : (w : List ℕ) (c : ℕ) (rest : List ℕ)
+    → words_from_double_escape w (c ∷ rest)
+    ≡ cond (c == 10) (words_from_double w rest)
+    (cond (is_escapable c) (words_from_double (w ++ c ∷ []) rest) (words_from_double ((w ++ 92 ∷ []) ++ c ∷ []) rest))
 unfolding words_from
 double_escape_cons w c rest = rw append_assoc refl
 
@@ -80,7 +91,9 @@ pub escape_nil : (w : List ℕ) → words_from_escape (Some w) [] ≡ words_from
 unfolding words_from
 escape_nil w = refl
 
-pub escape_cons : (w : List ℕ) (c : ℕ) (rest : List ℕ) → words_from_escape (Some w) (c ∷ rest) ≡ cond (c == 10) (words_from (Some w) rest) (words_from (Some (w ++ c ∷ [])) rest)
+pub escape_cons : (w : List ℕ) (c : ℕ) (rest : List ℕ)
+    → words_from_escape (Some w) (c ∷ rest)
+    ≡ cond (c == 10) (words_from (Some w) rest) (words_from (Some (w ++ c ∷ [])) rest)
 unfolding words_from
 escape_cons w c rest = refl
 
@@ -98,7 +111,8 @@ pub some_backslash : (w rest : List ℕ) → words_from (Some w) (92 ∷ rest) �
 unfolding words_from
 some_backslash w rest = refl
 
-pub some_plain : (w : List ℕ) (c : ℕ) (rest : List ℕ) → is_delimiter c ≡ false → c ≢ 92 → c ≢ 39 → c ≢ 34 → words_from (Some w) (c ∷ rest) ≡ words_from (Some (w ++ c ∷ [])) rest
+pub some_plain : (w : List ℕ) (c : ℕ) (rest : List ℕ) → is_delimiter c ≡ false → c ≢ 92 → c ≢ 39 → c ≢ 34
+    → words_from (Some w) (c ∷ rest) ≡ words_from (Some (w ++ c ∷ [])) rest
 unfolding words_from
 some_plain w c rest d b s q = rw (d, ne_eqb c 92 b, ne_eqb c 39 s, ne_eqb c 34 q) refl
 
@@ -106,7 +120,8 @@ pub some_end : (w : List ℕ) → words_from (Some w) [] ≡ behind (Some w) (wo
 unfolding words_from
 some_end w = refl
 
-pub some_delimiter : (w : List ℕ) (c : ℕ) (rest : List ℕ) → is_delimiter c ≡ true → words_from (Some w) (c ∷ rest) ≡ behind (Some w) (words_from None (c ∷ rest))
+pub some_delimiter : (w : List ℕ) (c : ℕ) (rest : List ℕ) → is_delimiter c ≡ true
+    → words_from (Some w) (c ∷ rest) ≡ behind (Some w) (words_from None (c ∷ rest))
 unfolding words_from
 some_delimiter w c rest h = rw h refl
 
@@ -128,7 +143,8 @@ pub none_line_feed : (rest : List ℕ) → words_from None (92 ∷ 10 ∷ rest) 
 unfolding words_from
 none_line_feed rest = refl
 
-pub none_escape : (c : ℕ) (rest : List ℕ) → c ≢ 10 → words_from None (92 ∷ c ∷ rest) ≡ words_from (Some []) (92 ∷ c ∷ rest)
+pub none_escape : (c : ℕ) (rest : List ℕ) → c ≢ 10
+    → words_from None (92 ∷ c ∷ rest) ≡ words_from (Some []) (92 ∷ c ∷ rest)
 unfolding words_from
 none_escape c rest n = rw (ne_eqb c 10 n) refl
 
@@ -136,7 +152,8 @@ pub none_backslash : words_from None (92 ∷ []) ≡ words_from (Some []) (92 �
 unfolding words_from
 none_backslash = refl
 
-pub none_other : (c : ℕ) (rest : List ℕ) → is_delimiter c ≡ false → c ≢ 35 → c ≢ 92 → words_from None (c ∷ rest) ≡ words_from (Some []) (c ∷ rest)
+pub none_other : (c : ℕ) (rest : List ℕ) → is_delimiter c ≡ false → c ≢ 35 → c ≢ 92
+    → words_from None (c ∷ rest) ≡ words_from (Some []) (c ∷ rest)
 unfolding words_from
 none_other c rest d n b = rw (d, ne_eqb c 92 b, ne_eqb c 35 n) refl
 

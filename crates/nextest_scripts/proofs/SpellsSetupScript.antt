@@ -15,7 +15,8 @@ use Rattle.nextest_tree.specs.Node.{Node, table, array, text, int, bool, opaque,
 use Rattle.nextest_tree.specs.Reads.{IsOptional}
 use Rattle.nextest_scripts.proofs.SpellsWrapperScript.{same_command_at}
 
-same_optional : {X : Type 0} (P : Node → X → Type 0) → ((n : Node) (x y : X) → P n x → P n y → x ≡ y) → (o : Option Node) (x y : Option X) → IsOptional P o x → IsOptional P o y → x ≡ y
+same_optional : {X : Type 0} (P : Node → X → Type 0) → ((n : Node) (x y : X) → P n x → P n y → x ≡ y)
+    → (o : Option Node) (x y : Option X) → IsOptional P o x → IsOptional P o y → x ≡ y
 same_optional P one None None None hx hy = refl
 same_optional P one None None (Some y) hx hy = absurd hy
 same_optional P one None (Some x) y hx hy = absurd hx
@@ -34,11 +35,14 @@ same_leak : (n : Node) (x y : LeakTimeout) → IsLeakTimeout n x → IsLeakTimeo
 same_leak (table es) x y hx hy = same_Some x y (sym hx ∙ hy)
 same_leak n x y hx hy = hx.2 ∙ ap leak_of (same_period n hx.0 hy.0 hx.1 hy.1) ∙ sym hy.2
 
-same_config : (es : Entries) (x y : SetupScriptConfig) → IsSetupScript es x → IsSetupScript es y → setup_script_view x ≡ setup_script_view y
+same_config : (es : Entries) (x y : SetupScriptConfig) → IsSetupScript es x → IsSetupScript es y
+    → setup_script_view x ≡ setup_script_view y
 same_config es x y hx hy =
     let command = same_command_at (get (key_text keys.Command) es) x.command y.command hx.command hy.command in
-    let slow = same_optional IsSetupTimeout same_timeout (get (key_text keys.SlowTimeout) es) x.slow_timeout y.slow_timeout hx.slow_timeout hy.slow_timeout in
-    let leak = same_optional IsLeakTimeout same_leak (get (key_text keys.LeakTimeout) es) x.leak_timeout y.leak_timeout hx.leak_timeout hy.leak_timeout in
+    let slow = same_optional IsSetupTimeout same_timeout (get (key_text keys.SlowTimeout) es) x.slow_timeout
+    y.slow_timeout hx.slow_timeout hy.slow_timeout in
+    let leak = same_optional IsLeakTimeout same_leak (get (key_text keys.LeakTimeout) es) x.leak_timeout
+    y.leak_timeout hx.leak_timeout hy.leak_timeout in
     λ i. record {
       command = command i;
       slow_timeout = slow i;

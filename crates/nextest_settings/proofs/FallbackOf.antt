@@ -13,8 +13,10 @@ use Rattle.nextest_settings.specs.declared.values.ProfileValues.{ProfileValues}
 use Rattle.nextest_settings.specs.declared.values.StoredValues.{StoredValues}
 
 -- what is stored by the path of a report
-stored : {X : Type 0} (path : Option (Bor (List ℕ))) (o : Option (List ℕ)) (r : Option X) (v : StoredValues) (read : StoredValues → X) (none : X) → o ≡ option_map (λ p. p.now) path
-    → r ≡ Some (read v) → Some none ≡ Some (read (stored_by None v)) → Some (read (stored_by path v)) ≡ if_reported o r none
+stored : {X : Type 0} (path : Option (Bor (List ℕ))) (o : Option (List ℕ)) (r : Option X) (v : StoredValues)
+    (read : StoredValues → X) (none : X) → o ≡ option_map (λ p. p.now) path
+    → r ≡ Some (read v) → Some none ≡ Some (read (stored_by None v))
+    → Some (read (stored_by path v)) ≡ if_reported o r none
 stored None o r v read none path is nothing = rw path (sym nothing)
 stored (Some p) o r v read none path is nothing = rw path (sym is)
 
@@ -23,7 +25,8 @@ module _ (fs : List WrittenFields) (v : ProfileValues) (h : AreValues fs v) wher
   slow Test = sym h.tests.slow_timeout
   slow Benchmark = sym h.bench.slow_timeout
 
-  pub fallback_view_is_fallback : (mode : NextestRunMode) (s : Setting) → fallback_view v Global mode s ≡ fallback_of fs mode s
+  pub fallback_view_is_fallback : (mode : NextestRunMode) (s : Setting)
+      → fallback_view v Global mode s ≡ fallback_of fs mode s
   fallback_view_is_fallback mode at.Priority = refl
   fallback_view_is_fallback mode at.ThreadsRequired = sym h.tests.threads_required
   fallback_view_is_fallback mode at.RunWrapper = refl
@@ -35,7 +38,14 @@ module _ (fs : List WrittenFields) (v : ProfileValues) (h : AreValues fs v) wher
   fallback_view_is_fallback mode at.TestGroup = refl
   fallback_view_is_fallback mode at.SuccessOutput = sym h.tests.success_output
   fallback_view_is_fallback mode at.FailureOutput = sym h.tests.failure_output
-  fallback_view_is_fallback mode at.JunitStoreSuccessOutput = stored v.report.path _ _ v.report.stored (λ s. s.success_output) _ h.report.path h.report.stored.success_output refl
-  fallback_view_is_fallback mode at.JunitStoreFailureOutput = stored v.report.path _ _ v.report.stored (λ s. s.failure_output) _ h.report.path h.report.stored.failure_output refl
-  fallback_view_is_fallback mode at.JunitReportSkipped = stored v.report.path _ _ v.report.stored (λ s. s.skipped) _ h.report.path h.report.stored.skipped refl
-  fallback_view_is_fallback mode at.JunitFlakyFailStatus = stored v.report.path _ _ v.report.stored (λ s. s.flaky_fail_status) _ h.report.path h.report.stored.flaky_fail_status refl
+  fallback_view_is_fallback mode at.JunitStoreSuccessOutput =
+      stored v.report.path _ _ v.report.stored (λ s. s.success_output) _ h.report.path
+      h.report.stored.success_output refl
+  fallback_view_is_fallback mode at.JunitStoreFailureOutput =
+      stored v.report.path _ _ v.report.stored (λ s. s.failure_output) _ h.report.path
+      h.report.stored.failure_output refl
+  fallback_view_is_fallback mode at.JunitReportSkipped =
+      stored v.report.path _ _ v.report.stored (λ s. s.skipped) _ h.report.path h.report.stored.skipped refl
+  fallback_view_is_fallback mode at.JunitFlakyFailStatus =
+      stored v.report.path _ _ v.report.stored (λ s. s.flaky_fail_status) _ h.report.path
+      h.report.stored.flaky_fail_status refl

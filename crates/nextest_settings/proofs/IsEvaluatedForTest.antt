@@ -22,9 +22,14 @@ one_there u = (0, refl)
 module _ {M : Type 0} (query : QueryContext M) (mode : NextestRunMode) (p : EvaluatableModel M) where
   pub test_exactly : (n : ℕ) → Contains (evaluated_for_test query mode p) n ↔ IsEvaluatedForTest query mode p n
   test_exactly n = (
-    both_evaluated (λ (s : Setting) w. is_set w.settings mode s) settings each_there (λ (u : Unit {0}) (w : ScriptUse). is_some w.run_wrapper) (tt ∷ []) one_there query p.overrides p.script_rules n,
-    evaluated_both (λ (s : Setting) w. is_set w.settings mode s) settings each_there (λ (u : Unit {0}) (w : ScriptUse). is_some w.run_wrapper) (tt ∷ []) one_there query p.overrides p.script_rules n,
+    both_evaluated (λ (s : Setting) w. is_set w.settings mode s) settings each_there
+        (λ (u : Unit {0}) (w : ScriptUse). is_some w.run_wrapper) (tt ∷ []) one_there query p.overrides
+        p.script_rules n,
+    evaluated_both (λ (s : Setting) w. is_set w.settings mode s) settings each_there
+        (λ (u : Unit {0}) (w : ScriptUse). is_some w.run_wrapper) (tt ∷ []) one_there query p.overrides
+        p.script_rules n,
   )
 
   pub test_count : length (evaluated_for_test query mode p) ≤ count_by is_some (filters_of p)
-  test_count = both_count (map (λ s w. is_set w.settings mode s) settings) ((λ (w : ScriptUse). is_some w.run_wrapper) ∷ []) query p.overrides p.script_rules
+  test_count = both_count (map (λ s w. is_set w.settings mode s) settings)
+      ((λ (w : ScriptUse). is_some w.run_wrapper) ∷ []) query p.overrides p.script_rules

@@ -2,7 +2,8 @@ use Rattle.std.proofs.Common.{◌≡◌, ℕ, ◌<◌, zero, suc, Bool, true, fa
 use Rattle.nextest_settings.specs.Deciding.{StandsFirst}
 
 module _ {X : Type 0} (passes : X → Bool) where
-  below : (x : X) (xs : List X) (n : ℕ) → passes x ≡ false → ((m : ℕ) (y : X) → m < n → slice_get xs m ≡ Some y → passes y ≡ false)
+  below : (x : X) (xs : List X) (n : ℕ) → passes x ≡ false
+      → ((m : ℕ) (y : X) → m < n → slice_get xs m ≡ Some y → passes y ≡ false)
       → (m : ℕ) (z : X) → m < suc n → slice_get (x ∷ xs) m ≡ Some z → passes z ≡ false
   below x xs n fails least zero z lt e =
       let same : x ≡ z = cc in
@@ -13,7 +14,8 @@ module _ {X : Type 0} (passes : X → Bool) where
   further x xs fails y h = (suc h.0, h.1, h.2, below x xs h.0 fails h.3)
 
   -- by the head's answer
-  found : (x : X) (xs : List X) (b : Bool) → passes x ≡ b → IfSome (find passes xs) (StandsFirst passes xs) → IfSome (cond b (Some x) (find passes xs)) (StandsFirst passes (x ∷ xs))
+  found : (x : X) (xs : List X) (b : Bool) → passes x ≡ b → IfSome (find passes xs) (StandsFirst passes xs)
+      → IfSome (cond b (Some x) (find passes xs)) (StandsFirst passes (x ∷ xs))
   found x xs true is rest = (0, refl, is, λ m z lt e. absurd (omega arith))
   found x xs false is rest = later (find passes xs) rest where
     later : (o : Option X) → IfSome o (StandsFirst passes xs) → IfSome o (StandsFirst passes (x ∷ xs))
@@ -24,7 +26,8 @@ module _ {X : Type 0} (passes : X → Bool) where
   find-least [] = tt
   find-least (x ∷ xs) = found x xs (passes x) refl (find-least xs)
 
-  head-fails : (x : X) (xs : List X) (b : Bool) → passes x ≡ b → cond b (Some x) (find passes xs) ≡ None → (b ≡ false) × (find passes xs ≡ None)
+  head-fails : (x : X) (xs : List X) (b : Bool) → passes x ≡ b → cond b (Some x) (find passes xs) ≡ None
+      → (b ≡ false) × (find passes xs ≡ None)
   head-fails x xs true is none = absurd cc
   head-fails x xs false is none = (refl, none)
 

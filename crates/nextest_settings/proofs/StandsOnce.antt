@@ -9,7 +9,8 @@ abbrev PlacesFrom : ℕ → List Setting → Type 0
 PlacesFrom n [] = Unit {0}
 PlacesFrom n (s ∷ ss) = (index_of s ≡ n) × PlacesFrom (suc n) ss
 
-place_is : (first : ℕ) (ss : List Setting) (n : ℕ) (s : Setting) → PlacesFrom first ss → slice_get ss n ≡ Some s → n + first ≡ index_of s
+place_is : (first : ℕ) (ss : List Setting) (n : ℕ) (s : Setting) → PlacesFrom first ss
+    → slice_get ss n ≡ Some s → n + first ≡ index_of s
 place_is first [] n s places there = absurd cc
 place_is first (x ∷ ss) zero s places there =
     let same : x ≡ s = cc in
@@ -22,7 +23,13 @@ place_is first (x ∷ ss) (suc n) s places there =
 
 all_places : PlacesFrom 0 settings
 unfolding settings
-all_places = (refl, (refl, (refl, (refl, (refl, (refl, (refl, (refl, (refl, (refl, (refl, (refl, (refl, (refl, (refl, tt)))))))))))))))
+all_places = (
+  refl,
+  (
+    refl,
+    (refl, (refl, (refl, (refl, (refl, (refl, (refl, (refl, (refl, (refl, (refl, (refl, (refl, tt))))))))))))),
+  ),
+)
 
 pub at_place : (s : Setting) → slice_get settings (index_of s) ≡ Some s
 unfolding settings

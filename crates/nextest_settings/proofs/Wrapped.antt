@@ -11,7 +11,8 @@ head-found [] d o e = absurd (apart e)
 head-found (f ∷ found) d o e = cc
 
 -- the fact of an element that stands in a list seen by f
-pub each-there : {A X : Type 0} (P : X → Type 0) (f : A → X) (xs : List A) (k : ℕ) (x : A) → Each P (map f xs) → slice_get xs k ≡ Some x → P (f x)
+pub each-there : {A X : Type 0} (P : X → Type 0) (f : A → X) (xs : List A) (k : ℕ) (x : A) → Each P (map f xs)
+    → slice_get xs k ≡ Some x → P (f x)
 each-there P f [] k x each at = absurd cc
 each-there P f (y ∷ ys) zero x each at =
     let same : y ≡ x = cc in

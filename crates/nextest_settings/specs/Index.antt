@@ -1,4 +1,5 @@
--- Index lists: which rules stand in the list of a setting or a wrapper, and the tables of all lists.
+-- Index lists: which rules stand in the list of a setting or a wrapper, and the tables of all
+-- lists.
 use Rattle.std.specs.Prelude.{◌≡◌, ◌&&◌, ℕ, List, [], ◌∷◌, Bool, is_some, length, map}
 use Rattle.nextest_elements.specs.declared.run_mode.NextestRunMode.{NextestRunMode}
 use Rattle.nextest_elements.specs.declared.run_mode.NextestRunMode.TheVariants.{Test, Benchmark}

@@ -47,7 +47,8 @@ or_first a b no_memory unpassed h = tt
 or_first a b malformed unpassed h = absurd h
 
 -- what the first of two checks tells
-pub found_first : (a b : Option LoadFault) (e : ConfigParseError) → Found a (error_view e) → Found (option_or a b) (error_view e)
+pub found_first : (a b : Option LoadFault) (e : ConfigParseError) → Found a (error_view e)
+    → Found (option_or a b) (error_view e)
 found_first a b e h = or_first a b (error_view e) (not_passed e) h
 
 -- what the second of two checks tells, where the first passed
@@ -55,5 +56,6 @@ pub found_next : (a b : Option LoadFault) (o : Ending) → a ≡ None → Found 
 found_next a b o none h = rw none h
 
 -- a call that hands an error on ends as the error tells
-pub exit : {T : Type 0} (r : Result T ConfigParseError) (e : ConfigParseError) (o : Option LoadFault) → IsErrAnd r (λ x. x ≡ e) → Found o (error_view e) → Found o (ending r)
+pub exit : {T : Type 0} (r : Result T ConfigParseError) (e : ConfigParseError) (o : Option LoadFault)
+    → IsErrAnd r (λ x. x ≡ e) → Found o (error_view e) → Found o (ending r)
 exit r e o h s = let p = err_from_is_err_and r h in rw (p.1, p.2) s

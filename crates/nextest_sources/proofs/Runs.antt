@@ -19,14 +19,16 @@ first_fault-append (check s None ∷ xs) ys = first_fault-append xs ys
 first_fault-append (check s (Some c) ∷ xs) ys = refl
 
 -- the warnings of two lists of steps, where the first meets no fault
-pub warnings_before-append : (xs ys : List LoadStep) → first_fault xs ≡ None → warnings_before (xs ++ ys) ≡ warnings_before xs ++ warnings_before ys
+pub warnings_before-append : (xs ys : List LoadStep) → first_fault xs ≡ None
+    → warnings_before (xs ++ ys) ≡ warnings_before xs ++ warnings_before ys
 warnings_before-append [] ys h = refl
 warnings_before-append (warn w ∷ xs) ys h = ap (λ ws. w ∷ ws) (warnings_before-append xs ys h)
 warnings_before-append (check s None ∷ xs) ys h = warnings_before-append xs ys h
 warnings_before-append (check s (Some c) ∷ xs) ys h = cc
 
 -- the warnings of two lists of steps, where the first meets a fault
-pub warnings_before-fault : (xs ys : List LoadStep) (f : LoadFault) → first_fault xs ≡ Some f → warnings_before (xs ++ ys) ≡ warnings_before xs
+pub warnings_before-fault : (xs ys : List LoadStep) (f : LoadFault) → first_fault xs ≡ Some f
+    → warnings_before (xs ++ ys) ≡ warnings_before xs
 warnings_before-fault [] ys f h = cc
 warnings_before-fault (warn w ∷ xs) ys f h = ap (λ ws. w ∷ ws) (warnings_before-fault xs ys f h)
 warnings_before-fault (check s None ∷ xs) ys f h = warnings_before-fault xs ys f h
@@ -40,28 +42,47 @@ warnings_begin (check s None ∷ xs) ys = warnings_begin xs ys
 warnings_begin (check s (Some c) ∷ xs) ys = ([], refl)
 
 in_part : (old new ws vs : List Warning) → IsFollowedInPart old new ws → Begins ws vs → IsFollowedInPart old new vs
-in_part old new ws vs part more =
-    (part.0, (part.1.0 ++ more.0, more.1 ∙ ap (λ us. us ++ more.0) part.1.1 ∙ append_assoc part.0 part.1.0 more.0), part.2)
+in_part old new ws vs part more = (
+  part.0,
+  (
+    part.1.0 ++ more.0,
+    more.1 ∙ ap (λ us. us ++ more.0) part.1.1
+        ∙ append_assoc part.0 part.1.0 more.0,
+  ),
+  part.2,
+)
 
-first_at : (xs ys : List LoadStep) (old new : List Warning) (o : Ending) → (o ≡ passed → ⊥) → WentThrough xs old new o → WentThrough (xs ++ ys) old new o
+first_at : (xs ys : List LoadStep) (old new : List Warning) (o : Ending) → (o ≡ passed → ⊥)
+    → WentThrough xs old new o → WentThrough (xs ++ ys) old new o
 first_at xs ys old new passed unpassed h = absurd (unpassed refl)
-first_at xs ys old new (refused f) unpassed h =
-    (first_fault-append xs ys ∙ ap (λ o. option_or o (first_fault ys)) h.0, h.1 ∙ ap (λ ws. old ++ ws) (sym (warnings_before-fault xs ys f h.0)))
-first_at xs ys old new no_memory unpassed h = in_part old new (warnings_before xs) (warnings_before (xs ++ ys)) h (warnings_begin xs ys)
+first_at xs ys old new (refused f) unpassed h = (
+  first_fault-append xs ys ∙ ap (λ o. option_or o (first_fault ys)) h.0,
+  h.1
+      ∙ ap (λ ws. old ++ ws) (sym (warnings_before-fault xs ys f h.0)),
+)
+first_at xs ys old new no_memory unpassed h =
+    in_part old new (warnings_before xs) (warnings_before (xs ++ ys)) h (warnings_begin xs ys)
 first_at xs ys old new malformed unpassed h = absurd h
 
-next_at : (xs ys : List LoadStep) (old mid new : List Warning) (o : Ending) → first_fault xs ≡ None → mid ≡ old ++ warnings_before xs → WentThrough ys mid new o → WentThrough (xs ++ ys) old new o
+next_at : (xs ys : List LoadStep) (old mid new : List Warning) (o : Ending) → first_fault xs ≡ None
+    → mid ≡ old ++ warnings_before xs → WentThrough ys mid new o → WentThrough (xs ++ ys) old new o
 next_at xs ys old mid new passed none is h = (
   first_fault-append xs ys ∙ ap (λ o. option_or o (first_fault ys)) none ∙ h.0,
-  h.1 ∙ ap (λ ws. ws ++ warnings_before ys) is ∙ append_assoc old (warnings_before xs) (warnings_before ys) ∙ ap (λ ws. old ++ ws) (sym (warnings_before-append xs ys none)),
+  h.1 ∙ ap (λ ws. ws ++ warnings_before ys) is ∙ append_assoc old (warnings_before xs) (warnings_before ys)
+      ∙ ap (λ ws. old ++ ws) (sym (warnings_before-append xs ys none)),
 )
 next_at xs ys old mid new (refused f) none is h = (
   first_fault-append xs ys ∙ ap (λ o. option_or o (first_fault ys)) none ∙ h.0,
-  h.1 ∙ ap (λ ws. ws ++ warnings_before ys) is ∙ append_assoc old (warnings_before xs) (warnings_before ys) ∙ ap (λ ws. old ++ ws) (sym (warnings_before-append xs ys none)),
+  h.1 ∙ ap (λ ws. ws ++ warnings_before ys) is ∙ append_assoc old (warnings_before xs) (warnings_before ys)
+      ∙ ap (λ ws. old ++ ws) (sym (warnings_before-append xs ys none)),
 )
 next_at xs ys old mid new no_memory none is h = (
   warnings_before xs ++ h.0,
-  (h.1.0, warnings_before-append xs ys none ∙ ap (λ ws. warnings_before xs ++ ws) h.1.1 ∙ sym (append_assoc (warnings_before xs) h.0 h.1.0)),
+  (
+    h.1.0,
+    warnings_before-append xs ys none ∙ ap (λ ws. warnings_before xs ++ ws) h.1.1
+        ∙ sym (append_assoc (warnings_before xs) h.0 h.1.0),
+  ),
   h.2 ∙ ap (λ ws. ws ++ h.0) is ∙ append_assoc old (warnings_before xs) h.0,
 )
 next_at xs ys old mid new malformed none is h = absurd h
@@ -71,14 +92,17 @@ pub ran_none : (old new : List Warning) → new ≡ old → Ran [] old new passe
 ran_none old new same = record { is = (refl, same ∙ sym (append-nil old)) }
 
 -- some steps ended a call, before others
-pub ran_first : (xs ys : List LoadStep) (old new : List Warning) (e : ConfigParseError) → Ran xs old new (error_view e) → Ran (xs ++ ys) old new (error_view e)
+pub ran_first : (xs ys : List LoadStep) (old new : List Warning) (e : ConfigParseError)
+    → Ran xs old new (error_view e) → Ran (xs ++ ys) old new (error_view e)
 ran_first xs ys old new e ran = record { is = first_at xs ys old new (error_view e) (not_passed e) ran.is }
 
 -- some steps passed, and then others ran
-pub ran_next : (xs ys : List LoadStep) (old mid new : List Warning) (o : Ending) → Ran xs old mid passed → Ran ys mid new o → Ran (xs ++ ys) old new o
+pub ran_next : (xs ys : List LoadStep) (old mid new : List Warning) (o : Ending) → Ran xs old mid passed
+    → Ran ys mid new o → Ran (xs ++ ys) old new o
 ran_next xs ys old mid new o first next = record { is = next_at xs ys old mid new o first.is.0 first.is.1 next.is }
 
-check_at : (s : Source) (c : Option LoadCause) (old new : List Warning) (o : Ending) → new ≡ old → Found (fault_at_source s c) o → WentThrough (check s c ∷ []) old new o
+check_at : (s : Source) (c : Option LoadCause) (old new : List Warning) (o : Ending) → new ≡ old
+    → Found (fault_at_source s c) o → WentThrough (check s c ∷ []) old new o
 check_at s None old new passed same h = (refl, same ∙ sym (append-nil old))
 check_at s (Some c) old new passed same h = cc
 check_at s None old new (refused f) same h = cc
@@ -88,7 +112,8 @@ check_at s (Some c) old new no_memory same h = ([], ([], refl), same ∙ sym (ap
 check_at s c old new malformed same h = absurd h
 
 -- a check ran, and told nothing
-pub ran_check : (s : Source) (c : Option LoadCause) (old new : List Warning) (o : Ending) → new ≡ old → Found (fault_at_source s c) o → Ran (check s c ∷ []) old new o
+pub ran_check : (s : Source) (c : Option LoadCause) (old new : List Warning) (o : Ending) → new ≡ old
+    → Found (fault_at_source s c) o → Ran (check s c ∷ []) old new o
 ran_check s c old new o same found = record { is = check_at s c old new o same found }
 
 -- a warning was told
@@ -96,11 +121,14 @@ pub ran_warned : (w : Warning) (old new : List Warning) → new ≡ old ++ w ∷
 ran_warned w old new is = record { is = (refl, is) }
 
 -- memory ran out before any step
-pub ran_memory : (xs : List LoadStep) (old new : List Warning) (e : ConfigParseError) → error_view e ≡ no_memory → new ≡ old → Ran xs old new (error_view e)
+pub ran_memory : (xs : List LoadStep) (old new : List Warning) (e : ConfigParseError)
+    → error_view e ≡ no_memory → new ≡ old → Ran xs old new (error_view e)
 ran_memory xs old new e memory same =
-    let none : Ran xs old new no_memory = record { is = ([], (warnings_before xs, refl), same ∙ sym (append-nil old)) } in
+    let none : Ran xs old new no_memory =
+    record { is = ([], (warnings_before xs, refl), same ∙ sym (append-nil old)) } in
     rw memory none
 
 -- a call that hands an error on ends as the error tells
-pub ran_exit : {T : Type 0} (xs : List LoadStep) (old new : List Warning) (r : Result T ConfigParseError) (e : ConfigParseError) → IsErrAnd r (λ x. x ≡ e) → Ran xs old new (error_view e) → Ran xs old new (ending r)
+pub ran_exit : {T : Type 0} (xs : List LoadStep) (old new : List Warning) (r : Result T ConfigParseError)
+    (e : ConfigParseError) → IsErrAnd r (λ x. x ≡ e) → Ran xs old new (error_view e) → Ran xs old new (ending r)
 ran_exit xs old new r e h ran = let p = err_from_is_err_and r h in rw (p.1, p.2) ran

@@ -65,7 +65,8 @@ abbrev pub file_form : Node
 file_form = table (row keys.Profile profiles_form no_entries)
 
 -- a field that is there and has no fault
-kept_field : (k : Key) (must : Bool) (s : Schema) (form : Node) (p : List ℕ) (o : Option Node) → ((q : List ℕ) (n : Node) → faults s q n ≡ [] → Follows form n → Keeps form n)
+kept_field : (k : Key) (must : Bool) (s : Schema) (form : Node) (p : List ℕ) (o : Option Node)
+    → ((q : List ℕ) (n : Node) → faults s q n ≡ [] → Follows form n → Keeps form n)
     → field_faults k must (faults s) p o ≡ [] → IsSomeAnd o (Follows form) → IsSomeAnd o (Keeps form)
 unfolding field_faults
 kept_field k must s form p (Some n) each h g = each _ n h g
@@ -102,11 +103,15 @@ kept_profile q (int z) h g = cc
 kept_profile q (bool b) h g = cc
 kept_profile q opaque h g = cc
 
-kept_entry : (q : List ℕ) (es : Entries) (o : Option Node) → get default_name es ≡ o → faults (map_of any_key a_profile) q (table es) ≡ [] → IsSomeAnd o (Follows profile_form) → IsSomeAnd o (Keeps profile_form)
-kept_entry q es (Some n) e h g = let free = entry_free any_key a_profile q default_name es n h e in kept_profile free.0 n free.1 g
+kept_entry : (q : List ℕ) (es : Entries) (o : Option Node) → get default_name es ≡ o
+    → faults (map_of any_key a_profile) q (table es) ≡ [] → IsSomeAnd o (Follows profile_form)
+    → IsSomeAnd o (Keeps profile_form)
+kept_entry q es (Some n) e h g = let free = entry_free any_key a_profile q default_name es n h e in
+    kept_profile free.0 n free.1 g
 kept_entry q es None e h g = absurd g
 
-kept_profiles : (q : List ℕ) (n : Node) → faults (map_of any_key a_profile) q n ≡ [] → Follows profiles_form n → Keeps profiles_form n
+kept_profiles : (q : List ℕ) (n : Node) → faults (map_of any_key a_profile) q n ≡ [] → Follows profiles_form n
+    → Keeps profiles_form n
 kept_profiles q (table es) h g = (kept_entry q es (get default_name es) refl h g.0, tt)
 kept_profiles q (array ns) h g = cc
 kept_profiles q (text t) h g = cc
@@ -117,8 +122,11 @@ kept_profiles q opaque h g = cc
 kept_file : (n : Node) → faults a_file [] n ≡ [] → Follows file_form n → Keeps file_form n
 unfolding a_file
 kept_file (table es) h g =
-    let free = struct_free file_fields [] es h in
-    (kept_field keys.Profile _ (map_of any_key a_profile) profiles_form [] (get (key_text keys.Profile) es) kept_profiles free.1.1.1.1.1.1.0 g.0, tt)
+    let free = struct_free file_fields [] es h in (
+      kept_field keys.Profile _ (map_of any_key a_profile) profiles_form [] (get (key_text keys.Profile) es)
+          kept_profiles free.1.1.1.1.1.1.0 g.0,
+      tt,
+    )
 kept_file (array ns) h g = cc
 kept_file (text t) h g = cc
 kept_file (int z) h g = cc
@@ -130,10 +138,13 @@ defaults_keep : Keeps file_form defaults
 unfolding key_text store_default bench_default junit_default slow_default profile_default profiles_default defaults
 defaults_keep = search rules
 
-own_keeps : (files : List Node) → AllByRecursion IsReadable files → AllByRecursion (λ n. Keeps file_form (over n defaults)) files
+own_keeps : (files : List Node) → AllByRecursion IsReadable files
+    → AllByRecursion (λ n. Keeps file_form (over n defaults)) files
 own_keeps [] h = tt
-own_keeps (n ∷ files) h = (kept_file (over n defaults) h.0 (over_follows file_form n defaults defaults_keep), own_keeps files h.1)
+own_keeps (n ∷ files) h =
+    (kept_file (over n defaults) h.0 (over_follows file_form n defaults defaults_keep), own_keeps files h.1)
 
 -- and so has every tree that files make over them
 pub merged_form : (files : List Node) (n : Node) → IsMergedTree files n → Keeps file_form n
-merged_form files n h = rw h.1 (merged_keeps file_form defaults defaults files defaults_keep (own_keeps files h.0) defaults_keep)
+merged_form files n h = rw h.1
+    (merged_keeps file_form defaults defaults files defaults_keep (own_keeps files h.0) defaults_keep)

@@ -30,15 +30,19 @@ pub struct_free : (fs : Fields) (p : List ℕ) (es : Entries) → faults (struct
 struct_free fs p es h = all_free fs p es (left_nil (fields_faults fs p es) [] h)
 
 -- what stands at a key of a map has no fault
-pub entry_free : (test : List ℕ → Option FaultCause) (s : Schema) (p k : List ℕ) (es : Entries) (n : Node) → faults (map_of test s) p (table es) ≡ [] → get k es ≡ Some n → (q : List ℕ) × (faults s q n ≡ [])
+pub entry_free : (test : List ℕ → Option FaultCause) (s : Schema) (p k : List ℕ) (es : Entries) (n : Node)
+    → faults (map_of test s) p (table es) ≡ [] → get k es ≡ Some n → (q : List ℕ) × (faults s q n ≡ [])
 entry_free test s p k no_entries n h g = cc
 entry_free test s p k (entry l m es) n h g =
     let here = at (below p l) (test l) ++ faults s (below p l) m in
     let rest = each_entry (λ k n. at (below p k) (test k) ++ faults s (below p k) n) es in
-    let free : faults s (below p l) m ≡ [] = right_nil (at (below p l) (test l)) (faults s (below p l) m) (left_nil here rest h) in
+    let free : faults s (below p l) m ≡ [] =
+    right_nil (at (below p l) (test l)) (faults s (below p l) m) (left_nil here rest h) in
     by_order (slice_cmp nat_cmp k l) g free (entry_free test s p k es n (right_nil here rest h))
   where
-    by_order : (o : Ordering) → match_ordering o (get k es) (Some m) (get k es) ≡ Some n → faults s (below p l) m ≡ [] → (get k es ≡ Some n → (q : List ℕ) × (faults s q n ≡ [])) → (q : List ℕ) × (faults s q n ≡ [])
+    by_order : (o : Ordering) → match_ordering o (get k es) (Some m) (get k es) ≡ Some n
+        → faults s (below p l) m ≡ [] → (get k es ≡ Some n → (q : List ℕ) × (faults s q n ≡ []))
+        → (q : List ℕ) × (faults s q n ≡ [])
     by_order Less g free more = more g
     by_order Equal g free more = let same : m ≡ n = cc in (below p l, rw (← same) free)
     by_order Greater g free more = more g

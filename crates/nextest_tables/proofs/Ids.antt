@@ -39,10 +39,12 @@ pub ids_are : (ns : Nodes) (ids : List ScriptId) → IsList IsScriptId ns ids �
 ids_are ns ids h = let e = each_id ns ids h in rw (← e) refl
 
 -- ids that are there, and none where they are absent
-pub ids_there : (o : Option Node) (ids : List ScriptId) → IsOptional (λ n ids. map script_text ids ≡ ids_in n) o (Some ids) → map script_text ids ≡ ids_at o
+pub ids_there : (o : Option Node) (ids : List ScriptId)
+    → IsOptional (λ n ids. map script_text ids ≡ ids_in n) o (Some ids) → map script_text ids ≡ ids_at o
 ids_there (Some n) ids h = h
 ids_there None ids h = absurd h
 
-pub ids_absent : (o : Option Node) → IsOptional {X = List ScriptId} (λ n ids. map script_text ids ≡ ids_in n) o None → [] ≡ ids_at o
+pub ids_absent : (o : Option Node)
+    → IsOptional {X = List ScriptId} (λ n ids. map script_text ids ≡ ids_in n) o None → [] ≡ ids_at o
 ids_absent None h = refl
 ids_absent (Some n) h = absurd h

@@ -29,7 +29,8 @@ abbrev mutual
 
 -- what is laid over a node that keeps a form keeps it too, where it does over another one
 kept_at : (s : Node) → ((a c b : Node) → Keeps s c → Keeps s (over a c) → Keeps s b → Keeps s (over a b))
-    → (x z y : Option Node) → IsSomeAnd z (Keeps s) → IsSomeAnd (laid_over x z) (Keeps s) → IsSomeAnd y (Keeps s) → IsSomeAnd (laid_over x y) (Keeps s)
+    → (x z y : Option Node) → IsSomeAnd z (Keeps s) → IsSomeAnd (laid_over x z) (Keeps s)
+    → IsSomeAnd y (Keeps s) → IsSomeAnd (laid_over x y) (Keeps s)
 kept_at s each None z y hz hx hy = hy
 kept_at s each (Some a) (Some c) (Some b) hz hx hy = each a c b hz hx hy
 kept_at s each (Some a) None y hz hx hy = absurd hz
@@ -59,7 +60,8 @@ mutual
   over_keeps (bool f) a c b hc ha hb = tt
   over_keeps opaque a c b hc ha hb = tt
 
-  all_keep : (ks es cs bs : Entries) → KeepsAll ks cs → KeepsAll ks (entries_over es cs) → KeepsAll ks bs → KeepsAll ks (entries_over es bs)
+  all_keep : (ks es cs bs : Entries) → KeepsAll ks cs → KeepsAll ks (entries_over es cs) → KeepsAll ks bs
+      → KeepsAll ks (entries_over es bs)
   all_keep no_entries es cs bs hc ha hb = tt
   all_keep (entry k s ks) es cs bs hc ha hb =
       let over_c : IsSomeAnd (laid_over (get k es) (get k cs)) (Keeps s) = rw (get-entries_over k es cs) at ha.0 in
@@ -67,11 +69,14 @@ mutual
       (rw (get-entries_over k es bs) one, all_keep ks es cs bs hc.1 ha.1 hb.1)
 
 -- so do layers, each of which keeps it over one base
-pub merged_keeps : (s c base : Node) (layers : List Node) → Keeps s c → AllByRecursion (λ a. Keeps s (over a c)) layers → Keeps s base → Keeps s (merged base layers)
+pub merged_keeps : (s c base : Node) (layers : List Node) → Keeps s c
+    → AllByRecursion (λ a. Keeps s (over a c)) layers → Keeps s base → Keeps s (merged base layers)
 merged_keeps s c base [] hc hs hb = hb
-merged_keeps s c base (a ∷ layers) hc hs hb = merged_keeps s c (over a base) layers hc hs.1 (over_keeps s a c base hc hs.0 hb)
+merged_keeps s c base (a ∷ layers) hc hs hb =
+    merged_keeps s c (over a base) layers hc hs.1 (over_keeps s a c base hc hs.0 hb)
 
-followed_at : (s : Node) → ((n : Node) → Keeps s n → Follows s n) → (o : Option Node) → IsSomeAnd o (Keeps s) → IsSomeAnd o (Follows s)
+followed_at : (s : Node) → ((n : Node) → Keeps s n → Follows s n) → (o : Option Node) → IsSomeAnd o (Keeps s)
+    → IsSomeAnd o (Follows s)
 followed_at s each (Some n) h = each n h
 followed_at s each None h = absurd h
 
@@ -94,7 +99,8 @@ mutual
   all_follow (entry k s ks) es h = (followed_at s (follows s) (get k es) h.0, all_follow ks es h.1)
 
 -- what is laid over a node that keeps a form follows it
-follows_at : (s : Node) → ((a b : Node) → Keeps s b → Follows s (over a b)) → (x y : Option Node) → IsSomeAnd y (Keeps s) → IsSomeAnd (laid_over x y) (Follows s)
+follows_at : (s : Node) → ((a b : Node) → Keeps s b → Follows s (over a b)) → (x y : Option Node)
+    → IsSomeAnd y (Keeps s) → IsSomeAnd (laid_over x y) (Follows s)
 follows_at s each None y h = followed_at s (follows s) y h
 follows_at s each (Some a) (Some b) h = each a b h
 follows_at s each (Some a) None h = absurd h

@@ -7,5 +7,6 @@ use Rattle.nextest_tree.specs.Node.{put}
 use Rattle.nextest_tree.specs.View.{tree_view, entries_view}
 use Rattle.nextest_tree.proofs.Trees.{members-insert_entry}
 
-pub entry_put : (es : List (String Global × Tree)) (k : String Global) (t : Tree) → entries_view (insert_entry string_cmp es k t) ≡ put (string_bytes k) (tree_view t) (entries_view es)
+pub entry_put : (es : List (String Global × Tree)) (k : String Global) (t : Tree)
+    → entries_view (insert_entry string_cmp es k t) ≡ put (string_bytes k) (tree_view t) (entries_view es)
 entry_put es k t = members-insert_entry es k t

@@ -14,7 +14,8 @@ use Rattle.nextest_tables.specs.declared.file_table.FileTable.{FileTable}
 use Rattle.nextest_tables.proofs.FileViews.{under_scripts}
 
 -- values by name, each seen by itself
-by_text : {K X Y : Type 0} (t : K → List ℕ) (P : Node → X → Type 0) (show : X → Y) (Q : Node → Y → Type 0) → ((n : Node) (x : X) → P n x → Q n (show x))
+by_text : {K X Y : Type 0} (t : K → List ℕ) (P : Node → X → Type 0) (show : X → Y) (Q : Node → Y → Type 0)
+    → ((n : Node) (x : X) → P n x → Q n (show x))
     → (es : Entries) (xs : List (K × X)) → IsMap t P es xs → SpellByName Q es (map (λ e. (t e.0, show e.1)) xs)
 by_text t P show Q each no_entries [] h = tt
 by_text t P show Q each (entry k n es) (x ∷ xs) h = (h.0, each n x.1 h.1, by_text t P show Q each es xs h.2)
@@ -24,11 +25,14 @@ by_text t P show Q each (entry k n es) [] h = absurd h
 scripts_of_file : (es : Entries) (x : FileTable) → IsFile es x → AreFileScripts (table es) (file_scripts_view x)
 scripts_of_file es x h =
     let scripts = get (key_text keys.Scripts) es in
-    let new_setup = by_text script_text (InTable IsSetupScript) setup_script_view SpellsSetupScript (λ n c is. record { config = c; spells = is; same = refl }) _ x.scripts.setup.entries h.scripts.setup in
-    let wrapper = by_text script_text (InTable IsWrapperScript) wrapper_script_view SpellsWrapperScript (λ n c is. record { config = c; spells = is; same = refl }) _ x.scripts.wrapper.entries h.scripts.wrapper in
+    let new_setup = by_text script_text (InTable IsSetupScript) setup_script_view SpellsSetupScript
+    (λ n c is. record { config = c; spells = is; same = refl }) _ x.scripts.setup.entries h.scripts.setup in
+    let wrapper = by_text script_text (InTable IsWrapperScript) wrapper_script_view SpellsWrapperScript
+    (λ n c is. record { config = c; spells = is; same = refl }) _ x.scripts.wrapper.entries h.scripts.wrapper in
     record {
       new_setup = rw (under_scripts keys.Setup scripts) at new_setup;
-      old_setup = by_text script_text (InTable IsSetupScript) setup_script_view SpellsSetupScript (λ n c is. record { config = c; spells = is; same = refl }) _ x.script.entries h.script;
+      old_setup = by_text script_text (InTable IsSetupScript) setup_script_view SpellsSetupScript
+          (λ n c is. record { config = c; spells = is; same = refl }) _ x.script.entries h.script;
       wrapper = rw (under_scripts keys.Wrapper scripts) at wrapper;
     }
 

@@ -12,4 +12,5 @@ module _ {X : Type 0} (P : Node → X → Type 0) (one : (n : Node) (x y : X) �
   same_scripts no_entries (x ∷ xs) ys hx hy = absurd hx
   same_scripts (entry k n es) [] ys hx hy = absurd hx
   same_scripts (entry k n es) (x ∷ xs) [] hx hy = absurd hy
-  same_scripts (entry k n es) (x ∷ xs) (y ∷ ys) hx hy = λ i. ((hx.0 ∙ sym hy.0) i, one n x.1 y.1 hx.1 hy.1 i) ∷ same_scripts es xs ys hx.2 hy.2 i
+  same_scripts (entry k n es) (x ∷ xs) (y ∷ ys) hx hy =
+      λ i. ((hx.0 ∙ sym hy.0) i, one n x.1 y.1 hx.1 hy.1 i) ∷ same_scripts es xs ys hx.2 hy.2 i

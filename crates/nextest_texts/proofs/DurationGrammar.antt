@@ -29,7 +29,8 @@ and_parts true b h = (refl, h)
 and_parts false b h = absurd (false≢true h)
 
 -- a row of a table whose rows all pass
-each_row : (test : List ℕ × ℕ → Bool) (es : List (List ℕ × ℕ)) (e : List ℕ × ℕ) (k : ℕ) → list_all test es ≡ true → k < length es → get_or es k e ≡ e → test e ≡ true
+each_row : (test : List ℕ × ℕ → Bool) (es : List (List ℕ × ℕ)) (e : List ℕ × ℕ) (k : ℕ)
+    → list_all test es ≡ true → k < length es → get_or es k e ≡ e → test e ≡ true
 each_row test [] e k h l c = absurd (omega arith)
 each_row test (x ∷ es) e zero h l c = subst (λ y. test y ≡ true) c (and_parts (test x) _ h).0
 each_row test (x ∷ es) e (suc k) h l c = each_row test es e k (and_parts (test x) _ h).1 (omega arith) c
@@ -71,12 +72,18 @@ IsWord-from_IsUnit name size u =
     let passes = each_row is_word duration_units (name, size) u.0 words u.1 u.2 in
     let parts = and_parts (list_all (λ b. same_kind Other (byte_kind b)) name) _ passes in
     let more = and_parts (nat_lt 0 (length name)) _ parts.1 in
-    record { bytes = AreOf-from_test name parts.0; some = ltb-true _ _ more.0; found = is_size-true (unit_size name) size more.1 }
+    record {
+      bytes = AreOf-from_test name parts.0;
+      some = ltb-true _ _ more.0;
+      found =
+          is_size-true (unit_size name) size more.1;
+    }
 
 IsUnit-from_unit_size : (name : List ℕ) (size : ℕ) → unit_size name ≡ Some size → IsUnit name size
 unfolding unit_size
 IsUnit-from_unit_size name size h =
-    Contains-from_lookup {eq = λ a b. bytes_eq b a} (λ x y e. sym ((bytes_eq-Decides y x).0 e)) name size duration_units h
+    Contains-from_lookup {eq = λ a b. bytes_eq b a} (λ x y e. sym ((bytes_eq-Decides y x).0 e)) name size
+    duration_units h
 
 -- ---- numbers
 
@@ -98,23 +105,30 @@ AreOf-spaces zero = tt
 AreOf-spaces (suc n) = (refl, AreOf-spaces n)
 
 -- what follows an item begins with a space or a digit, or is empty
-not_other : (items : List Item) (after : ℕ) → All IsItem items → NotFirst Other (flat_map spelling items ++ spaces after)
+not_other : (items : List Item) (after : ℕ) → All IsItem items
+    → NotFirst Other (flat_map spelling items ++ spaces after)
 not_other [] zero h = tt
 not_other [] (suc n) h = λ e. cc
 not_other (item ∷ items) after h = starts item.before item.digits (All-head IsItem item items h).number
   where
-    starts : (before : ℕ) (digits : List ℕ) → IsNumeral 10 digits → NotFirst Other (((spaces before ++ (digits ++ (spaces item.between ++ item.unit))) ++ flat_map spelling items) ++ spaces after)
+    starts : (before : ℕ) (digits : List ℕ) → IsNumeral 10 digits
+        → NotFirst Other (((spaces before ++ (digits ++ (spaces item.between ++ item.unit)))
+        ++ flat_map spelling items) ++ spaces after)
     starts zero [] number = absurd (omega (arith, number.0))
     starts zero (d ∷ ds) number = λ e. let digit = byte_kind-from_digit_value d number.1.0 in cc
     starts (suc n) digits number = λ e. cc
 
 -- what follows the digits of an item does not begin with a digit
-not_digit : (between : ℕ) (unit rest : List ℕ) → AreOf Other unit → 0 < length unit → NotFirst Digit (spaces between ++ (unit ++ rest))
+not_digit : (between : ℕ) (unit rest : List ℕ) → AreOf Other unit → 0 < length unit
+    → NotFirst Digit (spaces between ++ (unit ++ rest))
 not_digit zero [] rest h l = absurd (omega arith)
 not_digit zero (b ∷ bs) rest h l = λ e. let other = h.0 in cc
 not_digit (suc n) unit rest h l = λ e. cc
 
-words_of-item : (before : ℕ) (digits : List ℕ) (between : ℕ) (unit rest : List ℕ) → IsNumeral 10 digits → AreOf Other unit → 0 < length unit → NotFirst Other rest → words_of (spaces before ++ (digits ++ (spaces between ++ (unit ++ rest)))) ≡ run Digit digits ∷ run Other unit ∷ words_of rest
+words_of-item : (before : ℕ) (digits : List ℕ) (between : ℕ) (unit rest : List ℕ) → IsNumeral 10 digits
+    → AreOf Other unit → 0 < length unit → NotFirst Other rest
+    → words_of (spaces before ++ (digits ++ (spaces between ++ (unit ++ rest)))) ≡ run Digit digits
+    ∷ run Other unit ∷ words_of rest
 words_of-item before [] between unit rest number o l n = absurd (omega (arith, number.0))
 words_of-item before (d ∷ ds) between [] rest number o l n = absurd (omega arith)
 words_of-item before (d ∷ ds) between (b ∷ bs) rest number o l n =
@@ -126,15 +140,19 @@ words_of-item before (d ∷ ds) between (b ∷ bs) rest number o l n =
 regroup : (a b c d e f : List ℕ) → ((a ++ (b ++ (c ++ d))) ++ e) ++ f ≡ a ++ (b ++ (c ++ (d ++ (e ++ f))))
 regroup a b c d e f = simp append_assoc
 
-words_of-items : (item : Item) (items : List Item) (after : ℕ) → All IsItem (item ∷ items) → words_of (flat_map spelling (item ∷ items) ++ spaces after) ≡ run Digit item.digits ∷ run Other item.unit ∷ words_of (flat_map spelling items ++ spaces after)
+words_of-items : (item : Item) (items : List Item) (after : ℕ) → All IsItem (item ∷ items)
+    → words_of (flat_map spelling (item ∷ items) ++ spaces after) ≡ run Digit item.digits
+    ∷ run Other item.unit ∷ words_of (flat_map spelling items ++ spaces after)
 words_of-items item items after h =
     let this = All-head IsItem item items h in
     let word = IsWord-from_IsUnit item.unit item.size this.sized in
-    ap words_of (regroup (spaces item.before) item.digits (spaces item.between) item.unit (flat_map spelling items) (spaces after))
+    ap words_of (regroup (spaces item.before) item.digits (spaces item.between) item.unit
+    (flat_map spelling items) (spaces after))
     ∙ words_of-item item.before item.digits item.between item.unit _ this.number word.bytes word.some
     (not_other items after (All-tail IsItem item items h))
 
-sum_of-items : (items : List Item) (after : ℕ) → All IsItem items → sum_of (words_of (flat_map spelling items ++ spaces after)) ≡ Some (sum_by nanoseconds items)
+sum_of-items : (items : List Item) (after : ℕ) → All IsItem items
+    → sum_of (words_of (flat_map spelling items ++ spaces after)) ≡ Some (sum_by nanoseconds items)
 sum_of-items [] after h =
     ap (λ text. sum_of (words_of text)) (sym (append-nil (spaces after)))
     ∙ ap sum_of (words_of-spaces (spaces after) [] (AreOf-spaces after) ∙ words_of-nil)
@@ -144,11 +162,13 @@ sum_of-items (item ∷ items) after h =
     let word = IsWord-from_IsUnit item.unit item.size (All-head IsItem item items h).sized in
     ap sum_of (words_of-items item items after h)
     ∙ sym (some_sum_of-cons _ _) ∙ sum_of-pair item.digits item.unit (words_of rest)
-    ∙ ap (option_and_then (λ size. option_map (λ n. digits_value 10 item.digits * size + n) (sum_of (words_of rest)))) word.found
+    ∙ ap (option_and_then (λ size. option_map (λ n. digits_value 10 item.digits * size + n)
+    (sum_of (words_of rest)))) word.found
     ∙ ap (option_map (λ n. nanoseconds item + n)) (sum_of-items items after (All-tail IsItem item items h))
     ∙ ap Some (sym (sum_by-cons nanoseconds item items))
 
-some_sum_of-items : (items : List Item) (after : ℕ) → 0 < length items → All IsItem items → some_sum_of (words_of (flat_map spelling items ++ spaces after)) ≡ Some (sum_by nanoseconds items)
+some_sum_of-items : (items : List Item) (after : ℕ) → 0 < length items → All IsItem items
+    → some_sum_of (words_of (flat_map spelling items ++ spaces after)) ≡ Some (sum_by nanoseconds items)
 some_sum_of-items [] after l h = absurd (omega arith)
 some_sum_of-items (item ∷ items) after l h =
     let words = words_of-items item items after h in
@@ -178,7 +198,8 @@ flat-with_byte Other b (run Space bytes ∷ rs) = refl
 flat-with_byte Other b (run Digit bytes ∷ rs) = refl
 flat-with_byte Other b (run Other bytes ∷ rs) = refl
 
-AreMade-with_byte : (k : ByteKind) (b : ℕ) (rs : List ByteRun) → byte_kind b ≡ k → AreMade rs → AreMade (with_byte k b rs)
+AreMade-with_byte : (k : ByteKind) (b : ℕ) (rs : List ByteRun) → byte_kind b ≡ k → AreMade rs
+    → AreMade (with_byte k b rs)
 AreMade-with_byte k b [] e h = ((e, tt), (omega arith), tt)
 AreMade-with_byte Space b (run Space bytes ∷ rs) e h = ((e, h.0), (omega arith), h.2)
 AreMade-with_byte Space b (run Digit bytes ∷ rs) e h = ((e, tt), (omega arith), h)
@@ -207,7 +228,12 @@ record Row (text : List ℕ) (n : ℕ) : Type 0 where
   is : IsRow items after text n
 
 Row-nil : Row [] 0
-Row-nil = record { items = []; after = 0; is = record { each = λ k d l. absurd (omega arith); spelled = refl; total = refl } }
+Row-nil = record {
+  items = [];
+  after = 0;
+  is =
+      record { each = λ k d l. absurd (omega arith); spelled = refl; total = refl };
+}
 
 Row-space : (text : List ℕ) (n : ℕ) → Row text n → Row (32 ∷ text) n
 Row-space text n row = more row.items row.after row.is
@@ -229,7 +255,8 @@ Row-space text n row = more row.items row.after row.is
           items = wider ∷ items;
           after = after;
           is = record {
-            each = All-cons IsItem wider items (record { number = this.number; sized = this.sized }) (All-tail IsItem item items is.each);
+            each = All-cons IsItem wider items (record { number = this.number; sized = this.sized })
+                (All-tail IsItem item items is.each);
             spelled = ap (λ bs. 32 ∷ bs) is.spelled;
             total = is.total;
           };
@@ -238,10 +265,13 @@ Row-space text n row = more row.items row.after row.is
 Row-spaces : (front text : List ℕ) (n : ℕ) → AreOf Space front → Row text n → Row (front ++ text) n
 Row-spaces [] text n h row = row
 Row-spaces (b ∷ bs) text n h row =
-    subst (λ c. Row (c ∷ (bs ++ text)) n) (sym (byte_kind-space b h.0)) (Row-space (bs ++ text) n (Row-spaces bs text n h.1 row))
+    subst (λ c. Row (c ∷ (bs ++ text)) n) (sym (byte_kind-space b h.0))
+    (Row-space (bs ++ text) n (Row-spaces bs text n h.1 row))
 
 -- a number, spaces and a unit before a row
-Row-item : (digits : List ℕ) (between : ℕ) (unit : List ℕ) (size : ℕ) (text : List ℕ) (n : ℕ) → IsNumeral 10 digits → IsUnit unit size → Row text n → Row (digits ++ (spaces between ++ (unit ++ text))) (digits_value 10 digits * size + n)
+Row-item : (digits : List ℕ) (between : ℕ) (unit : List ℕ) (size : ℕ) (text : List ℕ) (n : ℕ)
+    → IsNumeral 10 digits → IsUnit unit size → Row text n
+    → Row (digits ++ (spaces between ++ (unit ++ text))) (digits_value 10 digits * size + n)
 Row-item digits between unit size text n number sized row =
     let item : Item = record { before = 0; digits = digits; between = between; unit = unit; size = size } in
     record {
@@ -257,18 +287,25 @@ Row-item digits between unit size text n number sized row =
     }
 
 -- spaces and more spaces
-spaces-more : (between : ℕ) (front text : List ℕ) → AreOf Space front → (m : ℕ) × (spaces between ++ (front ++ text) ≡ spaces m ++ text)
+spaces-more : (between : ℕ) (front text : List ℕ) → AreOf Space front
+    → (m : ℕ) × (spaces between ++ (front ++ text) ≡ spaces m ++ text)
 spaces-more between [] text h = (between, refl)
 spaces-more between (b ∷ bs) text h =
-    let more = spaces-more (suc between) bs text h.1 in
-    (more.0, ap (λ c. spaces between ++ (c ∷ (bs ++ text))) (byte_kind-space b h.0) ∙ shift between (bs ++ text) ∙ more.1)
+    let more = spaces-more (suc between) bs text h.1 in (
+      more.0,
+      ap (λ c. spaces between ++ (c ∷ (bs ++ text))) (byte_kind-space b h.0)
+          ∙ shift between (bs ++ text) ∙ more.1,
+    )
   where
     shift : (n : ℕ) (t : List ℕ) → spaces n ++ (32 ∷ t) ≡ 32 ∷ (spaces n ++ t)
     shift zero t = refl
     shift (suc n) t = ap (λ bs. 32 ∷ bs) (shift n t)
 
 -- an item whose unit is found, before what has a sum
-Row-found : (digits : List ℕ) (between : ℕ) (unit : List ℕ) (size : ℕ) (text : List ℕ) (rest : Option ℕ) (n : ℕ) → IsNumeral 10 digits → unit_size unit ≡ Some size → ((m : ℕ) → rest ≡ Some m → Row text m) → option_map (λ m. digits_value 10 digits * size + m) rest ≡ Some n → Row (digits ++ (spaces between ++ (unit ++ text))) n
+Row-found : (digits : List ℕ) (between : ℕ) (unit : List ℕ) (size : ℕ) (text : List ℕ) (rest : Option ℕ)
+    (n : ℕ) → IsNumeral 10 digits → unit_size unit ≡ Some size → ((m : ℕ) → rest ≡ Some m → Row text m)
+    → option_map (λ m. digits_value 10 digits * size + m) rest ≡ Some n
+    → Row (digits ++ (spaces between ++ (unit ++ text))) n
 Row-found digits between unit size text None n number found rows e = absurd (none-some n e)
 Row-found digits between unit size text (Some m) n number found rows e =
     subst (Row (digits ++ (spaces between ++ (unit ++ text)))) (same_Some (digits_value 10 digits * size + m) n e)
@@ -277,7 +314,8 @@ Row-found digits between unit size text (Some m) n number found rows e =
 -- what runs say whose sum is known: as they stand, and behind the digits of an item and spaces
 record Reads (rs : List ByteRun) : Type 0 where
   row : (n : ℕ) → sum_of (without_spaces rs) ≡ Some n → Row (flat rs) n
-  behind : (digits : List ℕ) (between n : ℕ) → IsNumeral 10 digits → sum_of (run Digit digits ∷ without_spaces rs) ≡ Some n → Row (digits ++ (spaces between ++ flat rs)) n
+  behind : (digits : List ℕ) (between n : ℕ) → IsNumeral 10 digits
+      → sum_of (run Digit digits ∷ without_spaces rs) ≡ Some n → Row (digits ++ (spaces between ++ flat rs)) n
 
 reads : (rs : List ByteRun) → AreMade rs → Reads rs
 unfolding sum_of without_spaces
@@ -304,8 +342,10 @@ reads (run Other bytes ∷ rs) made =
     record {
       row = λ n e. absurd (none-some n e);
       behind = λ digits between n number e.
-          option_and_then_some (λ size. option_map (λ m. digits_value 10 digits * size + m) (sum_of (without_spaces rs))) (unit_size bytes) n e
-          (λ size found e'. Row-found digits between bytes size (flat rs) (sum_of (without_spaces rs)) n number found rest.row e');
+          option_and_then_some (λ size. option_map (λ m. digits_value 10 digits * size + m)
+          (sum_of (without_spaces rs))) (unit_size bytes) n e
+          (λ size found e'. Row-found digits between bytes size (flat rs) (sum_of (without_spaces rs)) n
+          number found rest.row e');
     }
 
 -- ---- the law
@@ -324,7 +364,8 @@ zero_alone : some_sum_of (words_of (codes "0")) ≡ None
 unfolding some_sum_of sum_of words_of runs without_spaces
 zero_alone = refl
 
-pub duration_of-words : (text : List ℕ) → bytes_eq text (codes "0") ≡ false → duration_of text ≡ some_sum_of (words_of text)
+pub duration_of-words : (text : List ℕ) → bytes_eq text (codes "0") ≡ false
+    → duration_of text ≡ some_sum_of (words_of text)
 unfolding duration_of
 duration_of-words text h = rw h refl
 
@@ -343,11 +384,13 @@ IsDuration-from_sum text n e =
     some : (items : List Item) {after : ℕ} → IsRow items after text n → 0 < length items
     some [] {after} is =
         let nothing : words_of text ≡ [] =
-        ap words_of (is.spelled ∙ sym (append-nil (spaces after))) ∙ words_of-spaces (spaces after) [] (AreOf-spaces after) ∙ words_of-nil in
+        ap words_of (is.spelled ∙ sym (append-nil (spaces after)))
+        ∙ words_of-spaces (spaces after) [] (AreOf-spaces after) ∙ words_of-nil in
         absurd (none-some n (sym some_sum_of-nil ∙ ap some_sum_of (sym nothing) ∙ e))
     some (item ∷ items) is = omega arith
 
-sum-from_IsRow : (items : List Item) (after : ℕ) (text : List ℕ) (n : ℕ) → 0 < length items → IsRow items after text n → some_sum_of (words_of text) ≡ Some n
+sum-from_IsRow : (items : List Item) (after : ℕ) (text : List ℕ) (n : ℕ) → 0 < length items
+    → IsRow items after text n → some_sum_of (words_of text) ≡ Some n
 sum-from_IsRow items after text n l is =
     ap (λ t. some_sum_of (words_of t)) is.spelled ∙ some_sum_of-items items after l is.each ∙ ap Some (sym is.total)
 
@@ -388,7 +431,8 @@ pub record Answers (text : List ℕ) (answer : Result ℕ DurationError) : Type 
   pub out_of_range : answer ≡ Err OutOfRange → (n : ℕ) × IsDuration text n × (longest_duration < n)
   pub malformed : answer ≡ Err Malformed → (n : ℕ) → IsDuration text n → ⊥
 
-pub answers : (text : List ℕ) (answer : Result ℕ DurationError) (found : Option ℕ) → duration_of text ≡ found → answer ≡ duration_result found → Answers text answer
+pub answers : (text : List ℕ) (answer : Result ℕ DurationError) (found : Option ℕ) → duration_of text ≡ found
+    → answer ≡ duration_result found → Answers text answer
 answers text answer None d e = record {
   read = subst (λ r. IfOk r (λ n. IsDuration text n × (n ≤ longest_duration))) (sym e) tt;
   out_of_range = λ o. absurd (differ (sym e ∙ o));
@@ -410,7 +454,8 @@ answers text answer (Some n) d e = by_test (nat_le n longest_duration) refl e
 
     by_test : (b : Bool) → nat_le n longest_duration ≡ b → answer ≡ cond b (Ok n) (Err OutOfRange) → Answers text answer
     by_test true t f = record {
-      read = subst (λ r. IfOk r (λ m. IsDuration text m × (m ≤ longest_duration))) (sym f) (is, grind (arith, nat_tests));
+      read = subst (λ r. IfOk r (λ m. IsDuration text m × (m ≤ longest_duration))) (sym f)
+          (is, grind (arith, nat_tests));
       out_of_range = λ o. absurd (ok_err OutOfRange (sym f ∙ o));
       malformed = λ m k h. ok_err Malformed (sym f ∙ m);
     }

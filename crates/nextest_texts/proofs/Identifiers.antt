@@ -1,121 +1,22 @@
 -- The tests of texts say what the grammar of identifiers says.
 use native.Mathlib.Numerals.{unary_clauses}
-use Rattle.std.proofs.Common.{◌≡◌, ◌≢◌, ◌↔◌, ℕ, ◌+◌, ◌<◌, ◌≤◌, Bool, true, false, ◌||◌, ◌&&◌, eqb, IsTrue, Option, Some, None, Result, Ok, Err, IfErr, IfNone, IfSome, Bor, List, [], ◌∷◌, ◌++◌, All, length, take, drop, get_or, Contains, codes, encode_utf8_all, refl, sym, ◌∙◌, ap, subst, inl, inr, ⊎_elim, is_some, is_ok, arith, append_assoc, if◌then◌else◌}
-use Rattle.std.proofs.Math.Seq.{take-append_seam, drop-append-add, get_or-append_seam}
+use Rattle.std.proofs.Common.{◌≡◌, ◌≢◌, ◌↔◌, ℕ, ◌+◌, ◌<◌, ◌≤◌, Bool, true, false, ◌||◌, ◌&&◌, eqb, IsTrue, Option, Some, None, Result, Ok, Err, IfErr, IfNone, IfSome, Bor, List, [], ◌∷◌, ◌++◌, length, drop, get_or, Contains, codes, refl, sym, ◌∙◌, ap, subst, inl, inr, ⊎_elim, is_some, is_ok, arith, append_assoc}
 use Rattle.std.proofs.Math.Bool.{or-false}
-use Rattle.std.proofs.lemmas.Bool.{cases_Bool, false≢true, and_parts, and_from, or_cases, or_left, or_right, eqb-true, eq-eqb, ne_eqb, cases_lt, false_from_ne_true}
+use Rattle.std.proofs.lemmas.Bool.{cases_Bool, false≢true, and_parts, and_from, eqb-true, cases_lt, false_from_ne_true}
 use Rattle.std.proofs.lemmas.Bool.Decides.{Decides-eqb}
-use Rattle.std.proofs.lemmas.List.{length-append, get_or_append_left, drop_all}
-use Rattle.std.proofs.lemmas.List.Elements.{All-head, All-tail, All-weaker}
-use Rattle.std.proofs.lemmas.List.Sums.{AllPass-from_list_all, list_all-from_AllPass, position_or_len_is, split_at_first, passes_at_first}
+use Rattle.std.proofs.lemmas.List.{drop_all}
+use Rattle.std.proofs.lemmas.List.Sums.{split_at_first, passes_at_first}
 use Rattle.std.proofs.lemmas.Slice.Eq.{starts_is}
-use Rattle.std.proofs.lemmas.Str.{IsUtf8-from_is_utf8, is_utf8-from_IsUtf8, encodes-chars, scalars-chars, chars_from_encodes, chars_past_char, length-encode, len_utf8_bounds}
-use Rattle.std.proofs.lemmas.Str.Pattern.{NoCharPasses-char}
+use Rattle.std.proofs.lemmas.Str.{is_utf8-from_IsUtf8, chars_past_char}
 use Rattle.std.specs.Char.{encode_utf8}
 use Rattle.std.specs.List.{list_all, before_first, after_first, position_or_len}
 use Rattle.std.specs.Option.{option_or}
-use Rattle.std.specs.Str.{IsUtf8, NonePass, chars, is_utf8, all_scalars}
+use Rattle.std.specs.Str.{IsUtf8, chars}
 use Rattle.unicode_ident.specs.Ident.{is_xid_start, is_xid_continue}
-use Rattle.unicode_ident.proofs.IdentLemmas.{is_xid_start-ascii, is_xid_continue-ascii}
-use Rattle.nextest_texts.specs.Identifier.{ContinuesPart, IsPart, HasOrganisationPart, HasToolParts, IsOrganisationIdentifier, IsToolIdentifier, Form, plain, of_organisation, of_tool, HasForm, IsIdentifier, are_part_characters, is_part, has_tool_prefix, tool_of, name_of, has_tool_form, has_organisation_prefix, organisation_name_of, has_organisation_form, form_of, is_identifier, StartsBadly, HasBadCharacter, HasPartFlaw, has_owner_prefix, HasFlaw}
+use Rattle.nextest_texts.specs.Identifier.{ContinuesPart, HasOrganisationPart, HasToolParts, IsOrganisationIdentifier, IsToolIdentifier, Form, plain, of_organisation, of_tool, HasForm, IsIdentifier, are_part_characters, is_part, has_tool_prefix, tool_of, name_of, has_tool_form, has_organisation_prefix, organisation_name_of, has_organisation_form, form_of, is_identifier, StartsBadly, HasBadCharacter, HasPartFlaw, has_owner_prefix, HasFlaw}
 use Rattle.nextest_texts.specs.declared.identifier.InvalidIdentifier.{InvalidIdentifier}
 use Rattle.nextest_texts.specs.declared.identifier.InvalidIdentifier.TheVariants as causes
-
--- ---- characters of a part
-
-continues_by_test : (c : ℕ) → (is_xid_continue c || eqb c 45) ≡ true → ContinuesPart c
-continues_by_test c h = ⊎_elim inl (λ e. inr (eqb-true c 45 e)) (or_cases (is_xid_continue c) (eqb c 45) h)
-
-test_by_continues : (c : ℕ) → ContinuesPart c → (is_xid_continue c || eqb c 45) ≡ true
-test_by_continues c h = ⊎_elim (or_left (is_xid_continue c) (eqb c 45)) (λ e. or_right (is_xid_continue c) (eqb c 45) (eq-eqb c 45 e)) h
-
-part_of_characters : (text cs : List ℕ) → all_scalars cs ≡ true → encode_utf8_all cs ≡ text → are_part_characters cs ≡ true → IsPart text
-part_of_characters text [] s e h = absurd (false≢true h)
-part_of_characters text (first ∷ others) s e h =
-    let test : ℕ → Bool = λ c. is_xid_continue c || eqb c 45 in
-    let parts = and_parts (is_xid_start first) _ h in
-    record {
-      first = first;
-      others = others;
-      are_characters = s;
-      spell = sym e;
-      starts = parts.0;
-      continue = All-weaker (λ c. test c ≡ true) ContinuesPart continues_by_test others (AllPass-from_list_all test others parts.1);
-    }
-
-IsPart-from_is_part : (text : List ℕ) → is_part text ≡ true → IsPart text
-unfolding is_part
-IsPart-from_is_part text h =
-    let tests = and_parts (is_utf8 text) _ h in
-    let utf8 : IsUtf8 text = IsUtf8-from_is_utf8 text tests.0 in
-    part_of_characters text (chars text) (scalars-chars text utf8) (encodes-chars text utf8) tests.1
-
-characters_of_part : (text : List ℕ) (part : IsPart text) → are_part_characters (part.first ∷ part.others) ≡ true
-characters_of_part text part =
-    let test : ℕ → Bool = λ c. is_xid_continue c || eqb c 45 in
-    and_from (is_xid_start part.first) _ part.starts (list_all-from_AllPass test part.others (All-weaker ContinuesPart (λ c. test c ≡ true) test_by_continues part.others part.continue))
-
-is_part-from_IsPart : (text : List ℕ) → IsPart text → is_part text ≡ true
-unfolding is_part
-is_part-from_IsPart text part =
-    let utf8 : IsUtf8 text = (part.first ∷ part.others, (part.are_characters, sym part.spell)) in
-    let same : part.first ∷ part.others ≡ chars text = chars_from_encodes (part.first ∷ part.others) text utf8 (sym part.spell) in
-    and_from (is_utf8 text) _ (is_utf8-from_IsUtf8 text utf8)
-    (subst (λ cs. are_part_characters cs ≡ true) same (characters_of_part text part))
-
--- A text passes the test of parts exactly where it is a part.
-pub is_part_law : (text : List ℕ) → IsTrue (is_part text) ↔ IsPart text
-is_part_law text = (IsPart-from_is_part text, is_part-from_IsPart text)
-
--- ---- what stands in no part
-
--- such a character stands in no part
-abbrev LacksCharacter : ℕ → Type 0
-LacksCharacter c = (c < 128) × (is_xid_start c ≡ false) × (is_xid_continue c ≡ false) × (c ≢ 45)
-
-colon : LacksCharacter 58
-colon = (omega arith, is_xid_start-ascii 58 (omega arith), is_xid_continue-ascii 58 (omega arith), λ e. omega (arith, e))
-
-at_sign : LacksCharacter 64
-at_sign = (omega arith, is_xid_start-ascii 64 (omega arith), is_xid_continue-ascii 64 (omega arith), λ e. omega (arith, e))
-
-none_continues : (c : ℕ) → LacksCharacter c → (others : List ℕ) → All ContinuesPart others → NonePass (λ d. eqb d c) others
-none_continues c lacks [] all = tt
-none_continues c lacks (d ∷ others) all = (
-  ne_eqb d c (λ e. ⊎_elim
-      (λ continues. false≢true (sym lacks.2 ∙ subst (λ x. is_xid_continue x ≡ true) e continues))
-      (λ hyphen. lacks.3 (sym e ∙ hyphen)) (All-head ContinuesPart d others all)),
-  none_continues c lacks others (All-tail ContinuesPart d others all),
-)
-
-lacks_byte : (c : ℕ) → LacksCharacter c → (text : List ℕ) → IsPart text → (i : ℕ) → i < length text → get_or text i 0 ≢ c
-lacks_byte c lacks text part i =
-    NoCharPasses-char c text i (
-      part.first ∷ part.others,
-      sym part.spell,
-      (
-        ne_eqb part.first c (λ e. false≢true (sym lacks.1 ∙ subst (λ x. is_xid_start x ≡ true) e part.starts)),
-        none_continues c lacks part.others part.continue,
-      ),
-    ) lacks.0
-
-part_fills : (text : List ℕ) → IsPart text → 0 < length text
-part_fills text part =
-    omega (arith, ap length part.spell, length-append (encode_utf8 part.first) (encode_utf8_all part.others), length-encode part.first, (len_utf8_bounds part.first).0)
-
--- ---- the first colon
-
-first_colon : (tool name : List ℕ) → ((i : ℕ) → i < length tool → get_or tool i 0 ≢ 58) → position_or_len (λ b. eqb b 58) (tool ++ 58 ∷ name) ≡ length tool
-first_colon tool name none =
-    position_or_len_is (λ b. eqb b 58) (tool ++ 58 ∷ name) (length tool) 0 (omega (arith, length-append tool (58 ∷ name)))
-    (λ k l. ne_eqb _ 58 (λ e. none k l (sym (get_or_append_left tool (58 ∷ name) 0 k l) ∙ e)))
-    (λ l. eq-eqb _ 58 (get_or-append_seam tool 58 name 0))
-
-before_colon : (tool name : List ℕ) → ((i : ℕ) → i < length tool → get_or tool i 0 ≢ 58) → before_first (λ b. eqb b 58) (tool ++ 58 ∷ name) ≡ tool
-before_colon tool name none = ap (λ n. take n (tool ++ 58 ∷ name)) (first_colon tool name none) ∙ take-append_seam tool (58 ∷ name)
-
-after_colon : (tool name : List ℕ) → ((i : ℕ) → i < length tool → get_or tool i 0 ≢ 58) → after_first (λ b. eqb b 58) (tool ++ 58 ∷ name) ≡ name
-after_colon tool name none = ap (λ n. drop (n + 1) (tool ++ 58 ∷ name)) (first_colon tool name none) ∙ drop-append-add tool (58 ∷ name) 1
+use Rattle.nextest_texts.proofs.IdentifierParts.{test_by_continues, IsPart-from_is_part, is_part-from_IsPart, colon, at_sign, lacks_byte, part_fills, before_colon, after_colon}
 
 -- ---- identifiers of tools
 
@@ -137,7 +38,8 @@ pub prefix_is_no_part : (text : List ℕ) → has_tool_prefix text ≡ true → 
 prefix_is_no_part text h = at_sign_is_no_part text (ap (λ t. get_or t 0 0) (prefix_then text h))
 
 regroup : (tool name : List ℕ) → codes "@tool:" ++ tool ++ codes ":" ++ name ≡ codes "@tool:" ++ (tool ++ 58 ∷ name)
-regroup tool name = append_assoc (codes "@tool:" ++ tool) (codes ":") name ∙ append_assoc (codes "@tool:") tool (58 ∷ name)
+regroup tool name = append_assoc (codes "@tool:" ++ tool) (codes ":") name
+    ∙ append_assoc (codes "@tool:") tool (58 ∷ name)
 
 -- What a tool's identifier is after its prefix.
 after_prefix : (text tool name : List ℕ) → HasToolParts text tool name → drop 6 text ≡ tool ++ 58 ∷ name
@@ -146,18 +48,23 @@ after_prefix text tool name parts = ap (λ t. drop 6 t) (parts.spelled ∙ regro
 -- The parts of a tool's identifier are what stands around the first colon after the prefix.
 pub tool_of_parts : (text tool name : List ℕ) → HasToolParts text tool name → tool_of text ≡ tool
 tool_of_parts text tool name parts =
-    ap (λ t. before_first (λ b. eqb b 58) t) (after_prefix text tool name parts) ∙ before_colon tool name (lacks_byte 58 colon tool parts.tool_is_part)
+    ap (λ t. before_first (λ b. eqb b 58) t) (after_prefix text tool name parts)
+    ∙ before_colon tool name (lacks_byte 58 colon tool parts.tool_is_part)
 
 pub name_of_parts : (text tool name : List ℕ) → HasToolParts text tool name → name_of text ≡ name
 name_of_parts text tool name parts =
-    ap (λ t. after_first (λ b. eqb b 58) t) (after_prefix text tool name parts) ∙ after_colon tool name (lacks_byte 58 colon tool parts.tool_is_part)
+    ap (λ t. after_first (λ b. eqb b 58) t) (after_prefix text tool name parts)
+    ∙ after_colon tool name (lacks_byte 58 colon tool parts.tool_is_part)
 
 empty_is_no_part : is_part [] ≡ false
-empty_is_no_part = false_from_ne_true (is_part []) (λ part. let fills : 0 < 0 = part_fills [] (IsPart-from_is_part [] part) in omega (arith, fills))
+empty_is_no_part = false_from_ne_true (is_part [])
+    (λ part. let fills : 0 < 0 = part_fills [] (IsPart-from_is_part [] part) in omega (arith, fills))
 
-no_colon_no_name : (text : List ℕ) → length (drop 6 text) ≤ position_or_len (λ b. eqb b 58) (drop 6 text) → is_part (name_of text) ≡ false
+no_colon_no_name : (text : List ℕ) → length (drop 6 text) ≤ position_or_len (λ b. eqb b 58) (drop 6 text)
+    → is_part (name_of text) ≡ false
 no_colon_no_name text past =
-    let none : name_of text ≡ [] = drop_all (position_or_len (λ b. eqb b 58) (drop 6 text) + 1) (drop 6 text) (omega arith) in
+    let none : name_of text ≡ [] =
+    drop_all (position_or_len (λ b. eqb b 58) (drop 6 text) + 1) (drop 6 text) (omega arith) in
     subst (λ t. is_part t ≡ false) (sym none) empty_is_no_part
 
 -- a text of a tool's form is no part
@@ -170,12 +77,16 @@ tool_parts_by_form text h =
     let parts = and_parts (is_part (tool_of text)) (is_part (name_of text)) prefixed.1 in
     let at : ℕ = position_or_len (λ b. eqb b 58) (drop 6 text) in
     let inside : at < length (drop 6 text) =
-    ⊎_elim (λ l. l) (λ past. absurd (false≢true (sym (no_colon_no_name text past) ∙ parts.1))) (cases_lt at (length (drop 6 text))) in
-    let colon_at : get_or (drop 6 text) at 0 ≡ 58 = eqb-true _ 58 (passes_at_first (λ b. eqb b 58) (drop 6 text) 0 inside) in
+    ⊎_elim (λ l. l) (λ past. absurd (false≢true (sym (no_colon_no_name text past) ∙ parts.1)))
+    (cases_lt at (length (drop 6 text))) in
+    let colon_at : get_or (drop 6 text) at 0 ≡ 58 =
+    eqb-true _ 58 (passes_at_first (λ b. eqb b 58) (drop 6 text) 0 inside) in
     let split : drop 6 text ≡ tool_of text ++ 58 ∷ name_of text =
-    subst (λ b. drop 6 text ≡ tool_of text ++ b ∷ name_of text) colon_at (split_at_first (λ b. eqb b 58) (drop 6 text) 0 inside) in
+    subst (λ b. drop 6 text ≡ tool_of text ++ b ∷ name_of text) colon_at
+    (split_at_first (λ b. eqb b 58) (drop 6 text) 0 inside) in
     record {
-      spelled = prefix_then text prefixed.0 ∙ ap (λ t. codes "@tool:" ++ t) split ∙ sym (regroup (tool_of text) (name_of text));
+      spelled = prefix_then text prefixed.0 ∙ ap (λ t. codes "@tool:" ++ t) split
+          ∙ sym (regroup (tool_of text) (name_of text));
       tool_is_part = IsPart-from_is_part (tool_of text) parts.0;
       name_is_part = IsPart-from_is_part (name_of text) parts.1;
     }
@@ -184,12 +95,18 @@ form_by_tool_parts : (text tool name : List ℕ) → HasToolParts text tool name
 form_by_tool_parts text tool name parts =
     and_from (has_tool_prefix text) _ (prefix_of text (tool ++ 58 ∷ name) (parts.spelled ∙ regroup tool name))
     (and_from (is_part (tool_of text)) _
-    (subst (λ t. is_part t ≡ true) (sym (tool_of_parts text tool name parts)) (is_part-from_IsPart tool parts.tool_is_part))
-    (subst (λ t. is_part t ≡ true) (sym (name_of_parts text tool name parts)) (is_part-from_IsPart name parts.name_is_part)))
+    (subst (λ t. is_part t ≡ true) (sym (tool_of_parts text tool name parts))
+    (is_part-from_IsPart tool parts.tool_is_part))
+    (subst (λ t. is_part t ≡ true) (sym (name_of_parts text tool name parts))
+    (is_part-from_IsPart name parts.name_is_part)))
 
 -- A text has a tool's form exactly where it is a tool's identifier.
 pub tool_form_law : (text : List ℕ) → IsTrue (has_tool_form text) ↔ IsToolIdentifier text
-tool_form_law text = (λ h. (tool_of text, name_of text, tool_parts_by_form text h), λ tool. form_by_tool_parts text tool.0 tool.1 tool.2)
+tool_form_law text = (
+  λ h. (tool_of text, name_of text, tool_parts_by_form text h),
+  λ tool. form_by_tool_parts
+      text tool.0 tool.1 tool.2,
+)
 
 -- ---- identifiers of the organisation
 
@@ -202,40 +119,54 @@ organisation_prefix_of text rest e = (starts_is Decides-eqb text (codes "@org:")
 
 -- A text with the prefix of the organisation is no part.
 pub organisation_prefix_is_no_part : (text : List ℕ) → has_organisation_prefix text ≡ true → is_part text ≡ false
-organisation_prefix_is_no_part text h = at_sign_is_no_part text (ap (λ t. get_or t 0 0) (organisation_prefix_then text h))
+organisation_prefix_is_no_part text h =
+    at_sign_is_no_part text (ap (λ t. get_or t 0 0) (organisation_prefix_then text h))
 
 -- no text has both prefixes: their second bytes differ
 one_prefix : (text : List ℕ) → has_tool_prefix text ≡ true → has_organisation_prefix text ≡ false
 one_prefix text tool =
     false_from_ne_true (has_organisation_prefix text) (λ organisation.
     let t : get_or text 1 0 ≡ 116 = ap (λ t. get_or t 1 0) (prefix_then text tool) in
-    let o : get_or text 1 0 ≡ 111 = ap (λ t. get_or t 1 0) (organisation_prefix_then text organisation) in omega (arith, t, o))
+    let o : get_or text 1 0 ≡ 111 = ap (λ t. get_or t 1 0) (organisation_prefix_then text organisation) in
+    omega (arith, t, o))
 
 -- a text of the organisation's form is no part
 organisation_form_is_no_part : (text : List ℕ) → has_organisation_form text ≡ true → is_part text ≡ false
-organisation_form_is_no_part text h = organisation_prefix_is_no_part text (and_parts (has_organisation_prefix text) _ h).0
+organisation_form_is_no_part text h =
+    organisation_prefix_is_no_part text (and_parts (has_organisation_prefix text) _ h).0
 
 -- a text of a tool's form is none of the organisation's
 one_form : (text : List ℕ) → has_tool_form text ≡ true → has_organisation_form text ≡ false
-one_form text h = ap (λ b. b && is_part (organisation_name_of text)) (one_prefix text (and_parts (has_tool_prefix text) _ h).0)
+one_form text h = ap (λ b. b && is_part (organisation_name_of text))
+    (one_prefix text (and_parts (has_tool_prefix text) _ h).0)
 
 -- What follows the prefix of the organisation's identifier is its name.
 pub organisation_name_of_part : (text name : List ℕ) → HasOrganisationPart text name → organisation_name_of text ≡ name
 organisation_name_of_part text name part = ap (λ t. drop 5 t) part.spelled
 
-organisation_part_by_form : (text : List ℕ) → has_organisation_form text ≡ true → HasOrganisationPart text (organisation_name_of text)
+organisation_part_by_form : (text : List ℕ) → has_organisation_form text ≡ true
+    → HasOrganisationPart text (organisation_name_of text)
 organisation_part_by_form text h =
     let parts = and_parts (has_organisation_prefix text) _ h in
-    record { spelled = organisation_prefix_then text parts.0; name_is_part = IsPart-from_is_part (organisation_name_of text) parts.1 }
+    record {
+      spelled = organisation_prefix_then text parts.0;
+      name_is_part =
+          IsPart-from_is_part (organisation_name_of text) parts.1;
+    }
 
 form_by_organisation_part : (text name : List ℕ) → HasOrganisationPart text name → has_organisation_form text ≡ true
 form_by_organisation_part text name part =
     and_from (has_organisation_prefix text) _ (organisation_prefix_of text name part.spelled)
-    (subst (λ t. is_part t ≡ true) (sym (organisation_name_of_part text name part)) (is_part-from_IsPart name part.name_is_part))
+    (subst (λ t. is_part t ≡ true) (sym (organisation_name_of_part text name part))
+    (is_part-from_IsPart name part.name_is_part))
 
 -- A text has the organisation's form exactly where it is an identifier of the organisation.
 pub organisation_form_law : (text : List ℕ) → IsTrue (has_organisation_form text) ↔ IsOrganisationIdentifier text
-organisation_form_law text = (λ h. (organisation_name_of text, organisation_part_by_form text h), λ found. form_by_organisation_part text found.0 found.1)
+organisation_form_law text = (
+  λ h. (organisation_name_of text, organisation_part_by_form text h),
+  λ found. form_by_organisation_part
+      text found.0 found.1,
+)
 
 -- ---- the form of a text
 
@@ -245,18 +176,23 @@ form_by part organisation tool o t n =
     option_or (if part then Some plain else None)
     (option_or (if organisation then Some (of_organisation o) else None) (if tool then Some (of_tool t n) else None))
 
-by_some_form : (part organisation tool : Bool) (o t n : List ℕ) → is_some (form_by part organisation tool o t n) ≡ (part || (organisation || tool))
+by_some_form : (part organisation tool : Bool) (o t n : List ℕ)
+    → is_some (form_by part organisation tool o t n) ≡ (part || (organisation || tool))
 by_some_form true organisation tool o t n = refl
 by_some_form false true tool o t n = refl
 by_some_form false false true o t n = refl
 by_some_form false false false o t n = refl
 
-identifier_test : (text : List ℕ) → is_identifier text ≡ (is_part text || (has_organisation_form text || has_tool_form text))
+identifier_test : (text : List ℕ)
+    → is_identifier text ≡ (is_part text || (has_organisation_form text || has_tool_form text))
 unfolding is_identifier form_of
-identifier_test text = by_some_form (is_part text) (has_organisation_form text) (has_tool_form text) (organisation_name_of text) (tool_of text) (name_of text)
+identifier_test text = by_some_form (is_part text) (has_organisation_form text) (has_tool_form text)
+    (organisation_name_of text) (tool_of text) (name_of text)
 
-form_at : (text : List ℕ) (form : Form) (part organisation tool : Bool) → is_part text ≡ part → has_organisation_form text ≡ organisation → has_tool_form text ≡ tool
-    → form_by part organisation tool (organisation_name_of text) (tool_of text) (name_of text) ≡ Some form → HasForm text form
+form_at : (text : List ℕ) (form : Form) (part organisation tool : Bool) → is_part text ≡ part
+    → has_organisation_form text ≡ organisation → has_tool_form text ≡ tool
+    → form_by part organisation tool (organisation_name_of text) (tool_of text) (name_of text) ≡ Some form
+    → HasForm text form
 form_at text form true organisation tool is_plain is_organisation is_tool h =
     let same : plain ≡ form = cc in
     subst (λ f. HasForm text f) same (IsPart-from_is_part text is_plain)
@@ -271,22 +207,27 @@ form_at text form false false false is_plain is_organisation is_tool h = cc
 -- The form of a text is one that it has.
 pub form_to : (text : List ℕ) (form : Form) → form_of text ≡ Some form → HasForm text form
 unfolding form_of
-form_to text form h = form_at text form (is_part text) (has_organisation_form text) (has_tool_form text) refl refl refl h
+form_to text form h = form_at text form (is_part text) (has_organisation_form text) (has_tool_form text) refl
+    refl refl h
 
 -- A form that a text has is its form.
 pub form_from : (text : List ℕ) (form : Form) → HasForm text form → form_of text ≡ Some form
 unfolding form_of
 form_from text plain part =
-    ap (λ b. form_by b (has_organisation_form text) (has_tool_form text) (organisation_name_of text) (tool_of text) (name_of text)) (is_part-from_IsPart text part)
+    ap (λ b. form_by b (has_organisation_form text) (has_tool_form text) (organisation_name_of text)
+    (tool_of text) (name_of text)) (is_part-from_IsPart text part)
 form_from text (of_organisation name) part =
     let is : has_organisation_form text ≡ true = form_by_organisation_part text name part in
-    ap (λ b. form_by b (has_organisation_form text) (has_tool_form text) (organisation_name_of text) (tool_of text) (name_of text)) (organisation_form_is_no_part text is)
+    ap (λ b. form_by b (has_organisation_form text) (has_tool_form text) (organisation_name_of text)
+    (tool_of text) (name_of text)) (organisation_form_is_no_part text is)
     ∙ ap (λ b. form_by false b (has_tool_form text) (organisation_name_of text) (tool_of text) (name_of text)) is
     ∙ ap (λ o. Some (of_organisation o)) (organisation_name_of_part text name part)
 form_from text (of_tool tool name) parts =
     let is : has_tool_form text ≡ true = form_by_tool_parts text tool name parts in
-    ap (λ b. form_by b (has_organisation_form text) (has_tool_form text) (organisation_name_of text) (tool_of text) (name_of text)) (tool_form_is_no_part text is)
-    ∙ ap (λ b. form_by false b (has_tool_form text) (organisation_name_of text) (tool_of text) (name_of text)) (one_form text is)
+    ap (λ b. form_by b (has_organisation_form text) (has_tool_form text) (organisation_name_of text)
+    (tool_of text) (name_of text)) (tool_form_is_no_part text is)
+    ∙ ap (λ b. form_by false b (has_tool_form text) (organisation_name_of text) (tool_of text) (name_of text))
+    (one_form text is)
     ∙ ap (λ b. form_by false false b (organisation_name_of text) (tool_of text) (name_of text)) is
     ∙ ap (λ t. Some (of_tool t (name_of text))) (tool_of_parts text tool name parts)
     ∙ ap (λ n. Some (of_tool tool n)) (name_of_parts text tool name parts)
@@ -294,7 +235,11 @@ form_from text (of_tool tool name) parts =
 -- A text passes the test of identifiers exactly where it is one.
 pub is_identifier_law : (text : List ℕ) → IsTrue (is_identifier text) ↔ IsIdentifier text
 unfolding is_identifier
-is_identifier_law text = (λ h. some_form (form_of text) refl h, λ identifier. ap (λ f. is_some f) (form_from text identifier.0 identifier.1))
+is_identifier_law text = (
+  λ h. some_form (form_of text) refl h,
+  λ identifier. ap (λ f. is_some f)
+      (form_from text identifier.0 identifier.1),
+)
   where
     some_form : (form : Option Form) → form_of text ≡ form → IsTrue (is_some form) → IsIdentifier text
     some_form (Some form) is h = (form, form_to text form is)
@@ -303,30 +248,39 @@ is_identifier_law text = (λ h. some_form (form_of text) refl h, λ identifier. 
 -- ---- what the code finds
 
 -- Without a prefix only a part is an identifier.
-pub plain_identifier : (text : List ℕ) → has_tool_prefix text ≡ false → has_organisation_prefix text ≡ false → is_part text ≡ is_identifier text
+pub plain_identifier : (text : List ℕ) → has_tool_prefix text ≡ false → has_organisation_prefix text ≡ false
+    → is_part text ≡ is_identifier text
 plain_identifier text tool organisation =
     sym (identifier_test text
     ∙ ap (λ b. is_part text || ((b && is_part (organisation_name_of text)) || has_tool_form text)) organisation
-    ∙ ap (λ b. is_part text || (b && (is_part (tool_of text) && is_part (name_of text)))) tool ∙ or-false (is_part text))
+    ∙ ap (λ b. is_part text || (b && (is_part (tool_of text) && is_part (name_of text)))) tool
+    ∙ or-false (is_part text))
 
 -- With that of tools only a text of a tool's form is one.
 pub tool_prefixed_identifier : (text : List ℕ) → has_tool_prefix text ≡ true → has_tool_form text ≡ is_identifier text
 tool_prefixed_identifier text h =
-    sym (identifier_test text ∙ ap (λ b. b || (has_organisation_form text || has_tool_form text)) (prefix_is_no_part text h)
+    sym (identifier_test text
+    ∙ ap (λ b. b || (has_organisation_form text || has_tool_form text)) (prefix_is_no_part text h)
     ∙ ap (λ b. (b && is_part (organisation_name_of text)) || has_tool_form text) (one_prefix text h))
 
 -- With that of the organisation only a text of its form is one.
-pub organisation_prefixed_identifier : (text : List ℕ) → has_tool_prefix text ≡ false → has_organisation_prefix text ≡ true → has_organisation_form text ≡ is_identifier text
+pub organisation_prefixed_identifier : (text : List ℕ) → has_tool_prefix text ≡ false
+    → has_organisation_prefix text ≡ true → has_organisation_form text ≡ is_identifier text
 organisation_prefixed_identifier text tool h =
-    sym (identifier_test text ∙ ap (λ b. b || (has_organisation_form text || has_tool_form text)) (organisation_prefix_is_no_part text h)
-    ∙ ap (λ b. has_organisation_form text || (b && (is_part (tool_of text) && is_part (name_of text)))) tool ∙ or-false (has_organisation_form text))
+    sym (identifier_test text
+    ∙ ap (λ b. b || (has_organisation_form text || has_tool_form text)) (organisation_prefix_is_no_part text h)
+    ∙ ap (λ b. has_organisation_form text || (b && (is_part (tool_of text) && is_part (name_of text)))) tool
+    ∙ or-false (has_organisation_form text))
 
 -- With the prefix of tools, what stands around the colon says whether it is one of a tool.
-pub tool_form_by_parts : (text : List ℕ) → has_tool_prefix text ≡ true → (is_part (tool_of text) && is_part (name_of text)) ≡ has_tool_form text
+pub tool_form_by_parts : (text : List ℕ) → has_tool_prefix text ≡ true
+    → (is_part (tool_of text) && is_part (name_of text)) ≡ has_tool_form text
 tool_form_by_parts text h = sym (ap (λ b. b && (is_part (tool_of text) && is_part (name_of text))) h)
 
 -- With it and no colon a text is no tool's identifier.
-pub unsplit_tool_form : (text : List ℕ) → (IsTrue (has_tool_prefix text) → position_or_len (λ b. eqb b 58) (drop 6 text) ≡ length (drop 6 text)) → false ≡ has_tool_form text
+pub unsplit_tool_form : (text : List ℕ)
+    → (IsTrue (has_tool_prefix text) → position_or_len (λ b. eqb b 58) (drop 6 text) ≡ length (drop 6 text))
+    → false ≡ has_tool_form text
 unsplit_tool_form text e =
     sym (false_from_ne_true (has_tool_form text) (λ h.
     let prefixed = and_parts (has_tool_prefix text) _ h in
@@ -334,11 +288,13 @@ unsplit_tool_form text e =
     false≢true (sym (no_colon_no_name text (let same = e prefixed.0 in omega (arith, same))) ∙ parts.1)))
 
 -- What follows the prefix of the organisation says whether the text is one of it.
-pub organisation_form_by_part : (text : List ℕ) → has_organisation_prefix text ≡ true → is_part (organisation_name_of text) ≡ has_organisation_form text
+pub organisation_form_by_part : (text : List ℕ) → has_organisation_prefix text ≡ true
+    → is_part (organisation_name_of text) ≡ has_organisation_form text
 organisation_form_by_part text h = sym (ap (λ b. b && is_part (organisation_name_of text)) h)
 
 -- Without it the text is none.
-pub unsplit_organisation_form : (text : List ℕ) → has_organisation_prefix text ≡ false → false ≡ has_organisation_form text
+pub unsplit_organisation_form : (text : List ℕ) → has_organisation_prefix text ≡ false
+    → false ≡ has_organisation_form text
 unsplit_organisation_form text h = sym (ap (λ b. b && is_part (organisation_name_of text)) h)
 
 -- A text's characters say whether it is a part.
@@ -349,15 +305,19 @@ part_by_characters text cs utf8 e =
 
 -- A text with no character is no part.
 pub empty_no_part : (text : List ℕ) → length text ≡ 0 → false ≡ is_part text
-empty_no_part text e = sym (false_from_ne_true (is_part text) (λ part. let fills : 0 < length text = part_fills text (IsPart-from_is_part text part) in omega (arith, fills)))
+empty_no_part text e = sym
+    (false_from_ne_true (is_part text)
+    (λ part. let fills : 0 < length text = part_fills text (IsPart-from_is_part text part) in omega (arith, fills)))
 
 -- After a first character that may begin a part, the others decide.
 pub part_after_first : (text rest : List ℕ) (first : ℕ) → IsUtf8 text → text ≡ encode_utf8 first ++ rest
     → (is_xid_start first && list_all (λ c. is_xid_continue c || eqb c 45) (chars rest)) ≡ is_part text
-part_after_first text rest first utf8 e = part_by_characters text (first ∷ chars rest) utf8 (chars_past_char text rest first utf8 e)
+part_after_first text rest first utf8 e =
+    part_by_characters text (first ∷ chars rest) utf8 (chars_past_char text rest first utf8 e)
 
 -- A tool's identifier begins with the prefix, and a colon follows.
-tool_identifier_splits : (text : List ℕ) → IsToolIdentifier text → (has_tool_prefix text ≡ true) × (position_or_len (λ b. eqb b 58) (drop 6 text) < length (drop 6 text))
+tool_identifier_splits : (text : List ℕ) → IsToolIdentifier text
+    → (has_tool_prefix text ≡ true) × (position_or_len (λ b. eqb b 58) (drop 6 text) < length (drop 6 text))
 tool_identifier_splits text tool =
     let prefixed = and_parts (has_tool_prefix text) _ (form_by_tool_parts text tool.0 tool.1 tool.2) in
     let parts = and_parts (is_part (tool_of text)) (is_part (name_of text)) prefixed.1 in (
@@ -366,35 +326,44 @@ tool_identifier_splits text tool =
           (cases_lt (position_or_len (λ b. eqb b 58) (drop 6 text)) (length (drop 6 text))),
     )
 
-parts_of_prefixed : (text : List ℕ) → IsIdentifier text → has_tool_prefix text ≡ true → HasToolParts text (tool_of text) (name_of text)
+parts_of_prefixed : (text : List ℕ) → IsIdentifier text → has_tool_prefix text ≡ true
+    → HasToolParts text (tool_of text) (name_of text)
 parts_of_prefixed text identifier prefix =
     tool_parts_by_form text (tool_prefixed_identifier text prefix ∙ (is_identifier_law text).1 identifier)
 
 -- Where nothing is split off, the text is no tool's identifier.
 pub unsplit_is_no_tool : (text : List ℕ) (r : Option (Bor (List ℕ) × Bor (List ℕ)))
-    → IfNone r (IsTrue (has_tool_prefix text) → position_or_len (λ b. eqb b 58) (drop 6 text) ≡ length (drop 6 text)) → IfNone r (¬ IsToolIdentifier text)
-unsplit_is_no_tool text None none = λ tool. let splits = tool_identifier_splits text tool in omega (arith, none splits.0, splits.1)
+    → IfNone r (IsTrue (has_tool_prefix text)
+    → position_or_len (λ b. eqb b 58) (drop 6 text) ≡ length (drop 6 text)) → IfNone r (¬ IsToolIdentifier text)
+unsplit_is_no_tool text None none = λ tool. let splits = tool_identifier_splits text tool in
+    omega (arith, none splits.0, splits.1)
 unsplit_is_no_tool text (Some parts) none = none
 
 -- What is split off an identifier is its parts.
-pub split_is_parts : (text : List ℕ) (r : Option (Bor (List ℕ) × Bor (List ℕ))) → IsIdentifier text → IfSome r (λ _. IsTrue (has_tool_prefix text))
-    → IfSome r (λ parts. parts.0.now ≡ tool_of text) → IfSome r (λ parts. parts.1.now ≡ name_of text) → IfSome r (λ parts. HasToolParts text parts.0.now parts.1.now)
+pub split_is_parts : (text : List ℕ) (r : Option (Bor (List ℕ) × Bor (List ℕ))) → IsIdentifier text
+    → IfSome r (λ _. IsTrue (has_tool_prefix text))
+    → IfSome r (λ parts. parts.0.now ≡ tool_of text) → IfSome r (λ parts. parts.1.now ≡ name_of text)
+    → IfSome r (λ parts. HasToolParts text parts.0.now parts.1.now)
 split_is_parts text None identifier prefix tool name = prefix
 split_is_parts text (Some parts) identifier prefix tool name =
     subst (λ t. HasToolParts text t parts.1.now) (sym tool)
     (subst (λ n. HasToolParts text (tool_of text) n) (sym name) (parts_of_prefixed text identifier prefix))
 
 -- Where nothing is split off behind the prefix of the organisation, the text is no identifier of it.
-pub unsplit_is_no_organisation : (text : List ℕ) (r : Option (Bor (List ℕ))) → IfNone r (has_organisation_prefix text ≡ false) → IfNone r (¬ IsOrganisationIdentifier text)
-unsplit_is_no_organisation text None none = λ found. false≢true (unsplit_organisation_form text none ∙ (organisation_form_law text).1 found)
+pub unsplit_is_no_organisation : (text : List ℕ) (r : Option (Bor (List ℕ)))
+    → IfNone r (has_organisation_prefix text ≡ false) → IfNone r (¬ IsOrganisationIdentifier text)
+unsplit_is_no_organisation text None none =
+    λ found. false≢true (unsplit_organisation_form text none ∙ (organisation_form_law text).1 found)
 unsplit_is_no_organisation text (Some name) none = none
 
 -- What is split off an identifier is the name of the organisation.
-pub split_is_name : (text : List ℕ) (r : Option (Bor (List ℕ))) → IsIdentifier text → IfSome r (λ _. IsTrue (has_organisation_prefix text))
+pub split_is_name : (text : List ℕ) (r : Option (Bor (List ℕ))) → IsIdentifier text
+    → IfSome r (λ _. IsTrue (has_organisation_prefix text))
     → IfSome r (λ name. name.now ≡ organisation_name_of text) → IfSome r (λ name. HasOrganisationPart text name.now)
 split_is_name text None identifier prefix name = prefix
 split_is_name text (Some part) identifier prefix name =
-    subst (λ n. HasOrganisationPart text n) (sym name) (organisation_part_by_form text (by_prefix (has_tool_prefix text) refl))
+    subst (λ n. HasOrganisationPart text n) (sym name)
+    (organisation_part_by_form text (by_prefix (has_tool_prefix text) refl))
   where
     by_prefix : (tool : Bool) → has_tool_prefix text ≡ tool → has_organisation_form text ≡ true
     by_prefix true is = absurd (false≢true (sym (one_prefix text is) ∙ prefix))
@@ -408,7 +377,8 @@ organisation_is_no_tool text found tool =
 -- ---- flaws
 
 -- Where not all characters continue a part, one of them does not.
-pub bad_character_among : (cs : List ℕ) → list_all (λ c. is_xid_continue c || eqb c 45) cs ≡ false → (c : ℕ) × Contains cs c × (¬ ContinuesPart c)
+pub bad_character_among : (cs : List ℕ) → list_all (λ c. is_xid_continue c || eqb c 45) cs ≡ false
+    → (c : ℕ) × Contains cs c × (¬ ContinuesPart c)
 bad_character_among [] h = absurd (false≢true (sym h))
 bad_character_among (c ∷ cs) h =
     let test : ℕ → Bool = λ d. is_xid_continue d || eqb d 45 in
@@ -420,7 +390,8 @@ bad_character_among (c ∷ cs) h =
     ]
 
 -- A text whose first character may not begin a part starts badly.
-pub starts_badly : (text rest : List ℕ) (first : ℕ) → IsUtf8 text → text ≡ encode_utf8 first ++ rest → is_xid_start first ≡ false → StartsBadly text
+pub starts_badly : (text rest : List ℕ) (first : ℕ) → IsUtf8 text → text ≡ encode_utf8 first ++ rest
+    → is_xid_start first ≡ false → StartsBadly text
 starts_badly text rest first utf8 e h =
     record { first = first; others = chars rest; spelled = chars_past_char text rest first utf8 e; no_start = h }
 
@@ -439,7 +410,8 @@ has_bad_character text rest first utf8 e h =
     }
 
 -- What keeps a text without a prefix from being a part keeps it from being an identifier.
-pub flaw_of_part : (text : List ℕ) (cause : InvalidIdentifier) → has_owner_prefix text ≡ false → HasPartFlaw text cause → HasFlaw text cause
+pub flaw_of_part : (text : List ℕ) (cause : InvalidIdentifier) → has_owner_prefix text ≡ false
+    → HasPartFlaw text cause → HasFlaw text cause
 flaw_of_part text causes.Empty unprefixed flaw = (unprefixed, flaw)
 flaw_of_part text causes.BadStart unprefixed flaw = (unprefixed, flaw)
 flaw_of_part text causes.BadCharacter unprefixed flaw = (unprefixed, flaw)
@@ -454,20 +426,23 @@ flaws_of_part text (Ok x) unprefixed flaw = flaw
 flaws_of_part text (Err e) unprefixed flaw = flaw_of_part text e unprefixed flaw
 
 -- A refusal of a text with the prefix of tools tells that it is no tool's identifier.
-pub flaws_of_tool_form : {X : Type 0} (text : List ℕ) (r : Result X InvalidIdentifier) → has_tool_prefix text ≡ true → is_ok r ≡ has_tool_form text
+pub flaws_of_tool_form : {X : Type 0} (text : List ℕ) (r : Result X InvalidIdentifier)
+    → has_tool_prefix text ≡ true → is_ok r ≡ has_tool_form text
     → IfErr r (λ e. e ≡ causes.BadToolForm) → IfErr r (HasFlaw text)
 flaws_of_tool_form text (Ok x) prefix verdict cause = cause
 flaws_of_tool_form text (Err e) prefix verdict cause =
     subst (HasFlaw text) (sym cause) (prefix, λ tool. false≢true (verdict ∙ (tool_form_law text).1 tool))
 
 -- A refusal of a text with the prefix of the organisation tells that it is no identifier of it.
-pub flaws_of_organisation_form : {X : Type 0} (text : List ℕ) (r : Result X InvalidIdentifier) → has_organisation_prefix text ≡ true → is_ok r ≡ has_organisation_form text
+pub flaws_of_organisation_form : {X : Type 0} (text : List ℕ) (r : Result X InvalidIdentifier)
+    → has_organisation_prefix text ≡ true → is_ok r ≡ has_organisation_form text
     → IfErr r (λ e. e ≡ causes.BadOrganisationForm) → IfErr r (HasFlaw text)
 flaws_of_organisation_form text (Ok x) prefix verdict cause = cause
 flaws_of_organisation_form text (Err e) prefix verdict cause =
     subst (HasFlaw text) (sym cause) (prefix, λ found. false≢true (verdict ∙ (organisation_form_law text).1 found))
 
 -- A refusal for one of these causes is none for want of memory.
-pub not_memory : {X : Type 0} (cause : InvalidIdentifier) (r : Result X InvalidIdentifier) → (causes.Memory ≡ cause → ⊥) → IfErr r (λ e. e ≡ cause) → r ≢ Err causes.Memory
+pub not_memory : {X : Type 0} (cause : InvalidIdentifier) (r : Result X InvalidIdentifier)
+    → (causes.Memory ≡ cause → ⊥) → IfErr r (λ e. e ≡ cause) → r ≢ Err causes.Memory
 not_memory cause (Ok x) differs is same = cc
 not_memory cause (Err e) differs is same = differs (let memory : causes.Memory ≡ e = cc in memory ∙ is)

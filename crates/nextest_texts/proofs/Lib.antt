@@ -1,4 +1,5 @@
 pub mod DurationGrammar
 pub mod Durations
+pub mod IdentifierParts
 pub mod Identifiers
 pub mod Owners

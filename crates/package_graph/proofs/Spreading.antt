@@ -39,7 +39,8 @@ unmarked-cons : (m : Bool) (marks : List Bool) → unmarked (m ∷ marks) ≡ co
 unmarked-cons m marks = sum_by-cons (λ m. cond (not m) 1 0) m marks
 
 -- a new mark leaves one place less without one
-unmarked-set : (marks : List Bool) (i : ℕ) → i < length marks → (IsMarked marks i → ⊥) → unmarked (set marks i true) + 1 ≡ unmarked marks
+unmarked-set : (marks : List Bool) (i : ℕ) → i < length marks → (IsMarked marks i → ⊥)
+    → unmarked (set marks i true) + 1 ≡ unmarked marks
 unmarked-set [] i h n = absurd (omega arith)
 unmarked-set (true ∷ marks) zero h n = absurd (n refl)
 unmarked-set (false ∷ marks) zero h n = omega (arith, unmarked-cons false marks, unmarked-cons true marks)
@@ -62,7 +63,9 @@ set_adds (m ∷ marks) (suc i) zero h = inl h
 set_adds (m ∷ marks) (suc i) (suc p) h = elim (set_adds marks i p h) [ inl was ↦ inl was | inr e ↦ inr (ap suc e) ]
 
 -- an edge that gives no mark
-pub spread_same : (edges : List Edge) (old now : List Bool) (n : ℕ) (grown : Bool) (edge : Edge) → n < length edges → edge ≡ get_or edges n edge → IsSpread edges old now n grown → (IsMarked now edge.from → IsMarked now edge.to) → IsSpread edges old now (n + 1) grown
+pub spread_same : (edges : List Edge) (old now : List Bool) (n : ℕ) (grown : Bool) (edge : Edge)
+    → n < length edges → edge ≡ get_or edges n edge → IsSpread edges old now n grown
+    → (IsMarked now edge.from → IsMarked now edge.to) → IsSpread edges old now (n + 1) grown
 spread_same edges old now n true edge within at spread ends = record {
   same_length = spread.same_length;
   keeps = spread.keeps;
@@ -84,15 +87,20 @@ spread_same edges old now n false edge within at spread ends = record {
         let P : Edge → Type 0 = λ e. IsMarked old e.from → IsMarked old e.to in
         subst P is (subst (λ marks. IsMarked marks edge.from → IsMarked marks edge.to) spread.closed.0 ends) m
 
-not_more : {edges : List Edge} {old now : List Bool} {n : ℕ} {grown : Bool} → IsSpread edges old now n grown → unmarked now ≤ unmarked old
+not_more : {edges : List Edge} {old now : List Bool} {n : ℕ} {grown : Bool} → IsSpread edges old now n grown
+    → unmarked now ≤ unmarked old
 not_more {grown = true} spread = omega (arith, spread.fewer)
 not_more {grown = false} spread = omega (arith, ap unmarked spread.closed.0)
 
 -- an edge that gives a mark
-pub spread_new : (edges : List Edge) (old now new : List Bool) (n : ℕ) (grown : Bool) (edge : Edge) → n < length edges → edge ≡ get_or edges n edge → edge.to < length now → IsSpread edges old now n grown → IsMarked now edge.from → (IsMarked now edge.to → ⊥) → new ≡ set now edge.to true → IsSpread edges old new (n + 1) true
+pub spread_new : (edges : List Edge) (old now new : List Bool) (n : ℕ) (grown : Bool) (edge : Edge)
+    → n < length edges → edge ≡ get_or edges n edge → edge.to < length now → IsSpread edges old now n grown
+    → IsMarked now edge.from → (IsMarked now edge.to → ⊥) → new ≡ set now edge.to true
+    → IsSpread edges old new (n + 1) true
 spread_new edges old now new n grown edge within at inside spread from_marked to_unmarked is = record {
   same_length = ap length is ∙ length-set now edge.to true ∙ spread.same_length;
-  keeps = λ place m. subst (λ marks. IsMarked marks place) (sym is) (set_keeps now edge.to place (spread.keeps place m));
+  keeps = λ place m. subst (λ marks. IsMarked marks place) (sym is)
+      (set_keeps now edge.to place (spread.keeps place m));
   reached = λ place m. elim (set_adds now edge.to place (subst (λ marks. IsMarked marks place) is m)) [
     | inl was ↦ spread.reached place was
     | inr e ↦ let start = spread.reached edge.from from_marked in
@@ -112,18 +120,28 @@ Follows edge now new is_new =
     (IsMarked now edge.from × (IsMarked now edge.to → ⊥) × (new ≡ set now edge.to true))
     ((new ≡ now) × (IsMarked now edge.from → IsMarked now edge.to))
 
-pub spread_step : (edges : List Edge) (old now new : List Bool) (n : ℕ) (grown is_new : Bool) (edge : Edge) → n < length edges → edge ≡ get_or edges n edge → edge.to < length now → IsSpread edges old now n grown → Follows edge now new is_new → IsSpread edges old new (n + 1) (grown || is_new)
-spread_step edges old now new n true true edge within at inside spread f = spread_new edges old now new n true edge within at inside spread f.0 f.1 f.2
-spread_step edges old now new n false true edge within at inside spread f = spread_new edges old now new n false edge within at inside spread f.0 f.1 f.2
-spread_step edges old now new n true false edge within at inside spread f = subst (λ marks. IsSpread edges old marks (n + 1) true) (sym f.0) (spread_same edges old now n true edge within at spread f.1)
-spread_step edges old now new n false false edge within at inside spread f = subst (λ marks. IsSpread edges old marks (n + 1) false) (sym f.0) (spread_same edges old now n false edge within at spread f.1)
+pub spread_step : (edges : List Edge) (old now new : List Bool) (n : ℕ) (grown is_new : Bool) (edge : Edge)
+    → n < length edges → edge ≡ get_or edges n edge → edge.to < length now → IsSpread edges old now n grown
+    → Follows edge now new is_new → IsSpread edges old new (n + 1) (grown || is_new)
+spread_step edges old now new n true true edge within at inside spread f =
+    spread_new edges old now new n true edge within at inside spread f.0 f.1 f.2
+spread_step edges old now new n false true edge within at inside spread f =
+    spread_new edges old now new n false edge within at inside spread f.0 f.1 f.2
+spread_step edges old now new n true false edge within at inside spread f =
+    subst (λ marks. IsSpread edges old marks (n + 1) true) (sym f.0)
+    (spread_same edges old now n true edge within at spread f.1)
+spread_step edges old now new n false false edge within at inside spread f =
+    subst (λ marks. IsSpread edges old marks (n + 1) false) (sym f.0)
+    (spread_same edges old now n false edge within at spread f.1)
 
-pub below_oriented : (direction : Direction) (n : ℕ) (edge : Edge) → IsBelow n edge → IsBelow n (oriented direction edge)
+pub below_oriented : (direction : Direction) (n : ℕ) (edge : Edge) → IsBelow n edge
+    → IsBelow n (oriented direction edge)
 below_oriented Dependencies n edge below = below
 below_oriented Dependents n edge below = (below.1, below.0)
 
 -- after a pass without a new mark, what marked packages depend on is marked
-pub spread_closed : (edges : List Edge) (old new : List Bool) (n : ℕ) (grown : Bool) → length edges ≤ n → IsSpread edges old new n grown → OnFalse grown (IsClosed edges new)
+pub spread_closed : (edges : List Edge) (old new : List Bool) (n : ℕ) (grown : Bool) → length edges ≤ n
+    → IsSpread edges old new n grown → OnFalse grown (IsClosed edges new)
 spread_closed edges old new n true passed spread = tt
 spread_closed edges old new n false passed spread = λ a b (k, within, is) m.
     let d : Edge = record { from = a; to = b } in
@@ -132,12 +150,14 @@ spread_closed edges old new n false passed spread = λ a b (k, within, is) m.
     subst (λ marks. IsMarked marks a → IsMarked marks b) (sym spread.closed.0) ends m
 
 -- in a closed list of marks, what a marked package reaches is marked
-pub closed_reaches : {edges : List Edge} (marks : List Bool) {a b : ℕ} → IsClosed edges marks → IsMarked marks a → Reaches edges a b → IsMarked marks b
+pub closed_reaches : {edges : List Edge} (marks : List Bool) {a b : ℕ} → IsClosed edges marks
+    → IsMarked marks a → Reaches edges a b → IsMarked marks b
 closed_reaches marks closed m (itself a) = m
 closed_reaches marks closed m (onward a x b d r) = closed_reaches marks closed (closed a x d m) r
 
 -- a search after a search is one
-pub reached_again : (edges : List Edge) (old now new : List Bool) → MarksReached edges old now → MarksReached edges now new → MarksReached edges old new
+pub reached_again : (edges : List Edge) (old now new : List Bool) → MarksReached edges old now
+    → MarksReached edges now new → MarksReached edges old new
 reached_again edges old now new first second place m =
     let later = second place m in
     let earlier = first later.0 later.1 in

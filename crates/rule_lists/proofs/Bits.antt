@@ -35,15 +35,19 @@ or-bit false false = refl
 
 -- flags of several lists
 module _ {T : Type 0} where
-  pub bits-and : (f g : T → Bool) (ts : List T) → bit_and (bits_of (map f ts)) (bits_of (map g ts)) ≡ bits_of (map (λ t. f t && g t) ts)
+  pub bits-and : (f g : T → Bool) (ts : List T)
+      → bit_and (bits_of (map f ts)) (bits_of (map g ts)) ≡ bits_of (map (λ t. f t && g t) ts)
   bits-and f g [] = refl
   bits-and f g (t ∷ ts) =
-      and_block 1 (bits_of (map f ts)) (bits_of (map g ts)) (bit (f t)) (bit (g t)) (bit-lt (f t)) (bit-lt (g t)) ∙ rw (bits-and f g ts, and-bit (f t) (g t)) refl
+      and_block 1 (bits_of (map f ts)) (bits_of (map g ts)) (bit (f t)) (bit (g t)) (bit-lt (f t))
+      (bit-lt (g t)) ∙ rw (bits-and f g ts, and-bit (f t) (g t)) refl
 
-  pub bits-or : (f g : T → Bool) (ts : List T) → bit_or (bits_of (map f ts)) (bits_of (map g ts)) ≡ bits_of (map (λ t. f t || g t) ts)
+  pub bits-or : (f g : T → Bool) (ts : List T)
+      → bit_or (bits_of (map f ts)) (bits_of (map g ts)) ≡ bits_of (map (λ t. f t || g t) ts)
   bits-or f g [] = refl
   bits-or f g (t ∷ ts) =
-      or_block 1 (bits_of (map f ts)) (bits_of (map g ts)) (bit (f t)) (bit (g t)) (bit-lt (f t)) (bit-lt (g t)) ∙ rw (bits-or f g ts, or-bit (f t) (g t)) refl
+      or_block 1 (bits_of (map f ts)) (bits_of (map g ts)) (bit (f t)) (bit (g t)) (bit-lt (f t))
+      (bit-lt (g t)) ∙ rw (bits-or f g ts, or-bit (f t) (g t)) refl
 
   -- no flag is set
   pub zero-none : (f : T → Bool) (ts : List T) → bits_of (map f ts) ≡ 0 → list_any f ts ≡ false
@@ -58,6 +62,7 @@ module _ {T : Type 0} where
   pub none-zero : (f : T → Bool) (ts : List T) → list_any f ts ≡ false → bits_of (map f ts) ≡ 0
   none-zero f [] e = refl
   none-zero f (t ∷ ts) e = go (f t) refl e (none-zero f ts) where
-    go : (b : Bool) → f t ≡ b → b || list_any f ts ≡ false → (list_any f ts ≡ false → bits_of (map f ts) ≡ 0) → bits_of (map f ts) * 2 + bit (f t) ≡ 0
+    go : (b : Bool) → f t ≡ b → b || list_any f ts ≡ false → (list_any f ts ≡ false → bits_of (map f ts) ≡ 0)
+        → bits_of (map f ts) * 2 + bit (f t) ≡ 0
     go true is h more = absurd cc
     go false is h more = rw (is, more h) refl

@@ -18,7 +18,8 @@ lists-small tests r few =
     let there : lists_of tests r < 2 ^ length tests = rw (← same) h in
     omega (arith, there, less)
 
-pub bits-small : {K R : Type 0} (listed : K → R → Bool) (lists : List K) (k : ℕ) (r : R) (bits : ℕ) → length lists < 32 → bits ≡ lists_of (map listed (drop k lists)) r → bits < 2 ^ 31
+pub bits-small : {K R : Type 0} (listed : K → R → Bool) (lists : List K) (k : ℕ) (r : R) (bits : ℕ)
+    → length lists < 32 → bits ≡ lists_of (map listed (drop k lists)) r → bits < 2 ^ 31
 bits-small listed lists k r bits few is =
     let long = length-map (drop k lists) listed ∙ length-drop k lists in
     rw is (lists-small (map listed (drop k lists)) r (omega (arith, few, long)))
@@ -39,7 +40,8 @@ built-start tests n rules rows is =
     (rw (is, done) refl, rw done (none-in tests))
 
 -- one turn of the loop that builds the rows
-module _ {R : Type 0} (tests : List (R → Bool)) (first : ℕ) (rules : List R) (k : ℕ) (r : R) (some : 0 < k) (within : k ≤ length rules) (at : r ≡ get_or rules (k - 1) r) where
+module _ {R : Type 0} (tests : List (R → Bool)) (first : ℕ) (rules : List R) (k : ℕ) (r : R) (some : 0 < k)
+    (within : k ≤ length rules) (at : r ≡ get_or rules (k - 1) r) where
   abbrev onward : List R
   onward = drop k rules
 
@@ -49,28 +51,37 @@ module _ {R : Type 0} (tests : List (R → Bool)) (first : ℕ) (rules : List R)
       let next : k - 1 + 1 ≡ k = omega arith in
       grind (arith, common_steps, below, at, next)
 
-  pub later-step : (later lists : ℕ) → later ≡ lists_in tests onward → lists ≡ lists_of tests r → bit_or later lists ≡ lists_in tests (drop (k - 1) rules)
-  later-step later lists is_later is_lists = rw (from, is_later, is_lists) (or_comm (lists_in tests onward) (lists_of tests r) ∙ bits-or (λ test. test r) (λ test. list_any test onward) tests)
+  pub later-step : (later lists : ℕ) → later ≡ lists_in tests onward → lists ≡ lists_of tests r
+      → bit_or later lists ≡ lists_in tests (drop (k - 1) rules)
+  later-step later lists is_later is_lists =
+      rw (from, is_later, is_lists)
+      (or_comm (lists_in tests onward) (lists_of tests r)
+      ∙ bits-or (λ test. test r) (λ test. list_any test onward) tests)
 
   next : first + (k - 1) + 1 ≡ first + k
   next = omega arith
 
-  pub rows-in : (rows : List Row) (later lists : ℕ) → lists ≢ 0 → lists ≡ lists_of tests r → later ≡ lists_in tests (drop (k - 1) rules) → reverse rows ≡ rows_of tests (first + k) onward
-      → reverse (rows ++ record { number = first + (k - 1); lists = lists; later = later } ∷ []) ≡ rows_of tests (first + (k - 1)) (drop (k - 1) rules)
+  pub rows-in : (rows : List Row) (later lists : ℕ) → lists ≢ 0 → lists ≡ lists_of tests r
+      → later ≡ lists_in tests (drop (k - 1) rules) → reverse rows ≡ rows_of tests (first + k) onward
+      → reverse (rows ++ record { number = first + (k - 1); lists = lists; later = later } ∷ [])
+      ≡ rows_of tests (first + (k - 1)) (drop (k - 1) rules)
   rows-in rows later lists some_list is_lists is_later is_rows = go (list_any (λ test. test r) tests) refl where
     go : (b : Bool) → list_any (λ test. test r) tests ≡ b
-        → reverse (rows ++ record { number = first + (k - 1); lists = lists; later = later } ∷ []) ≡ rows_of tests (first + (k - 1)) (drop (k - 1) rules)
+        → reverse (rows ++ record { number = first + (k - 1); lists = lists; later = later } ∷ [])
+        ≡ rows_of tests (first + (k - 1)) (drop (k - 1) rules)
     go true is = rw (reverse-append, is_lists, is_later, is_rows, from, is, next) refl
     go false is = absurd (some_list (is_lists ∙ none-zero (λ test. test r) tests is))
 
-  pub rows-out : (rows : List Row) (lists : ℕ) → lists ≡ 0 → lists ≡ lists_of tests r → reverse rows ≡ rows_of tests (first + k) onward
+  pub rows-out : (rows : List Row) (lists : ℕ) → lists ≡ 0 → lists ≡ lists_of tests r
+      → reverse rows ≡ rows_of tests (first + k) onward
       → reverse rows ≡ rows_of tests (first + (k - 1)) (drop (k - 1) rules)
   rows-out rows lists no_list is_lists is_rows =
       let is = zero-none (λ test. test r) tests (sym is_lists ∙ no_list) in
       rw (is_rows, from, is, next) refl
 
 -- all rules are done
-pub built-end : {R : Type 0} (tests : List (R → Bool)) (first : ℕ) (rules : List R) (k : ℕ) (rows : List Row) → k ≤ 0 → rows ≡ rows_of tests (first + k) (drop k rules) → rows ≡ rows_of tests first rules
+pub built-end : {R : Type 0} (tests : List (R → Bool)) (first : ℕ) (rules : List R) (k : ℕ) (rows : List Row)
+    → k ≤ 0 → rows ≡ rows_of tests (first + k) (drop k rules) → rows ≡ rows_of tests first rules
 built-end tests first rules k rows none is =
     let zero : k ≡ 0 = omega (arith, none) in
     let start : first + k ≡ first = omega (arith, none) in

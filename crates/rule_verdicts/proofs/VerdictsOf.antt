@@ -76,20 +76,23 @@ module _ {M W : Type 0} (query : QueryContext M) (wants : W → Bool) where
       → slice_get rules n ≡ Some rule → slice_get (verdicts_of query wants rules) n ≡ Some Decides
       → IsDeciding query wants rules n rule
   to_deciding rules n rule at e =
-      let is : Some (verdict_of query wants (take n rules) rule) ≡ Some Decides = sym (verdict_at [] rules n rule at) ∙ e in
+      let is : Some (verdict_of query wants (take n rules) rule) ≡ Some Decides =
+      sym (verdict_at [] rules n rule at) ∙ e in
       let same : verdict_of query wants (take n rules) rule ≡ Decides = cc in
       let all = only_decides _ _ _ _ same in
       let none = none_there (winner query wants (take n rules)) all.1 in
       record {
         holds = all.0;
-        first = λ m earlier lt there. find-none (decides query wants) (take n rules) m earlier none (to_take rules n m earlier lt there);
+        first = λ m earlier lt there. find-none (decides query wants) (take n rules) m earlier none
+            (to_take rules n m earlier lt there);
       }
 
   from_deciding : (rules : List (EvaluatedRule M W)) (n : ℕ) (rule : EvaluatedRule M W)
       → slice_get rules n ≡ Some rule → IsDeciding query wants rules n rule
       → slice_get (verdicts_of query wants rules) n ≡ Some Decides
   from_deciding rules n rule at h =
-      let none = none_found (decides query wants) (take n rules) (λ m y e. (let p = in_take rules n m y e in h.first m y p.0 p.1)) in
+      let none = none_found (decides query wants) (take n rules)
+      (λ m y e. (let p = in_take rules n m y e in h.first m y p.0 p.1)) in
       verdict_at [] rules n rule at
       ∙ ap Some (decides_with_all _ _ _ _ h.holds (ap is_some none))
 
@@ -136,8 +139,10 @@ module _ {M W : Type 0} (query : QueryContext M) (wants : W → Bool) where
   facts_after before (r ∷ rules) decided e =
       let next : is_some (winner query wants (before ++ r ∷ [])) ≡ (decided || decides query wants r) =
       found_behind (decides query wants) before r ∙ ap (λ b. b || decides query wants r) e in
-      ap (λ b. verdict_by (is_on r query.platform) (filter_holds query.matches r.filter) (wants r.writes) b ∷ verdicts_after query wants (before ++ r ∷ []) rules) e
-      ∙ ap (λ rest. verdict_by (is_on r query.platform) (filter_holds query.matches r.filter) (wants r.writes) decided ∷ rest)
+      ap (λ b. verdict_by (is_on r query.platform) (filter_holds query.matches r.filter) (wants r.writes) b
+      ∷ verdicts_after query wants (before ++ r ∷ []) rules) e
+      ∙ ap (λ rest. verdict_by (is_on r query.platform) (filter_holds query.matches r.filter) (wants r.writes)
+      decided ∷ rest)
       (facts_after (before ++ r ∷ []) rules (decided || decides query wants r) next)
 
   pub verdicts-facts : (rules : List (EvaluatedRule M W))

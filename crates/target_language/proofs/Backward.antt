@@ -18,7 +18,8 @@ use Rattle.target_language.proofs.Points.{Judged, At, Room}
 -- What follows behind a mark follows, with the mark, behind the one before.
 abbrev pub Came : ℕ → Before → List Expression → List Level → Mark → Place → Reading → Type 0
 Came d b ps ls m at next = (more : ℕ) × Room more next
-    × ((ms : List Placed) (e : Expression) → At next.before more next.parts next.levels ms e → At b d ps ls (put m at ∷ ms) e)
+    × ((ms : List Placed) (e : Expression) → At next.before more next.parts next.levels ms e
+    → At b d ps ls (put m at ∷ ms) e)
 
 -- The same, where what follows is said otherwise.
 abbrev CameTo : (List Placed → Expression → Type 0) → Mark → Place → Reading → Type 0
@@ -48,16 +49,21 @@ name_part key d ps ls ms e (inl (leaf, alone, behind)) = (Asks leaf, ms, inl (ke
 name_part key d ps ls ms e (inr (more, equals, (text, there, rest, begins, (leaf, with, behind)))) =
     (Asks leaf, rest, inr (key, text, there, ms, more, refl, equals, begins, with), behind)
 
-function_part : (f : Function) (at : Place) (d : ℕ) (ps : List Expression) (ls : List Level) (ms : List Placed) (e : Expression)
+function_part : (f : Function) (at : Place) (d : ℕ) (ps : List Expression) (ls : List Level)
+    (ms : List Placed) (e : Expression)
     → At (AfterFunction f at) d ps ls ms e → Part d ps ls (put (FunctionMark f) at ∷ ms) e
-function_part f at d ps ls ms e (room, inside, there, is, begins, (es, last, spelled, (more, x, close, called, fs, end, further, ends))) =
+function_part f at d ps ls ms e
+    (room, inside, there, is, begins, (es, last, spelled, (more, x, close, called, fs, end, further, ends))) =
     let marks = put (FunctionMark f) at ∷ ms in
-    let spells = call_spells f es x room marks inside last more (ms, (at, refl), (there, begins)) spelled close called in
+    let spells = call_spells f es x room marks inside last more (ms, (at, refl), (there, begins)) spelled
+    close called in
     let Q : ℕ → Type 0 = λ k. Part k ps ls marks e in
     subst Q (sym is) (x, more, spells, (fs, end, further, ends))
 
-entered_came : (f : Function) (at : Place) (r : Reading) (next : Reading) (d : ℕ) (b : Bool) → ltb (length r.levels) 128 ≡ b
-    → (if b then (let found : Result Reading BodyFault = Ok (behind (AfterFunction f at) r) in found) else Err (fault_at TooDeep at)) ≡ Ok next
+entered_came : (f : Function) (at : Place) (r : Reading) (next : Reading) (d : ℕ) (b : Bool)
+    → ltb (length r.levels) 128 ≡ b
+    → (if b then (let found : Result Reading BodyFault = Ok (behind (AfterFunction f at) r) in found) else Err
+    (fault_at TooDeep at)) ≡ Ok next
     → d + length r.levels ≡ 128 → CameTo (λ marks e. Part d r.parts r.levels marks e) (FunctionMark f) at next
 entered_came f at r next d false is e fits = absurd (cc)
 entered_came f at r next d true is e fits =
@@ -86,34 +92,45 @@ begun_came b r (ValueMark text) at next d e fits = absurd (cc)
 abbrev Settled : Before → List Expression → List Expression → Type 0
 Settled b ps qs = with_leaf b ps ≡ Ok qs
 
-made_came : (l : Level) (ls : List Level) (bad : BodyFault) (qs : List Expression) (at : Place) (next : Reading) (d : ℕ) (made : Option Expression)
+made_came : (l : Level) (ls : List Level) (bad : BodyFault) (qs : List Expression) (at : Place)
+    (next : Reading) (d : ℕ) (made : Option Expression)
     → call l.function qs ≡ made → ended l ls bad made ≡ Ok next → d + length (l ∷ ls) ≡ 128
-    → (more : ℕ) × Room more next × ((ms : List Placed) (e : Expression) → At next.before more next.parts next.levels ms e → Closes d qs (l ∷ ls) ms e)
+    → (more : ℕ) × Room more next
+    × ((ms : List Placed) (e : Expression) → At next.before more next.parts next.levels ms e
+    → Closes d qs (l ∷ ls) ms e)
 made_came l ls bad qs at next d None is e fits = absurd (cc)
 made_came l ls bad qs at next d (Some x) is e fits =
     let there : Reading = record { before = AfterClose; parts = l.outside ++ (x ∷ []); levels = ls } in
     let same : there ≡ next = cc in
-    let P : Reading → Type 0 = λ n. (more : ℕ) × Room more n × ((ms : List Placed) (e : Expression) → At n.before more n.parts n.levels ms e → Closes d qs (l ∷ ls) ms e) in
+    let P : Reading → Type 0 =
+    λ n. (more : ℕ) × Room more n
+    × ((ms : List Placed) (e : Expression) → At n.before more n.parts n.levels ms e → Closes d qs (l ∷ ls) ms e) in
     subst P same (suc d, (omega (arith, fits), tt), λ ms e it. (x, is, it))
 
-settled_came : (b : Before) (ps : List Expression) (l : Level) (ls : List Level) (bad : BodyFault) (at : Place) (next : Reading) (d : ℕ)
+settled_came : (b : Before) (ps : List Expression) (l : Level) (ls : List Level) (bad : BodyFault)
+    (at : Place) (next : Reading) (d : ℕ)
     (found : Result (List Expression) BodyFault) → with_leaf b ps ≡ found
     → and_then (λ all. ended l ls bad (call l.function all)) found ≡ Ok next → d + length (l ∷ ls) ≡ 128
     → (qs : List Expression) × Settled b ps qs × (more : ℕ) × Room more next
-    × ((ms : List Placed) (e : Expression) → At next.before more next.parts next.levels ms e → Closes d qs (l ∷ ls) ms e)
+    × ((ms : List Placed) (e : Expression) → At next.before more next.parts next.levels ms e
+    → Closes d qs (l ∷ ls) ms e)
 settled_came b ps l ls bad at next d (Err fault) is e fits = absurd (cc)
 settled_came b ps l ls bad at next d (Ok qs) is e fits =
     let it = made_came l ls bad qs at next d (call l.function qs) refl e fits in (qs, is, it.0, it.1, it.2)
 
-refused_came : (b : Before) (ps : List Expression) (l : Level) (ls : List Level) (bad : BodyFault) (at : Place) (next : Reading) (d : ℕ) (refused : Bool)
-    → (if refused then (let r : Result Reading BodyFault = Err bad in r) else and_then (λ all. ended l ls bad (call l.function all)) (with_leaf b ps)) ≡ Ok next
+refused_came : (b : Before) (ps : List Expression) (l : Level) (ls : List Level) (bad : BodyFault)
+    (at : Place) (next : Reading) (d : ℕ) (refused : Bool)
+    → (if refused then (let r : Result Reading BodyFault = Err bad in r) else and_then
+    (λ all. ended l ls bad (call l.function all)) (with_leaf b ps)) ≡ Ok next
     → d + length (l ∷ ls) ≡ 128
     → (qs : List Expression) × Settled b ps qs × (more : ℕ) × Room more next
-    × ((ms : List Placed) (e : Expression) → At next.before more next.parts next.levels ms e → Closes d qs (l ∷ ls) ms e)
+    × ((ms : List Placed) (e : Expression) → At next.before more next.parts next.levels ms e
+    → Closes d qs (l ∷ ls) ms e)
 refused_came b ps l ls bad at next d true e fits = absurd (cc)
 refused_came b ps l ls bad at next d false e fits = settled_came b ps l ls bad at next d (with_leaf b ps) refl e fits
 
-closed_came : (b : Before) (ps : List Expression) (ls : List Level) (at : Place) (next : Reading) (d : ℕ) → closed b ps ls at ≡ Ok next
+closed_came : (b : Before) (ps : List Expression) (ls : List Level) (at : Place) (next : Reading) (d : ℕ)
+    → closed b ps ls at ≡ Ok next
     → d + length ls ≡ 128
     → (qs : List Expression) × Settled b ps qs × (more : ℕ) × Room more next
     × ((ms : List Placed) (e : Expression) → At next.before more next.parts next.levels ms e → Closes d qs ls ms e)
@@ -121,8 +138,10 @@ closed_came b ps [] at next d e fits = absurd (cc)
 closed_came b ps (l ∷ ls) at next d e fits =
     refused_came b ps l ls (not_one (count_parts b ps) l at) at next d (refuses l.function (count_parts b ps)) e fits
 
-parted_came : (r : Reading) (next : Reading) (d : ℕ) (found : Result (List Expression) BodyFault) → with_leaf r.before r.parts ≡ found
-    → map_ok (λ parts. let n : Reading = record { before = AfterComma; parts = parts; levels = r.levels } in n) found ≡ Ok next
+parted_came : (r : Reading) (next : Reading) (d : ℕ) (found : Result (List Expression) BodyFault)
+    → with_leaf r.before r.parts ≡ found
+    → map_ok (λ parts. let n : Reading = record { before = AfterComma; parts = parts; levels = r.levels } in
+    n) found ≡ Ok next
     → d + length r.levels ≡ 128
     → (qs : List Expression) × Settled r.before r.parts qs × (more : ℕ) × Room more next
     × ((ms : List Placed) (e : Expression) → At next.before more next.parts next.levels ms e → Comma d qs r.levels ms e)
@@ -138,7 +157,8 @@ parted_came r next d (Ok qs) is e fits =
 ended_came : (r : Reading) (m : Mark) (at : Place) (next : Reading) (d : ℕ) → ended_by r.before r m at ≡ Ok next
     → d + length r.levels ≡ 128
     → (qs : List Expression) × Settled r.before r.parts qs × (more : ℕ) × Room more next
-    × ((ms : List Placed) (e : Expression) → At next.before more next.parts next.levels ms e → Behind d qs r.levels (put m at ∷ ms) e)
+    × ((ms : List Placed) (e : Expression) → At next.before more next.parts next.levels ms e
+    → Behind d qs r.levels (put m at ∷ ms) e)
 ended_came r CommaMark at next d e fits =
     let it = parted_came r next d (with_leaf r.before r.parts) refl e fits in
     (it.0, it.1, it.2, it.3, λ ms e more. comma_behind d it.0 r.levels at ms e (it.4 ms e more))
@@ -152,7 +172,8 @@ ended_came r (FunctionMark f) at next d e fits = absurd (cc)
 ended_came r (ValueMark text) at next d e fits = absurd (cc)
 
 -- What a leaf that ends is judged to be.
-judged_is : (found : Result Leaf BodyFault) (ps qs : List Expression) (d : ℕ) (ls : List Level) (ms : List Placed) (e : Expression)
+judged_is : (found : Result Leaf BodyFault) (ps qs : List Expression) (d : ℕ) (ls : List Level)
+    (ms : List Placed) (e : Expression)
     → map_ok (λ leaf. ps ++ (Asks leaf ∷ [])) found ≡ Ok qs → Behind d qs ls ms e → Judged found d ps ls ms e
 judged_is (Err fault) ps qs d ls ms e is behind = absurd (cc)
 judged_is (Ok leaf) ps qs d ls ms e is behind =
@@ -180,8 +201,12 @@ bare_closed : (b : Before) (ps : List Expression) (ls : List Level) (at : Place)
     → ((qs : List Expression) → with_leaf b ps ≡ Ok qs → qs ≡ ps) → closed b ps ls at ≡ Ok next → d + length ls ≡ 128
     → CameTo (λ marks e. Fresh d ps ls marks e) CloseMark at next
 bare_closed b ps ls at next d bare e fits =
-    let it = closed_came b ps ls at next d e fits in
-    (it.2, it.3, λ ms e more. close_fresh d ps ls at ms e (subst (λ qs. Closes d qs ls ms e) (bare it.0 it.1) (it.4 ms e more)))
+    let it = closed_came b ps ls at next d e fits in (
+      it.2,
+      it.3,
+      λ ms e more. close_fresh d ps ls at ms e
+          (subst (λ qs. Closes d qs ls ms e) (bare it.0 it.1) (it.4 ms e more)),
+    )
 
 begun_fresh : (b : Before) (r : Reading) (m : Mark) (at : Place) (next : Reading) (d : ℕ) → begun_by b r m at ≡ Ok next
     → d + length r.levels ≡ 128 → CameTo (λ marks e. Fresh d r.parts r.levels marks e) m at next
@@ -191,8 +216,10 @@ begun_fresh b r m at next d e fits =
 
 at_open : Backs AfterOpen
 at_open ps ls CloseMark at next d e room = bare_closed AfterOpen ps ls at next d (λ qs. same_parts ps qs) e room.0
-at_open ps ls (NameMark text) at next d e room = begun_fresh AfterOpen (reading_of AfterOpen ps ls) (NameMark text) at next d e room.0
-at_open ps ls (FunctionMark f) at next d e room = begun_fresh AfterOpen (reading_of AfterOpen ps ls) (FunctionMark f) at next d e room.0
+at_open ps ls (NameMark text) at next d e room =
+    begun_fresh AfterOpen (reading_of AfterOpen ps ls) (NameMark text) at next d e room.0
+at_open ps ls (FunctionMark f) at next d e room =
+    begun_fresh AfterOpen (reading_of AfterOpen ps ls) (FunctionMark f) at next d e room.0
 at_open ps ls OpenMark at next d e room = absurd (cc)
 at_open ps ls CommaMark at next d e room = absurd (cc)
 at_open ps ls EqualsMark at next d e room = absurd (cc)
@@ -204,14 +231,20 @@ fresh_came d ps ls m at next it = (it.0, it.1, λ ms e more. fresh_comma d ps ls
 
 at_comma : Backs AfterComma
 at_comma ps ls CommaMark at next d e room =
-    let it = parted_came (reading_of AfterComma ps ls) next d (with_leaf AfterComma ps) refl e room.0 in
-    (it.2, it.3, λ ms e more. comma_comma d ps ls at ms e (subst (λ qs. Comma d qs ls ms e) (same_parts ps it.0 it.1) (it.4 ms e more)))
+    let it = parted_came (reading_of AfterComma ps ls) next d (with_leaf AfterComma ps) refl e room.0 in (
+      it.2,
+      it.3,
+      λ ms e more. comma_comma d ps ls at ms e
+          (subst (λ qs. Comma d qs ls ms e) (same_parts ps it.0 it.1) (it.4 ms e more)),
+    )
 at_comma ps ls CloseMark at next d e room =
     fresh_came d ps ls CloseMark at next (bare_closed AfterComma ps ls at next d (λ qs. same_parts ps qs) e room.0)
 at_comma ps ls (NameMark text) at next d e room =
-    fresh_came d ps ls (NameMark text) at next (begun_fresh AfterComma (reading_of AfterComma ps ls) (NameMark text) at next d e room.0)
+    fresh_came d ps ls (NameMark text) at next
+    (begun_fresh AfterComma (reading_of AfterComma ps ls) (NameMark text) at next d e room.0)
 at_comma ps ls (FunctionMark f) at next d e room =
-    fresh_came d ps ls (FunctionMark f) at next (begun_fresh AfterComma (reading_of AfterComma ps ls) (FunctionMark f) at next d e room.0)
+    fresh_came d ps ls (FunctionMark f) at next
+    (begun_fresh AfterComma (reading_of AfterComma ps ls) (FunctionMark f) at next d e room.0)
 at_comma ps ls OpenMark at next d e room = absurd (cc)
 at_comma ps ls EqualsMark at next d e room = absurd (cc)
 at_comma ps ls (ValueMark text) at next d e room = absurd (cc)
@@ -227,7 +260,8 @@ at_value key value ps ls m at next d e room =
     (it.2, it.3, λ ms e more. judged_is (leaf_with key value) ps it.0 d ls (put m at ∷ ms) e it.1 (it.4 ms e more))
 
 key_ended : (key : Piece) (ps : List Expression) (ls : List Level) (m : Mark) (at : Place) (next : Reading) (d : ℕ)
-    → ended_by (AfterKey key) (reading_of (AfterKey key) ps ls) m at ≡ Ok next → d + length ls ≡ 128 → Came d (AfterKey key) ps ls m at next
+    → ended_by (AfterKey key) (reading_of (AfterKey key) ps ls) m at ≡ Ok next → d + length ls ≡ 128
+    → Came d (AfterKey key) ps ls m at next
 key_ended key ps ls m at next d e fits =
     let it = ended_came (reading_of (AfterKey key) ps ls) m at next d e fits in
     (it.2, it.3, λ ms e more. inl (judged_is (leaf_alone key) ps it.0 d ls (put m at ∷ ms) e it.1 (it.4 ms e more)))

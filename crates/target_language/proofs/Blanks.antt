@@ -40,7 +40,8 @@ skip_all (w ∷ ws) cs all =
 abbrev Parted : List ℕ → List ℕ → Type 0
 Parted cs rest = (ws : List ℕ) × (list_all is_whitespace ws ≡ true) × (cs ≡ ws ++ rest)
 
-part_by : (c : ℕ) (cs : List ℕ) (b : Bool) → is_whitespace c ≡ b → Parted cs (skipped cs) → Parted (c ∷ cs) (skipped (c ∷ cs))
+part_by : (c : ℕ) (cs : List ℕ) (b : Bool) → is_whitespace c ≡ b → Parted cs (skipped cs)
+    → Parted (c ∷ cs) (skipped (c ∷ cs))
 part_by c cs true is (ws, all, same) =
     subst (λ r. Parted (c ∷ cs) r) (sym (skip_blank c cs is)) (c ∷ ws, both _ _ is all, ap (λ l. c ∷ l) same)
 part_by c cs false is known = subst (λ r. Parted (c ∷ cs) r) (sym (skip_other c cs is)) ([], refl, refl)
@@ -100,10 +101,12 @@ rest_utf8 blanks rest c small utf8 =
     let at = get_own blanks rest c in
     let ascii : get_or (blanks ++ (c ∷ rest)) (length blanks) 0 < 128 = subst (λ n. n < 128) (sym at) small in
     subst IsUtf8 (drop_own blanks (c ∷ rest))
-    (IsUtf8-drop (blanks ++ (c ∷ rest)) (length blanks) utf8 (IsCharBoundary-before_ascii (blanks ++ (c ∷ rest)) (length blanks) below ascii))
+    (IsUtf8-drop (blanks ++ (c ∷ rest)) (length blanks) utf8
+    (IsCharBoundary-before_ascii (blanks ++ (c ∷ rest)) (length blanks) below ascii))
 
 -- Blanks before a byte that is none are skipped.
-pub blanks_skipped : (blanks rest : List ℕ) (c : ℕ) → AreBlanks blanks → c < 128 → is_whitespace c ≡ false → IsUtf8 (blanks ++ (c ∷ rest))
+pub blanks_skipped : (blanks rest : List ℕ) (c : ℕ) → AreBlanks blanks → c < 128 → is_whitespace c ≡ false
+    → IsUtf8 (blanks ++ (c ∷ rest))
     → (trim_start (blanks ++ (c ∷ rest)) ≡ c ∷ rest) × IsUtf8 (c ∷ rest)
 unfolding trim_start
 blanks_skipped blanks rest c (front, all) small other utf8 =

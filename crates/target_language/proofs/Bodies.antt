@@ -29,15 +29,18 @@ abbrev ok_parts : List Expression → Result (List Expression) BodyFault
 ok_parts ps = Ok ps
 
 -- Where nothing follows a complete part, it is the whole.
-whole_is : (len : ℕ) (b : Before) (ps qs : List Expression) (ls : List Level) (e : Expression) (d : ℕ) → with_leaf b ps ≡ Ok qs
+whole_is : (len : ℕ) (b : Before) (ps qs : List Expression) (ls : List Level) (e : Expression) (d : ℕ)
+    → with_leaf b ps ≡ Ok qs
     → Behind d qs ls [] e → complete len (reading_of b ps ls) ls ≡ Ok e
 whole_is len b ps qs [] e d is behind =
     ap (and_then (only_root len)) is ∙ ap (only_root len) (behind_end d qs [] e behind).1
 whole_is len b ps qs (l ∷ ls) e d is behind =
     absurd (let clash : l ∷ ls ≡ [] = (behind_end d qs (l ∷ ls) e behind).0 in cc)
 
-judged_whole : (len : ℕ) (b : Before) (ps : List Expression) (ls : List Level) (e : Expression) (d : ℕ) (found : Result Leaf BodyFault)
-    → with_leaf b ps ≡ map_ok (λ leaf. ps ++ (Asks leaf ∷ [])) found → Judged found d ps ls [] e → complete len (reading_of b ps ls) ls ≡ Ok e
+judged_whole : (len : ℕ) (b : Before) (ps : List Expression) (ls : List Level) (e : Expression) (d : ℕ)
+    (found : Result Leaf BodyFault)
+    → with_leaf b ps ≡ map_ok (λ leaf. ps ++ (Asks leaf ∷ [])) found → Judged found d ps ls [] e
+    → complete len (reading_of b ps ls) ls ≡ Ok e
 judged_whole len b ps ls e d found is (leaf, fine, behind) =
     whole_is len b ps (ps ++ (Asks leaf ∷ [])) ls e d (is ∙ ap (map_ok (λ leaf. ps ++ (Asks leaf ∷ []))) fine) behind
 
@@ -51,11 +54,13 @@ nothing_spelled zero (Every parts) more spells = spells
 nothing_spelled zero (Some_of parts) more spells = spells
 nothing_spelled zero (Negated x) more spells = spells
 
-none_fresh : (d : ℕ) (ps : List Expression) (ls : List Level) (e : Expression) → Fresh d ps ls [] e → Behind d ps ls [] e
+none_fresh : (d : ℕ) (ps : List Expression) (ls : List Level) (e : Expression) → Fresh d ps ls [] e
+    → Behind d ps ls [] e
 none_fresh d ps ls e ([], end, is, ends) = ([], end, (0, is), ends)
 none_fresh d ps ls e (x ∷ es, end, (more, spells, further), ends) = absurd (nothing_spelled d x more spells)
 
-none_comma : (d : ℕ) (ps : List Expression) (ls : List Level) (e : Expression) → Comma d ps ls [] e → Behind d ps ls [] e
+none_comma : (d : ℕ) (ps : List Expression) (ls : List Level) (e : Expression) → Comma d ps ls [] e
+    → Behind d ps ls [] e
 none_comma d ps ls e (mid, (zero, is), fresh) = none_fresh d ps ls e (subst (λ ms. Fresh d ps ls ms e) (sym is) fresh)
 none_comma d ps ls e (mid, (suc n, (more, (at, is), commas)), fresh) = absurd (cc)
 
@@ -69,7 +74,8 @@ ended len AfterClose ps ls e d behind = whole_is len AfterClose ps ps ls e d ref
 ended len (AfterKey key) ps ls e d (inl judged) = judged_whole len (AfterKey key) ps ls e d (leaf_alone key) refl judged
 ended len (AfterKey key) ps ls e d (inr (more, (at, is), awaits)) = absurd (cc)
 ended len (AfterEquals key) ps ls e d (text, at, rest, begins, judged) = absurd (cc)
-ended len (AfterValue key value) ps ls e d judged = judged_whole len (AfterValue key value) ps ls e d (leaf_with key value) refl judged
+ended len (AfterValue key value) ps ls e d judged =
+    judged_whole len (AfterValue key value) ps ls e d (leaf_with key value) refl judged
 ended len (AfterFunction f name) ps ls e d (room, inside, at, is, begins, fresh) = absurd (cc)
 
 -- What is read at the end has one part.
@@ -81,22 +87,26 @@ root_is len [] e is = absurd (cc)
 root_is len (x ∷ []) e is = let same : x ≡ e = cc in ap (λ y. y ∷ []) same
 root_is len (x ∷ y ∷ more) e is = absurd (cc)
 
-found_root : (len : ℕ) (e : Expression) (found : Result (List Expression) BodyFault) → and_then (only_root len) found ≡ Ok e → found ≡ Ok (e ∷ [])
+found_root : (len : ℕ) (e : Expression) (found : Result (List Expression) BodyFault)
+    → and_then (only_root len) found ≡ Ok e → found ≡ Ok (e ∷ [])
 found_root len e (Err fault) is = absurd (cc)
 found_root len e (Ok qs) is = ap ok_parts (root_is len qs e is)
 
-complete_is : (len : ℕ) (b : Before) (ps : List Expression) (ls : List Level) (e : Expression) → complete len (reading_of b ps ls) ls ≡ Ok e → IsWhole b ps ls e
+complete_is : (len : ℕ) (b : Before) (ps : List Expression) (ls : List Level) (e : Expression)
+    → complete len (reading_of b ps ls) ls ≡ Ok e → IsWhole b ps ls e
 complete_is len b ps [] e is = (refl, found_root len e (with_leaf b ps) is)
 complete_is len b ps (l ∷ ls) e is = absurd (cc)
 
 bare : (ps : List Expression) (e : Expression) → ok_parts ps ≡ Ok (e ∷ []) → ps ≡ e ∷ []
 bare ps e is = cc
 
-at_whole : (d : ℕ) (ps : List Expression) (ls : List Level) (e : Expression) → ls ≡ [] → ps ≡ e ∷ [] → Behind d ps ls [] e
+at_whole : (d : ℕ) (ps : List Expression) (ls : List Level) (e : Expression) → ls ≡ [] → ps ≡ e ∷ []
+    → Behind d ps ls [] e
 at_whole d ps ls e is one =
     subst (λ l. Behind d ps l [] e) (sym is) (subst (λ q. Behind d q [] [] e) (sym one) (end_behind d e))
 
-fresh_whole : (d : ℕ) (ps : List Expression) (ls : List Level) (e : Expression) → ls ≡ [] → ps ≡ e ∷ [] → Fresh d ps ls [] e
+fresh_whole : (d : ℕ) (ps : List Expression) (ls : List Level) (e : Expression) → ls ≡ [] → ps ≡ e ∷ []
+    → Fresh d ps ls [] e
 fresh_whole d ps ls e is one =
     subst (λ l. Fresh d ps l [] e) (sym is) (subst (λ q. Fresh d q [] [] e) (sym one) ([], [], refl, (refl, refl)))
 
@@ -133,7 +143,8 @@ at_end len (suc n) r = refl
 abbrev Onward : Type 0
 Onward = Result (Reading × List ℕ) BodyFault
 
-advanced_is : (r : Reading) (text : List ℕ) (m : Mark) (rest : List ℕ) (at : Place) (next : Reading) → front text ≡ FrontMark m rest
+advanced_is : (r : Reading) (text : List ℕ) (m : Mark) (rest : List ℕ) (at : Place) (next : Reading)
+    → front text ≡ FrontMark m rest
     → at ≡ place (length text) (length rest) → step r m at ≡ Ok next
     → advanced r text ≡ (let found : Onward = Ok (next, trim_start rest) in found)
 unfolding advanced
@@ -144,12 +155,14 @@ advanced_is r text m rest at next begins there stepped =
 abbrev goes_on : ℕ → ℕ → Onward → Result Expression BodyFault
 goes_on len n found = and_then (λ next. read_on len n next.0 next.1) found
 
-written_read : (marks : List Placed) (len n : ℕ) (text : List ℕ) (r : Reading) (e : Expression) (d : ℕ) → length marks ≤ n → IsUtf8 text
+written_read : (marks : List Placed) (len n : ℕ) (text : List ℕ) (r : Reading) (e : Expression) (d : ℕ)
+    → length marks ≤ n → IsUtf8 text
     → Writes text marks → Room d r → Follows d r marks e → read_on len n r (trim_start text) ≡ Ok e
 written_read [] len n text r e d below utf8 writes room follows =
     ap (read_on len n r) (all_skipped text writes) ∙ at_end len n r ∙ ended len r.before r.parts r.levels e d follows
 written_read (m ∷ marks) len zero text r e d below utf8 writes room follows = absurd (omega (arith, below))
-written_read (m ∷ marks) len (suc n) text r e d below utf8 (blanks, spelling, rest, blank, spells, is, at, writes) room follows =
+written_read (m ∷ marks) len (suc n) text r e d below utf8
+    (blanks, spelling, rest, blank, spells, is, at, writes) room follows =
     let f = spelled_fronts m.mark spelling rest spells in
     let c = f.0 in
     let tail = f.1 ++ rest in
@@ -159,7 +172,8 @@ written_read (m ∷ marks) len (suc n) text r e d below utf8 (blanks, spelling, 
     let behind : IsUtf8 rest = f.6 (subst IsUtf8 (sym shape) skipped.1) in
     let go = step_goes r m.mark m.place marks e d room follows in
     let begins : front (c ∷ tail) ≡ FrontMark m.mark rest = ap front (sym shape) ∙ f.5 in
-    let there : m.place ≡ place (length (c ∷ tail)) (length rest) = at ∙ ap (λ l. place (length l) (length rest)) shape in
+    let there : m.place ≡ place (length (c ∷ tail)) (length rest) =
+    at ∙ ap (λ l. place (length l) (length rest)) shape in
     ap (read_on len (suc n) r) (ap trim_start whole ∙ skipped.0)
     ∙ ap (goes_on len n) (advanced_is r (c ∷ tail) m.mark rest m.place go.0 begins there go.2)
     ∙ written_read marks len n rest go.0 e go.1 (omega (arith, below)) behind writes go.3 go.4
@@ -168,7 +182,8 @@ few_marks : (marks : List Placed) (text : List ℕ) → Writes text marks → le
 few_marks [] text writes = omega arith
 few_marks (m ∷ marks) text (blanks, spelling, rest, blank, spells, is, at, writes) =
     let f = spelled_fronts m.mark spelling rest spells in
-    let size : length text ≡ length blanks + length (spelling ++ rest) = ap length is ∙ length-append blanks (spelling ++ rest) in
+    let size : length text ≡ length blanks + length (spelling ++ rest) =
+    ap length is ∙ length-append blanks (spelling ++ rest) in
     let inner : length (spelling ++ rest) ≡ length spelling + length rest = length-append spelling rest in
     let some : length spelling ≡ suc (length f.1) = ap length f.2 in
     let more = few_marks marks rest writes in
@@ -176,7 +191,8 @@ few_marks (m ∷ marks) text (blanks, spelling, rest, blank, spells, is, at, wri
 
 pub body_is_read : (body : List ℕ) (e : Expression) → IsUtf8 body → IsBody body e → read_body body ≡ Ok e
 body_is_read body e utf8 (marks, writes, (more, spells, commas)) =
-    written_read marks (length body) (length body) body start e 128 (few_marks marks body writes) utf8 writes (refl, refl) (e, more, spells, ([], [], commas, (refl, refl)))
+    written_read marks (length body) (length body) body start e 128 (few_marks marks body writes) utf8 writes
+    (refl, refl) (e, more, spells, ([], [], commas, (refl, refl)))
 
 -- What is read is written.
 
@@ -188,9 +204,11 @@ abbrev WentOn : Reading → List ℕ → Reading → List ℕ → Type 0
 WentOn r text next left = (m : Mark) × (rest : List ℕ) × (front text ≡ FrontMark m rest)
     × (step r m (place (length text) (length rest)) ≡ Ok next) × (left ≡ trim_start rest)
 
-by_step : (r : Reading) (text : List ℕ) (m : Mark) (rest : List ℕ) (p : Reading × List ℕ) (found : Result Reading BodyFault)
+by_step : (r : Reading) (text : List ℕ) (m : Mark) (rest : List ℕ) (p : Reading × List ℕ)
+    (found : Result Reading BodyFault)
     → front text ≡ FrontMark m rest → step r m (place (length text) (length rest)) ≡ found
-    → map_ok (λ (n : Reading). let q : Reading × List ℕ = (n, trim_start rest) in q) found ≡ Ok p → WentOn r text p.0 p.1
+    → map_ok (λ (n : Reading). let q : Reading × List ℕ = (n, trim_start rest) in q) found ≡ Ok p
+    → WentOn r text p.0 p.1
 by_step r text m rest p (Err fault) begins is e = absurd (cc)
 by_step r text m rest p (Ok next) begins is e =
     let same : (next, trim_start rest) ≡ p = cc in
@@ -198,8 +216,10 @@ by_step r text m rest p (Ok next) begins is e =
     let second : trim_start rest ≡ p.1 = ap (λ (q : Reading × List ℕ). q.1) same in
     (m, rest, begins, is ∙ ap (λ (n : Reading). let found : Result Reading BodyFault = Ok n in found) first, sym second)
 
-by_front : (r : Reading) (text : List ℕ) (p : Reading × List ℕ) (f : Front) → front text ≡ f → advanced_by r (length text) f ≡ Ok p → WentOn r text p.0 p.1
-by_front r text p (FrontMark m rest) is e = by_step r text m rest p (step r m (place (length text) (length rest))) is refl e
+by_front : (r : Reading) (text : List ℕ) (p : Reading × List ℕ) (f : Front) → front text ≡ f
+    → advanced_by r (length text) f ≡ Ok p → WentOn r text p.0 p.1
+by_front r text p (FrontMark m rest) is e =
+    by_step r text m rest p (step r m (place (length text) (length rest))) is refl e
 by_front r text p UnclosedFront is e = absurd (cc)
 by_front r text p ForeignFront is e = absurd (cc)
 
@@ -208,17 +228,21 @@ unfolding advanced
 went_on r text p e = by_front r text p (front text) refl e
 
 abbrev Known : ℕ → ℕ → Type 0
-Known len n = (text : List ℕ) (r : Reading) (e : Expression) (d : ℕ) → length (trim_start text) ≤ n → IsUtf8 text → Room d r
+Known len n = (text : List ℕ) (r : Reading) (e : Expression) (d : ℕ) → length (trim_start text) ≤ n
+    → IsUtf8 text → Room d r
     → read_on len n r (trim_start text) ≡ Ok e → Written text d r e
 
 pub no_longer : (text : List ℕ) → IsUtf8 text → length (trim_start text) ≤ length text
 no_longer text utf8 =
     let it = split_blanks text utf8 in
-    let size : length text ≡ length it.0 + length (trim_start text) = ap length it.2 ∙ length-append it.0 (trim_start text) in
+    let size : length text ≡ length it.0 + length (trim_start text) =
+    ap length it.2 ∙ length-append it.0 (trim_start text) in
     omega (arith, size)
 
-one_written : (len n : ℕ) (text : List ℕ) (c : ℕ) (tail : List ℕ) (r : Reading) (e : Expression) (d : ℕ) (p : Reading × List ℕ)
-    → Known len n → trim_start text ≡ c ∷ tail → length (c ∷ tail) ≤ suc n → IsUtf8 text → Room d r → advanced r (c ∷ tail) ≡ Ok p
+one_written : (len n : ℕ) (text : List ℕ) (c : ℕ) (tail : List ℕ) (r : Reading) (e : Expression) (d : ℕ)
+    (p : Reading × List ℕ)
+    → Known len n → trim_start text ≡ c ∷ tail → length (c ∷ tail) ≤ suc n → IsUtf8 text → Room d r
+    → advanced r (c ∷ tail) ≡ Ok p
     → read_on len n p.0 p.1 ≡ Ok e → Written text d r e
 one_written len n text c tail r e d p known is below utf8 room moved read =
     let whole = c ∷ tail in
@@ -239,43 +263,68 @@ one_written len n text c tail r e d p known is below utf8 room moved read =
     let fits : length (trim_start rest) ≤ n = omega (arith, size, some, less, below) in
     let more = known rest p.0 e came.0 fits behind came.1 (ap (read_on len n p.0) (sym w.4) ∙ read) in (
       put m at ∷ more.0,
-      (it.0, spelling, rest, it.1, begun.1, it.2 ∙ ap (λ l. it.0 ++ l) (is ∙ shape), ap (λ l. place (length l) (length rest)) shape, more.1),
+      (
+        it.0,
+        spelling,
+        rest,
+        it.1,
+        begun.1,
+        it.2
+            ∙ ap (λ l. it.0 ++ l) (is ∙ shape),
+        ap (λ l. place (length l) (length rest)) shape,
+        more.1,
+      ),
       came.2 more.0 e more.2,
     )
 
 by_found : (len n : ℕ) (text : List ℕ) (c : ℕ) (tail : List ℕ) (r : Reading) (e : Expression) (d : ℕ) (found : Onward)
-    → Known len n → trim_start text ≡ c ∷ tail → length (c ∷ tail) ≤ suc n → IsUtf8 text → Room d r → advanced r (c ∷ tail) ≡ found
+    → Known len n → trim_start text ≡ c ∷ tail → length (c ∷ tail) ≤ suc n → IsUtf8 text → Room d r
+    → advanced r (c ∷ tail) ≡ found
     → goes_on len n found ≡ Ok e → Written text d r e
 by_found len n text c tail r e d (Err fault) known is below utf8 room moved read = absurd (cc)
 by_found len n text c tail r e d (Ok p) known is below utf8 room moved read =
     one_written len n text c tail r e d p known is below utf8 room moved read
 
-none_written : (len n : ℕ) (text : List ℕ) (r : Reading) (e : Expression) (d : ℕ) → trim_start text ≡ [] → IsUtf8 text → Room d r
+none_written : (len n : ℕ) (text : List ℕ) (r : Reading) (e : Expression) (d : ℕ) → trim_start text ≡ []
+    → IsUtf8 text → Room d r
     → finished len r ≡ Ok e → Written text d r e
 none_written len n text r e d is utf8 room read =
     let it = split_blanks text utf8 in
     let same : text ≡ it.0 = it.2 ∙ ap (λ l. it.0 ++ l) is ∙ append-nil it.0 in
     ([], subst AreBlanks (sym same) it.1, was_ended len r.before r.parts r.levels e d room.1 read)
 
-by_text : (len n : ℕ) (text left : List ℕ) (r : Reading) (e : Expression) (d : ℕ) → Known len n → trim_start text ≡ left → length left ≤ suc n
+by_text : (len n : ℕ) (text left : List ℕ) (r : Reading) (e : Expression) (d : ℕ) → Known len n
+    → trim_start text ≡ left → length left ≤ suc n
     → IsUtf8 text → Room d r → read_on len (suc n) r left ≡ Ok e → Written text d r e
 by_text len n text [] r e d known is below utf8 room read = none_written len n text r e d is utf8 room read
 by_text len n text (c ∷ tail) r e d known is below utf8 room read =
     by_found len n text c tail r e d (advanced r (c ∷ tail)) known is below utf8 room refl read
 
-by_nothing : (len : ℕ) (text left : List ℕ) (r : Reading) (e : Expression) (d : ℕ) → trim_start text ≡ left → length left ≤ 0
+by_nothing : (len : ℕ) (text left : List ℕ) (r : Reading) (e : Expression) (d : ℕ) → trim_start text ≡ left
+    → length left ≤ 0
     → IsUtf8 text → Room d r → read_on len 0 r left ≡ Ok e → Written text d r e
 by_nothing len text [] r e d is below utf8 room read = none_written len 0 text r e d is utf8 room read
 by_nothing len text (c ∷ tail) r e d is below utf8 room read = absurd (omega (arith, below))
 
 read_written : (len n : ℕ) → Known len n
-read_written len zero text r e d below utf8 room read = by_nothing len text (trim_start text) r e d refl below utf8 room read
-read_written len (suc n) text r e d below utf8 room read = by_text len n text (trim_start text) r e d (read_written len n) refl below utf8 room read
+read_written len zero text r e d below utf8 room read =
+    by_nothing len text (trim_start text) r e d refl below utf8 room read
+read_written len (suc n) text r e d below utf8 room read =
+    by_text len n text (trim_start text) r e d (read_written len n) refl below utf8 room read
 
-only : (body : List ℕ) (e : Expression) (marks : List Placed) → Writes body marks → Part 128 [] [] marks e → IsBody body e
+only : (body : List ℕ) (e : Expression) (marks : List Placed) → Writes body marks → Part 128 [] [] marks e
+    → IsBody body e
 only body e marks writes (x, more, spells, ([], end, commas, (is, one))) =
-    let same : x ≡ e = cc in
-    (marks, writes, (more, subst (λ y. Spells 128 y marks more) same spells, subst (λ l. BeginsAnyCommas more l) is commas))
+    let same : x ≡ e = cc in (
+      marks,
+      writes,
+      (
+        more,
+        subst (λ y. Spells 128 y marks more) same spells,
+        subst
+            (λ l. BeginsAnyCommas more l) is commas,
+      ),
+    )
 only body e marks writes (x, more, spells, (y ∷ es, end, further, (is, one))) = absurd (cc)
 
 pub read_is_body : (body : List ℕ) (e : Expression) → IsUtf8 body → read_body body ≡ Ok e → IsBody body e

@@ -96,7 +96,8 @@ pub fresh_cases : (d : ℕ) (ps : List Expression) (ls : List Level) (m : Mark) 
     (ms : List Placed) (e : Expression) → Fresh d ps ls (put m at ∷ ms) e
     → ((m ≡ CloseMark) × Closes d ps ls ms e) ⊎ Part d ps ls (put m at ∷ ms) e
 fresh_cases d ps ls m at ms e ([], end, is, ends) =
-    inl (ends_close d ps ls m at ms e (same_parts d _ _ ls _ e (append-nil ps) (subst (λ r. Ends d (ps ++ []) ls r e) (sym is) ends)))
+    inl (ends_close d ps ls m at ms e
+    (same_parts d _ _ ls _ e (append-nil ps) (subst (λ r. Ends d (ps ++ []) ls r e) (sym is) ends)))
 fresh_cases d ps ls m at ms e (x ∷ es, end, (more, spells, further), ends) =
     inr (x, more, spells, (es, end, further, same_parts d _ _ ls end e (sym (one_more ps es x)) ends))
 
@@ -135,12 +136,20 @@ pub behind_cases : (d : ℕ) (ps : List Expression) (ls : List Level) (m : Mark)
     → ((m ≡ CommaMark) × Comma d ps ls ms e) ⊎ ((m ≡ CloseMark) × Closes d ps ls ms e)
 behind_cases d ps ls m at ms e ([], end, commas, ends) =
     elim (commas_cases m at ms end commas) [
-      | inl is ↦ inr (ends_close d ps ls m at ms e (same_parts d _ _ ls _ e (append-nil ps) (subst (λ r. Ends d (ps ++ []) ls r e) (sym is) ends)))
+      | inl is ↦ inr (ends_close d ps ls m at ms e
+          (same_parts d _ _ ls _ e (append-nil ps) (subst (λ r. Ends d (ps ++ []) ls r e) (sym is) ends)))
       | inr more ↦ inl (more.0, (end, more.1, ([], end, refl, ends)))
     ]
 behind_cases d ps ls m at ms e (x ∷ es, end, (more, inside, last, comma, commas, spells, further), ends) =
     let it = first_is m at CommaMark ms more comma in
-    inl (it.0, (inside, subst (λ r. BeginsAnyCommas r inside) (sym it.1) commas, (x ∷ es, end, (last, spells, further), ends)))
+    inl (
+      it.0,
+      (
+        inside,
+        subst (λ r. BeginsAnyCommas r inside) (sym it.1) commas,
+        (x ∷ es, end, (last, spells, further), ends),
+      ),
+    )
 
 pub comma_behind : (d : ℕ) (ps : List Expression) (ls : List Level) (at : Place) (ms : List Placed)
     (e : Expression) → Comma d ps ls ms e → Behind d ps ls (put CommaMark at ∷ ms) e
@@ -151,8 +160,13 @@ comma_behind d ps ls at ms e (mid, commas, (x ∷ es, end, (more, spells, furthe
 
 pub close_behind : (d : ℕ) (ps : List Expression) (ls : List Level) (at : Place) (ms : List Placed)
     (e : Expression) → Closes d ps ls ms e → Behind d ps ls (put CloseMark at ∷ ms) e
-close_behind d ps ls at ms e closes =
-    ([], put CloseMark at ∷ ms, (0, refl), same_parts d _ _ ls _ e (sym (append-nil ps)) (close_ends d ps ls at ms e closes))
+close_behind d ps ls at ms e closes = (
+  [],
+  put CloseMark at ∷ ms,
+  (0, refl),
+  same_parts d _ _ ls _ e (sym (append-nil ps))
+      (close_ends d ps ls at ms e closes),
+)
 
 -- At the end of the marks.
 

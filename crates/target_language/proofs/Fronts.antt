@@ -24,7 +24,8 @@ both : (a b : Bool) → a ≡ true → b ≡ true → (a && b) ≡ true
 both a b x y = rw (x, y) refl
 
 -- What a text begins with is one of two.
-by_test : (b : Bool) (x y f : Front) (P : Type 0) → (if b then x else y) ≡ f → (b ≡ true → x ≡ f → P) → (b ≡ false → y ≡ f → P) → P
+by_test : (b : Bool) (x y f : Front) (P : Type 0) → (if b then x else y) ≡ f → (b ≡ true → x ≡ f → P)
+    → (b ≡ false → y ≡ f → P) → P
 by_test true x y f P e hit other = hit refl e
 by_test false x y f P e hit other = other refl e
 
@@ -45,9 +46,11 @@ word_is_mark : (word : List ℕ) (m : Mark) → word_mark word ≡ m → IsWordM
 word_is_mark word m e =
     mark_test (bytes_eq word (codes "all")) _ _ m (IsWordMark m) e (λ is. inl (All, sym is))
     (λ e. mark_test (bytes_eq word (codes "any")) _ _ m (IsWordMark m) e (λ is. inl (Any, sym is))
-    (λ e. mark_test (bytes_eq word (codes "not")) _ _ m (IsWordMark m) e (λ is. inl (Not, sym is)) (λ is. inr (word, sym is))))
+    (λ e. mark_test (bytes_eq word (codes "not")) _ _ m (IsWordMark m) e (λ is. inl (Not, sym is))
+    (λ is. inr (word, sym is))))
 
-word_spells : (word rest : List ℕ) (m : Mark) → IsWord word → EndsWord rest → word_mark word ≡ m → SpellsMark m word rest
+word_spells : (word rest : List ℕ) (m : Mark) → IsWord word → EndsWord rest → word_mark word ≡ m
+    → SpellsMark m word rest
 word_spells word rest m is ends e =
     elim (word_is_mark word m e) [
       | inl f ↦ (let P : Mark → Type 0 = λ n. SpellsMark n word rest in subst P (sym f.1) (is, ends, e ∙ f.1))
@@ -62,12 +65,15 @@ first_word c text is =
 -- Values.
 
 -- What stands before a `"` and behind it is cut there.
-cut_value : (value rest : List ℕ) → list_all is_inside_quotes value ≡ true → cut (value ++ (34 ∷ rest)) ≡ Some (value, rest)
+cut_value : (value rest : List ℕ) → list_all is_inside_quotes value ≡ true
+    → cut (value ++ (34 ∷ rest)) ≡ Some (value, rest)
 cut_value [] rest all = refl
 cut_value (c ∷ value) rest all =
-    let other : (c == 34) ≡ false = not_true (c == 34) (first (is_inside_quotes c) (list_all is_inside_quotes value) all) in
+    let other : (c == 34) ≡ false =
+    not_true (c == 34) (first (is_inside_quotes c) (list_all is_inside_quotes value) all) in
     let known = cut_value value rest (second (is_inside_quotes c) (list_all is_inside_quotes value) all) in
-    ap (λ b. if b then Some ([], value ++ (34 ∷ rest)) else option_map {U = List ℕ × List ℕ} (λ p. (c ∷ p.0, p.1)) (cut (value ++ (34 ∷ rest)))) other
+    ap (λ b. if b then Some ([], value ++ (34 ∷ rest)) else option_map {U = List ℕ × List ℕ}
+    (λ p. (c ∷ p.0, p.1)) (cut (value ++ (34 ∷ rest)))) other
     ∙ ap (option_map {U = List ℕ × List ℕ} (λ p. (c ∷ p.0, p.1))) known
   where
     not_true : (b : Bool) → not b ≡ true → b ≡ false
@@ -77,7 +83,8 @@ cut_value (c ∷ value) rest all =
 abbrev IsCut : List ℕ → List ℕ → List ℕ → Type 0
 IsCut text value rest = (text ≡ value ++ (34 ∷ rest)) × (list_all is_inside_quotes value ≡ true)
 
-cut_later : (c : ℕ) (text : List ℕ) (found : Option (List ℕ × List ℕ)) (value rest : List ℕ) → cut text ≡ found → is_inside_quotes c ≡ true
+cut_later : (c : ℕ) (text : List ℕ) (found : Option (List ℕ × List ℕ)) (value rest : List ℕ)
+    → cut text ≡ found → is_inside_quotes c ≡ true
     → ((v r : List ℕ) → cut text ≡ Some (v, r) → IsCut text v r)
     → option_map {U = List ℕ × List ℕ} (λ p. (c ∷ p.0, p.1)) found ≡ Some (value, rest) → IsCut (c ∷ text) value rest
 cut_later c text None value rest is inside known e = absurd (cc)
@@ -90,7 +97,8 @@ cut_later c text (Some p) value rest is inside known e =
 
 cut_first : (c : ℕ) (text : List ℕ) (b : Bool) (value rest : List ℕ) → (c == 34) ≡ b
     → ((v r : List ℕ) → cut text ≡ Some (v, r) → IsCut text v r)
-    → (if b then Some ([], text) else option_map {U = List ℕ × List ℕ} (λ p. (c ∷ p.0, p.1)) (cut text)) ≡ Some (value, rest) → IsCut (c ∷ text) value rest
+    → (if b then Some ([], text) else option_map {U = List ℕ × List ℕ} (λ p. (c ∷ p.0, p.1)) (cut text))
+    ≡ Some (value, rest) → IsCut (c ∷ text) value rest
 cut_first c text true value rest is known e =
     let byte : c ≡ 34 = eqb-true c 34 is in
     let pair : ([], text) ≡ (value, rest) = cc in
@@ -108,7 +116,8 @@ cut_is (c ∷ text) value rest e = cut_first c text (c == 34) value rest refl (c
 abbrev Begun : List ℕ → Mark → List ℕ → Type 0
 Begun text m rest = (spelling : List ℕ) × SpellsMark m spelling rest × (text ≡ spelling ++ rest)
 
-sign_begun : (k : ℕ) (s : Mark) (c : ℕ) (text : List ℕ) (m : Mark) (rest : List ℕ) → SpellsMark s (k ∷ []) rest → (c == k) ≡ true
+sign_begun : (k : ℕ) (s : Mark) (c : ℕ) (text : List ℕ) (m : Mark) (rest : List ℕ)
+    → SpellsMark s (k ∷ []) rest → (c == k) ≡ true
     → FrontMark s text ≡ FrontMark m rest → Begun (c ∷ text) m rest
 sign_begun k s c text m rest spells is e =
     let byte : c ≡ k = eqb-true c k is in
@@ -117,7 +126,8 @@ sign_begun k s c text m rest spells is e =
     let P : Mark → Type 0 = λ n. SpellsMark n (k ∷ []) rest in
     (k ∷ [], subst P mark spells, rw (byte, same) refl)
 
-value_begun : (c : ℕ) (text : List ℕ) (m : Mark) (rest : List ℕ) (found : Option (List ℕ × List ℕ)) → (c == 34) ≡ true → cut text ≡ found
+value_begun : (c : ℕ) (text : List ℕ) (m : Mark) (rest : List ℕ) (found : Option (List ℕ × List ℕ))
+    → (c == 34) ≡ true → cut text ≡ found
     → value_behind found ≡ FrontMark m rest → Begun (c ∷ text) m rest
 value_begun c text m rest None is at e = absurd (cc)
 value_begun c text m rest (Some p) is at e =
@@ -128,17 +138,23 @@ value_begun c text m rest (Some p) is at e =
     let P : Mark → Type 0 = λ n. SpellsMark n (34 ∷ (p.0 ++ (34 ∷ []))) rest in (
       34 ∷ (p.0 ++ (34 ∷ [])),
       subst P mark (it.1, refl),
-      ap (λ b. b ∷ text) byte ∙ ap (λ l. 34 ∷ l) (it.0 ∙ ap (λ r. p.0 ++ (34 ∷ r)) same ∙ sym (append_assoc p.0 (34 ∷ []) rest)),
+      ap (λ b. b ∷ text) byte ∙ ap (λ l. 34 ∷ l)
+          (it.0 ∙ ap (λ r. p.0 ++ (34 ∷ r)) same ∙ sym (append_assoc p.0 (34 ∷ []) rest)),
     )
 
-word_begun : (c : ℕ) (text : List ℕ) (m : Mark) (rest : List ℕ) → is_word_start c ≡ true → word_front (c ∷ text) ≡ FrontMark m rest → Begun (c ∷ text) m rest
+word_begun : (c : ℕ) (text : List ℕ) (m : Mark) (rest : List ℕ) → is_word_start c ≡ true
+    → word_front (c ∷ text) ≡ FrontMark m rest → Begun (c ∷ text) m rest
 word_begun c text m rest is e =
     let whole = c ∷ text in
     let n = word_len whole in
     let mark : word_mark (take n whole) ≡ m = cc in
     let same : drop n whole ≡ rest = cc in
-    let ends : EndsWord rest = subst EndsWord same (word_stops whole) in
-    (take n whole, word_spells (take n whole) rest m (first_word c text is) ends mark, sym (take-append-drop n whole) ∙ ap (λ r. take n whole ++ r) same)
+    let ends : EndsWord rest = subst EndsWord same (word_stops whole) in (
+      take n whole,
+      word_spells (take n whole) rest m (first_word c text is) ends mark,
+      sym
+          (take-append-drop n whole) ∙ ap (λ r. take n whole ++ r) same,
+    )
 
 pub front_begun : (text : List ℕ) (m : Mark) (rest : List ℕ) → front text ≡ FrontMark m rest → Begun text m rest
 front_begun [] m rest e = absurd (cc)
@@ -191,7 +207,8 @@ word_front_is word rest m all ends is =
     ∙ ap (λ r. FrontMark (word_mark word) r) (drop_own word rest)
     ∙ ap (λ k. FrontMark k rest) is
 
-word_fronts : (spelling rest : List ℕ) (m : Mark) → IsWord spelling → EndsWord rest → word_mark spelling ≡ m → Fronts m spelling rest
+word_fronts : (spelling rest : List ℕ) (m : Mark) → IsWord spelling → EndsWord rest → word_mark spelling ≡ m
+    → Fronts m spelling rest
 word_fronts [] rest m is ends e = absurd (is)
 word_fronts (c ∷ more) rest m (start, all) ends e =
     let goes_on = start_goes_on c start in
@@ -202,7 +219,15 @@ word_fronts (c ∷ more) rest m (start, all) ends e =
       refl,
       small,
       start_visible c start,
-      rw (other_sign c 40 refl start, other_sign c 41 refl start, other_sign c 44 refl start, other_sign c 61 refl start, other_sign c 34 refl start, start) (word_front_is (c ∷ more) rest m whole ends e),
+      rw (
+        other_sign c 40 refl start,
+        other_sign c 41 refl start,
+        other_sign c 44 refl start,
+        other_sign c 61
+            refl start,
+        other_sign c 34 refl start,
+        start,
+      ) (word_front_is (c ∷ more) rest m whole ends e),
       λ utf8. word_utf8 (c ∷ more) rest whole utf8,
     )
 
@@ -222,11 +247,14 @@ past_byte xs ys c small utf8 =
     let size : length whole ≡ length xs + length (c ∷ ys) = length-append xs (c ∷ ys) in
     let below : length xs < length whole = omega (arith, size) in
     let ascii : get_or whole (length xs) 0 < 128 = subst (λ n. n < 128) (sym (get_own xs ys c)) small in
-    subst IsUtf8 (drop_past xs ys c) (IsUtf8-drop whole (length xs + 1) utf8 (IsCharBoundary-after_ascii whole (length xs) utf8 below ascii))
+    subst IsUtf8 (drop_past xs ys c)
+    (IsUtf8-drop whole (length xs + 1) utf8 (IsCharBoundary-after_ascii whole (length xs) utf8 below ascii))
 
-value_fronts : (value rest : List ℕ) → list_all is_inside_quotes value ≡ true → Fronts (ValueMark value) (34 ∷ (value ++ (34 ∷ []))) rest
+value_fronts : (value rest : List ℕ) → list_all is_inside_quotes value ≡ true
+    → Fronts (ValueMark value) (34 ∷ (value ++ (34 ∷ []))) rest
 value_fronts value rest all =
-    let joined : (34 ∷ (value ++ (34 ∷ []))) ++ rest ≡ 34 ∷ (value ++ (34 ∷ rest)) = ap (λ l. 34 ∷ l) (append_assoc value (34 ∷ []) rest) in (
+    let joined : (34 ∷ (value ++ (34 ∷ []))) ++ rest ≡ 34 ∷ (value ++ (34 ∷ rest)) =
+    ap (λ l. 34 ∷ l) (append_assoc value (34 ∷ []) rest) in (
       34,
       value ++ (34 ∷ []),
       refl,

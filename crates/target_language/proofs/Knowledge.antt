@@ -59,10 +59,12 @@ mutual
   known_least p (part e es) fits =
       lesser_known (value p e) (least (values p es)) (known p e (first p _ _ fits)) (known_least p es (rest p _ _ fits))
 
-  known_greatest : (p : PlatformData) (es : Expressions) → Fits p (some_asks_feature es) → IsSome (greatest (values p es))
+  known_greatest : (p : PlatformData) (es : Expressions) → Fits p (some_asks_feature es)
+      → IsSome (greatest (values p es))
   known_greatest p no_parts fits = refl
   known_greatest p (part e es) fits =
-      greater_known (value p e) (greatest (values p es)) (known p e (first p _ _ fits)) (known_greatest p es (rest p _ _ fits))
+      greater_known (value p e) (greatest (values p es)) (known p e (first p _ _ fits))
+      (known_greatest p es (rest p _ _ fits))
 
 pub values_are_known : ValuesAreKnown
 values_are_known p (OfTriple triple) fits = refl
@@ -118,11 +120,16 @@ mutual
 
   stays_least : (p : PlatformData) (es : Expressions) → Below (least (values p es)) (least (values (given p) es))
   stays_least p no_parts = λ b e. e
-  stays_least p (part e es) = lesser_below (value p e) (least (values p es)) (value (given p) e) (least (values (given p) es)) (stays p e) (stays_least p es)
+  stays_least p (part e es) =
+      lesser_below (value p e) (least (values p es)) (value (given p) e) (least (values (given p) es))
+      (stays p e) (stays_least p es)
 
-  stays_greatest : (p : PlatformData) (es : Expressions) → Below (greatest (values p es)) (greatest (values (given p) es))
+  stays_greatest : (p : PlatformData) (es : Expressions)
+      → Below (greatest (values p es)) (greatest (values (given p) es))
   stays_greatest p no_parts = λ b e. e
-  stays_greatest p (part e es) = greater_below (value p e) (greatest (values p es)) (value (given p) e) (greatest (values (given p) es)) (stays p e) (stays_greatest p es)
+  stays_greatest p (part e es) =
+      greater_below (value p e) (greatest (values p es)) (value (given p) e) (greatest (values (given p) es))
+      (stays p e) (stays_greatest p es)
 
 pub features_change_nothing : FeaturesChangeNothingKnown
 features_change_nothing p (OfTriple triple) known e = e

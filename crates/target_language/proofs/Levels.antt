@@ -8,7 +8,8 @@ onto : (outer : List Level) (levels : List level.Level)
     → length (fold (λ around l. level_view l ∷ around) outer levels) ≡ length levels + length outer
 onto outer [] = omega arith
 onto outer (l ∷ levels) =
-    let known : length (fold (λ around l. level_view l ∷ around) (level_view l ∷ outer) levels) ≡ length levels + length (level_view l ∷ outer) = onto (level_view l ∷ outer) levels in
+    let known : length (fold (λ around l. level_view l ∷ around) (level_view l ∷ outer) levels)
+    ≡ length levels + length (level_view l ∷ outer) = onto (level_view l ∷ outer) levels in
     known ∙ omega arith
 
 -- As many are seen as stand in memory.

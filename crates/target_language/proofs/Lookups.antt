@@ -8,7 +8,8 @@ use Rattle.target_language.specs.Expressions.{Has, Feature}
 use Rattle.target_language.specs.Values.{same_line, line_of, leaf_value}
 
 pub any_seen : (lines : List CfgLine) (line : Line)
-    → list_any (λ found. same_line (line_view found) line) lines ≡ list_any (λ found. same_line found line) (map line_view lines)
+    → list_any (λ found. same_line (line_view found) line) lines
+    ≡ list_any (λ found. same_line found line) (map line_view lines)
 any_seen [] line = refl
 any_seen (it ∷ lines) line = ap (λ b. same_line (line_view it) line || b) (any_seen lines line)
 
@@ -22,4 +23,5 @@ line_value p line b is = ap Some (is ∙ any_seen p.lines.items (line_view line)
 pub feature_value : (p : Platform) (name : List ℕ) (b : Bool) → p.features_given ≡ true
     → b ≡ list_any (λ found. same_line (line_view found) (line_of (codes "target_feature") name)) p.lines.items
     → Some b ≡ leaf_value (platform_view p) (Feature name)
-feature_value p name b given is = rw given (ap Some (is ∙ any_seen p.lines.items (line_of (codes "target_feature") name)))
+feature_value p name b given is =
+    rw given (ap Some (is ∙ any_seen p.lines.items (line_of (codes "target_feature") name)))

@@ -19,7 +19,8 @@ stopped fault = Err fault
 abbrev goes_on : ℕ → ℕ → Onward → Result Expression BodyFault
 goes_on len n found = and_then (λ next. read_on len n next.0 next.1) found
 
-one_more : (len n : ℕ) (r : Reading) (text : List ℕ) → 0 < n → 0 < length text → read_on len n r text ≡ goes_on len (n - 1) (advanced r text)
+one_more : (len n : ℕ) (r : Reading) (text : List ℕ) → 0 < n → 0 < length text
+    → read_on len n r text ≡ goes_on len (n - 1) (advanced r text)
 one_more len zero r text some more = absurd (omega (arith, some))
 one_more len (suc n) r [] some more = absurd (omega (arith, more))
 one_more len (suc n) r (c ∷ text) some more = ap (λ k. goes_on len k (advanced r (c ∷ text))) (omega arith)
@@ -42,7 +43,9 @@ at_end len (suc n) r [] is = refl
 at_end len (suc n) r (c ∷ text) is = absurd (omega (arith, is))
 
 -- The fault at which reading stops is that of the body.
-pub loop_fault : (whole : Result Expression BodyFault) (len n : ℕ) (r : Reading) (text : List ℕ) (stop : Stop) → 0 < n → 0 < length text
-    → whole ≡ read_on len n r text → IfFault stop (λ fault. advanced r text ≡ Err fault) → IfFault stop (λ fault. whole ≡ Err fault)
+pub loop_fault : (whole : Result Expression BodyFault) (len n : ℕ) (r : Reading) (text : List ℕ) (stop : Stop)
+    → 0 < n → 0 < length text
+    → whole ≡ read_on len n r text → IfFault stop (λ fault. advanced r text ≡ Err fault)
+    → IfFault stop (λ fault. whole ≡ Err fault)
 loop_fault whole len n r text Memory some more is err = tt
 loop_fault whole len n r text (Fault fault) some more is err = is ∙ at_fault len n r text fault some more err

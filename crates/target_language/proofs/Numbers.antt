@@ -24,18 +24,27 @@ right false b e = absurd (cc)
 
 some_length : (n : ℕ) → 0 < n → not (n == 0) ≡ true
 some_length n some =
-    elim (eqb_tells n 0) [ inl is ↦ (let none : n ≡ 0 = is.1 in absurd (omega (arith, none, some))) | inr other ↦ ap not other.0 ]
+    elim (eqb_tells n 0) [
+      | inl is ↦ (let none : n ≡ 0 = is.1 in absurd (omega (arith, none, some)))
+      | inr other ↦ ap not other.0
+    ]
 
 length_some : (n : ℕ) → not (n == 0) ≡ true → 0 < n
 length_some n e =
-    elim (eqb_tells n 0) [ inl is ↦ absurd (let clash : false ≡ true = sym (ap not is.0) ∙ e in cc) | inr other ↦ omega (arith, other.1) ]
+    elim (eqb_tells n 0) [
+      | inl is ↦ absurd (let clash : false ≡ true = sym (ap not is.0) ∙ e in cc)
+      | inr other ↦ omega (arith, other.1)
+    ]
 
 numeral_tells : (ds : List ℕ) → IsNumeral 10 ds → is_numeral ds ≡ true
 numeral_tells ds is = both _ _ (some_length (length ds) is.0) (own.from ds is.1)
 
 is_a_numeral : (ds : List ℕ) → is_numeral ds ≡ true → IsNumeral 10 ds
-is_a_numeral ds e =
-    (length_some (length ds) (left (not (length ds == 0)) (all_ascii_digits ds) e), own.to ds (right (not (length ds == 0)) (all_ascii_digits ds) e))
+is_a_numeral ds e = (
+  length_some (length ds) (left (not (length ds == 0)) (all_ascii_digits ds) e),
+  own.to ds
+      (right (not (length ds == 0)) (all_ascii_digits ds) e),
+)
 
 abbrev kept : ℕ → ℕ → Option (List ℕ)
 kept most n = if leb n most then Some (decimal n) else None
@@ -59,7 +68,8 @@ abbrev Writes : ℕ → List ℕ → Type 0
 Writes k bs = IsNumeral 10 (without_leading_plus bs) × (digits_value 10 (without_leading_plus bs) < 2 ^ k)
 
 -- A text that parses to a number is written plainly as that number.
-pub plain_ok : (k most n : ℕ) (bs : List ℕ) → most + 1 ≡ 2 ^ k → Writes k bs × (n ≡ digits_value 10 (without_leading_plus bs))
+pub plain_ok : (k most n : ℕ) (bs : List ℕ) → most + 1 ≡ 2 ^ k
+    → Writes k bs × (n ≡ digits_value 10 (without_leading_plus bs))
     → Some (decimal n) ≡ plain_to most bs
 plain_ok k most n bs top ((numeral, below), is) =
     let ds = without_leading_plus bs in

@@ -119,7 +119,8 @@ all_is_least (v ∷ vs) =
     record {
       below = λ w among.
           elim (among_cases v vs w among) [
-            | inl same ↦ (let P : Value → Type 0 = λ x. at_most (lesser v l) x ≡ true in rw (sym same) (lesser_left v l))
+            | inl same ↦ (let P : Value → Type 0 = λ x. at_most (lesser v l) x ≡ true in
+                rw (sym same) (lesser_left v l))
             | inr later ↦ trans (lesser v l) l w (lesser_right v l) (it.below w later)
           ];
       among = among_all v l vs (lesser_one v l) it.among;

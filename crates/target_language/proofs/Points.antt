@@ -47,6 +47,7 @@ abbrev pub Room : ℕ → Reading → Type 0
 Room d r = (d + length r.levels ≡ 128) × HasRoom d r.before r.parts
 
 -- Marks and others that begin alike.
-pub as_put : (P : Placed → List Placed → Type 0) (p q : Placed) (ms ns : List Placed) → p ∷ ms ≡ q ∷ ns → P q ns → P p ms
+pub as_put : (P : Placed → List Placed → Type 0) (p q : Placed) (ms ns : List Placed) → p ∷ ms ≡ q ∷ ns
+    → P q ns → P p ms
 as_put P p q ms ns is it =
     subst (λ x. P x ms) (sym (heads is)) (subst (λ l. P q l) (sym (tails is)) it)

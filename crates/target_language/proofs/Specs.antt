@@ -30,7 +30,8 @@ abbrev bad_at : (ℕ → Bool) → List ℕ → ℕ
 bad_at q xs = position_or_len (λ c. not (q c)) xs
 
 abbrev Tells : (ℕ → Bool) → List ℕ → Type 0
-Tells q xs = ((list_all q xs ≡ true) × (bad_at q xs ≡ length xs)) ⊎ ((list_all q xs ≡ false) × (bad_at q xs < length xs))
+Tells q xs = ((list_all q xs ≡ true) × (bad_at q xs ≡ length xs))
+    ⊎ ((list_all q xs ≡ false) × (bad_at q xs < length xs))
 
 one_later : (n : ℕ) → 1 + n ≡ suc n
 one_later n = omega arith
@@ -77,17 +78,21 @@ all_fine xs none =
 
 no_length : (xs : List ℕ) → 0 < length xs → (length xs == 0) ≡ false
 no_length xs some =
-    elim (eqb_tells (length xs) 0) [ inl is ↦ (let none : length xs ≡ 0 = is.1 in absurd (omega (arith, none, some))) | inr other ↦ other.0 ]
+    elim (eqb_tells (length xs) 0)
+    [ inl is ↦ (let none : length xs ≡ 0 = is.1 in absurd (omega (arith, none, some))) | inr other ↦ other.0 ]
 
 some_length : (xs : List ℕ) → (length xs == 0) ≡ false → 0 < length xs
 some_length xs e =
-    elim (eqb_tells (length xs) 0) [ inl is ↦ absurd (let clash : true ≡ false = sym is.0 ∙ e in cc) | inr other ↦ omega (arith, other.1) ]
+    elim (eqb_tells (length xs) 0)
+    [ inl is ↦ absurd (let clash : true ≡ false = sym is.0 ∙ e in cc) | inr other ↦ omega (arith, other.1) ]
 
 -- A triple is no expression.
-no_cfg : (xs : List ℕ) (found : Option (List ℕ)) → after_prefix (codes "cfg(") xs ≡ found → list_all is_triple_byte xs ≡ true → found ≡ None
+no_cfg : (xs : List ℕ) (found : Option (List ℕ)) → after_prefix (codes "cfg(") xs ≡ found
+    → list_all is_triple_byte xs ≡ true → found ≡ None
 no_cfg xs None is all = refl
 no_cfg xs (Some rest) is all =
-    absurd (let clash : false ≡ true = sym (ap (list_all is_triple_byte) (after_is (codes "cfg(") xs rest is)) ∙ all in cc)
+    absurd (let clash : false ≡ true =
+    sym (ap (list_all is_triple_byte) (after_is (codes "cfg(") xs rest is)) ∙ all in cc)
 
 -- Bodies are texts.
 get_own : (xs ys : List ℕ) (c : ℕ) → get_or (xs ++ (c ∷ ys)) (length xs) 0 ≡ c
@@ -98,17 +103,21 @@ pub body_utf8 : (body : List ℕ) → IsUtf8 (codes "cfg(" ++ (body ++ (41 ∷ [
 body_utf8 body utf8 =
     let whole = body ++ (41 ∷ []) in
     let inside : IsUtf8 whole =
-    byte_off 40 whole (lit< tt) (byte_off 103 (40 ∷ whole) (lit< tt) (byte_off 102 (103 ∷ 40 ∷ whole) (lit< tt) (byte_off 99 (102 ∷ 103 ∷ 40 ∷ whole) (lit< tt) utf8))) in
+    byte_off 40 whole (lit< tt)
+    (byte_off 103 (40 ∷ whole) (lit< tt)
+    (byte_off 102 (103 ∷ 40 ∷ whole) (lit< tt) (byte_off 99 (102 ∷ 103 ∷ 40 ∷ whole) (lit< tt) utf8))) in
     let size : length whole ≡ length body + 1 = length-append body (41 ∷ []) in
     let below : length body < length whole = omega (arith, size) in
     let small : get_or whole (length body) 0 < 128 = subst (λ n. n < 128) (sym (get_own body [] 41)) (lit< tt) in
-    subst IsUtf8 (take_own body (41 ∷ [])) (IsUtf8-take whole (length body) inside (IsCharBoundary-before_ascii whole (length body) below small))
+    subst IsUtf8 (take_own body (41 ∷ []))
+    (IsUtf8-take whole (length body) inside (IsCharBoundary-before_ascii whole (length body) below small))
 
 -- What is written is read.
 triple_read : (xs : List ℕ) → 0 < length xs → list_all is_triple_byte xs ≡ true → spec_in xs ≡ Ok (OfTriple xs)
 triple_read xs some all =
     ap (spec_behind xs) (no_cfg xs (after_prefix (codes "cfg(") xs) refl all)
-    ∙ ap (λ b. if b then (let r : Read = Err (text_fault EmptyText 0 0 None) in r) else triple_but xs (first_bad xs)) (no_length xs some)
+    ∙ ap (λ b. if b then (let r : Read = Err (text_fault EmptyText 0 0 None) in r) else triple_but xs
+    (first_bad xs)) (no_length xs some)
     ∙ ap (triple_but xs) (none_bad xs all)
 
 pub spec_is_read : (text : List ℕ) (s : Spec) → IsUtf8 text → IsSpec text s → spec_in text ≡ Ok s
@@ -122,18 +131,21 @@ spec_is_read text (OfExpression e) utf8 (body, is, writes) =
     ∙ ap (result_map_both OfExpression (in_text (length text))) read
 
 -- What is read is written.
-by_bad : (text : List ℕ) (s : Spec) (found : Option ℕ) → first_bad text ≡ found → 0 < length text → triple_but text found ≡ Ok s → IsSpec text s
+by_bad : (text : List ℕ) (s : Spec) (found : Option ℕ) → first_bad text ≡ found → 0 < length text
+    → triple_but text found ≡ Ok s → IsSpec text s
 by_bad text s (Some at) is some e = absurd (cc)
 by_bad text s None is some e =
     let same : OfTriple text ≡ s = cc in
     subst (IsSpec text) same (refl, some, all_fine text is)
 
 by_length : (text : List ℕ) (s : Spec) (b : Bool) → (length text == 0) ≡ b
-    → (if b then (let r : Read = Err (text_fault EmptyText 0 0 None) in r) else triple_but text (first_bad text)) ≡ Ok s → IsSpec text s
+    → (if b then (let r : Read = Err (text_fault EmptyText 0 0 None) in r) else triple_but text
+    (first_bad text)) ≡ Ok s → IsSpec text s
 by_length text s true is e = absurd (cc)
 by_length text s false is e = by_bad text s (first_bad text) refl (some_length text is) e
 
-by_read : (text body : List ℕ) (s : Spec) (found : Result Expression BodyFault) → IsUtf8 text → text ≡ codes "cfg(" ++ (body ++ (41 ∷ []))
+by_read : (text body : List ℕ) (s : Spec) (found : Result Expression BodyFault) → IsUtf8 text
+    → text ≡ codes "cfg(" ++ (body ++ (41 ∷ []))
     → read_body body ≡ found → result_map_both OfExpression (in_text (length text)) found ≡ Ok s → IsSpec text s
 by_read text body s (Err fault) utf8 shape is e = absurd (cc)
 by_read text body s (Ok x) utf8 shape is e =
@@ -146,7 +158,8 @@ by_close text inside s None utf8 shape is e = absurd (cc)
 by_close text inside s (Some body) utf8 shape is e =
     by_read text body s (read_body body) utf8 (shape ∙ ap (λ l. codes "cfg(" ++ l) (front_is inside body is)) refl e
 
-by_cfg : (text : List ℕ) (s : Spec) (found : Option (List ℕ)) → IsUtf8 text → after_prefix (codes "cfg(") text ≡ found → spec_behind text found ≡ Ok s → IsSpec text s
+by_cfg : (text : List ℕ) (s : Spec) (found : Option (List ℕ)) → IsUtf8 text
+    → after_prefix (codes "cfg(") text ≡ found → spec_behind text found ≡ Ok s → IsSpec text s
 by_cfg text s None utf8 is e = by_length text s (length text == 0) refl e
 by_cfg text s (Some inside) utf8 is e =
     by_close text inside s (before_close inside) utf8 (after_is (codes "cfg(") text inside is) refl e
@@ -168,7 +181,8 @@ pub answers_none : (text : List ℕ) (found : Result TargetSpec TargetSpecError)
     → IfErr found (λ error. IfRefused error (λ fault. (s : Spec) → IsSpec text s → ⊥))
 answers_none text (Ok spec) utf8 is = tt
 answers_none text (Err Memory) utf8 is = tt
-answers_none text (Err (Refused fault)) utf8 is = λ s writes. (let clash : read_spec s ≡ Err fault = sym (spec_is_read text s utf8 writes) ∙ is in cc)
+answers_none text (Err (Refused fault)) utf8 is =
+    λ s writes. (let clash : read_spec s ≡ Err fault = sym (spec_is_read text s utf8 writes) ∙ is in cc)
 
 -- A text writes one spec at most.
 pub one_spec : (text : List ℕ) → IsUtf8 text → (s t : Spec) → IsSpec text s → IsSpec text t → s ≡ t

@@ -43,6 +43,8 @@ known text (Some x) is = sym (ap before_close is ∙ own_front x.now)
 
 -- What `strip_suffix` gives.
 pub stripped : (text : List ℕ) (found : Option (Bor (List ℕ)))
-    → MatchOption found (FindsCharSuffix 41 text None) (λ x. (n : ℕ) × FindsCharSuffix 41 text (Some n) × (x.now ≡ take (length text - n) text) × (length x.now + n ≡ length text))
+    → MatchOption found (FindsCharSuffix 41 text None)
+    (λ x. (n : ℕ) × FindsCharSuffix 41 text (Some n) × (x.now ≡ take (length text - n) text)
+    × (length x.now + n ≡ length text))
     → option_map (λ front. front.now) found ≡ before_close text
 stripped text found is = known text found (strip_suffix_char 41 text found is (lit< tt))

@@ -41,19 +41,23 @@ second false b e = absurd (cc)
 abbrev Parted : (ℕ → Bool) → ℕ → List ℕ → Type 0
 Parted p n text = (list_all p (take n text) ≡ true) × Stops p (drop n text)
 
-by_first : (p : ℕ → Bool) (c : ℕ) (text : List ℕ) (b : Bool) → p c ≡ b → Parted p (len p text) text → Parted p (len p (c ∷ text)) (c ∷ text)
-by_first p c text true is known = subst (λ n. Parted p n (c ∷ text)) (sym (len_true p c text is)) (both _ _ is known.0, known.1)
+by_first : (p : ℕ → Bool) (c : ℕ) (text : List ℕ) (b : Bool) → p c ≡ b → Parted p (len p text) text
+    → Parted p (len p (c ∷ text)) (c ∷ text)
+by_first p c text true is known =
+    subst (λ n. Parted p n (c ∷ text)) (sym (len_true p c text is)) (both _ _ is known.0, known.1)
 by_first p c text false is known = subst (λ n. Parted p n (c ∷ text)) (sym (len_false p c text is)) (refl, is)
 
 parted : (p : ℕ → Bool) (text : List ℕ) → Parted p (len p text) text
 parted p [] = (refl, tt)
 parted p (c ∷ text) = by_first p c text (p c) refl (parted p text)
 
-own_len : (p : ℕ → Bool) (word rest : List ℕ) → list_all p word ≡ true → Stops p rest → len p (word ++ rest) ≡ length word
+own_len : (p : ℕ → Bool) (word rest : List ℕ) → list_all p word ≡ true → Stops p rest
+    → len p (word ++ rest) ≡ length word
 own_len p [] [] all stops = refl
 own_len p [] (c ∷ rest) all stops = len_false p c rest stops
 own_len p (c ∷ word) rest all stops =
-    len_true p c (word ++ rest) (first (p c) (list_all p word) all) ∙ ap suc (own_len p word rest (second (p c) (list_all p word) all) stops)
+    len_true p c (word ++ rest) (first (p c) (list_all p word) all)
+    ∙ ap suc (own_len p word rest (second (p c) (list_all p word) all) stops)
 
 pub take_own : (word rest : List ℕ) → take (length word) (word ++ rest) ≡ word
 take_own [] rest = refl
@@ -79,7 +83,8 @@ stops (c ∷ rest) it = it
 pub word_stops : (text : List ℕ) → EndsWord (drop (word_len text) text)
 word_stops text = ends (drop (word_len text) text) (parted is_word_byte text).1
 
-pub own_word_len : (word rest : List ℕ) → list_all is_word_byte word ≡ true → EndsWord rest → word_len (word ++ rest) ≡ length word
+pub own_word_len : (word rest : List ℕ) → list_all is_word_byte word ≡ true → EndsWord rest
+    → word_len (word ++ rest) ≡ length word
 own_word_len word rest all it = own_len is_word_byte word rest all (stops rest it)
 
 pub longer : (c : ℕ) (text : List ℕ) → is_word_byte c ≡ true → word_len (c ∷ text) ≡ suc (word_len text)
@@ -101,18 +106,21 @@ rest_by p ascii c text true is known utf8 =
     subst (λ n. IsUtf8 (drop n (c ∷ text))) (sym (len_true p c text is)) (known (byte_off c text (ascii c is) utf8))
 rest_by p ascii c text false is known utf8 = subst (λ n. IsUtf8 (drop n (c ∷ text))) (sym (len_false p c text is)) utf8
 
-rest_of : (p : ℕ → Bool) → ((c : ℕ) → p c ≡ true → c < 128) → (text : List ℕ) → IsUtf8 text → IsUtf8 (drop (len p text) text)
+rest_of : (p : ℕ → Bool) → ((c : ℕ) → p c ≡ true → c < 128) → (text : List ℕ) → IsUtf8 text
+    → IsUtf8 (drop (len p text) text)
 rest_of p ascii [] utf8 = utf8
 rest_of p ascii (c ∷ text) utf8 = rest_by p ascii c text (p c) refl (rest_of p ascii text) utf8
 
 -- A text may be cut behind its word.
 pub cut_at_word : (text : List ℕ) → IsUtf8 text → IsCharBoundary text (word_len text)
 cut_at_word text utf8 =
-    IsCharBoundary-from_drop text (word_len text) (prefix_len-le-length (λ x. not (not (is_word_byte x))) text) (rest_of is_word_byte word_ascii text utf8)
+    IsCharBoundary-from_drop text (word_len text)
+    (prefix_len-le-length (λ x. not (not (is_word_byte x))) text) (rest_of is_word_byte word_ascii text utf8)
 
 at_most : (n l : ℕ) (b : Bool) → ltb n l ≡ b → n ≤ l → unwrap_or (cond b (Some n) None) l ≡ n
 at_most n l true is below = refl
 at_most n l false is below = let other : l ≤ n = ltb-false n l is in omega (arith, other, below)
 
 pub word_ends : (text : List ℕ) → unwrap_or (position (λ c. not (is_word_byte c)) text) (length text) ≡ word_len text
-word_ends text = at_most (word_len text) (length text) (ltb (word_len text) (length text)) refl (prefix_len-le-length (λ x. not (not (is_word_byte x))) text)
+word_ends text = at_most (word_len text) (length text) (ltb (word_len text) (length text)) refl
+    (prefix_len-le-length (λ x. not (not (is_word_byte x))) text)

@@ -58,7 +58,8 @@ name_of key = record { key = key; value = None }
 abbrev pub leaf_value : PlatformData → Leaf → Option Bool
 leaf_value platform (Has line) = Some (has platform line)
 leaf_value platform (Feature name) =
-    if platform.features_given then Some (has platform (line_of (codes "target_feature") name)) else None
+    if platform.features_given then Some (has platform (line_of (codes "target_feature") name))
+    else None
 leaf_value platform Nowhere = Some false
 
 -- what an expression says of a platform

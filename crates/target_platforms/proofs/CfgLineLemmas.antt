@@ -22,7 +22,8 @@ word_no_equals [] word i inside equals = false≢true word
 word_no_equals (first ∷ rest) word zero inside equals =
     false≢true (ap starts_word (sym equals) ∙ (and_parts (starts_word first) _ word).0)
 word_no_equals (first ∷ rest) word (suc i) inside equals =
-    let no : list_all continues_word rest ≡ false = list_all_at continues_word rest i 0 (omega arith) (ap continues_word equals) in
+    let no : list_all continues_word rest ≡ false =
+    list_all_at continues_word rest i 0 (omega arith) (ap continues_word equals) in
     false≢true (sym no ∙ (and_parts (starts_word first) _ word).1)
 
 equals_at : (key rest : List ℕ) → get_or (key ++ (61 ∷ rest)) (length key) 0 ≡ 61
@@ -40,10 +41,12 @@ abbrev CutOf : List ℕ → Option (List ℕ) → Option (Bor (List ℕ) × Bor 
 CutOf key value cut = MatchOption cut (value ≡ None)
     (λ parts. (parts.0.now ≡ key) × ((v : List ℕ) × (value ≡ Some v) × (parts.1.now ≡ quoted v)))
 
-cut_of : (key : List ℕ) (value : Option (List ℕ)) (text : List ℕ) (cut : Option (Bor (List ℕ) × Bor (List ℕ))) → IsSplitOnceResult 61 text cut → is_word key ≡ true → text ≡ spelling_of key value → CutOf key value cut
+cut_of : (key : List ℕ) (value : Option (List ℕ)) (text : List ℕ) (cut : Option (Bor (List ℕ) × Bor (List ℕ)))
+    → IsSplitOnceResult 61 text cut → is_word key ≡ true → text ≡ spelling_of key value → CutOf key value cut
 cut_of key None text None split word spelled = refl
 cut_of key None text (Some parts) split word spelled =
-    absurd (no_word parts.0.now parts.1.now text (split_parts 61 text (Some parts) split (lit< tt)).0 (subst (λ t. is_word t ≡ true) (sym spelled) word))
+    absurd (no_word parts.0.now parts.1.now text (split_parts 61 text (Some parts) split (lit< tt)).0
+    (subst (λ t. is_word t ≡ true) (sym spelled) word))
 cut_of key (Some value) text None split word spelled =
     absurd (split_after 61 text key (quoted value) None split (lit< tt) spelled (word_no_equals key word))
 cut_of key (Some value) text (Some parts) split word spelled =
@@ -56,23 +59,28 @@ no_line_name text split bad line written =
     let same : text ≡ line.key = written.1 ∙ ap (spelling_of line.key) none in
     false≢true (sym bad ∙ ap is_word same ∙ written.0)
 
-pub no_line_key : (text : List ℕ) (parts : Bor (List ℕ) × Bor (List ℕ)) → IsSplitOnceResult 61 text (Some parts) → is_word parts.0.now ≡ false → IsNoLine text
+pub no_line_key : (text : List ℕ) (parts : Bor (List ℕ) × Bor (List ℕ))
+    → IsSplitOnceResult 61 text (Some parts) → is_word parts.0.now ≡ false → IsNoLine text
 no_line_key text parts split bad line written =
     let cut = cut_of line.key line.value text (Some parts) split written.0 written.1 in
     false≢true (sym bad ∙ ap is_word cut.0 ∙ written.0)
 
-pub no_line_value : (text : List ℕ) (parts : Bor (List ℕ) × Bor (List ℕ)) → IsSplitOnceResult 61 text (Some parts) → ((value : List ℕ) → parts.1.now ≢ quoted value) → IsNoLine text
+pub no_line_value : (text : List ℕ) (parts : Bor (List ℕ) × Bor (List ℕ))
+    → IsSplitOnceResult 61 text (Some parts) → ((value : List ℕ) → parts.1.now ≢ quoted value) → IsNoLine text
 no_line_value text parts split bad line written =
     let cut = cut_of line.key line.value text (Some parts) split written.0 written.1 in
     bad cut.1.0 cut.1.2
 
-pub writes_value : (text : List ℕ) (parts : Bor (List ℕ) × Bor (List ℕ)) (value : Bor (List ℕ)) → IsSplitOnceResult 61 text (Some parts) → is_word parts.0.now ≡ true → parts.1.now ≡ quoted value.now → WritesLine text (line_of parts.0.now (Some value))
+pub writes_value : (text : List ℕ) (parts : Bor (List ℕ) × Bor (List ℕ)) (value : Bor (List ℕ))
+    → IsSplitOnceResult 61 text (Some parts) → is_word parts.0.now ≡ true → parts.1.now ≡ quoted value.now
+    → WritesLine text (line_of parts.0.now (Some value))
 writes_value text parts value split word behind =
     (word, (split_parts 61 text (Some parts) split (lit< tt)).0 ∙ ap (λ rest. parts.0.now ++ (61 ∷ rest)) behind)
 
 -- ---- lines are told apart by how they are printed
 
-same_cut : (xs ys a b : List ℕ) → HasNoEquals xs → HasNoEquals ys → xs ++ (61 ∷ a) ≡ ys ++ (61 ∷ b) → (xs ≡ ys) × (a ≡ b)
+same_cut : (xs ys a b : List ℕ) → HasNoEquals xs → HasNoEquals ys → xs ++ (61 ∷ a) ≡ ys ++ (61 ∷ b)
+    → (xs ≡ ys) × (a ≡ b)
 same_cut [] [] a b p q e = (refl, cc)
 same_cut [] (y ∷ ys) a b p q e =
     let first : y ≡ 61 = cc in
@@ -87,7 +95,9 @@ same_cut (x ∷ xs) (y ∷ ys) a b p q e =
     let fronts = same.0 in
     (cc, same.1)
 
-same_parts : (key : List ℕ) (value : Option (List ℕ)) (key' : List ℕ) (value' : Option (List ℕ)) → is_word key ≡ true → is_word key' ≡ true → spelling_of key value ≡ spelling_of key' value' → (key ≡ key') × (value ≡ value')
+same_parts : (key : List ℕ) (value : Option (List ℕ)) (key' : List ℕ) (value' : Option (List ℕ))
+    → is_word key ≡ true → is_word key' ≡ true → spelling_of key value ≡ spelling_of key' value'
+    → (key ≡ key') × (value ≡ value')
 same_parts key None key' None word word' e = (e, refl)
 same_parts key None key' (Some v') word word' e = absurd (no_word key' (quoted v') key e word)
 same_parts key (Some v) key' None word word' e = absurd (no_word key (quoted v) key' (sym e) word')
@@ -110,7 +120,8 @@ same_lines (x ∷ xs) (y ∷ ys) p q e =
     let spelled : spelling x ≡ spelling y = cc in
     let rest : map spelling xs ≡ map spelling ys = cc in
     let first : x ≡ y = same_line x y (p 0 x (omega arith)) (q 0 y (omega arith)) spelled in
-    let others : xs ≡ ys = same_lines xs ys (λ k d l. p (suc k) d (omega arith)) (λ k d l. q (suc k) d (omega arith)) rest in
+    let others : xs ≡ ys = same_lines xs ys (λ k d l. p (suc k) d (omega arith))
+    (λ k d l. q (suc k) d (omega arith)) rest in
     cc
 
 -- Texts write one list of lines at most.
@@ -132,7 +143,9 @@ one_word : (line : Line) → HasWord line → All HasWord (line ∷ [])
 one_word line word zero d l = word
 one_word line word (suc k) d l = absurd (omega arith)
 
-pub WritesLines-line : (texts : List (List ℕ)) (lines : List Line) (text : List ℕ) (line : Line) → WritesLines texts lines → (length text == 0) ≡ false → WritesLine text line → WritesLines (texts ++ (text ∷ [])) (lines ++ (line ∷ []))
+pub WritesLines-line : (texts : List (List ℕ)) (lines : List Line) (text : List ℕ) (line : Line)
+    → WritesLines texts lines → (length text == 0) ≡ false → WritesLine text line
+    → WritesLines (texts ++ (text ∷ [])) (lines ++ (line ∷ []))
 WritesLines-line texts lines text line so_far some written = record {
   words = All-append HasWord lines (line ∷ []) so_far.words (one_word line written.0);
   spelled =
@@ -142,7 +155,8 @@ WritesLines-line texts lines text line so_far some written = record {
       ∙ sym (map-append spelling lines (line ∷ []));
 }
 
-pub WritesLines-empty : (texts : List (List ℕ)) (lines : List Line) (text : List ℕ) → WritesLines texts lines → (length text == 0) ≡ true → WritesLines (texts ++ (text ∷ [])) lines
+pub WritesLines-empty : (texts : List (List ℕ)) (lines : List Line) (text : List ℕ) → WritesLines texts lines
+    → (length text == 0) ≡ true → WritesLines (texts ++ (text ∷ [])) lines
 WritesLines-empty texts lines text so_far none = record {
   words = so_far.words;
   spelled =
@@ -158,7 +172,8 @@ WritesLines-empty texts lines text so_far none = record {
 abbrev pub texts_at : List (Bor (List ℕ)) → List (List ℕ)
 texts_at = map (λ text. text.now)
 
-text_at : (texts : List (Bor (List ℕ))) (i : ℕ) (d : Bor (List ℕ)) → i < length texts → get_or (texts_at texts) i [] ≡ (get_or texts i d).now
+text_at : (texts : List (Bor (List ℕ))) (i : ℕ) (d : Bor (List ℕ)) → i < length texts
+    → get_or (texts_at texts) i [] ≡ (get_or texts i d).now
 text_at [] i d inside = absurd (omega arith)
 text_at (x ∷ xs) zero d inside = refl
 text_at (x ∷ xs) (suc i) d inside = text_at xs i d (omega arith)
@@ -167,7 +182,8 @@ pub length-texts : (texts : List (Bor (List ℕ))) → length (texts_at texts) �
 length-texts [] = refl
 length-texts (x ∷ xs) = ap suc (length-texts xs)
 
-next_texts : (texts : List (Bor (List ℕ))) (i : ℕ) (d : Bor (List ℕ)) → i < length texts → take (i + 1) (texts_at texts) ≡ take i (texts_at texts) ++ ((get_or texts i d).now ∷ [])
+next_texts : (texts : List (Bor (List ℕ))) (i : ℕ) (d : Bor (List ℕ)) → i < length texts
+    → take (i + 1) (texts_at texts) ≡ take i (texts_at texts) ++ ((get_or texts i d).now ∷ [])
 next_texts texts i d inside =
     let within : i < length (texts_at texts) = omega (arith, length-texts texts) in
     take_more (texts_at texts) i [] within
@@ -177,17 +193,25 @@ pub WritesLines-none : (texts : List (List ℕ)) (lines : List Line) → lines �
 WritesLines-none texts lines none =
     subst (WritesLines (take 0 texts)) (sym none) (record { words = λ k d l. absurd (omega arith); spelled = refl })
 
-pub WritesLines-more : (texts : List (Bor (List ℕ))) (i : ℕ) (d : Bor (List ℕ)) (lines : List Line) (line : Line) → i < length texts → WritesLines (take i (texts_at texts)) lines → (length (get_or texts i d).now == 0) ≡ false → WritesLine (get_or texts i d).now line → WritesLines (take (i + 1) (texts_at texts)) (lines ++ (line ∷ []))
+pub WritesLines-more : (texts : List (Bor (List ℕ))) (i : ℕ) (d : Bor (List ℕ)) (lines : List Line)
+    (line : Line) → i < length texts → WritesLines (take i (texts_at texts)) lines
+    → (length (get_or texts i d).now == 0) ≡ false → WritesLine (get_or texts i d).now line
+    → WritesLines (take (i + 1) (texts_at texts)) (lines ++ (line ∷ []))
 WritesLines-more texts i d lines line inside so_far some written =
     subst (λ front. WritesLines front (lines ++ (line ∷ []))) (sym (next_texts texts i d inside))
     (WritesLines-line (take i (texts_at texts)) lines (get_or texts i d).now line so_far some written)
 
-pub WritesLines-same : (texts : List (Bor (List ℕ))) (i : ℕ) (d : Bor (List ℕ)) (lines : List Line) → i < length texts → WritesLines (take i (texts_at texts)) lines → (length (get_or texts i d).now == 0) ≡ true → WritesLines (take (i + 1) (texts_at texts)) lines
+pub WritesLines-same : (texts : List (Bor (List ℕ))) (i : ℕ) (d : Bor (List ℕ)) (lines : List Line)
+    → i < length texts → WritesLines (take i (texts_at texts)) lines
+    → (length (get_or texts i d).now == 0) ≡ true → WritesLines (take (i + 1) (texts_at texts)) lines
 WritesLines-same texts i d lines inside so_far none =
     subst (λ front. WritesLines front lines) (sym (next_texts texts i d inside))
     (WritesLines-empty (take i (texts_at texts)) lines (get_or texts i d).now so_far none)
 
-pub first_bad : (texts : List (Bor (List ℕ))) (i : ℕ) (d : Bor (List ℕ)) (lines : List Line) → i < length texts → WritesLines (take i (texts_at texts)) lines → (length (get_or texts i d).now == 0) ≡ false → IsNoLine (get_or texts i d).now → IsFirstBad (texts_at texts) (i + 1)
+pub first_bad : (texts : List (Bor (List ℕ))) (i : ℕ) (d : Bor (List ℕ)) (lines : List Line)
+    → i < length texts → WritesLines (take i (texts_at texts)) lines
+    → (length (get_or texts i d).now == 0) ≡ false → IsNoLine (get_or texts i d).now
+    → IsFirstBad (texts_at texts) (i + 1)
 first_bad texts i d lines inside so_far some bad =
     let all = texts_at texts in
     let within : i < length all = omega (arith, length-texts texts) in
@@ -195,7 +219,9 @@ first_bad texts i d lines inside so_far some bad =
       before = take i all;
       bad = (get_or texts i d).now;
       after = drop (suc i) all;
-      stands = sym (take-append-drop i all) ∙ ap (λ rest. take i all ++ rest) (drop-cons all i [] within ∙ ap (λ text. text ∷ drop (suc i) all) (text_at texts i d inside));
+      stands = sym (take-append-drop i all)
+          ∙ ap (λ rest. take i all ++ rest)
+          (drop-cons all i [] within ∙ ap (λ text. text ∷ drop (suc i) all) (text_at texts i d inside));
       counted = ap (λ n. n + 1) (sym (length-take-le i all (omega arith)));
       read = lines;
       good = so_far;

@@ -27,13 +27,15 @@ less Less is = refl
 less Equal is = absurd (true≢false (sym is))
 less Greater is = absurd (true≢false (sym is))
 
-adjacent : (texts : List (List ℕ)) (d : List ℕ) → rises texts ≡ true → (k : ℕ) → k + 1 < length texts → compare (get_or texts k d) (get_or texts (k + 1) d) ≡ Less
+adjacent : (texts : List (List ℕ)) (d : List ℕ) → rises texts ≡ true → (k : ℕ) → k + 1 < length texts
+    → compare (get_or texts k d) (get_or texts (k + 1) d) ≡ Less
 unfolding rises
 adjacent [] d is k inside = let no : ⊥ = omega arith in absurd no
 adjacent (x ∷ []) d is k inside = let no : ⊥ = omega arith in absurd no
 adjacent (x ∷ y ∷ texts) d is zero inside = less _ (and_parts (is_lt (compare x y)) _ is).0
 adjacent (x ∷ y ∷ texts) d is (suc k) inside =
-    subst (λ n. compare (get_or (y ∷ texts) k d) (get_or (x ∷ y ∷ texts) n d) ≡ Less) {x = suc (k + 1)} {y = suc k + 1} (omega arith)
+    subst (λ n. compare (get_or (y ∷ texts) k d) (get_or (x ∷ y ∷ texts) n d) ≡ Less) {x = suc (k + 1)}
+    {y = suc k + 1} (omega arith)
     (adjacent (y ∷ texts) d (and_parts (is_lt (compare x y)) _ is).1 k (omega arith))
 
 targets_rise : rises (map (λ row. row.triple) targets) ≡ true
@@ -58,8 +60,10 @@ found (first ∷ rows) rise row (suc k, inside, is) =
     get_or-map (λ row. row.triple) rows k row row.triple (omega arith) ∙ ap (λ row. row.triple) is in
     let before : compare first.triple row.triple ≡ Less =
     subst (λ t. compare first.triple t ≡ Less) there
-    (Less-from_sorted compare (map (λ row. row.triple) (first ∷ rows)) 0 (suc k) row.triple rise (omega arith) (omega (arith, length-map rows (λ row. row.triple)))) in
-    rw (differs first.triple row.triple before) (found rows (sorted_tail compare first.triple (map (λ row. row.triple) rows) rise) row (k, omega arith, is))
+    (Less-from_sorted compare (map (λ row. row.triple) (first ∷ rows)) 0 (suc k) row.triple rise (omega arith)
+    (omega (arith, length-map rows (λ row. row.triple)))) in
+    rw (differs first.triple row.triple before)
+    (found rows (sorted_tail compare first.triple (map (λ row. row.triple) rows) rise) row (k, omega arith, is))
 
 pub rows_are_found : RowsAreFound targets
 rows_are_found = found targets triples_rise

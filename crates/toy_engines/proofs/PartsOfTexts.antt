@@ -18,15 +18,22 @@ after_is [] text rest e = cc
 after_is (c ∷ prefix) [] rest e = absurd (cc)
 after_is (c ∷ prefix) (d ∷ text) rest e =
     elim (eqb_tells c d) [
-      | inl same ↦ (let behind : text ≡ prefix ++ rest = after_is prefix text rest (rw same.0 at e) in let first : c ≡ d = same.1 in cc)
+      | inl same ↦ (let behind : text ≡ prefix ++ rest = after_is prefix text rest (rw same.0 at e) in
+          let first : c ≡ d = same.1 in cc)
       | inr other ↦ absurd (let none : None ≡ Some rest = rw other.0 at e in cc)
     ]
 
 -- A text that is no prefix and a rest has nothing after the prefix.
-pub after_none : (prefix text : List ℕ) → ((rest : List ℕ) → text ≡ prefix ++ rest → ⊥) → after_prefix prefix text ≡ None
+pub after_none : (prefix text : List ℕ) → ((rest : List ℕ) → text ≡ prefix ++ rest → ⊥)
+    → after_prefix prefix text ≡ None
 after_none prefix text none =
     let P : Option (List ℕ) → Type 0 = λ found. after_prefix prefix text ≡ found → found ≡ None in
-    let cases : (found : Option (List ℕ)) → P found = λ found. elim found as P [ None ↦ (λ e. refl) | Some rest ↦ (λ e. absurd (none rest (after_is prefix text rest e))) ] in
+    let cases : (found : Option (List ℕ)) → P found =
+    λ found. elim found as P [
+      | None ↦ (λ e. refl)
+      | Some rest ↦
+          (λ e. absurd (none rest (after_is prefix text rest e)))
+    ] in
     cases (after_prefix prefix text) refl
 
 -- What `strip_prefix` gives.
@@ -54,13 +61,15 @@ has_part_between part (c ∷ before) behind =
     rw (has_part_between part before behind) (or_true (is_some (after_prefix part (c ∷ (before ++ (part ++ behind))))))
 
 -- A text that a part begins has it in front of a rest.
-begins : (part text : List ℕ) (found : Option (List ℕ)) → after_prefix part text ≡ found → is_some found ≡ true → HasSubslice text part
+begins : (part text : List ℕ) (found : Option (List ℕ)) → after_prefix part text ≡ found
+    → is_some found ≡ true → HasSubslice text part
 begins part text None e is = absurd (cc)
 begins part text (Some rest) e _ = ([], rest, after_is part text rest e)
 
 -- What is found in a text with one more byte in front stands at its front or further on.
 stands_on : (part text : List ℕ) (c : ℕ) (first : Bool) → is_some (after_prefix part (c ∷ text)) ≡ first
-    → (has_part part text ≡ true → HasSubslice text part) → (first || has_part part text) ≡ true → HasSubslice (c ∷ text) part
+    → (has_part part text ≡ true → HasSubslice text part) → (first || has_part part text) ≡ true
+    → HasSubslice (c ∷ text) part
 stands_on part text c true is further e = begins part (c ∷ text) _ refl is
 stands_on part text c false is further e = let found = further e in (c ∷ found.0, found.1, ap (λ l. c ∷ l) found.2)
 
@@ -76,7 +85,8 @@ same_answer false true forth back = back refl
 same_answer false false forth back = refl
 
 -- What `contains` answers.
-pub contains_is : (part text : List ℕ) (found : Bool) → MatchBool found (HasMatch (FindsText part) text) (FindsText part text None) → found ≡ has_part part text
+pub contains_is : (part text : List ℕ) (found : Bool)
+    → MatchBool found (HasMatch (FindsText part) text) (FindsText part text None) → found ≡ has_part part text
 contains_is part text found h =
     let known = contains_text found part text h in
     same_answer found (has_part part text)

@@ -7,7 +7,8 @@ use Rattle.filter_language.proofs.evaluation.value_of.Goals as goal
 
 pub loop-mark-preserved : goal.loop-mark-preserved
 loop-mark-preserved g c =
-    one_more (answer g.E.Matchers.accepts (subject_view c.args.subject)) (mark_view g.E.Matchers.meaning) (stack_view c.loop-mark.levels) (stack_view c.add.new.self)
+    one_more (answer g.E.Matchers.accepts (subject_view c.args.subject)) (mark_view g.E.Matchers.meaning)
+    (stack_view c.loop-mark.levels) (stack_view c.add.new.self)
     c.args.marks.now c.loop-mark.mark-index c.mark-item.result c.loop-mark-test.true c.mark-item.is c.add.ensures
     ∙ c.loop-mark.invariant
 
@@ -15,5 +16,6 @@ pub returns : goal.returns
 returns g c =
     c.value.ensures
     ∙ ap (λ (s : Stack). said s.inner)
-    (none_left (answer g.E.Matchers.accepts (subject_view c.args.subject)) (mark_view g.E.Matchers.meaning) (stack_view c.loop-mark.levels) _ c.args.marks.now c.loop-mark.mark-index
+    (none_left (answer g.E.Matchers.accepts (subject_view c.args.subject)) (mark_view g.E.Matchers.meaning)
+    (stack_view c.loop-mark.levels) _ c.args.marks.now c.loop-mark.mark-index
     c.loop-mark-test.false c.loop-mark.auto.mark-index-end c.loop-mark.invariant)

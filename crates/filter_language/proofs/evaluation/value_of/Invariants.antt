@@ -6,5 +6,7 @@ use Rattle.filter_language.proofs.evaluation.value_of.Given as goal
 
 abbrev pub invariant-loop-mark : goal.invariant-loop-mark
 invariant-loop-mark g l =
-    with_marks (answer g.E.Matchers.accepts (subject_view l.subject)) (stack_view l.levels) (map (mark_view g.E.Matchers.meaning) (drop l.mark-index l.marks))
-    ≡ with_marks (answer g.E.Matchers.accepts (subject_view l.subject)) (record { inner = fresh; outer = [] }) (map (mark_view g.E.Matchers.meaning) l.marks)
+    with_marks (answer g.E.Matchers.accepts (subject_view l.subject)) (stack_view l.levels)
+    (map (mark_view g.E.Matchers.meaning) (drop l.mark-index l.marks))
+    ≡ with_marks (answer g.E.Matchers.accepts (subject_view l.subject)) (record { inner = fresh; outer = [] })
+    (map (mark_view g.E.Matchers.meaning) l.marks)

@@ -13,10 +13,14 @@ copy_members-loop-key-preserved t c =
     let done = l.invariant.0 in
     let e : Entry = (c.in-Some.key.now, c.in-Some.member.now) in
     let left = c.next.new.self in
-    let all : c.args.members.now.entries ≡ done ++ e ∷ left = l.invariant.1 ∙ ap (λ es. done ++ es) c.in-Some.ensures.steps in
-    let last = put_last done e left (subst (λ es. IsStrictlySortedBy string_cmp (keys_of es)) all c.iter-key-items.ensures.ordered) in
+    let all : c.args.members.now.entries ≡ done ++ e ∷ left =
+    l.invariant.1 ∙ ap (λ es. done ++ es) c.in-Some.ensures.steps in
+    let last = put_last done e left
+    (subst (λ es. IsStrictlySortedBy string_cmp (keys_of es)) all c.iter-key-items.ensures.ordered) in
     let named : string_bytes c.in_ok-name.name ≡ string_bytes e.0 = c.in_ok-name.ensures.cases in (
       done ++ e ∷ [],
       all ∙ sym (append_assoc done (e ∷ []) left),
-      ap entries_view c.in_ok-insert.ensures.entries ∙ members-insert_entry l.copies.entries c.in_ok-name.name c.in_ok-copy_tree.field-0 ∙ rw (named, c.in_ok-copy_tree.ensures, l.invariant.2) last,
+      ap entries_view c.in_ok-insert.ensures.entries
+          ∙ members-insert_entry l.copies.entries c.in_ok-name.name c.in_ok-copy_tree.field-0
+          ∙ rw (named, c.in_ok-copy_tree.ensures, l.invariant.2) last,
     )

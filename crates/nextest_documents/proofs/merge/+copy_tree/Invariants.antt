@@ -8,4 +8,5 @@ invariant-copy_items-loop-item l = map tree_view l.copies.items ≡ map tree_vie
 
 abbrev pub invariant-copy_members-loop-key : goal.invariant-copy_members-loop-key
 invariant-copy_members-loop-key l =
-    (done : List Entry) × (l.members.entries ≡ done ++ l.key-iterator) × (entries_view l.copies.entries ≡ entries_view done)
+    (done : List Entry) × (l.members.entries ≡ done ++ l.key-iterator)
+    × (entries_view l.copies.entries ≡ entries_view done)

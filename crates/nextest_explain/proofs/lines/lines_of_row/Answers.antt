@@ -10,9 +10,11 @@ use Rattle.nextest_explain.proofs.lines.lines_of_row.Goals as goal
 pub loop-setting-preserved : goal.loop-setting-preserved
 unfolding settings
 loop-setting-preserved c =
-    lines_more (line_of c.args.places (row_view c.args.row.now)) settings c.loop-setting.setting-index _ _ c.loop-setting-test.true refl _ _ c.loop-setting.invariant c.in_ok-add_line.ensures
+    lines_more (line_of c.args.places (row_view c.args.row.now)) settings c.loop-setting.setting-index _ _
+    c.loop-setting-test.true refl _ _ c.loop-setting.invariant c.in_ok-add_line.ensures
 
 pub returns : goal.returns
 unfolding settings
 returns c =
-    c.loop-setting.invariant ∙ ap (flat_map (line_of c.args.places (row_view c.args.row.now))) (take_all c.loop-setting.setting-index settings c.loop-setting-test.false)
+    c.loop-setting.invariant ∙ ap (flat_map (line_of c.args.places (row_view c.args.row.now)))
+    (take_all c.loop-setting.setting-index settings c.loop-setting-test.false)

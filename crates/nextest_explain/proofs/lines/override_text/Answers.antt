@@ -9,5 +9,6 @@ returns-in_ok-place-in-Whole c =
     let index = decimal c.args.index in
     let place = string_bytes c.in_ok-place-in-Whole.place in
     let parts = six_parts (codes "override profile.") profile (codes ".overrides.") index (codes " in ") place in
-    let told = ap (λ place. codes "override profile." ++ profile ++ codes ".overrides." ++ index ++ codes " in " ++ place) c.in_ok-place-in-Whole.ensures in
+    let told = ap (λ place. codes "override profile." ++ profile ++ codes ".overrides." ++ index
+    ++ codes " in " ++ place) c.in_ok-place-in-Whole.ensures in
     rw c.in-Whole.is (spelled_as c.format.result _ _ (parts ∙ told) c.format.ensures.ok)

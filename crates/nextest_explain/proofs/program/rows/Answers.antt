@@ -8,7 +8,8 @@ use Rattle.nextest_explain.proofs.program.rows.Goals as goal
 pub returns : goal.returns
 returns c root =
     let command = c.args.command.now in
-    let request = request_view c.inputs.result command.profile.now c.in-Ok.platforms command.mode (c.test_of.result ∷ []) in
+    let request = request_view c.inputs.result command.profile.now c.in-Ok.platforms command.mode
+    (c.test_of.result ∷ []) in
     rows_for command (sources_view c.args.sources.now) request c.resolve.result _ _ _ _ (record {
       root = ap (λ paths. string_bytes paths.workspace_root) c.inputs.ensures.paths ∙ root;
       files_read = c.inputs.ensures.files;

@@ -7,4 +7,5 @@ use Rattle.nextest_explain.proofs.sources.tool_files.Given as goal
 -- the files of the options so far
 abbrev pub invariant-loop-named : goal.invariant-loop-named
 invariant-loop-named g l =
-    AllZip (IsToolFile (g.R.FileReader.MayGive l.files)) (take l.named-index l.named-items) (map tool_file_view l.read.items)
+    AllZip (IsToolFile (g.R.FileReader.MayGive l.files)) (take l.named-index l.named-items)
+    (map tool_file_view l.read.items)

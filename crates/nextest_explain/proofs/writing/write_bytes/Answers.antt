@@ -7,7 +7,8 @@ use Rattle.nextest_explain.proofs.Writers.{at_fault}
 use Rattle.nextest_explain.proofs.writing.write_bytes.Goals as goal
 
 -- what is taken from the rest goes to what is done
-moved : (all done rest : List ℕ) (n : ℕ) → all ≡ done ++ rest → all ≡ (done ++ take n rest) ++ take (length rest - n) (drop n rest)
+moved : (all done rest : List ℕ) (n : ℕ) → all ≡ done ++ rest
+    → all ≡ (done ++ take n rest) ++ take (length rest - n) (drop n rest)
 moved all done rest n split =
     split
     ∙ ap (λ l. done ++ l) (sym (take-append-drop n rest))
@@ -24,7 +25,15 @@ loop-rest-preserved g c =
 pub returns-in_err-count-clause-begun : goal.returns-in_err-count-clause-begun
 returns-in_err-count-clause-begun g c =
     let (done, split, appended) = c.loop-rest.invariant in
-    let begun : AppendsBeginning (g.W.Write.contents c.args.out.now) (g.W.Write.contents c.write_some.new.out) c.args.bytes.now = (done, c.loop-rest.rest.now, split, search rules, Appends-kept _ _ _ _ appended c.in_err-count.ensures.kept) in
+    let begun : AppendsBeginning (g.W.Write.contents c.args.out.now) (g.W.Write.contents c.write_some.new.out)
+    c.args.bytes.now = (
+      done,
+      c.loop-rest.rest.now,
+      split,
+      search rules,
+      Appends-kept _ _ _ _ appended
+          c.in_err-count.ensures.kept,
+    ) in
     at_fault c.from_residual.result _ begun
 
 pub returns-clause-ok : goal.returns-clause-ok

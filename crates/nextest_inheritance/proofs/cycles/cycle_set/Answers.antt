@@ -11,7 +11,8 @@ pub loop-start-init : goal.loop-start-init
 loop-start-init g c =
     let es = parents_view g.P.Inherits.parent c.args.profiles.now.entries in
     let rest = c.into_iter-start-iterator.ensures.into_iter_gives ∙ c.iter-start-items.ensures.rest in
-    rw (c.new-found.ensures.empty, rest) (progress_start es (has_name c.new-walked.result) (λ name. rw c.new-walked.ensures.empty refl))
+    rw (c.new-found.ensures.empty, rest)
+    (progress_start es (has_name c.new-walked.result) (λ name. rw c.new-walked.ensures.empty refl))
 
 pub loop-start-preserved : goal.loop-start-preserved
 loop-start-preserved g c =
@@ -30,16 +31,19 @@ loop-start-preserved g c =
           let keys = w.in_ok-insert.ensures.keys in
           let k = w.in-Some-2.cycle in
           let before = c.loop-start.found.keys in
-          rw (w.found-is, keys) (progress_found es e rest old new path end (names_view k) (map names_view before) (map names_view (insert_key names_cmp before k))
+          rw (w.found-is, keys) (progress_found es e rest old new path end (names_view k)
+          (map names_view before) (map names_view (insert_key names_cmp before k))
           walk c.in_ok-walk.ensures.ended turned so_far
           (λ one i. only_inserted one k before i) (new_inserted k before) (λ one i. kept_inserted one k before i)
           (names_ascend (insert_key names_cmp before k) (rw keys at w.in_ok-insert.ensures.ordered)))
       | in_default w ↦
           let away = rw w.in_default.is at c.in_ok-cycle.ensures in
-          rw w.found-is (progress_past es e rest old new path end (map names_view c.loop-start.found.keys) walk c.in_ok-walk.ensures.ended away so_far)
+          rw w.found-is (progress_past es e rest old new path end (map names_view c.loop-start.found.keys)
+          walk c.in_ok-walk.ensures.ended away so_far)
     ]
 
 pub returns : goal.returns
 returns g c =
     let es = parents_view g.P.Inherits.parent c.args.profiles.now.entries in
-    progress_end es (has_name c.loop-start.walked) (map names_view c.loop-start.found.keys) (rw c.in-None.ensures.steps.0 at c.loop-start.invariant)
+    progress_end es (has_name c.loop-start.walked) (map names_view c.loop-start.found.keys)
+    (rw c.in-None.ensures.steps.0 at c.loop-start.invariant)

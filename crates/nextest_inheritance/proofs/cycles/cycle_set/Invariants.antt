@@ -5,4 +5,5 @@ use Rattle.nextest_inheritance.proofs.cycles.cycle_set.Given as goal
 
 abbrev pub invariant-loop-start : goal.invariant-loop-start
 invariant-loop-start g l =
-    Progress (parents_view g.P.Inherits.parent l.profiles.entries) (has_name l.walked) (map names_view l.found.keys) (parents_view g.P.Inherits.parent l.start-iterator)
+    Progress (parents_view g.P.Inherits.parent l.profiles.entries) (has_name l.walked)
+    (map names_view l.found.keys) (parents_view g.P.Inherits.parent l.start-iterator)

@@ -6,4 +6,5 @@ abbrev pub invariant-loop-name : goal.invariant-loop-name
 invariant-loop-name l = names_view l.turned ≡ borrowed_view (take l.name-index l.name-items)
 
 abbrev pub invariant-loop-name-2 : goal.invariant-loop-name-2
-invariant-loop-name-2 l = names_view l.turned ≡ names_view l.initial.turned ++ borrowed_view (take l.name-index l.name-items)
+invariant-loop-name-2 l =
+    names_view l.turned ≡ names_view l.initial.turned ++ borrowed_view (take l.name-index l.name-items)

@@ -12,11 +12,13 @@ loop-place-preserved c =
       | then-lt w ↦ record {
         within = λ _. omega (arith, w.least-is);
         least = let P : ℕ → Type 0 = λ k. IsLeastBelow names k (c.loop-place.place + 1) in
-            subst P (sym w.least-is) (least_lower names c.loop-place.least c.loop-place.place _ _ within c.loop-place-test.true (sym c.lt.ensures ∙ w.if-lt.true) so_far);
+            subst P (sym w.least-is) (least_lower names c.loop-place.least c.loop-place.place _ _ within
+            c.loop-place-test.true (sym c.lt.ensures ∙ w.if-lt.true) so_far);
       }
       | else-lt w ↦ record {
         within = λ _. omega (arith, w.least-is);
         least = let P : ℕ → Type 0 = λ k. IsLeastBelow names k (c.loop-place.place + 1) in
-            subst P (sym w.least-is) (least_kept names c.loop-place.least c.loop-place.place _ _ within c.loop-place-test.true (sym c.lt.ensures ∙ w.if-lt.false) so_far);
+            subst P (sym w.least-is) (least_kept names c.loop-place.least c.loop-place.place _ _ within
+            c.loop-place-test.true (sym c.lt.ensures ∙ w.if-lt.false) so_far);
       }
     ]

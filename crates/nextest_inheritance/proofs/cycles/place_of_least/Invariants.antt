@@ -6,5 +6,6 @@ use Rattle.nextest_inheritance.proofs.cycles.place_of_least.Given as goal
 abbrev pub invariant-loop-place : goal.invariant-loop-place
 invariant-loop-place l = record {
   within : 0 < length l.names → l.least < length l.names;
-  least : (place : ℕ) (d : Bor Name) → place < l.place → precedes (get_or l.names place d).now (get_or l.names l.least d).now ≡ false;
+  least : (place : ℕ) (d : Bor Name) → place < l.place
+      → precedes (get_or l.names place d).now (get_or l.names l.least d).now ≡ false;
 }

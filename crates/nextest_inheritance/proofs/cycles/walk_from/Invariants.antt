@@ -8,7 +8,8 @@ use Rattle.nextest_inheritance.proofs.cycles.walk_from.Given as goal
 
 abbrev pub invariant-loop-parent : goal.invariant-loop-parent
 invariant-loop-parent g l = record {
-  walk : IsWalk (cycle_parents (parents_in (parents_view g.P.Inherits.parent l.profiles.entries))) l.start (has_name l.initial.walked) (has_name l.walked) (borrowed_view l.path.items) l.end;
+  walk : IsWalk (cycle_parents (parents_in (parents_view g.P.Inherits.parent l.profiles.entries))) l.start
+      (has_name l.initial.walked) (has_name l.walked) (borrowed_view l.path.items) l.end;
   text : shadow (Utf8 l.end);
 }
 

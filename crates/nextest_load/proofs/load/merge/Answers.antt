@@ -18,7 +18,8 @@ pub returns-in_err-tables-clause-ran : goal.returns-in_err-tables-clause-ran
 returns-in_err-tables-clause-ran g c ss so_far told =
     let e = c.in_err-tables.field-0.0 in
     let P : Node → Type 0 = λ n. Ran (tree_steps (source_view c.args.repository.now) n) told told (error_view e) in
-    ran_exit _ told told _ e c.from_residual-in_err-tables.ensures.1 (subst P (c.in_ok-tree.ensures ss so_far) (c.in_err-tables.ensures.ran told))
+    ran_exit _ told told _ e c.from_residual-in_err-tables.ensures.1
+    (subst P (c.in_ok-tree.ensures ss so_far) (c.in_err-tables.ensures.ran told))
 
 pub returns-clause-ran : goal.returns-clause-ran
 returns-clause-ran g c ss so_far told =

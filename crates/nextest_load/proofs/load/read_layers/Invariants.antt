@@ -9,4 +9,5 @@ invariant-loop-input g l =
     let F = g.F.Filters in
     let S = g.S.Specs in
     let engines = readings_view F S l.pcx in
-    HaveRun F.meaning S.spec_meaning engines (features_view l.features) l.inputs l.input-index (g.W.ConfigWarnings.warnings l.fn.warnings) (g.W.ConfigWarnings.warnings l.warnings) l.loaded
+    HaveRun F.meaning S.spec_meaning engines (features_view l.features) l.inputs l.input-index
+    (g.W.ConfigWarnings.warnings l.fn.warnings) (g.W.ConfigWarnings.warnings l.warnings) l.loaded

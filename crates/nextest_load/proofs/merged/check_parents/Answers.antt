@@ -13,18 +13,22 @@ pub returns-then-is_empty : goal.returns-then-is_empty
 returns-then-is_empty c =
     let written = parents_view parent_in c.args.profiles.now.entries in
     let source = source_view c.args.repository.now in
-    let is = c.in_ok-errors.ensures.is ∙ ap (λ lower. inheritance_faults lower written) (empty_set c.new.result c.new.ensures.empty) in
+    let is = c.in_ok-errors.ensures.is
+    ∙ ap (λ lower. inheritance_faults lower written) (empty_set c.new.result c.new.ensures.empty) in
     let none : length c.in_ok-errors.errors.items ≡ 0 = grind (arith, common_steps) in
-    rw (← is) (none_refused inherits_error_view bad_parents source c.in_ok-errors.errors.items (nil_from_length c.in_ok-errors.errors.items none))
+    rw (← is) (none_refused inherits_error_view bad_parents source c.in_ok-errors.errors.items
+    (nil_from_length c.in_ok-errors.errors.items none))
 
 pub returns : goal.returns
 returns c =
     let written = parents_view parent_in c.args.profiles.now.entries in
     let source = source_view c.args.repository.now in
-    let is = c.in_ok-errors.ensures.is ∙ ap (λ lower. inheritance_faults lower written) (empty_set c.new.result c.new.ensures.empty) in
+    let is = c.in_ok-errors.ensures.is
+    ∙ ap (λ lower. inheritance_faults lower written) (empty_set c.new.result c.new.ensures.empty) in
     let some : c.in_ok-errors.errors.items ≡ [] → ⊥ = λ none.
     let empty : length c.in_ok-errors.errors.items ≡ 0 = ap length none in
     let bad : ⊥ = grind (arith, common_steps) in
     bad
     in
-    rw (← is) (all_refused inherits_error_view bad_parents source c.in_ok-errors.errors.items c.at.result some c.at.ensures)
+    rw (← is) (all_refused inherits_error_view bad_parents source c.in_ok-errors.errors.items c.at.result some
+    c.at.ensures)

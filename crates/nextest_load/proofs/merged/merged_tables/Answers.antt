@@ -16,14 +16,19 @@ use Rattle.nextest_load.proofs.merged.merged_tables.Goals as goal
 pub returns-in_err-check_parents-clause-found : goal.returns-in_err-check_parents-clause-found
 returns-in_err-check_parents-clause-found c =
     let e = c.in_err-check_parents.field-0.0 in
-    let P : WrittenParents → Type 0 = λ written. Found (fault_at_source (source_view c.args.repository.now) (if_some bad_parents (inheritance_faults no_profiles written))) (error_view e) in
-    let same = parents_seen c.in_ok-profiles.profiles.entries (by_name profile_view c.args.table.profiles.entries) c.in_ok-profiles.ensures in
+    let P : WrittenParents → Type 0 =
+    λ written. Found (fault_at_source (source_view c.args.repository.now)
+    (if_some bad_parents (inheritance_faults no_profiles written))) (error_view e) in
+    let same = parents_seen c.in_ok-profiles.profiles.entries
+    (by_name profile_view c.args.table.profiles.entries) c.in_ok-profiles.ensures in
     exit _ e _ c.from_residual-in_err-check_parents.ensures.1 (subst P same c.in_err-check_parents.ensures)
 
 pub returns-clause-found : goal.returns-clause-found
 returns-clause-found c =
-    let cause = λ (written : WrittenParents). fault_at_source (source_view c.args.repository.now) (if_some bad_parents (inheritance_faults no_profiles written)) in
-    let same = parents_seen c.in_ok-profiles.profiles.entries (by_name profile_view c.args.table.profiles.entries) c.in_ok-profiles.ensures in
+    let cause = λ (written : WrittenParents). fault_at_source (source_view c.args.repository.now)
+    (if_some bad_parents (inheritance_faults no_profiles written)) in
+    let same = parents_seen c.in_ok-profiles.profiles.entries
+    (by_name profile_view c.args.table.profiles.entries) c.in_ok-profiles.ensures in
     ap cause (sym same) ∙ c.in_ok-check_parents.ensures
 
 pub returns-clause-scripts : goal.returns-clause-scripts

@@ -21,16 +21,20 @@ loop-id-preserved-then-not-contains_key g c =
     let id = c.in-Some.id in
     let script = c.in-Some.script in
     let key : string_bytes c.in_ok-text.text ≡ script_text id = c.in_ok-text.ensures.ok in
-    let added : (q : Name) → get_by_text new q ≡ cond (bytes_eq (script_text id) q) (Some (id, script)) (get_by_text old q) = λ q.
+    let added : (q : Name) → get_by_text new q
+    ≡ cond (bytes_eq (script_text id) q) (Some (id, script)) (get_by_text old q) = λ q.
     btree_map_updates_text (string_bytes c.in_ok-text.text) old new (Some (id, script)) c.in_ok-insert.ensures.updates q
     ∙ ap (λ n. cond (bytes_eq n q) (Some (id, script)) (get_by_text old q)) key
     in
-    let none : get_by_text old (script_text id) ≡ None = none_from _ (c.if-not-contains_key.ensures ∙ ap (λ n. is_some (get_by_text old n)) (c.as_str.ensures.value ∙ key)) in
+    let none : get_by_text old (script_text id) ≡ None =
+    none_from _ (c.if-not-contains_key.ensures
+    ∙ ap (λ n. is_some (get_by_text old n)) (c.as_str.ensures.value ∙ key)) in
     record {
       own = own_more script_text (get_by_text old) (get_by_text new) id script c.loop-id.invariant.own added;
       all = λ name.
           added_new script_text (get_by_text old) (get_by_text new) id script none added name c.next.new.self
-          ∙ ap (λ es. option_or (script_at old name) (at_name name (by_id es))) (sym c.in-Some.ensures.steps) ∙ c.loop-id.invariant.all name;
+          ∙ ap (λ es. option_or (script_at old name) (at_name name (by_id es))) (sym c.in-Some.ensures.steps)
+          ∙ c.loop-id.invariant.all name;
     }
 
 pub loop-id-preserved : goal.loop-id-preserved
@@ -39,10 +43,12 @@ loop-id-preserved g c =
     let id = c.in-Some.id in
     let script = c.in-Some.script in
     let key : string_bytes c.in_ok-text.text ≡ script_text id = c.in_ok-text.ensures.ok in
-    let some : IsSome (get_by_text old (script_text id)) = sym (c.if-not-contains_key.ensures ∙ ap (λ n. is_some (get_by_text old n)) (c.as_str.ensures.value ∙ key)) in
+    let some : IsSome (get_by_text old (script_text id)) =
+    sym (c.if-not-contains_key.ensures ∙ ap (λ n. is_some (get_by_text old n)) (c.as_str.ensures.value ∙ key)) in
     record {
       own = c.loop-id.invariant.own;
       all = λ name.
           added_none script_text (get_by_text old) (get_by_text old) id script some name c.next.new.self
-          ∙ ap (λ es. option_or (script_at old name) (at_name name (by_id es))) (sym c.in-Some.ensures.steps) ∙ c.loop-id.invariant.all name;
+          ∙ ap (λ es. option_or (script_at old name) (at_name name (by_id es))) (sym c.in-Some.ensures.steps)
+          ∙ c.loop-id.invariant.all name;
     }

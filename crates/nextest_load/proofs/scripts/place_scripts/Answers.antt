@@ -9,9 +9,14 @@ pub returns-clause-scripts : goal.returns-clause-scripts
 returns-clause-scripts g c =
     let left = c.add_by_text-2.new.scripts in
     let empty : (name : Name) → script_at c.new-left.result name ≡ None = λ name. rw c.new-left.ensures.empty refl in
-    let each : (name : Name) → script_at left name ≡ option_or (at_name name (by_id c.args.scripts.entries)) (at_name name (by_id c.args.old_scripts.entries)) = λ name.
+    let each : (name : Name) → script_at left name
+    ≡ option_or (at_name name (by_id c.args.scripts.entries))
+    (at_name name (by_id c.args.old_scripts.entries)) = λ name.
     c.in_ok-add_by_text-2.ensures.scripts name
-    ∙ ap (λ o. option_or o (at_name name (by_id c.args.old_scripts.entries))) (c.in_ok-add_by_text.ensures.scripts name ∙ ap (λ o. option_or o (at_name name (by_id c.args.scripts.entries))) (empty name))
+    ∙ ap (λ o. option_or o (at_name name (by_id c.args.old_scripts.entries)))
+    (c.in_ok-add_by_text.ensures.scripts name
+    ∙ ap (λ o. option_or o (at_name name (by_id c.args.scripts.entries))) (empty name))
     in
-    let P : (Name → Option g.row.V.Denot) → Type 0 = λ f. AreNamed (map string_bytes c.args.names.now) f → (name : Name) → IfOk c.in_order.result (λ placed. at_name name (by_id placed.entries) ≡ f name) in
+    let P : (Name → Option g.row.V.Denot) → Type 0 = λ f. AreNamed (map string_bytes c.args.names.now) f
+    → (name : Name) → IfOk c.in_order.result (λ placed. at_name name (by_id placed.entries) ≡ f name) in
     subst P (λ i name. each name i) c.in_order.ensures.scripts

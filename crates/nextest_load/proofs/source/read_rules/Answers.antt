@@ -12,20 +12,23 @@ returns-in_err-table-clause-ran g c below was =
     let engines = readings_view g.F.Filters g.S.Specs c.args.pcx.now in
     let e = c.in_err-table.field-0.0 in
     ran_exit _ _ _ _ e c.from_residual.ensures.1
-    (own_ended engines (features_view c.args.features.now) below (source_view c.args.source.now) (tree_view c.args.own.now) e c.in_err-table.ensures.ran)
+    (own_ended engines (features_view c.args.features.now) below (source_view c.args.source.now)
+    (tree_view c.args.own.now) e c.in_err-table.ensures.ran)
 
 pub returns-in_err-check_definitions-clause-ran : goal.returns-in_err-check_definitions-clause-ran
 returns-in_err-check_definitions-clause-ran g c below was =
     let engines = readings_view g.F.Filters g.S.Specs c.args.pcx.now in
     let e = c.in_err-check_definitions.field-0.0 in
     ran_exit _ _ _ _ e c.from_residual-in_err-check_definitions.ensures.1
-    (definitions_ended engines (features_view c.args.features.now) below (source_view c.args.source.now) (tree_view c.args.own.now) e (file_table_view c.in_ok-table.table) c.in_ok-table.ensures.value
+    (definitions_ended engines (features_view c.args.features.now) below (source_view c.args.source.now)
+    (tree_view c.args.own.now) e (file_table_view c.in_ok-table.table) c.in_ok-table.ensures.value
     c.in_ok-table.ensures.ran c.in_err-check_definitions.ensures)
 
 pub returns-clause-ran : goal.returns-clause-ran
 returns-clause-ran g c below was =
     let engines = readings_view g.F.Filters g.S.Specs c.args.pcx.now in
-    rules_ended engines (features_view c.args.features.now) below (source_view c.args.source.now) (tree_view c.args.own.now) (file_table_view c.in_ok-table.table) c.in_ok-table.ensures.value
+    rules_ended engines (features_view c.args.features.now) below (source_view c.args.source.now)
+    (tree_view c.args.own.now) (file_table_view c.in_ok-table.table) c.in_ok-table.ensures.value
     c.in_ok-table.ensures.ran c.in_ok-check_definitions.ensures (c.check_rules.ensures.ran below was)
 
 pub returns-clause-known : goal.returns-clause-known

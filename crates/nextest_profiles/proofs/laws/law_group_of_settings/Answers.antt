@@ -8,4 +8,5 @@ pub returns : goal.returns
 returns g c = λ p tests n test distinct at.
     let gets = custom_group_of g.F.Filters.holds p in
     let query = query_in g.F.Filters.holds p test in
-    whole_group (written_value query Test p.overrides p.script_rules TestGroup) (last_given gets test.binary.binary_id test.name tests) (gets_by_name gets tests distinct n test at)
+    whole_group (written_value query Test p.overrides p.script_rules TestGroup)
+    (last_given gets test.binary.binary_id test.name tests) (gets_by_name gets tests distinct n test at)

@@ -17,7 +17,8 @@ returns-in_err-check_groups g c =
     let e = c.in_err-check_groups.field-0.0 in
     let old = g.W.ConfigWarnings.warnings c.args.warnings.now in
     ran_exit _ old old _ e c.from_residual.ensures.1
-    (ran_first (check s groups ∷ []) _ old old e (ran_check s groups old old (error_view e) refl c.in_err-check_groups.ensures))
+    (ran_first (check s groups ∷ []) _ old old e
+    (ran_check s groups old old (error_view e) refl c.in_err-check_groups.ensures))
 
 pub returns-in_err-warn_of_empty_sections : goal.returns-in_err-warn_of_empty_sections
 returns-in_err-warn_of_empty_sections g c =
@@ -28,7 +29,8 @@ returns-in_err-warn_of_empty_sections g c =
     let old = g.W.ConfigWarnings.warnings c.args.warnings.now in
     let new = g.W.ConfigWarnings.warnings c.warn_of_empty_sections.new.warnings in
     ran_exit _ old new _ e c.from_residual-in_err-warn_of_empty_sections.ensures.1
-    (ran_next (check s groups ∷ []) _ old old new (error_view e) (ran_check s groups old old passed refl c.in_ok-check_groups.ensures)
+    (ran_next (check s groups ∷ []) _ old old new (error_view e)
+    (ran_check s groups old old passed refl c.in_ok-check_groups.ensures)
     (ran_first (empty_steps_in s order) _ old new e c.in_err-warn_of_empty_sections.ensures))
 
 pub returns : goal.returns

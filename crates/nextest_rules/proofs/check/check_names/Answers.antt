@@ -14,6 +14,8 @@ pub returns : goal.returns
 returns g c =
     let f = g.F.Filters.meaning in
     let h = g.S.Specs.spec_meaning in
-    subst (λ order. Ran (name_steps g.F.Filters.leaves (known_view c.args.known.now) (source_view c.args.source.now) order)
-    (g.W.ConfigWarnings.warnings c.args.warnings.now) (g.W.ConfigWarnings.warnings c.check_in_order.new.warnings) (ending c.check_in_order.result))
+    subst (λ order. Ran (name_steps g.F.Filters.leaves (known_view c.args.known.now)
+    (source_view c.args.source.now) order)
+    (g.W.ConfigWarnings.warnings c.args.warnings.now)
+    (g.W.ConfigWarnings.warnings c.check_in_order.new.warnings) (ending c.check_in_order.result))
     (ap (λ es. order_view f h es) c.deref.ensures.value ∙ c.in_ok-order.ensures) c.check_in_order.ensures

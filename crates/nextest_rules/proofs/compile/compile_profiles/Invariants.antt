@@ -21,7 +21,8 @@ invariant-loop-name g l =
     let made = λ (es : List (Name × ProfileText)). (layer_of engines (source_view l.source) es).profiles in
     let left = by_name profile_view l.name-iterator in
     let all = by_name profile_view l.fn.tables.entries in
-    ((done : List (String Global × ProfileTable)) × (l.fn.tables.entries ≡ done ++ l.name-iterator) × (map string_bytes (keys_of l.profiles.entries) ≡ map string_bytes (keys_of done)))
+    ((done : List (String Global × ProfileTable)) × (l.fn.tables.entries ≡ done ++ l.name-iterator)
+    × (map string_bytes (keys_of l.profiles.entries) ≡ map string_bytes (keys_of done)))
     × (map compile_error_view l.errors.default.items ++ in_default faults left ≡ in_default faults all)
     × (map compile_error_view l.errors.others.items ++ in_others faults left ≡ in_others faults all)
     × (profiles_view g.F.Filters.meaning g.S.Specs.spec_meaning l.profiles.entries ++ made left ≡ made all)

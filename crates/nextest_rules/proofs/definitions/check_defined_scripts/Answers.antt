@@ -11,4 +11,5 @@ pub returns-in_err-check_script_kinds : goal.returns-in_err-check_script_kinds
 returns-in_err-check_script_kinds c =
     let e = c.in_err-check_script_kinds.field-0.0 in
     exit _ e _ c.from_residual-in_err-check_script_kinds.ensures.1
-    (found_next _ _ (error_view e) c.in_ok-check_features.ensures (found_first _ _ e c.in_err-check_script_kinds.ensures))
+    (found_next _ _ (error_view e) c.in_ok-check_features.ensures
+    (found_first _ _ e c.in_err-check_script_kinds.ensures))

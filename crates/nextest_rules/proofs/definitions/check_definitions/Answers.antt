@@ -43,7 +43,8 @@ returns-in_err-check_defined_scripts g c =
     (ran_next (check s (group_name_cause s f) ∷ check s (key_cause f) ∷ []) _ old old mid (error_view e)
     (ran_two s _ _ old old passed refl c.in_ok-check_groups_and_keys.ensures)
     (ran_next (deprecated_steps s f) _ old mid mid (error_view e) c.in_ok-warn_of_old_key.ensures
-    (ran_first (check s (feature_cause features f) ∷ check s (kind_cause f) ∷ check s (script_name_cause s f) ∷ []) (reserved_steps s f) mid mid e
+    (ran_first (check s (feature_cause features f) ∷ check s (kind_cause f) ∷ check s (script_name_cause s f)
+    ∷ []) (reserved_steps s f) mid mid e
     (ran_three s _ _ _ mid mid (error_view e) refl c.in_err-check_defined_scripts.ensures))))
 
 pub returns : goal.returns
@@ -58,5 +59,6 @@ returns g c =
     ran_next (check s (group_name_cause s f) ∷ check s (key_cause f) ∷ []) _ old old new o
     (ran_two s _ _ old old passed refl c.in_ok-check_groups_and_keys.ensures)
     (ran_next (deprecated_steps s f) _ old mid new o c.in_ok-warn_of_old_key.ensures
-    (ran_next (check s (feature_cause features f) ∷ check s (kind_cause f) ∷ check s (script_name_cause s f) ∷ []) (reserved_steps s f) mid mid new o
+    (ran_next (check s (feature_cause features f) ∷ check s (kind_cause f) ∷ check s (script_name_cause s f)
+    ∷ []) (reserved_steps s f) mid mid new o
     (ran_three s _ _ _ mid mid passed refl c.in_ok-check_defined_scripts.ensures) c.warn_of_reserved.ensures))

@@ -14,10 +14,16 @@ loop-name-preserved g c =
     let order = c.args.order.now in
     let i = c.loop-name.name-index in
     let e = c.loop-name-item.result in
-    let next : drop i order ≡ e ∷ drop (i + 1) order = drop_more order i e c.loop-name-test.true ∙ ap (λ x. x ∷ drop (i + 1) order) (sym c.loop-name-item.is) in
-    let added = c.in_ok-add_unknown.ensures ∙ ap (λ os. map group_error_view c.loop-name.errors.items ++ filter_map (λ r. group_fault known e.0.now r.writes.settings.test_group)
-    (map (override_meaning g.F.Filters.meaning g.S.Specs.spec_meaning) (map override_rule_view os))) c.deref.ensures.value in
-    ap (λ l. l ++ group_faults_in known (order_view g.F.Filters.meaning g.S.Specs.spec_meaning (drop (i + 1) order))) added
+    let next : drop i order ≡ e ∷ drop (i + 1) order =
+    drop_more order i e c.loop-name-test.true ∙ ap (λ x. x ∷ drop (i + 1) order) (sym c.loop-name-item.is) in
+    let added = c.in_ok-add_unknown.ensures
+    ∙ ap (λ os. map group_error_view c.loop-name.errors.items
+    ++ filter_map (λ r. group_fault known e.0.now r.writes.settings.test_group)
+    (map (override_meaning g.F.Filters.meaning g.S.Specs.spec_meaning) (map override_rule_view os)))
+    c.deref.ensures.value in
+    ap (λ l. l ++ group_faults_in known
+    (order_view g.F.Filters.meaning g.S.Specs.spec_meaning (drop (i + 1) order))) added
     ∙ append_assoc (map group_error_view c.loop-name.errors.items) _ _
-    ∙ ap (λ es. map group_error_view c.loop-name.errors.items ++ group_faults_in known (order_view g.F.Filters.meaning g.S.Specs.spec_meaning es)) (sym next)
+    ∙ ap (λ es. map group_error_view c.loop-name.errors.items
+    ++ group_faults_in known (order_view g.F.Filters.meaning g.S.Specs.spec_meaning es)) (sym next)
     ∙ c.loop-name.invariant

@@ -8,5 +8,7 @@ use Rattle.nextest_rules.proofs.groups.groups_not_known.Given as goal
 -- what was found so far, and what is wrong with the profiles that are left
 abbrev pub invariant-loop-name : goal.invariant-loop-name
 invariant-loop-name g l =
-    map group_error_view l.errors.items ++ group_faults_in (contains_text l.known) (order_view g.F.Filters.meaning g.S.Specs.spec_meaning (drop l.name-index l.order))
+    map group_error_view l.errors.items
+    ++ group_faults_in (contains_text l.known)
+    (order_view g.F.Filters.meaning g.S.Specs.spec_meaning (drop l.name-index l.order))
     ≡ group_faults_in (contains_text l.known) (order_view g.F.Filters.meaning g.S.Specs.spec_meaning l.order)

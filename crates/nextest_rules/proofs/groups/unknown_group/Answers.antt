@@ -18,4 +18,5 @@ returns c =
     let unknown : contains_text c.args.known.now (custom_group_text c.in-Custom.group) ≡ false =
     ap (contains_text c.args.known.now) (sym c.as_str.ensures) ∙ sym c.contains.ensures ∙ c.if-contains.false in
     rw (c.in_ok-from_str.ensures.ok, c.in_ok-clone.ensures.cases)
-    (sym (group_unknown (contains_text c.args.known.now) c.args.profile.now c.args.group.now c.in-Custom.group is unknown))
+    (sym (group_unknown (contains_text c.args.known.now) c.args.profile.now c.args.group.now c.in-Custom.group
+    is unknown))

@@ -11,4 +11,5 @@ invariant-loop-key g l =
     let kind = (source_view l.source).kind in
     (q : List ℕ)
     → (is_one_of (map text l.found.keys) q || is_one_of (forbidden_names kind (map (λ e. text e.0) l.key-iterator)) q)
-    ≡ (is_one_of (map text l.initial.found.keys) q || is_one_of (forbidden_names kind (map (λ e. text e.0) l.table.entries)) q)
+    ≡ (is_one_of (map text l.initial.found.keys) q || is_one_of
+    (forbidden_names kind (map (λ e. text e.0) l.table.entries)) q)

@@ -16,14 +16,18 @@ returns-then-is_empty c =
     let keys = c.in_ok-ids.ids.keys in
     let none : length keys ≡ 0 = c.is_empty.ensures.0 c.if-is_empty.true in
     ap (fault_at_source source)
-    (gathered_none (ill_named_scripts (source_class source.kind)) (map script_text keys) _ c.in_ok-ids.ensures (none_mapped script_text keys none))
+    (gathered_none (ill_named_scripts (source_class source.kind)) (map script_text keys) _ c.in_ok-ids.ensures
+    (none_mapped script_text keys none))
 
 pub returns : goal.returns
 returns c =
     let source = source_view c.args.source.now in
     let keys = c.in_ok-ids.ids.keys in
     let some : map script_text keys ≡ _ → ⊥ =
-    some_mapped script_text keys (λ none. let empty = c.is_empty.ensures.1 none in let full = c.if-is_empty.false in cc) in
+    some_mapped script_text keys
+    (λ none. let empty = c.is_empty.ensures.1 none in let full = c.if-is_empty.false in cc) in
     told source _ _ c.ill_named_kind-kind.result c.at.result
     (gathered_some (ill_named_scripts (source_class source.kind)) (map script_text keys) _ c.in_ok-ids.ensures some)
-    (c.ill_named_kind-kind.ensures ∙ ap (λ o. Some (ill_named_scripts (owner_class o) (script_names_view c.in_ok-ids.ids))) (c.owner.ensures ∙ ap owner_of_source c.kind.ensures)) c.at.ensures
+    (c.ill_named_kind-kind.ensures
+    ∙ ap (λ o. Some (ill_named_scripts (owner_class o) (script_names_view c.in_ok-ids.ids)))
+    (c.owner.ensures ∙ ap owner_of_source c.kind.ensures)) c.at.ensures

@@ -11,4 +11,5 @@ returns c q =
     let kind = (source_view c.args.source.now).kind in
     c.in_ok-add_forbidden.ensures q
     ∙ (λ i. is_one_of (map custom_group_text (c.new-groups.ensures.empty i)) q
-    || is_one_of (forbidden_names kind (keys_named custom_group_text (λ config. Some config) c.args.file.now.test_groups.entries i)) q)
+    || is_one_of (forbidden_names kind
+    (keys_named custom_group_text (λ config. Some config) c.args.file.now.test_groups.entries i)) q)

@@ -11,6 +11,9 @@ pub returns : goal.returns
 returns c q =
     let kind = (source_view c.args.source.now).kind in
     let file = file_table_view c.args.file.now in
-    three_parts (λ name. not (may_define kind name)) file.new_setup_scripts file.old_setup_scripts file.wrapper_scripts q _ _ _
-    (c.in_ok-add_forbidden.ensures q ∙ ap (λ ks. is_one_of (map script_text ks) q || is_one_of (filter (λ name. not (may_define kind name)) file.new_setup_scripts) q) c.new-ids.ensures.empty)
+    three_parts (λ name. not (may_define kind name)) file.new_setup_scripts file.old_setup_scripts
+    file.wrapper_scripts q _ _ _
+    (c.in_ok-add_forbidden.ensures q
+    ∙ ap (λ ks. is_one_of (map script_text ks) q || is_one_of
+    (filter (λ name. not (may_define kind name)) file.new_setup_scripts) q) c.new-ids.ensures.empty)
     (c.in_ok-add_forbidden-2.ensures q) (c.in_ok-add_forbidden-3.ensures q)

@@ -11,5 +11,6 @@ abbrev pub invariant-loop-name : goal.invariant-loop-name
 invariant-loop-name l =
     ((done : List (String Global × ProfileTable)) × (l.profiles.entries ≡ done ++ l.name-iterator)
     × (map string_bytes (keys_of l.parents.entries) ≡ map string_bytes (keys_of done)))
-    × (parents_view (λ parent. option_map string_bytes parent.0) l.parents.entries ++ written_parents (by_name profile_view l.name-iterator)
+    × (parents_view (λ parent. option_map string_bytes parent.0) l.parents.entries
+    ++ written_parents (by_name profile_view l.name-iterator)
     ≡ written_parents (by_name profile_view l.profiles.entries))

@@ -11,4 +11,5 @@ invariant-loop-id g l =
     let others = map (λ e. script_text e.0) l.others.entries in
     (q : List ℕ)
     → (script_names_view l.found q || is_one_of (common_names (map (λ e. script_text e.0) l.id-iterator) others) q)
-    ≡ (script_names_view l.initial.found q || is_one_of (common_names (map (λ e. script_text e.0) l.scripts.entries) others) q)
+    ≡ (script_names_view l.initial.found q || is_one_of
+    (common_names (map (λ e. script_text e.0) l.scripts.entries) others) q)

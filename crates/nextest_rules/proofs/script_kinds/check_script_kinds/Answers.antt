@@ -18,6 +18,7 @@ pub returns : goal.returns
 returns c =
     let keys = c.in_ok-ids.ids.keys in
     let some : map script_text keys ≡ [] → ⊥ =
-    some_mapped script_text keys (λ none. let empty = c.is_empty.ensures.1 none in let full = c.if-is_empty.false in cc) in
+    some_mapped script_text keys
+    (λ none. let empty = c.is_empty.ensures.1 none in let full = c.if-is_empty.false in cc) in
     told_at (source_view c.args.source.now) _ _ c.at.result
     (gathered_some both_script_kinds (map script_text keys) _ c.in_ok-ids.ensures some) c.at.ensures

@@ -10,5 +10,7 @@ pub returns : goal.returns
 returns c q =
     let file = file_table_view c.args.file.now in
     two_parts (is_one_of file.wrapper_scripts) file.new_setup_scripts file.old_setup_scripts q _ _
-    (c.in_ok-add_common.ensures q ∙ ap (λ ks. is_one_of (map script_text ks) q || is_one_of (common_names file.new_setup_scripts file.wrapper_scripts) q) c.new-ids.ensures.empty)
+    (c.in_ok-add_common.ensures q
+    ∙ ap (λ ks. is_one_of (map script_text ks) q || is_one_of
+    (common_names file.new_setup_scripts file.wrapper_scripts) q) c.new-ids.ensures.empty)
     (c.in_ok-add_common-2.ensures q)

@@ -22,8 +22,10 @@ loop-rule-preserved g c =
     let i = c.loop-rule.rule-index in
     let rule = c.rule-item.result in
     let r = script_rule_meaning g.F.Filters.meaning g.S.Specs.spec_meaning (script_rule_view rule) in
-    let left = map (script_rule_meaning g.F.Filters.meaning g.S.Specs.spec_meaning) (map script_rule_view (drop (i + 1) rules)) in
-    let next : drop i rules ≡ rule ∷ drop (i + 1) rules = drop_more rules i rule c.loop-rule-test.true ∙ ap (λ x. x ∷ drop (i + 1) rules) (sym c.rule-item.is) in
+    let left = map (script_rule_meaning g.F.Filters.meaning g.S.Specs.spec_meaning)
+    (map script_rule_view (drop (i + 1) rules)) in
+    let next : drop i rules ≡ rule ∷ drop (i + 1) rules =
+    drop_more rules i rule c.loop-rule-test.true ∙ ap (λ x. x ∷ drop (i + 1) rules) (sym c.rule-item.is) in
     let one : ScriptFaults = record {
       unknown_scripts = unknown_scripts_of known profile (uses_of r.writes);
       wrong_scripts = wrong_scripts_of known profile (uses_of r.writes);
@@ -33,11 +35,14 @@ loop-rule-preserved g c =
     let mid = c.add_uses.new.errors in
     let new = c.push_some.new.list in
     let used = c.in_ok-add_uses.ensures in
-    part_more (script_errors_view old) one _ (rule_script_faults leaves known profile left) (rule_script_faults leaves known profile (r ∷ left)) _
+    part_more (script_errors_view old) one _ (rule_script_faults leaves known profile left)
+    (rule_script_faults leaves known profile (r ∷ left)) _
     (record {
       unknown = used.unknown;
       wrong = used.wrong;
-      lists = list_more list_filter_view old.list_scripts_using_run_filters.items mid.list_scripts_using_run_filters.items new.items c.in_ok-error.error _ used.lists c.in_ok-push_some.ensures c.in_ok-error.ensures;
+      lists = list_more list_filter_view old.list_scripts_using_run_filters.items
+          mid.list_scripts_using_run_filters.items new.items c.in_ok-error.error _ used.lists
+          c.in_ok-push_some.ensures c.in_ok-error.ensures;
     })
     (record { unknown = refl; wrong = refl; lists = refl })
     (rw next at c.loop-rule.invariant)

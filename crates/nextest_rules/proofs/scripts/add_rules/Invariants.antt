@@ -12,7 +12,8 @@ abbrev pub invariant-loop-rule : goal.invariant-loop-rule
 invariant-loop-rule g l =
     AreMore (script_errors_view l.errors)
     (rule_script_faults g.F.Filters.leaves (known_view l.known) l.profile
-    (map (script_rule_meaning g.F.Filters.meaning g.S.Specs.spec_meaning) (map script_rule_view (drop l.rule-index l.rules))))
+    (map (script_rule_meaning g.F.Filters.meaning g.S.Specs.spec_meaning)
+    (map script_rule_view (drop l.rule-index l.rules))))
     (joined (script_errors_view l.initial.errors)
     (rule_script_faults g.F.Filters.leaves (known_view l.known) l.profile
     (map (script_rule_meaning g.F.Filters.meaning g.S.Specs.spec_meaning) (map script_rule_view l.rules))))

@@ -17,9 +17,11 @@ loop-id-preserved c =
     let ids = c.args.ids.now in
     let i = c.loop-id.id-index in
     let id = c.id-item.result in
-    let next : drop i ids ≡ id ∷ drop (i + 1) ids = drop_more ids i id c.loop-id-test.true ∙ ap (λ x. x ∷ drop (i + 1) ids) (sym c.id-item.is) in
+    let next : drop i ids ≡ id ∷ drop (i + 1) ids =
+    drop_more ids i id c.loop-id-test.true ∙ ap (λ x. x ∷ drop (i + 1) ids) (sym c.id-item.is) in
     part_more _ _ _ _ _ _ c.in_ok-add_use.ensures
-    (uses_joined known profile ((script_text id, script_uses.Setup) ∷ []) (map (λ id. (id, script_uses.Setup)) (map script_text (drop (i + 1) ids))))
+    (uses_joined known profile ((script_text id, script_uses.Setup) ∷ [])
+    (map (λ id. (id, script_uses.Setup)) (map script_text (drop (i + 1) ids))))
     (rw next at c.loop-id.invariant)
 
 pub returns : goal.returns

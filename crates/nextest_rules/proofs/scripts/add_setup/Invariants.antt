@@ -11,6 +11,7 @@ use Rattle.nextest_rules.proofs.scripts.add_setup.Given as goal
 abbrev pub invariant-loop-id : goal.invariant-loop-id
 invariant-loop-id l =
     AreMore (script_errors_view l.errors)
-    (use_faults (known_view l.known) l.profile (map (λ id. (id, script_uses.Setup)) (map script_text (drop l.id-index l.ids))))
+    (use_faults (known_view l.known) l.profile
+    (map (λ id. (id, script_uses.Setup)) (map script_text (drop l.id-index l.ids))))
     (joined (script_errors_view l.initial.errors)
     (use_faults (known_view l.known) l.profile (map (λ id. (id, script_uses.Setup)) (map script_text l.ids))))

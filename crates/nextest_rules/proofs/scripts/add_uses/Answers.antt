@@ -18,18 +18,24 @@ returns c =
     let profile = c.args.profile.now in
     let scripts = uses_view c.args.scripts.now in
     let setup : List (Name × ProfileScriptType) = map (λ id. (id, script_uses.Setup)) scripts.setup in
-    let lists : List (Name × ProfileScriptType) = map (λ id. (id, script_uses.ListWrapper)) (option_to_list scripts.list_wrapper) in
-    let runs : List (Name × ProfileScriptType) = map (λ id. (id, script_uses.RunWrapper)) (option_to_list scripts.run_wrapper) in
+    let lists : List (Name × ProfileScriptType) =
+    map (λ id. (id, script_uses.ListWrapper)) (option_to_list scripts.list_wrapper) in
+    let runs : List (Name × ProfileScriptType) =
+    map (λ id. (id, script_uses.RunWrapper)) (option_to_list scripts.run_wrapper) in
     let old = script_errors_view c.args.errors.now in
     let one = script_errors_view c.add_setup.new.errors in
     let two = script_errors_view c.add_wrapper.new.errors in
     let all = script_errors_view c.add_wrapper-2.new.errors in
     let first : AreMore old (use_faults known profile setup) one =
-    subst (λ (ids : List ScriptId). AreMore old (use_faults known profile (map (λ id. (id, script_uses.Setup)) (map script_text ids))) one) c.deref.ensures.value c.in_ok-add_setup.ensures in
+    subst (λ (ids : List ScriptId). AreMore old
+    (use_faults known profile (map (λ id. (id, script_uses.Setup)) (map script_text ids))) one)
+    c.deref.ensures.value c.in_ok-add_setup.ensures in
     let second : AreMore old (use_faults known profile (setup ++ lists)) two =
-    part_then old (use_faults known profile setup) one (use_faults known profile lists) two (use_faults known profile (setup ++ lists)) first c.in_ok-add_wrapper.ensures
+    part_then old (use_faults known profile setup) one (use_faults known profile lists) two
+    (use_faults known profile (setup ++ lists)) first c.in_ok-add_wrapper.ensures
     (uses_joined known profile setup lists) in
     on_ok_weaker c.add_wrapper-2.result
-    (λ last. part_then old (use_faults known profile (setup ++ lists)) two (use_faults known profile runs) all (use_faults known profile (setup ++ lists ++ runs)) second last
+    (λ last. part_then old (use_faults known profile (setup ++ lists)) two (use_faults known profile runs) all
+    (use_faults known profile (setup ++ lists ++ runs)) second last
     (uses_joined known profile (setup ++ lists) runs))
     c.add_wrapper-2.ensures

@@ -8,4 +8,5 @@ returns c q =
     let known = c.args.known.now in
     c.in_ok-copy_names-2.ensures q
     ∙ ap (λ b. b || contains_text known.wrapper_scripts q)
-    (c.in_ok-copy_names.ensures q ∙ ap (λ keys. is_text_of keys q || contains_text known.setup_scripts q) c.new-ids.ensures.empty)
+    (c.in_ok-copy_names.ensures q
+    ∙ ap (λ keys. is_text_of keys q || contains_text known.setup_scripts q) c.new-ids.ensures.empty)

@@ -10,5 +10,7 @@ use Rattle.nextest_rules.proofs.scripts.script_errors.Given as goal
 abbrev pub invariant-loop-name : goal.invariant-loop-name
 invariant-loop-name g l =
     AreMore (script_errors_view l.errors)
-    (script_faults_in g.F.Filters.leaves (known_view l.known) (order_view g.F.Filters.meaning g.S.Specs.spec_meaning (drop l.name-index l.order)))
-    (joined no_faults (script_faults_in g.F.Filters.leaves (known_view l.known) (order_view g.F.Filters.meaning g.S.Specs.spec_meaning l.order)))
+    (script_faults_in g.F.Filters.leaves (known_view l.known)
+    (order_view g.F.Filters.meaning g.S.Specs.spec_meaning (drop l.name-index l.order)))
+    (joined no_faults (script_faults_in g.F.Filters.leaves (known_view l.known)
+    (order_view g.F.Filters.meaning g.S.Specs.spec_meaning l.order)))

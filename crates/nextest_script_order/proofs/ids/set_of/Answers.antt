@@ -9,5 +9,6 @@ loop-id-preserved c =
     let id = string_bytes c.in-Some.id in
     let more = map string_bytes c.next.new.self.rest.items in
     let all : set ++ id ∷ more ≡ ids_view c.args.ids = rw c.in-Some.ensures.steps.0 at c.loop-id.invariant in
-    let last = ap (map string_bytes) c.in_ok-insert.ensures.keys ∙ goes_last c.loop-id.set.keys c.in-Some.id (before_next set id more (subst IdsAscend (sym all) c.requires)) in
+    let last = ap (map string_bytes) c.in_ok-insert.ensures.keys
+    ∙ goes_last c.loop-id.set.keys c.in-Some.id (before_next set id more (subst IdsAscend (sym all) c.requires)) in
     ap (λ t. t ++ more) last ∙ append_assoc set (id ∷ []) more ∙ all

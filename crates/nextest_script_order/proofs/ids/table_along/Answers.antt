@@ -20,4 +20,5 @@ loop-key-preserved c = λ id.
 pub returns : goal.returns
 returns c = λ id.
     sym (c.loop-key.invariant id)
-    ∙ ap (λ p. has_id (key_path_view p) (node_of (table_view c.loop-key.table.now)) id) (path_over c.args.path.now c.loop-key.key-index c.loop-key-test.false)
+    ∙ ap (λ p. has_id (key_path_view p) (node_of (table_view c.loop-key.table.now)) id)
+    (path_over c.args.path.now c.loop-key.key-index c.loop-key-test.false)

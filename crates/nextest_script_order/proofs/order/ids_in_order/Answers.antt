@@ -12,16 +12,20 @@ pub returns-then-len-lt2-clause-listed : goal.returns-then-len-lt2-clause-listed
 returns-then-len-lt2-clause-listed c =
     let path = key_path_view c.args.path.now in
     let text = c.args.text.now in
-    let same : ids_view c.in_ok-ids.ids ≡ ids_in_text path text = c.in_ok-ids.ensures.ids ∙ sym (ids_whole path text _ c.requires) in
-    let few : length (ids_view c.in_ok-ids.ids) < 2 = omega (arith, length-map c.in_ok-ids.ids.items (string_bytes {Z = Global})) in
+    let same : ids_view c.in_ok-ids.ids ≡ ids_in_text path text =
+    c.in_ok-ids.ensures.ids ∙ sym (ids_whole path text _ c.requires) in
+    let few : length (ids_view c.in_ok-ids.ids) < 2 =
+    omega (arith, length-map c.in_ok-ids.ids.items (string_bytes {Z = Global})) in
     same ∙ sym (few_is path text (subst (λ ids. length ids < 2) same few))
 
 pub returns-then-len-lt2-clause-declared : goal.returns-then-len-lt2-clause-declared
 returns-then-len-lt2-clause-declared c =
     let path = key_path_view c.args.path.now in
     let text = c.args.text.now in
-    let same : ids_view c.in_ok-ids.ids ≡ ids_in_text path text = c.in_ok-ids.ensures.ids ∙ sym (ids_whole path text _ c.requires) in
-    subst (IsOrder path text) (sym (returns-then-len-lt2-clause-listed c)) (order_is path text (subst IdsAscend same c.in_ok-ids.ensures.ascends))
+    let same : ids_view c.in_ok-ids.ids ≡ ids_in_text path text =
+    c.in_ok-ids.ensures.ids ∙ sym (ids_whole path text _ c.requires) in
+    subst (IsOrder path text) (sym (returns-then-len-lt2-clause-listed c))
+    (order_is path text (subst IdsAscend same c.in_ok-ids.ensures.ascends))
 
 pub set_of-requires : goal.set_of-requires
 set_of-requires c = c.in_ok-ids.ensures.ascends
@@ -34,7 +38,8 @@ pub place_sections-requires-clause-later : goal.place_sections-requires-clause-l
 place_sections-requires-clause-later c =
     let path = key_path_view c.args.path.now in
     let text = c.args.text.now in
-    let same : ids_view c.in_ok-ids.ids ≡ ids_in_text path text = c.in_ok-ids.ensures.ids ∙ sym (ids_whole path text _ c.requires) in
+    let same : ids_view c.in_ok-ids.ids ≡ ids_in_text path text =
+    c.in_ok-ids.ensures.ids ∙ sym (ids_whole path text _ c.requires) in
     rw (c.in_ok-left.ensures, same, c.in_ok-lines.ensures) (starts_between path text)
 
 pub place_between-requires-clause-order : goal.place_between-requires-clause-order
@@ -62,11 +67,14 @@ returns-clause-listed c =
     let text = c.args.text.now in
     let lines = c.in_ok-lines.lines in
     let count = suc (line_count lines) in
-    let same : ids_view c.in_ok-ids.ids ≡ ids_in_text path text = c.in_ok-ids.ensures.ids ∙ sym (ids_whole path text _ c.requires) in
+    let same : ids_view c.in_ok-ids.ids ≡ ids_in_text path text =
+    c.in_ok-ids.ensures.ids ∙ sym (ids_whole path text _ c.requires) in
     let next : line_count lines + 1 ≡ count = add-one (line_count lines) in
-    let last : ids_view c.place_between.new.order ≡ ids_view c.place_sections.new.order ++ placed_before path lines (set_view c.place_sections.new.ids) count =
+    let last : ids_view c.place_between.new.order ≡ ids_view c.place_sections.new.order
+    ++ placed_before path lines (set_view c.place_sections.new.ids) count =
     rw (c.count.ensures, c.in_ok-ids-2.ensures, next) at c.in_ok-place_between.ensures in
-    let first = ap (λ o. map string_bytes o ++ placed_before path lines (set_view c.in_ok-left.left) count) c.new-order.ensures.items in
+    let first = ap (λ o. map string_bytes o ++ placed_before path lines (set_view c.in_ok-left.left) count)
+    c.new-order.ensures.items in
     let ids = ap (λ ids. placed_before path lines ids count) (c.in_ok-left.ensures ∙ same) in
     let all = ap (λ t. placed_before path t (ids_in_text path text) (suc (line_count t))) c.in_ok-lines.ensures in
     last ∙ sym c.in_ok-low.ensures.same ∙ first ∙ ids ∙ all
@@ -75,5 +83,7 @@ pub returns-clause-declared : goal.returns-clause-declared
 returns-clause-declared c =
     let path = key_path_view c.args.path.now in
     let text = c.args.text.now in
-    let same : ids_view c.in_ok-ids.ids ≡ ids_in_text path text = c.in_ok-ids.ensures.ids ∙ sym (ids_whole path text _ c.requires) in
-    subst (IsOrder path text) (sym (returns-clause-listed c)) (order_is path text (subst IdsAscend same c.in_ok-ids.ensures.ascends))
+    let same : ids_view c.in_ok-ids.ids ≡ ids_in_text path text =
+    c.in_ok-ids.ensures.ids ∙ sym (ids_whole path text _ c.requires) in
+    subst (IsOrder path text) (sym (returns-clause-listed c))
+    (order_is path text (subst IdsAscend same c.in_ok-ids.ensures.ascends))

@@ -9,7 +9,8 @@ use Rattle.nextest_scripts.proofs.shell_words.read_double_quoted.Given as goal
 abbrev pub invariant-loop-next : goal.invariant-loop-next
 invariant-loop-next l = record {
   text : shadow (Utf8 l.rest);
-  same : words_from_double (chars (string_bytes l.fn.word)) (chars l.fn.text) ≡ words_from_double (chars (string_bytes l.word)) (chars l.rest);
+  same : words_from_double (chars (string_bytes l.fn.word)) (chars l.fn.text)
+      ≡ words_from_double (chars (string_bytes l.word)) (chars l.rest);
   within : length (chars l.rest) ≤ length (chars l.fn.text);
 }
 

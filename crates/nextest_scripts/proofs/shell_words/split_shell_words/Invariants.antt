@@ -9,7 +9,8 @@ use Rattle.nextest_scripts.proofs.shell_words.split_shell_words.Given as goal
 abbrev pub invariant-loop-first : goal.invariant-loop-first
 invariant-loop-first l = record {
   text : shadow (Utf8 l.rest);
-  same : words_from None (chars l.fn.text) ≡ option_map (λ others. texts_of l.words ++ others) (words_from None (chars l.rest));
+  same : words_from None (chars l.fn.text)
+      ≡ option_map (λ others. texts_of l.words ++ others) (words_from None (chars l.rest));
 }
 
 abbrev pub decreases-loop-first : goal.decreases-loop-first

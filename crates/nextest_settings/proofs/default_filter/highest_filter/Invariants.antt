@@ -6,5 +6,7 @@ use Rattle.nextest_settings.proofs.default_filter.highest_filter.Given as goal
 
 abbrev pub invariant-loop-layer : goal.invariant-loop-layer
 invariant-loop-layer g l =
-    first_of (λ layer. option_and_then (λ p. p.default_filter) (at_name l.name layer.profiles)) (map layer_view (drop l.layer-index l.layers))
-    ≡ first_of (λ layer. option_and_then (λ p. p.default_filter) (at_name l.name layer.profiles)) (map layer_view l.layers)
+    first_of (λ layer. option_and_then (λ p. p.default_filter) (at_name l.name layer.profiles))
+    (map layer_view (drop l.layer-index l.layers))
+    ≡ first_of (λ layer. option_and_then (λ p. p.default_filter) (at_name l.name layer.profiles))
+    (map layer_view l.layers)

@@ -3,4 +3,5 @@ use Rattle.nextest_settings.proofs.AtName.{got_at}
 use Rattle.nextest_settings.proofs.gather.profile_at.Goals as goal
 
 pub returns : goal.returns
-returns g c = got_at layer_profile_view c.args.name.now c.args.layer.now.profiles.entries c.get.result c.get.ensures.value
+returns g c = got_at layer_profile_view c.args.name.now c.args.layer.now.profiles.entries c.get.result
+    c.get.ensures.value

@@ -4,8 +4,10 @@ use Rattle.nextest_settings.proofs.gather.with_profile.Goals as goal
 
 pub returns-clause-overrides : goal.returns-clause-overrides
 returns-clause-overrides g c =
-    more_refs override_rule_view c.args.found.overrides.items c.in_ok-with_rules.field-0.items c.args.profile.now.overrides.items (rw c.deref.ensures.value at c.in_ok-with_rules.ensures)
+    more_refs override_rule_view c.args.found.overrides.items c.in_ok-with_rules.field-0.items
+    c.args.profile.now.overrides.items (rw c.deref.ensures.value at c.in_ok-with_rules.ensures)
 
 pub returns-clause-script_rules : goal.returns-clause-script_rules
 returns-clause-script_rules g c =
-    more_refs script_rule_view c.args.found.script_rules.items c.in_ok-with_rules-2.field-0.items c.args.profile.now.scripts.items (rw c.deref-2.ensures.value at c.in_ok-with_rules-2.ensures)
+    more_refs script_rule_view c.args.found.script_rules.items c.in_ok-with_rules-2.field-0.items
+    c.args.profile.now.scripts.items (rw c.deref-2.ensures.value at c.in_ok-with_rules-2.ensures)

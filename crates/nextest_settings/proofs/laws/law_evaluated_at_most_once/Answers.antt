@@ -5,7 +5,10 @@ use Rattle.nextest_settings.proofs.Rising.{all_rise, others_rise}
 use Rattle.nextest_settings.proofs.laws.law_evaluated_at_most_once.Goals as goal
 
 pub returns-clause-test : goal.returns-clause-test
-returns-clause-test g c = λ query mode p. all_rise p.overrides p.script_rules (map (λ s w. is_set w.settings mode s) settings) ((λ (w : ScriptUse). is_some w.run_wrapper) ∷ []) query
+returns-clause-test g c =
+    λ query mode p. all_rise p.overrides p.script_rules (map (λ s w. is_set w.settings mode s) settings)
+    ((λ (w : ScriptUse). is_some w.run_wrapper) ∷ []) query
 
 pub returns-clause-list : goal.returns-clause-list
-returns-clause-list g c = λ query p. others_rise p.overrides p.script_rules [] ((λ (w : ScriptUse). is_some w.list_wrapper) ∷ []) query
+returns-clause-list g c =
+    λ query p. others_rise p.overrides p.script_rules [] ((λ (w : ScriptUse). is_some w.list_wrapper) ∷ []) query

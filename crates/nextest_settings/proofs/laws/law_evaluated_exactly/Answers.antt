@@ -12,9 +12,12 @@ returns-clause-test_count g c = λ query mode p. test_count query mode p
 
 pub returns-clause-list : goal.returns-clause-list
 returns-clause-list g c = λ query p n. (
-  asked_evaluated (λ (u : Unit {0}) (w : ScriptUse). is_some w.list_wrapper) (tt ∷ []) query p.script_rules one_there (length p.overrides) n,
-  λ e. evaluated_asked (λ (u : Unit {0}) (w : ScriptUse). is_some w.list_wrapper) (tt ∷ []) query p.script_rules one_there (length p.overrides) n e.0 e.1 e.2,
+  asked_evaluated (λ (u : Unit {0}) (w : ScriptUse). is_some w.list_wrapper) (tt ∷ []) query p.script_rules
+      one_there (length p.overrides) n,
+  λ e. evaluated_asked (λ (u : Unit {0}) (w : ScriptUse). is_some w.list_wrapper) (tt ∷ []) query
+      p.script_rules one_there (length p.overrides) n e.0 e.1 e.2,
 )
 
 pub returns-clause-list_count : goal.returns-clause-list_count
-returns-clause-list_count g c = λ query p. asked_count ((λ (w : ScriptUse). is_some w.list_wrapper) ∷ []) query (length p.overrides) p.script_rules
+returns-clause-list_count g c =
+    λ query p. asked_count ((λ (w : ScriptUse). is_some w.list_wrapper) ∷ []) query (length p.overrides) p.script_rules

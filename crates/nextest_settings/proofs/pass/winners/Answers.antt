@@ -13,10 +13,15 @@ pub returns-clause-winners : goal.returns-clause-winners
 returns-clause-winners g c =
     let F = g.F.Filters in
     let query = test_query_by F c.args.cx.now.default_filter.now c.args.query.now in
-    ap (slots_view F.meaning) c.walk_rows.ensures.found ∙ winners-seen (meant_override F.meaning) (λ s w. is_set w.settings c.args.mode s) query settings c.args.overrides.now
+    ap (slots_view F.meaning) c.walk_rows.ensures.found
+    ∙ winners-seen (meant_override F.meaning) (λ s w. is_set w.settings c.args.mode s) query settings
+    c.args.overrides.now
 
 pub returns-clause-tally : goal.returns-clause-tally
 returns-clause-tally g c =
     let F = g.F.Filters in
     let query = test_query_by F c.args.cx.now.default_filter.now c.args.query.now in
-    c.walk_rows.ensures.tally ∙ ap (λ l. g.F.Tally.Tally.numbers c.args.tally.now ++ l) (all-told (meant_override F.meaning) (λ s w. is_set w.settings c.args.mode s) query settings 0 c.args.overrides.now)
+    c.walk_rows.ensures.tally
+    ∙ ap (λ l. g.F.Tally.Tally.numbers c.args.tally.now ++ l)
+    (all-told (meant_override F.meaning) (λ s w. is_set w.settings c.args.mode s) query settings 0
+    c.args.overrides.now)

@@ -13,7 +13,8 @@ invariant-loop-id g l =
     let queries = map (test_query_by F l.cx.default_filter.now) l.queries in
     let rules = map (numbered_rule_view F.meaning) l.rules in
     record {
-      found : map named_setup_script_view l.found.items ++ enabled_by queries rules (map (λ e. (script_text e.0, setup_script_view e.1)) l.id-iterator)
+      found : map named_setup_script_view l.found.items
+          ++ enabled_by queries rules (map (λ e. (script_text e.0, setup_script_view e.1)) l.id-iterator)
           ≡ enabled_by queries rules (map (λ e. (script_text e.0, setup_script_view e.1)) l.scripts.setup.entries);
       tally : (added : List ℕ) × (numbers l.tally ≡ numbers l.fn.tally ++ added);
     }

@@ -11,7 +11,8 @@ invariant-loop-numbered g l =
     let numbers = g.F.Tally.Tally.numbers in
     let query = test_query_by F l.cx.default_filter.now l.query in
     record {
-      answer : is_enabled_for query (map (numbered_rule_view F.meaning) (drop l.numbered-index l.rules)) (script_text l.id)
+      answer : is_enabled_for query (map (numbered_rule_view F.meaning) (drop l.numbered-index l.rules))
+          (script_text l.id)
           ≡ is_enabled_for query (map (numbered_rule_view F.meaning) l.rules) (script_text l.id);
       tally : (added : List ℕ) × (numbers l.tally ≡ numbers l.fn.tally ++ added);
     }

@@ -11,7 +11,9 @@ invariant-loop-query g l =
     let F = g.F.Filters in
     let numbers = g.F.Tally.Tally.numbers in
     record {
-      answer : list_any (λ query. is_enabled_for query (map (numbered_rule_view F.meaning) l.rules) (script_text l.id)) (map (test_query_by F l.cx.default_filter.now) (drop l.query-index l.queries))
-          ≡ list_any (λ query. is_enabled_for query (map (numbered_rule_view F.meaning) l.rules) (script_text l.id)) (map (test_query_by F l.cx.default_filter.now) l.queries);
+      answer : list_any (λ query. is_enabled_for query (map (numbered_rule_view F.meaning) l.rules)
+          (script_text l.id)) (map (test_query_by F l.cx.default_filter.now) (drop l.query-index l.queries))
+          ≡ list_any (λ query. is_enabled_for query (map (numbered_rule_view F.meaning) l.rules)
+          (script_text l.id)) (map (test_query_by F l.cx.default_filter.now) l.queries);
       tally : (added : List ℕ) × (numbers l.tally ≡ numbers l.fn.tally ++ added);
     }

@@ -7,7 +7,8 @@ pub values_in-values-requires : goal.values_in-values-requires
 values_in-values-requires c =
     let fields = c.args.fields.now in
     let some = not_empty fields_ref_view fields c.requires in
-    last_complete fields_ref_view fields (length fields - 1) c.index-fields-left.result c.index-fields-left.result c.requires (omega (arith, some)) c.index-fields-left.is
+    last_complete fields_ref_view fields (length fields - 1) c.index-fields-left.result
+    c.index-fields-left.result c.requires (omega (arith, some)) c.index-fields-left.is
 
 pub loop-left-init : goal.loop-left-init
 loop-left-init c =
@@ -15,7 +16,9 @@ loop-left-init c =
     let some = not_empty fields_ref_view fields c.requires in
     record {
       inside = omega (arith, some);
-      values = at_last fields_ref_view fields (length fields - 1) c.index-fields-left.result c.index-fields-left.result c.values_in-values.result (omega (arith, some)) c.index-fields-left.is c.values_in-values.ensures;
+      values = at_last fields_ref_view fields (length fields - 1) c.index-fields-left.result
+          c.index-fields-left.result c.values_in-values.result (omega (arith, some)) c.index-fields-left.is
+          c.values_in-values.ensures;
     }
 
 pub loop-left-preserved : goal.loop-left-preserved
@@ -27,7 +30,8 @@ loop-left-preserved c =
     let some = c.loop-left-test.true in
     record {
       inside = omega (arith, inside);
-      values = one_nearer fields_ref_view fields left (left - 1) x x c.values_over-values.result (omega (arith, some)) (omega (arith, inside)) c.index-fields-left-in-loop-left.is
+      values = one_nearer fields_ref_view fields left (left - 1) x x c.values_over-values.result
+          (omega (arith, some)) (omega (arith, inside)) c.index-fields-left-in-loop-left.is
           (c.values_over-values.ensures (map fields_ref_view (drop left fields)) c.loop-left.invariant.values);
     }
 

@@ -12,30 +12,40 @@ pub walk_rows-requires-clause-answers : goal.walk_rows-requires-clause-answers
 walk_rows-requires-clause-answers g c = λ k r at listed.
     let F = g.F.Filters in
     let named : IsSome (script_rule_ref_view r.rule).writes.list_wrapper = one-writes _ _ listed in
-    each-there (λ r. IsSome r.writes.list_wrapper → HasBinaryAnswers F.holds_binary r.filter) (meant_script_rule F.meaning) c.args.rules.now k r c.requires.answers at named
+    each-there (λ r. IsSome r.writes.list_wrapper → HasBinaryAnswers F.holds_binary r.filter)
+    (meant_script_rule F.meaning) c.args.rules.now k r c.requires.answers at named
 
 pub returns-clause-rule : goal.returns-clause-rule
 returns-clause-rule g c =
     let F = g.F.Filters in
     let query = binary_query_by F c.args.cx.now.default_filter.now c.args.query.now in
-    ap (option_map (meant_script_rule F.meaning)) (head-found _ _ _ c.walk_rows.ensures.found) ∙ winner-seen (meant_script_rule F.meaning) names_wrapper query wrappers.List c.args.rules.now
+    ap (option_map (meant_script_rule F.meaning)) (head-found _ _ _ c.walk_rows.ensures.found)
+    ∙ winner-seen (meant_script_rule F.meaning) names_wrapper query wrappers.List c.args.rules.now
 
 pub returns-clause-tally : goal.returns-clause-tally
 returns-clause-tally g c =
     let F = g.F.Filters in
     let query = binary_query_by F c.args.cx.now.default_filter.now c.args.query.now in
-    c.walk_rows.ensures.tally ∙ ap (λ l. g.F.Tally.Tally.numbers c.args.tally.now ++ l) (all-told (meant_script_rule F.meaning) names_wrapper query (wrappers.List ∷ []) c.args.first c.args.rules.now)
+    c.walk_rows.ensures.tally
+    ∙ ap (λ l. g.F.Tally.Tally.numbers c.args.tally.now ++ l)
+    (all-told (meant_script_rule F.meaning) names_wrapper query (wrappers.List ∷ []) c.args.first c.args.rules.now)
 
 pub returns-clause-member : goal.returns-clause-member
 returns-clause-member g c =
     let F = g.F.Filters in
     let query = binary_query_by F c.args.cx.now.default_filter.now c.args.query.now in
-    subst (λ o. IfSome o (λ r. (n : ℕ) × (slice_get c.args.rules.now n ≡ Some r))) (sym (head-found _ _ _ c.walk_rows.ensures.found))
-    (found-among (met (meant_script_rule F.meaning) names_wrapper query) (listed (meant_script_rule F.meaning) names_wrapper query wrappers.List) c.args.rules.now)
+    subst (λ o. IfSome o (λ r. (n : ℕ) × (slice_get c.args.rules.now n ≡ Some r)))
+    (sym (head-found _ _ _ c.walk_rows.ensures.found))
+    (found-among (met (meant_script_rule F.meaning) names_wrapper query)
+    (listed (meant_script_rule F.meaning) names_wrapper query wrappers.List) c.args.rules.now)
 
 pub returns-clause-named : goal.returns-clause-named
 returns-clause-named g c =
     let F = g.F.Filters in
     let query = binary_query_by F c.args.cx.now.default_filter.now c.args.query.now in
-    subst (λ o. IfSome o (λ r. IsSome (script_rule_ref_view r.rule).writes.list_wrapper)) (sym (head-found _ _ _ c.walk_rows.ensures.found))
-    (if-some (λ r. listed (meant_script_rule F.meaning) names_wrapper query wrappers.List r ≡ true) (λ r. IsSome (script_rule_ref_view r.rule).writes.list_wrapper) _ (λ r e. writes-it _ _ e) (found-passes (met (meant_script_rule F.meaning) names_wrapper query) (listed (meant_script_rule F.meaning) names_wrapper query wrappers.List) c.args.rules.now))
+    subst (λ o. IfSome o (λ r. IsSome (script_rule_ref_view r.rule).writes.list_wrapper))
+    (sym (head-found _ _ _ c.walk_rows.ensures.found))
+    (if-some (λ r. listed (meant_script_rule F.meaning) names_wrapper query wrappers.List r ≡ true)
+    (λ r. IsSome (script_rule_ref_view r.rule).writes.list_wrapper) _ (λ r e. writes-it _ _ e)
+    (found-passes (met (meant_script_rule F.meaning) names_wrapper query)
+    (listed (meant_script_rule F.meaning) names_wrapper query wrappers.List) c.args.rules.now))

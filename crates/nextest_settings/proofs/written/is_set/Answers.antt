@@ -15,7 +15,9 @@ pub returns-in-RunWrapper : goal.returns-in-RunWrapper
 returns-in-RunWrapper c = rw c.in-RunWrapper.is refl
 
 pub returns-in-RunExtraArgs : goal.returns-in-RunExtraArgs
-returns-in-RunExtraArgs c = rw c.in-RunExtraArgs.is (c.is_some-in-RunExtraArgs.ensures ∙ sym (some_seen _ c.args.written.now.runs.run_extra_args))
+returns-in-RunExtraArgs c =
+    rw c.in-RunExtraArgs.is (c.is_some-in-RunExtraArgs.ensures
+    ∙ sym (some_seen _ c.args.written.now.runs.run_extra_args))
 
 pub returns-in-Retries : goal.returns-in-Retries
 returns-in-Retries c = rw c.in-Retries.is c.is_some-in-Retries.ensures
@@ -39,13 +41,22 @@ pub returns-in-FailureOutput : goal.returns-in-FailureOutput
 returns-in-FailureOutput c = rw c.in-FailureOutput.is c.is_some-in-FailureOutput.ensures
 
 pub returns-in-JunitStoreSuccessOutput : goal.returns-in-JunitStoreSuccessOutput
-returns-in-JunitStoreSuccessOutput c = rw c.in-JunitStoreSuccessOutput.is (c.is_some-in-JunitStoreSuccessOutput.ensures ∙ ap is_some c.report.ensures.success_output)
+returns-in-JunitStoreSuccessOutput c =
+    rw c.in-JunitStoreSuccessOutput.is
+    (c.is_some-in-JunitStoreSuccessOutput.ensures ∙ ap is_some c.report.ensures.success_output)
 
 pub returns-in-JunitStoreFailureOutput : goal.returns-in-JunitStoreFailureOutput
-returns-in-JunitStoreFailureOutput c = rw c.in-JunitStoreFailureOutput.is (c.is_some-in-JunitStoreFailureOutput.ensures ∙ ap is_some c.report-in-JunitStoreFailureOutput.ensures.failure_output)
+returns-in-JunitStoreFailureOutput c =
+    rw c.in-JunitStoreFailureOutput.is
+    (c.is_some-in-JunitStoreFailureOutput.ensures
+    ∙ ap is_some c.report-in-JunitStoreFailureOutput.ensures.failure_output)
 
 pub returns-in-JunitReportSkipped : goal.returns-in-JunitReportSkipped
-returns-in-JunitReportSkipped c = rw c.in-JunitReportSkipped.is (c.is_some-in-JunitReportSkipped.ensures ∙ ap is_some c.report-in-JunitReportSkipped.ensures.skipped)
+returns-in-JunitReportSkipped c =
+    rw c.in-JunitReportSkipped.is
+    (c.is_some-in-JunitReportSkipped.ensures ∙ ap is_some c.report-in-JunitReportSkipped.ensures.skipped)
 
 pub returns-in-JunitFlakyFailStatus : goal.returns-in-JunitFlakyFailStatus
-returns-in-JunitFlakyFailStatus c = rw c.in-JunitFlakyFailStatus.is (c.is_some-in-JunitFlakyFailStatus.ensures ∙ ap is_some c.report-in-JunitFlakyFailStatus.ensures.status)
+returns-in-JunitFlakyFailStatus c =
+    rw c.in-JunitFlakyFailStatus.is
+    (c.is_some-in-JunitFlakyFailStatus.ensures ∙ ap is_some c.report-in-JunitFlakyFailStatus.ensures.status)

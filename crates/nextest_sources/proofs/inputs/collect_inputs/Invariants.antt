@@ -6,4 +6,5 @@ use Rattle.nextest_sources.proofs.inputs.collect_inputs.Given as goal
 
 -- the inputs so far
 abbrev pub invariant-loop-file : goal.invariant-loop-file
-invariant-loop-file l = map input_view l.inputs.items ≡ map tool_input (map tool_file_view (take l.file-index l.files.tools.now))
+invariant-loop-file l = map input_view l.inputs.items
+    ≡ map tool_input (map tool_file_view (take l.file-index l.files.tools.now))

@@ -10,4 +10,5 @@ abbrev pub invariant-loop-file : goal.invariant-loop-file
 invariant-loop-file l =
     let before = map tool_file_view (take l.file-index l.tools) in
     ((q : List ℕ) → path_in l.first_path_by_tool q ≡ first_path q before)
-    × (duplicate_fault [] (map tool_file_view l.tools) ≡ duplicate_fault before (map tool_file_view (drop l.file-index l.tools)))
+    × (duplicate_fault [] (map tool_file_view l.tools)
+    ≡ duplicate_fault before (map tool_file_view (drop l.file-index l.tools)))

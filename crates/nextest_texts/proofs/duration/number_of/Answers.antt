@@ -10,6 +10,7 @@ returns-in_err-number c =
     let digits = c.args.digits.now in
     let loop = c.loop-digit in
     let above : within_limit (loop.number * 10 + (get_or digits loop.digit-index 0 - 48)) ≡ None =
-    ap (λ d. within_limit (loop.number * 10 + d)) (sym c.from.ensures) ∙ sym c.within_limit.ensures ∙ c.in_err-number.was in
+    ap (λ d. within_limit (loop.number * 10 + d)) (sym c.from.ensures) ∙ sym c.within_limit.ensures
+    ∙ c.in_err-number.was in
     c.from_residual.ensures
     ∙ sym (number_above loop.number digits loop.digit-index (omega arith) c.requires loop.invariant.goes_on above)

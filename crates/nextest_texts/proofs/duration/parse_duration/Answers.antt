@@ -45,6 +45,14 @@ returns c =
     let found : duration_of text ≡ Some sum.0 =
     duration_of-words text (sym c.eq.ensures ∙ c.if-eq.false)
     ∙ ap (λ t. some_sum_of (words_of t)) (sym c.as_bytes.ensures.value) ∙ sum.2 in
-    let value : c.ok_or.result ≡ duration_result (Some sum.0) = c.ok_or.ensures.value ∙ ok_or-within_limit sum.0 _ sum.1 in
+    let value : c.ok_or.result ≡ duration_result (Some sum.0) =
+    c.ok_or.ensures.value ∙ ok_or-within_limit sum.0 _ sum.1 in
     let told = answers text c.ok_or.result (Some sum.0) found value in
-    record { read = told.read; out_of_range = told.out_of_range; malformed = told.malformed; value = value ∙ ap duration_result (sym found); grammar = grammar text }
+    record {
+      read = told.read;
+      out_of_range = told.out_of_range;
+      malformed = told.malformed;
+      value =
+          value ∙ ap duration_result (sym found);
+      grammar = grammar text;
+    }

@@ -8,7 +8,8 @@ use Rattle.nextest_texts.proofs.duration.read_items.Goals as goal
 pub returns-then-is_empty : goal.returns-then-is_empty
 returns-then-is_empty c =
     let so_far = c.loop-amount.invariant in
-    let item : TakesItem c.loop-amount.rest.now c.in_ok-amount.amount c.in_ok-amount.after.now = c.in_ok-amount.ensures in
+    let item : TakesItem c.loop-amount.rest.now c.in_ok-amount.amount c.in_ok-amount.after.now =
+    c.in_ok-amount.ensures in
     let ended : c.in_ok-amount.after.now ≡ [] = empty_length _ (sym c.is_empty.ensures ∙ c.if-is_empty.true) in (
       so_far.0 + item.n,
       c.sum_of-total.ensures so_far.0 item.n so_far.1 item.amount_is,
@@ -18,7 +19,8 @@ returns-then-is_empty c =
 pub loop-amount-preserved : goal.loop-amount-preserved
 loop-amount-preserved c =
     let so_far = c.loop-amount.invariant in
-    let item : TakesItem c.loop-amount.rest.now c.in_ok-amount.amount c.in_ok-amount.after.now = c.in_ok-amount.ensures in
+    let item : TakesItem c.loop-amount.rest.now c.in_ok-amount.amount c.in_ok-amount.after.now =
+    c.in_ok-amount.ensures in
     let some_left = positive_length _ (sym c.is_empty.ensures ∙ c.if-is_empty.false) in (
       so_far.0 + item.n,
       c.sum_of-total.ensures so_far.0 item.n so_far.1 item.amount_is,

@@ -6,4 +6,5 @@ use Rattle.nextest_texts.proofs.duration.size_among.Given as goal
 
 -- none of the names so far is the name
 abbrev pub invariant-loop-unit : goal.invariant-loop-unit
-invariant-loop-unit l = lookup (λ unit. bytes_eq unit l.name) (name_pairs (drop l.unit-index l.units)) ≡ lookup (λ unit. bytes_eq unit l.name) (name_pairs l.units)
+invariant-loop-unit l = lookup (λ unit. bytes_eq unit l.name) (name_pairs (drop l.unit-index l.units))
+    ≡ lookup (λ unit. bytes_eq unit l.name) (name_pairs l.units)

@@ -8,4 +8,6 @@ pub returns-in_default-3-clause-verdict : goal.returns-in_default-3-clause-verdi
 returns-in_default-3-clause-verdict c =
     let text = c.args.text.now in
     unsplit_tool_form text
-    (subst (λ r. IfNone r (IsTrue (has_tool_prefix text) → position_or_len (λ b. eqb b 58) (drop 6 text) ≡ length (drop 6 text))) c.in_default.is c.split_tool.ensures.none)
+    (subst (λ r. IfNone r (IsTrue (has_tool_prefix text)
+    → position_or_len (λ b. eqb b 58) (drop 6 text) ≡ length (drop 6 text))) c.in_default.is
+    c.split_tool.ensures.none)

@@ -11,8 +11,13 @@ returns-in_err-value-clause-reads g c =
     let i = c.loop-position.position in
     let t = c.index-items-position.result in
     let step : c.format.result.now ≡ decimal i = c.format.ensures.text in
-    let next : drop i c.args.items.now ≡ t ∷ drop (i + 1) c.args.items.now = drop_more c.args.items.now i t c.loop-position-test.true ∙ ap (λ t. t ∷ drop (i + 1) c.args.items.now) (sym c.index-items-position.is) in
-    rw (p.1, p.2) (λ f h. items_stop g.T.Element.schema i c.args.items.now t _ _ f next (rw (← step) (c.in_err-value.ensures.reads f h)) c.loop-position.invariant.1)
+    let next : drop i c.args.items.now ≡ t ∷ drop (i + 1) c.args.items.now =
+    drop_more c.args.items.now i t c.loop-position-test.true
+    ∙ ap (λ t. t ∷ drop (i + 1) c.args.items.now) (sym c.index-items-position.is) in
+    rw (p.1, p.2) (λ f h. items_stop g.T.Element.schema i c.args.items.now t _ _ f next
+    (rw (← step) (c.in_err-value.ensures.reads f h)) c.loop-position.invariant.1)
 
 pub returns-clause-value : goal.returns-clause-value
-returns-clause-value g c = list_done g.T.Element.is_value c.args.items.now c.loop-position.position c.loop-position.values.items c.loop-position-test.false c.loop-position.invariant.0
+returns-clause-value g c =
+    list_done g.T.Element.is_value c.args.items.now c.loop-position.position c.loop-position.values.items
+    c.loop-position-test.false c.loop-position.invariant.0

@@ -6,4 +6,6 @@ use Rattle.nextest_tree.proofs.name.read_one_of.Given as goal
 
 -- none of the names so far is the text
 abbrev pub invariant-loop-name : goal.invariant-loop-name
-invariant-loop-name g l = lookup (bytes_eq (string_bytes l.text)) (name_pairs (drop l.name-index l.names)) ≡ lookup (bytes_eq (string_bytes l.text)) (name_pairs l.names)
+invariant-loop-name g l =
+    lookup (bytes_eq (string_bytes l.text)) (name_pairs (drop l.name-index l.names))
+    ≡ lookup (bytes_eq (string_bytes l.text)) (name_pairs l.names)

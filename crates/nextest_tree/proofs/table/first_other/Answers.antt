@@ -7,4 +7,5 @@ use Rattle.nextest_tree.proofs.table.first_other.Goals as goal
 pub loop-key-init : goal.loop-key-init
 loop-key-init c =
     ap (λ (ks : List (List ℕ)). first (filter (λ k. not (is_one_of (map key_text c.args.names.now) k)) ks))
-    (ap (map string_bytes) (c.into_iter-key-iterator.ensures.into_iter_gives ∙ c.keys-key-items.ensures.rest) ∙ sym (keys-members c.args.members.now.entries))
+    (ap (map string_bytes) (c.into_iter-key-iterator.ensures.into_iter_gives ∙ c.keys-key-items.ensures.rest)
+    ∙ sym (keys-members c.args.members.now.entries))

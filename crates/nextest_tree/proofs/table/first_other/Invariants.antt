@@ -6,4 +6,6 @@ use Rattle.nextest_tree.proofs.table.first_other.Given as goal
 
 -- no key so far is another
 abbrev pub invariant-loop-key : goal.invariant-loop-key
-invariant-loop-key l = first (filter (λ k. not (is_one_of (map key_text l.names) k)) (map string_bytes l.key-iterator)) ≡ first (others l.names (entries_view l.members.entries))
+invariant-loop-key l = first
+    (filter (λ k. not (is_one_of (map key_text l.names) k)) (map string_bytes l.key-iterator))
+    ≡ first (others l.names (entries_view l.members.entries))

@@ -11,5 +11,6 @@ invariant-loop-key l =
     let p = (walk_view l.fn.walk).path in
     record {
       path : (walk_view l.walk).path ≡ p;
-      noted : left l.names p (map string_bytes l.key-iterator) (walk_view l.walk) ≡ left l.names p (keys (entries_view l.members.entries)) (walk_view l.fn.walk);
+      noted : left l.names p (map string_bytes l.key-iterator) (walk_view l.walk)
+          ≡ left l.names p (keys (entries_view l.members.entries)) (walk_view l.fn.walk);
     }

@@ -8,18 +8,24 @@ use Rattle.package_graph.proofs.metadata.member_list.Goals as goal
 
 pub loop-place-init : goal.loop-place-init
 loop-place-init c =
-    seen_start (member_at (ids_view c.args.ids.now)) (map view c.args.values.now) c.new-members.result.items c.new-members.ensures.items
+    seen_start (member_at (ids_view c.args.ids.now)) (map view c.args.values.now) c.new-members.result.items
+    c.new-members.ensures.items
 
 pub returns-in_err-member : goal.returns-in_err-member
 returns-in_err-member c =
     let p = err_from_is_err_and c.from_residual.result c.from_residual.ensures.1 in
     rw (p.1, p.2)
-    (λ _. seen_fault view (member_at (ids_view c.args.ids.now)) c.args.values.now c.loop-place.place _ c.index-values-place.result c.in_err-member.field-0.0 c.loop-place-test.true c.index-values-place.is (sym c.in_err-member.ensures) c.loop-place.invariant)
+    (λ _. seen_fault view (member_at (ids_view c.args.ids.now)) c.args.values.now c.loop-place.place _
+    c.index-values-place.result c.in_err-member.field-0.0 c.loop-place-test.true c.index-values-place.is
+    (sym c.in_err-member.ensures) c.loop-place.invariant)
 
 pub loop-place-preserved : goal.loop-place-preserved
 loop-place-preserved c =
-    seen_step view (member_at (ids_view c.args.ids.now)) c.args.values.now c.loop-place.place c.loop-place.members.items c.push.new.self.items c.index-values-place.result c.in_ok-member.member c.loop-place-test.true c.index-values-place.is (sym c.in_ok-member.ensures) c.loop-place.invariant
+    seen_step view (member_at (ids_view c.args.ids.now)) c.args.values.now c.loop-place.place
+    c.loop-place.members.items c.push.new.self.items c.index-values-place.result c.in_ok-member.member
+    c.loop-place-test.true c.index-values-place.is (sym c.in_ok-member.ensures) c.loop-place.invariant
     c.in_ok-push.ensures.items
 
 pub returns : goal.returns
-returns c = seen_all view (member_at (ids_view c.args.ids.now)) c.args.values.now c.loop-place.place _ c.loop-place-test.false c.loop-place.invariant
+returns c = seen_all view (member_at (ids_view c.args.ids.now)) c.args.values.now c.loop-place.place _
+    c.loop-place-test.false c.loop-place.invariant

@@ -7,4 +7,5 @@ use Rattle.package_graph.proofs.Gathering.{Gave}
 use Rattle.package_graph.proofs.metadata.package_ids.Given as goal
 
 abbrev pub invariant-loop-place : goal.invariant-loop-place
-invariant-loop-place l = Gave (λ place. text_under (codes "id") (PackageId place)) (map view l.packages) l.place (ids_view l.ids.items)
+invariant-loop-place l = Gave (λ place. text_under (codes "id") (PackageId place)) (map view l.packages)
+    l.place (ids_view l.ids.items)

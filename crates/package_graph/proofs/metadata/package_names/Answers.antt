@@ -10,19 +10,26 @@ use Rattle.package_graph.proofs.metadata.package_names.Goals as goal
 
 pub loop-place-init : goal.loop-place-init
 loop-place-init c =
-    seen_start (λ place. text_under (codes "name") (PackageName place)) (map view c.args.packages.now) (names_view c.new-names.result.items) (ap names_view c.new-names.ensures.items)
+    seen_start (λ place. text_under (codes "name") (PackageName place)) (map view c.args.packages.now)
+    (names_view c.new-names.result.items) (ap names_view c.new-names.ensures.items)
 
 pub returns-in_err-name : goal.returns-in_err-name
 returns-in_err-name c =
     let p = err_from_is_err_and c.from_residual.result c.from_residual.ensures.1 in
     rw (p.1, p.2)
-    (λ _. seen_fault view (λ place. text_under (codes "name") (PackageName place)) c.args.packages.now c.loop-place.place _ c.index-packages-place.result c.in_err-name.field-0.0 c.loop-place-test.true c.index-packages-place.is (sym c.in_err-name.ensures) c.loop-place.invariant)
+    (λ _. seen_fault view (λ place. text_under (codes "name") (PackageName place)) c.args.packages.now
+    c.loop-place.place _ c.index-packages-place.result c.in_err-name.field-0.0 c.loop-place-test.true
+    c.index-packages-place.is (sym c.in_err-name.ensures) c.loop-place.invariant)
 
 pub loop-place-preserved : goal.loop-place-preserved
 loop-place-preserved c =
-    seen_step view (λ place. text_under (codes "name") (PackageName place)) c.args.packages.now c.loop-place.place (names_view c.loop-place.names.items) (names_view c.push.new.self.items) c.index-packages-place.result c.in_ok-name.name.now c.loop-place-test.true c.index-packages-place.is (sym c.in_ok-name.ensures) c.loop-place.invariant
+    seen_step view (λ place. text_under (codes "name") (PackageName place)) c.args.packages.now
+    c.loop-place.place (names_view c.loop-place.names.items) (names_view c.push.new.self.items)
+    c.index-packages-place.result c.in_ok-name.name.now c.loop-place-test.true c.index-packages-place.is
+    (sym c.in_ok-name.ensures) c.loop-place.invariant
     (ap names_view c.in_ok-push.ensures.items ∙ map-append string_bytes c.loop-place.names.items _
     ∙ ap (λ name. names_view c.loop-place.names.items ++ name ∷ []) c.in_ok-from_str.ensures.ok)
 
 pub returns : goal.returns
-returns c = seen_all view (λ place. text_under (codes "name") (PackageName place)) c.args.packages.now c.loop-place.place _ c.loop-place-test.false c.loop-place.invariant
+returns c = seen_all view (λ place. text_under (codes "name") (PackageName place)) c.args.packages.now
+    c.loop-place.place _ c.loop-place-test.false c.loop-place.invariant

@@ -7,4 +7,5 @@ use Rattle.package_graph.proofs.Gathering.{Gave}
 use Rattle.package_graph.proofs.metadata.package_names.Given as goal
 
 abbrev pub invariant-loop-place : goal.invariant-loop-place
-invariant-loop-place l = Gave (λ place. text_under (codes "name") (PackageName place)) (map view l.packages) l.place (names_view l.names.items)
+invariant-loop-place l = Gave (λ place. text_under (codes "name") (PackageName place)) (map view l.packages)
+    l.place (names_view l.names.items)

@@ -7,4 +7,5 @@ use Rattle.package_graph.proofs.metadata.package_of.Goals as goal
 pub returns : goal.returns
 returns c =
     c.ok_or.ensures.value
-    ∙ ap (λ found. ok_or found (UnknownPackage c.args.place)) (c.place_of.ensures ∙ position-ids c.args.id.now c.args.ids.now)
+    ∙ ap (λ found. ok_or found (UnknownPackage c.args.place))
+    (c.place_of.ensures ∙ position-ids c.args.id.now c.args.ids.now)

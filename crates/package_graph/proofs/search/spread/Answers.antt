@@ -22,10 +22,13 @@ loop-edge-preserved c =
     (below_oriented c.args.direction (vec_len c.args.marks.now) _ (c.requires n _ c.loop-edge-test.true)) in
     record {
       same_length = c.follow-has_grown.ensures.length ∙ c.loop-edge.invariant.same_length;
-      spread = spread_step edges c.args.marks.now.items c.loop-edge.marks.items c.follow-has_grown.new.marks.items n c.loop-edge.has_grown c.follow-has_grown.result edge within at (omega (arith, below)) c.loop-edge.invariant.spread c.follow-has_grown.ensures.mark;
+      spread = spread_step edges c.args.marks.now.items c.loop-edge.marks.items
+          c.follow-has_grown.new.marks.items n c.loop-edge.has_grown c.follow-has_grown.result edge within at
+          (omega (arith, below)) c.loop-edge.invariant.spread c.follow-has_grown.ensures.mark;
     }
 
 pub returns-clause-closed : goal.returns-clause-closed
 returns-clause-closed c =
     let edges = map (oriented c.args.direction) c.args.edges.now in
-    spread_closed edges _ _ _ _ (omega (arith, length-map c.args.edges.now (oriented c.args.direction))) c.loop-edge.invariant.spread
+    spread_closed edges _ _ _ _ (omega (arith, length-map c.args.edges.now (oriented c.args.direction)))
+    c.loop-edge.invariant.spread

@@ -3,4 +3,5 @@ use Rattle.rule_lists.specs.Rows.{settled}
 use Rattle.rule_lists.proofs.walk.settle.Given as goal
 
 abbrev pub invariant-loop-k : goal.invariant-loop-k
-invariant-loop-k g l = take l.k l.found ++ settled l.rule l.lists (drop l.k l.found) ≡ settled l.rule l.fn.lists l.fn.found
+invariant-loop-k g l = take l.k l.found ++ settled l.rule l.lists (drop l.k l.found)
+    ≡ settled l.rule l.fn.lists l.fn.found

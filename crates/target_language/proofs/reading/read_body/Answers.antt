@@ -9,7 +9,8 @@ returns-in_err-next-clause-err c =
     let l = c.loop-left in
     let some : 0 < l.left = search rules in
     let more : 0 < length l.rest.now = search rules in
-    let it = loop_fault (read_body c.args.body.now) (length c.args.body.now) l.left (reading_view l.reader) l.rest.now c.in_err-next.field-0.0 some more l.invariant.means c.in_err-next.ensures.err in
+    let it = loop_fault (read_body c.args.body.now) (length c.args.body.now) l.left (reading_view l.reader)
+    l.rest.now c.in_err-next.field-0.0 some more l.invariant.means c.in_err-next.ensures.err in
     search rules
 
 pub loop-left-preserved : goal.loop-left-preserved
@@ -19,7 +20,9 @@ loop-left-preserved c =
     let more : 0 < length l.rest.now = search rules in
     record {
       utf8 = search rules;
-      means = l.invariant.means ∙ at_next (length c.args.body.now) l.left (reading_view l.reader) l.rest.now (reading_view c.in_ok-next.next) c.in_ok-next.behind.now some more c.in_ok-next.ensures.ok;
+      means = l.invariant.means
+          ∙ at_next (length c.args.body.now) l.left (reading_view l.reader) l.rest.now
+          (reading_view c.in_ok-next.next) c.in_ok-next.behind.now some more c.in_ok-next.ensures.ok;
     }
 
 pub returns-clause-ok : goal.returns-clause-ok

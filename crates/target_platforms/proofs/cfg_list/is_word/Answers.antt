@@ -10,7 +10,8 @@ use Rattle.target_platforms.proofs.cfg_list.is_word.Goals as goal
 others : List ℕ → List ℕ
 others text = take (length text - 1) (drop 1 text)
 
-is_word_parts : (text : List ℕ) → 0 < length text → is_word text ≡ (starts_word (get_or text 0 0) && list_all continues_word (others text))
+is_word_parts : (text : List ℕ) → 0 < length text
+    → is_word text ≡ (starts_word (get_or text 0 0) && list_all continues_word (others text))
 unfolding others
 is_word_parts [] some = absurd (omega arith)
 is_word_parts (first ∷ rest) some =
@@ -23,7 +24,8 @@ returns-then-starts_word c =
     let bytes : List ℕ = c.as_bytes.result.now in
     let some : 0 < length bytes = omega arith in
     let tested : c.all.result ≡ list_all continues_word (others bytes) =
-    all_from_yields_List continues_word _ _ c.all.result c.all.ensures.ran (YieldsList-from_slice (others bytes) cc) (λ x b q k. search (rules, tests)) in
+    all_from_yields_List continues_word _ _ c.all.result c.all.ensures.ran
+    (YieldsList-from_slice (others bytes) cc) (λ x b q k. search (rules, tests)) in
     let starts : starts_word (get_or bytes 0 0) ≡ true = sym c.starts_word.ensures ∙ c.if-starts_word.true in
     tested
     ∙ ap (λ first. first && list_all continues_word (others bytes)) (sym starts)

@@ -7,7 +7,9 @@ use Rattle.target_platforms.proofs.cfg_list.unquoted.Goals as goal
 abbrev Unquotes : List ℕ → Option (Bor (List ℕ)) → Type 0
 Unquotes text found = MatchOption found ((value : List ℕ) → text ≢ quoted value) (λ value. text ≡ quoted value.now)
 
-closed : (text inner : List ℕ) (found : Option (Bor (List ℕ))) → text ≡ 34 ∷ inner → MatchOption found ((front : List ℕ) → inner ≢ front ++ (34 ∷ [])) (λ x. inner ≡ x.now ++ (34 ∷ [])) → Unquotes text found
+closed : (text inner : List ℕ) (found : Option (Bor (List ℕ))) → text ≡ 34 ∷ inner
+    → MatchOption found ((front : List ℕ) → inner ≢ front ++ (34 ∷ [])) (λ x. inner ≡ x.now ++ (34 ∷ []))
+    → Unquotes text found
 closed text inner None opened unclosed = λ value same.
     let behind : 34 ∷ inner ≡ quoted value = sym opened ∙ same in
     let inside : inner ≡ value ++ (34 ∷ []) = cc in

@@ -12,4 +12,6 @@ returns c =
     let parts = slice_split (λ byte. byte == 44) cell in
     subst (λ empty. IfOk c.collect.result (λ made. map (λ part. part.now) made.items ≡ (if empty then [] else parts)))
     (sym (sym c.is_empty.ensures ∙ c.if-is_empty.false))
-    (map_from_collect _ c.collect.ensures.ran (YieldsList-from_str_split 44 cell (lit< tt) c.split.ensures.text c.split.ensures.has_more c.split.ensures.pattern))
+    (map_from_collect _ c.collect.ensures.ran
+    (YieldsList-from_str_split 44 cell (lit< tt) c.split.ensures.text c.split.ensures.has_more
+    c.split.ensures.pattern))

@@ -6,4 +6,5 @@ use Rattle.toy_engines.proofs.filters.with_leaves.Given as goal
 
 abbrev pub invariant-loop-term : goal.invariant-loop-term
 invariant-loop-term l =
-    map string_bytes l.found.items ≡ map string_bytes l.fn.found.items ++ flat_map term_leaves (map term_of (take l.term-index l.terms))
+    map string_bytes l.found.items ≡ map string_bytes l.fn.found.items
+    ++ flat_map term_leaves (map term_of (take l.term-index l.terms))

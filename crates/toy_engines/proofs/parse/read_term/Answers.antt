@@ -15,5 +15,7 @@ loop-behind-preserved c =
     record {
       utf8 = search rules;
       short = omega (arith, cut, l.invariant.short);
-      means = l.invariant.means ∙ ap (option_map (more_nots l.negations)) (term_behind_not rest behind c.in-Some.ensures) ∙ one_more_not l.negations (term_in behind);
+      means = l.invariant.means
+          ∙ ap (option_map (more_nots l.negations)) (term_behind_not rest behind c.in-Some.ensures)
+          ∙ one_more_not l.negations (term_in behind);
     }

@@ -7,4 +7,5 @@ use Rattle.filter_language.proofs.reading.argument.hex_value.Goals as goal
 pub returns : goal.returns
 returns c =
     let all : list_all (λ d. is_digit d 16) c.args.digits.now ≡ true = cc in
-    c.ok.ensures.value ∙ hex_is c.args.digits.now c.from_str_radix.result (omega arith) all c.from_str_radix.ensures.value
+    c.ok.ensures.value ∙ hex_is c.args.digits.now c.from_str_radix.result (omega arith) all
+    c.from_str_radix.ensures.value

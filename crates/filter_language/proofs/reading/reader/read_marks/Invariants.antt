@@ -14,10 +14,14 @@ invariant-marks g l = record {
   utf8 : shadow (Utf8 l.place);
   left : length l.place ≤ length l.text;
   objection : IfSome l.objection (λ m. StandsIn l.text (misreading_view m));
-  allowed : is_none l.objection ≡ are_allowed l.kind (g.E.Matchers.knows_packages l.engine) (map (mark_view g.E.Matchers.meaning) l.marks.items);
+  allowed : is_none l.objection
+      ≡ are_allowed l.kind (g.E.Matchers.knows_packages l.engine) (map (mark_view g.E.Matchers.meaning) l.marks.items);
   shape : shape_behind start_shape (map (mark_view g.E.Matchers.meaning) l.marks.items) ≡ Some (shape_view l.nesting);
-  whole : MarksOn (g.E.Matchers.compiled l.engine) (g.E.Matchers.knows_packages l.engine) l.kind (map (mark_view g.E.Matchers.meaning) l.marks.items, option_map misreading_view l.objection) (shape_view l.nesting) l.place
-      (marks_within (g.E.Matchers.compiled l.engine) (g.E.Matchers.knows_packages l.engine) l.kind (suc (length l.text)) ([], None) start_shape l.text);
+  whole : MarksOn (g.E.Matchers.compiled l.engine) (g.E.Matchers.knows_packages l.engine) l.kind
+      (map (mark_view g.E.Matchers.meaning) l.marks.items, option_map misreading_view l.objection)
+      (shape_view l.nesting) l.place
+      (marks_within (g.E.Matchers.compiled l.engine) (g.E.Matchers.knows_packages l.engine) l.kind
+      (suc (length l.text)) ([], None) start_shape l.text);
 }
 
 abbrev pub decreases-marks : goal.decreases-marks

@@ -5,7 +5,8 @@ use Rattle.name_matchers.proofs.glob.class.class_pattern.Goals as goal
 pub returns-then-negated : goal.returns-then-negated
 returns-then-negated c =
     rw (c.if-negated.true, meaning-Bytes c.in_ok-negate.field-0)
-    (others_mean c.in_ok-negate.field-0.ranges.items c.in_ok-class.class.ranges.items c.args.ranges.items c.in_ok-class.ensures c.in_ok-negate.ensures)
+    (others_mean c.in_ok-negate.field-0.ranges.items c.in_ok-class.class.ranges.items c.args.ranges.items
+    c.in_ok-class.ensures c.in_ok-negate.ensures)
 
 pub returns : goal.returns
 returns c =

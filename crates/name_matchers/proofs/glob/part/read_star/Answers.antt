@@ -8,7 +8,8 @@ returns-then-begins_folders-clause-part c =
     let text = c.args.text.now in
     let w = c.begins_folders.ensures.0 c.if-begins_folders.true in
     let len = length-drop 3 text in
-    let whole : take (length text - 3) (drop 3 text) ≡ drop 3 text = take_all (length text - 3) (drop 3 text) (omega arith) in
+    let whole : take (length text - 3) (drop 3 text) ≡ drop 3 text =
+    take_all (length text - 3) (drop 3 text) (omega arith) in
     let rest : drop 3 text ≡ w.0 = ap (drop 3) w.1 in
     rw (c.folders_part.ensures, whole)
     (folders_written c.args.inside c.args.place text (drop 3 text) (w.1 ∙ ap (λ r. 42 ∷ 42 ∷ 47 ∷ r) (sym rest)) w.2)

@@ -5,5 +5,13 @@ use Rattle.name_matchers.proofs.glob.pattern.folders.Goals as goal
 
 pub returns : goal.returns
 returns c =
-    rw (meaning-Alternation c.in_ok-two.field-0, c.in_ok-two.ensures, meaning-Empty, meaning-Concat c.in_ok-path.path, c.in_ok-path.ensures, c.in_ok-byte.ensures)
+    rw (
+      meaning-Alternation c.in_ok-two.field-0,
+      c.in_ok-two.ensures,
+      meaning-Empty,
+      meaning-Concat
+          c.in_ok-path.path,
+      c.in_ok-path.ensures,
+      c.in_ok-byte.ensures,
+    )
     (folders_means (meaning c.in_ok-any_bytes.field-0) c.in_ok-any_bytes.ensures)

@@ -5,7 +5,8 @@ use Rattle.name_matchers.proofs.machine.Machine.close.Goals as goal
 
 pub follow-requires : goal.follow-requires
 follow-requires c =
-    within_at c.args.self.now.nfa c.loop-done.states c.loop-done.done _ c.loop-done.invariant.within (omega arith) c.get-id.ensures
+    within_at c.args.self.now.nfa c.loop-done.states c.loop-done.done _ c.loop-done.invariant.within
+    (omega arith) c.get-id.ensures
 
 pub loop-done-init : goal.loop-done-init
 loop-done-init c = none_followed _ _ _ _ c.requires.states
@@ -20,7 +21,8 @@ returns-then-follow-clause-states c = within_more _ _ _ _ _ _ c.loop-done.invari
 
 pub returns-then-follow-clause-closes : goal.returns-then-follow-clause-closes
 returns-then-follow-clause-closes c =
-    matches_here _ _ _ _ _ _ _ c.requires.at c.loop-done.invariant (omega arith) c.get-id.ensures (c.follow.ensures.ends.0 c.if-follow.true)
+    matches_here _ _ _ _ _ _ _ c.requires.at c.loop-done.invariant (omega arith) c.get-id.ensures
+    (c.follow.ensures.ends.0 c.if-follow.true)
 
 pub returns-clause-closes : goal.returns-clause-closes
 returns-clause-closes c = closed_when_done _ _ _ _ _ _ c.loop-done.invariant (omega arith)

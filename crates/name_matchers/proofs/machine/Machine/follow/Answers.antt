@@ -11,4 +11,5 @@ returns-in-Save-clause-targets c = save_targets _ _ _ _ _ _ _ _ (sym c.in-Save.e
 
 pub returns-then-holds-clause-targets : goal.returns-then-holds-clause-targets
 returns-then-holds-clause-targets c =
-    look_targets _ _ _ _ _ _ _ _ (sym c.in-Look.ensures.is) (sym c.holds.ensures ∙ c.if-holds.true) c.insert-then-holds.ensures
+    look_targets _ _ _ _ _ _ _ _ (sym c.in-Look.ensures.is) (sym c.holds.ensures ∙ c.if-holds.true)
+    c.insert-then-holds.ensures

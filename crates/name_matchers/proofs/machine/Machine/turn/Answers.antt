@@ -3,14 +3,16 @@ use Rattle.name_matchers.proofs.Turns.{states_even, states_odd, states_after_eve
 use Rattle.name_matchers.proofs.machine.Machine.turn.Goals as goal
 
 pub step-requires-clause-states : goal.step-requires-clause-states
-step-requires-clause-states c = states_even c.args.self.now.nfa c.args.at c.args.even.now c.args.odd.now (omega arith) c.requires.states
+step-requires-clause-states c =
+    states_even c.args.self.now.nfa c.args.at c.args.even.now c.args.odd.now (omega arith) c.requires.states
 
 pub step-requires-else-at-eq0-clause-states : goal.step-requires-else-at-eq0-clause-states
 step-requires-else-at-eq0-clause-states c =
     states_odd c.args.self.now.nfa c.args.at c.args.even.now c.args.odd.now (λ even. omega arith) c.requires.states
 
 pub returns-then-at-eq0-clause-states : goal.returns-then-at-eq0-clause-states
-returns-then-at-eq0-clause-states c = states_after_even c.args.self.now.nfa c.args.at c.step.new.states _ (omega arith) c.step.ensures.states
+returns-then-at-eq0-clause-states c =
+    states_after_even c.args.self.now.nfa c.args.at c.step.new.states _ (omega arith) c.step.ensures.states
 
 pub returns-then-at-eq0-clause-step : goal.returns-then-at-eq0-clause-step
 returns-then-at-eq0-clause-step c =
@@ -18,8 +20,10 @@ returns-then-at-eq0-clause-step c =
 
 pub returns-else-at-eq0-clause-states : goal.returns-else-at-eq0-clause-states
 returns-else-at-eq0-clause-states c =
-    states_after_odd c.args.self.now.nfa c.args.at _ c.step-else-at-eq0.new.states (λ even. omega arith) c.step-else-at-eq0.ensures.states
+    states_after_odd c.args.self.now.nfa c.args.at _ c.step-else-at-eq0.new.states (λ even. omega arith)
+    c.step-else-at-eq0.ensures.states
 
 pub returns-else-at-eq0-clause-step : goal.returns-else-at-eq0-clause-step
 returns-else-at-eq0-clause-step c =
-    step_odd _ _ c.args.at c.args.even.now _ _ c.step-else-at-eq0.new.states _ (λ even. omega arith) c.step-else-at-eq0.ensures.step
+    step_odd _ _ c.args.at c.args.even.now _ _ c.step-else-at-eq0.new.states _ (λ even. omega arith)
+    c.step-else-at-eq0.ensures.step

@@ -25,12 +25,19 @@ returns-clause-loads g c =
     let engines = readings_view g.F.Filters g.S.Specs c.args.pcx.now in
     let features = features_view c.args.experimental.now in
     let told = warnings_view c.load-loaded.new.warnings in
-    let whole = c.from_load.ensures.loads engines features (load_inputs_view c.args.shared.now c.new-selection.result c.args.tools.now) _ _ c.load-loaded.ensures.loads in (
+    let whole = c.from_load.ensures.loads engines features
+    (load_inputs_view c.args.shared.now c.new-selection.result c.args.tools.now) _ _
+    c.load-loaded.ensures.loads in (
       told,
-      subst (λ selection. IsLoad (loaded_by g.F.Filters.meaning g.S.Specs.spec_meaning) engines (features_view c.args.experimental.now) (load_inputs_view c.args.shared.now selection c.args.tools.now) [] (warnings_view c.load-loaded.new.warnings) c.from_load.result)
+      subst (λ selection. IsLoad (loaded_by g.F.Filters.meaning g.S.Specs.spec_meaning) engines
+          (features_view c.args.experimental.now)
+          (load_inputs_view c.args.shared.now selection c.args.tools.now) []
+          (warnings_view c.load-loaded.new.warnings) c.from_load.result)
           c.new-selection.ensures
-          (subst (λ old. IsLoad (loaded_by g.F.Filters.meaning g.S.Specs.spec_meaning) engines (features_view c.args.experimental.now)
-          (load_inputs_view c.args.shared.now c.new-selection.result c.args.tools.now) old (warnings_view c.load-loaded.new.warnings) c.from_load.result)
+          (subst (λ old. IsLoad (loaded_by g.F.Filters.meaning g.S.Specs.spec_meaning) engines
+          (features_view c.args.experimental.now)
+          (load_inputs_view c.args.shared.now c.new-selection.result c.args.tools.now) old
+          (warnings_view c.load-loaded.new.warnings) c.from_load.result)
           c.new-warnings.ensures whole),
       c.from_load.ensures.kept,
     )

@@ -10,7 +10,8 @@ pub returns-in_err-root-clause-loads : goal.returns-in_err-root-clause-loads
 returns-in_err-root-clause-loads g c =
     let engines = readings_view g.F.Filters g.S.Specs c.args.pcx.now in
     let p = err_from_is_err_and c.from_residual.result c.from_residual.ensures.1 in
-    rw p.1 (memory_load (loaded_by g.F.Filters.meaning g.S.Specs.spec_meaning) engines (features_view c.args.experimental.now)
+    rw p.1 (memory_load (loaded_by g.F.Filters.meaning g.S.Specs.spec_meaning) engines
+    (features_view c.args.experimental.now)
     (load_inputs_view c.args.shared.now c.args.selection c.args.tools.now) _ p.0 p.2)
 
 pub returns-clause-loads : goal.returns-clause-loads

@@ -9,6 +9,8 @@ use Rattle.nextest_config.proofs.config.NextestConfig.from_sources_with_warnings
 pub returns-clause-loads : goal.returns-clause-loads
 returns-clause-loads g c =
     let engines = readings_view g.F.Filters g.S.Specs c.args.pcx.now in
-    subst (λ selection. IsLoad (loaded_by g.F.Filters.meaning g.S.Specs.spec_meaning) engines (features_view c.args.experimental.now) (load_inputs_view c.args.shared.now selection c.args.tools.now)
-    (g.W.ConfigWarnings.warnings c.args.warnings.now) (g.W.ConfigWarnings.warnings c.from_sources_with_selection.new.warnings) c.from_sources_with_selection.result)
+    subst (λ selection. IsLoad (loaded_by g.F.Filters.meaning g.S.Specs.spec_meaning) engines
+    (features_view c.args.experimental.now) (load_inputs_view c.args.shared.now selection c.args.tools.now)
+    (g.W.ConfigWarnings.warnings c.args.warnings.now)
+    (g.W.ConfigWarnings.warnings c.from_sources_with_selection.new.warnings) c.from_sources_with_selection.result)
     c.new.ensures c.from_sources_with_selection.ensures.loads

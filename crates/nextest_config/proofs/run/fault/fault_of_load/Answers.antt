@@ -10,7 +10,8 @@ unfolding error_view
 returns-then-is_none c =
     let error = c.args.error in
     without_source (source_of error) error.kind
-    (same_some (λ path. path_view path.now) (λ source. source.path) c.config_file.result (source_of error) c.config_file.ensures.path ∙ c.if-is_none.ensures)
+    (same_some (λ path. path_view path.now) (λ source. source.path) c.config_file.result (source_of error)
+    c.config_file.ensures.path ∙ c.if-is_none.ensures)
     c.config_file.ensures.memory
 
 pub returns : goal.returns
@@ -18,4 +19,5 @@ unfolding error_view
 returns c =
     let error = c.args.error in
     with_source (source_of error) error.kind
-    (same_some (λ path. path_view path.now) (λ source. source.path) c.config_file.result (source_of error) c.config_file.ensures.path ∙ c.if-is_none.ensures)
+    (same_some (λ path. path_view path.now) (λ source. source.path) c.config_file.result (source_of error)
+    c.config_file.ensures.path ∙ c.if-is_none.ensures)

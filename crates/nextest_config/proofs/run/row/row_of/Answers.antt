@@ -23,4 +23,5 @@ returns-clause-values g c at.JunitReportSkipped = c.junit_report_skipped.ensures
 returns-clause-values g c at.JunitFlakyFailStatus = c.junit_flaky_fail_status.ensures
 
 pub returns-clause-sources : goal.returns-clause-sources
-returns-clause-sources g c s = slot_is origin_view c.in_ok-sources_of.field-0.items (origin_at c.args.settings.now) c.in_ok-sources_of.ensures s
+returns-clause-sources g c s =
+    slot_is origin_view c.in_ok-sources_of.field-0.items (origin_at c.args.settings.now) c.in_ok-sources_of.ensures s

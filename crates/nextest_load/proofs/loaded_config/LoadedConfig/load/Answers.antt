@@ -16,10 +16,12 @@ returns-in_err-parts g c =
     let files = inputs_view c.args.inputs.now in
     let features = features_view c.args.inputs.now.features.now in
     let definitions : DefinitionsLaw features = λ source file. accepted_definitions features source file in
-    let rules : RulesLaw engines = λ lower known source file sorted. accepted_rules engines lower known source file sorted in
+    let rules : RulesLaw engines =
+    λ lower known source file sorted. accepted_rules engines lower known source file sorted in
     let e = c.in_err-parts.field-0.0 in
     let p = err_from_is_err_and c.from_residual.result c.from_residual.ensures.1 in record {
-      loads = refused_is engines features files definitions rules c.law_first_duplicate.ensures.none (loaded_meaning g.F.Filters.meaning g.S.Specs.spec_meaning) c.from_residual.result p.0 p.1
+      loads = refused_is engines features files definitions rules c.law_first_duplicate.ensures.none
+          (loaded_meaning g.F.Filters.meaning g.S.Specs.spec_meaning) c.from_residual.result p.0 p.1
           (ran_exit _ _ _ _ e c.from_residual.ensures.1 c.in_err-parts.ensures.ran);
     }
 
@@ -29,9 +31,12 @@ new-requires g c =
     let files = inputs_view c.args.inputs.now in
     let features = features_view c.args.inputs.now.features.now in
     let definitions : DefinitionsLaw features = λ source file. accepted_definitions features source file in
-    let rules : RulesLaw engines = λ lower known source file sorted. accepted_rules engines lower known source file sorted in
-    parts_closed g.F.Filters.meaning g.S.Specs.spec_meaning engines features files definitions rules c.law_first_duplicate.ensures.none c.in_ok-parts.parts c.all.result c.all.ensures
-    (g.met.F.Filters.default_filters_answer c.args.pcx.now.filters.now) c.in_ok-parts.ensures.ran c.in_ok-parts.ensures.parts
+    let rules : RulesLaw engines =
+    λ lower known source file sorted. accepted_rules engines lower known source file sorted in
+    parts_closed g.F.Filters.meaning g.S.Specs.spec_meaning engines features files definitions rules
+    c.law_first_duplicate.ensures.none c.in_ok-parts.parts c.all.result c.all.ensures
+    (g.met.F.Filters.default_filters_answer c.args.pcx.now.filters.now) c.in_ok-parts.ensures.ran
+    c.in_ok-parts.ensures.parts
 
 pub returns : goal.returns
 returns g c =
@@ -39,7 +44,10 @@ returns g c =
     let files = inputs_view c.args.inputs.now in
     let features = features_view c.args.inputs.now.features.now in
     let definitions : DefinitionsLaw features = λ source file. accepted_definitions features source file in
-    let rules : RulesLaw engines = λ lower known source file sorted. accepted_rules engines lower known source file sorted in record {
-      loads = loaded_is g.F.Filters.meaning g.S.Specs.spec_meaning engines features files definitions rules c.law_first_duplicate.ensures.none c.in_ok-parts.parts c.all.result c.new.result c.all.ensures
-          (g.met.F.Filters.default_filters_answer c.args.pcx.now.filters.now) c.in_ok-parts.ensures.ran c.in_ok-parts.ensures.parts c.new.ensures;
+    let rules : RulesLaw engines =
+    λ lower known source file sorted. accepted_rules engines lower known source file sorted in record {
+      loads = loaded_is g.F.Filters.meaning g.S.Specs.spec_meaning engines features files definitions rules
+          c.law_first_duplicate.ensures.none c.in_ok-parts.parts c.all.result c.new.result c.all.ensures
+          (g.met.F.Filters.default_filters_answer c.args.pcx.now.filters.now) c.in_ok-parts.ensures.ran
+          c.in_ok-parts.ensures.parts c.new.ensures;
     }

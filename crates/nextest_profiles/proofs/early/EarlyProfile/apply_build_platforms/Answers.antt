@@ -22,8 +22,15 @@ pub new-requires-clause-answers : goal.new-requires-clause-answers
 new-requires-clause-answers g c =
     let before = c.self.inside.rules.script_rules.items in
     let after = c.in-Ok.rules.script_rules.items in
-    answers_kept g.F.Filters.holds_binary g.F.Filters.meaning g.S.Specs.spec_meaning (meets_by g.S.Specs) c.args.platforms.now before after c.in-Ok.ensures.script_rules c.self.invariant.1
+    answers_kept g.F.Filters.holds_binary g.F.Filters.meaning g.S.Specs.spec_meaning (meets_by g.S.Specs)
+    c.args.platforms.now before after c.in-Ok.ensures.script_rules c.self.invariant.1
 
 pub returns-in-Ok-clause-ok : goal.returns-in-Ok-clause-ok
 returns-in-Ok-clause-ok g c =
-    rw (← c.self.view_is, c.new.ensures, c.in-Ok.ensures.default_filter, c.in-Ok.ensures.overrides, c.in-Ok.ensures.script_rules) refl
+    rw (
+      ← c.self.view_is,
+      c.new.ensures,
+      c.in-Ok.ensures.default_filter,
+      c.in-Ok.ensures.overrides,
+      c.in-Ok.ensures.script_rules,
+    ) refl

@@ -15,7 +15,9 @@ use Rattle.nextest_profiles.proofs.evaluatable.EvaluatableProfile.list_settings_
 
 pub list_settings_for-requires-clause-known : goal.list_settings_for-requires-clause-known
 list_settings_for-requires-clause-known g c =
-    let there = each_before (λ named. IfWritten named.list_wrapper (IsIn (names_in c.self.inside.facts.scripts.wrapper))) evaluated_use c.self.inside.rules.script_rules.items c.self.invariant.0.list_wrappers in
+    let there = each_before (λ named. IfWritten named.list_wrapper
+    (IsIn (names_in c.self.inside.facts.scripts.wrapper))) evaluated_use
+    c.self.inside.rules.script_rules.items c.self.invariant.0.list_wrappers in
     subst (λ scripts. KnowsListWrappers scripts c.self.inside.rules.script_rules.items) (sym c.scripts.ensures) there
 
 pub list_settings_for-requires-clause-answers : goal.list_settings_for-requires-clause-answers
@@ -24,12 +26,27 @@ list_settings_for-requires-clause-answers g c = c.self.invariant.1
 pub returns : goal.returns
 returns g c =
     let meaning = g.F.Filters.meaning in
-    let same = ap (profile_meaning meaning) (sym c.self.view_is) ∙ means_rules meaning c.self.inside.facts c.self.inside.rules in
+    let same = ap (profile_meaning meaning) (sym c.self.view_is)
+    ∙ means_rules meaning c.self.inside.facts c.self.inside.rules in
     let binary = binary_view c.args.query.now in
     record {
-      wrapper = subst (λ p. option_map Some (list_wrapper_at c.list_settings_for.result) ≡ option_map (λ id. at_name id p.facts.scripts.wrapper) (list_wrapper_of (binary_query g.F.Filters.holds_binary p.default_filter.filter binary) p)) (sym same)
-          (subst (λ scripts. option_map Some (list_wrapper_at c.list_settings_for.result) ≡ option_map (λ id. at_name id scripts.wrapper) (list_wrapper_by (binary_query g.F.Filters.holds_binary (meaning c.self.inside.rules.default_filter.expr.now) binary) (map (meant_script_rule meaning) c.self.inside.rules.script_rules.items))) c.scripts.ensures c.list_settings_for.ensures.wrapper);
-      tally = subst (λ p. g.F.Tally.Tally.numbers c.list_settings_for.new.tally ≡ g.F.Tally.Tally.numbers c.args.tally.now ++ evaluated_for_list (binary_query g.F.Filters.holds_binary p.default_filter.filter binary) p) (sym same)
-          (subst (λ count. g.F.Tally.Tally.numbers c.list_settings_for.new.tally ≡ g.F.Tally.Tally.numbers c.args.tally.now ++ listed_by (binary_query g.F.Filters.holds_binary (meaning c.self.inside.rules.default_filter.expr.now) binary) count (map (meant_script_rule meaning) c.self.inside.rules.script_rules.items))
-          (sym (length-map c.self.inside.rules.overrides.items (meant_override meaning))) c.list_settings_for.ensures.tally);
+      wrapper = subst (λ p. option_map Some (list_wrapper_at c.list_settings_for.result)
+          ≡ option_map (λ id. at_name id p.facts.scripts.wrapper)
+          (list_wrapper_of (binary_query g.F.Filters.holds_binary p.default_filter.filter binary) p)) (sym same)
+          (subst (λ scripts. option_map Some (list_wrapper_at c.list_settings_for.result)
+          ≡ option_map (λ id. at_name id scripts.wrapper)
+          (list_wrapper_by (binary_query g.F.Filters.holds_binary
+          (meaning c.self.inside.rules.default_filter.expr.now) binary)
+          (map (meant_script_rule meaning) c.self.inside.rules.script_rules.items))) c.scripts.ensures
+          c.list_settings_for.ensures.wrapper);
+      tally = subst (λ p. g.F.Tally.Tally.numbers c.list_settings_for.new.tally
+          ≡ g.F.Tally.Tally.numbers c.args.tally.now
+          ++ evaluated_for_list (binary_query g.F.Filters.holds_binary p.default_filter.filter binary) p) (sym same)
+          (subst (λ count. g.F.Tally.Tally.numbers c.list_settings_for.new.tally
+          ≡ g.F.Tally.Tally.numbers c.args.tally.now
+          ++ listed_by (binary_query g.F.Filters.holds_binary
+          (meaning c.self.inside.rules.default_filter.expr.now) binary) count
+          (map (meant_script_rule meaning) c.self.inside.rules.script_rules.items))
+          (sym (length-map c.self.inside.rules.overrides.items (meant_override meaning)))
+          c.list_settings_for.ensures.tally);
     }

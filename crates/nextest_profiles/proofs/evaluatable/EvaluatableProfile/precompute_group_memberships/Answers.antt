@@ -10,6 +10,9 @@ use Rattle.nextest_profiles.proofs.evaluatable.EvaluatableProfile.precompute_gro
 pub returns-clause-groups : goal.returns-clause-groups
 returns-clause-groups g c =
     let meaning = g.F.Filters.meaning in
-    let same = ap (profile_meaning meaning) (sym c.self.view_is) ∙ means_rules meaning c.self.inside.facts c.self.inside.rules in
-    subst (λ p. IfOk c.precompute_group_memberships.result (λ found. (binary_id name : List ℕ) → membership_group found binary_id name
-    ≡ group_of g.F.Filters.holds p (map test_view c.args.tests.now) binary_id name)) (sym same) c.precompute_group_memberships.ensures.groups
+    let same = ap (profile_meaning meaning) (sym c.self.view_is)
+    ∙ means_rules meaning c.self.inside.facts c.self.inside.rules in
+    subst (λ p. IfOk c.precompute_group_memberships.result
+    (λ found. (binary_id name : List ℕ) → membership_group found binary_id name
+    ≡ group_of g.F.Filters.holds p (map test_view c.args.tests.now) binary_id name)) (sym same)
+    c.precompute_group_memberships.ensures.groups

@@ -12,12 +12,22 @@ use Rattle.nextest_profiles.proofs.evaluatable.EvaluatableProfile.setup_scripts.
 pub returns-clause-scripts : goal.returns-clause-scripts
 returns-clause-scripts g c =
     let meaning = g.F.Filters.meaning in
-    let same = ap (profile_meaning meaning) (sym c.self.view_is) ∙ means_rules meaning c.self.inside.facts c.self.inside.rules in
-    subst (λ p. IfOk c.setup_scripts.result (λ found. setup_scripts_view found ≡ enabled_scripts (map (λ query. query_in g.F.Filters.holds p (test_view query)) c.args.queries.now) p)) (sym same)
-    (subst (λ scripts. IfOk c.setup_scripts.result (λ found. setup_scripts_view found ≡ enabled_by (map (test_query_by g.F.Filters c.self.inside.rules.default_filter.expr.now) c.args.queries.now) (map (meant_script_rule meaning) c.self.inside.rules.script_rules.items) scripts.setup)) c.scripts.ensures c.setup_scripts.ensures.scripts)
+    let same = ap (profile_meaning meaning) (sym c.self.view_is)
+    ∙ means_rules meaning c.self.inside.facts c.self.inside.rules in
+    subst (λ p. IfOk c.setup_scripts.result
+    (λ found. setup_scripts_view found
+    ≡ enabled_scripts (map (λ query. query_in g.F.Filters.holds p (test_view query)) c.args.queries.now)
+    p)) (sym same)
+    (subst (λ scripts. IfOk c.setup_scripts.result
+    (λ found. setup_scripts_view found
+    ≡ enabled_by (map (test_query_by g.F.Filters c.self.inside.rules.default_filter.expr.now)
+    c.args.queries.now) (map (meant_script_rule meaning) c.self.inside.rules.script_rules.items)
+    scripts.setup)) c.scripts.ensures c.setup_scripts.ensures.scripts)
 
 pub returns-clause-rules : goal.returns-clause-rules
 returns-clause-rules g c =
     let meaning = g.F.Filters.meaning in
-    let same = ap (profile_meaning meaning) (sym c.self.view_is) ∙ means_rules meaning c.self.inside.facts c.self.inside.rules in
-    subst (λ p. IfOk c.setup_scripts.result (λ found. setup_scripts_rules_view meaning found ≡ p.script_rules)) (sym same) c.setup_scripts.ensures.rules
+    let same = ap (profile_meaning meaning) (sym c.self.view_is)
+    ∙ means_rules meaning c.self.inside.facts c.self.inside.rules in
+    subst (λ p. IfOk c.setup_scripts.result
+    (λ found. setup_scripts_rules_view meaning found ≡ p.script_rules)) (sym same) c.setup_scripts.ensures.rules

@@ -14,7 +14,11 @@ invariant-loop-index g l =
     let engines = readings_view g.F.Filters g.S.Specs l.pcx in
     let left = l.index-iterator in
     let meaning = override_meaning g.F.Filters.meaning g.S.Specs.spec_meaning in
-    (map meaning (map override_rule_view l.rules.items) ++ override_rules_from engines (source_view l.source) l.profile left.count (map override_view left.iter.rest.items)
+    (map meaning (map override_rule_view l.rules.items)
+    ++ override_rules_from engines (source_view l.source) l.profile left.count
+    (map override_view left.iter.rest.items)
     ≡ override_rules_from engines (source_view l.source) l.profile 0 (map override_view l.fn.tables.items))
-    × (map compile_error_view l.errors.items ++ override_faults_from engines l.profile left.count (map override_view left.iter.rest.items)
-    ≡ map compile_error_view l.initial.errors.items ++ override_faults_from engines l.profile 0 (map override_view l.fn.tables.items))
+    × (map compile_error_view l.errors.items
+    ++ override_faults_from engines l.profile left.count (map override_view left.iter.rest.items)
+    ≡ map compile_error_view l.initial.errors.items
+    ++ override_faults_from engines l.profile 0 (map override_view l.fn.tables.items))

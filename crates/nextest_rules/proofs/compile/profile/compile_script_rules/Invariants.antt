@@ -14,7 +14,10 @@ invariant-loop-index g l =
     let engines = readings_view g.F.Filters g.S.Specs l.pcx in
     let left = l.index-iterator in
     let meaning = script_rule_meaning g.F.Filters.meaning g.S.Specs.spec_meaning in
-    (map meaning (map view.script_rule_view l.rules.items) ++ map (script_rule engines) (map script_rule_table_view left.iter.rest.items)
+    (map meaning (map view.script_rule_view l.rules.items)
+    ++ map (script_rule engines) (map script_rule_table_view left.iter.rest.items)
     ≡ map (script_rule engines) (map script_rule_table_view l.fn.tables.items))
-    × (map compile_error_view l.errors.items ++ script_rule_faults_from engines l.profile left.count (map script_rule_table_view left.iter.rest.items)
-    ≡ map compile_error_view l.initial.errors.items ++ script_rule_faults_from engines l.profile 0 (map script_rule_table_view l.fn.tables.items))
+    × (map compile_error_view l.errors.items
+    ++ script_rule_faults_from engines l.profile left.count (map script_rule_table_view left.iter.rest.items)
+    ≡ map compile_error_view l.initial.errors.items
+    ++ script_rule_faults_from engines l.profile 0 (map script_rule_table_view l.fn.tables.items))

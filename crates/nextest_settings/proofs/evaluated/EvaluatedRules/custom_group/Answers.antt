@@ -13,17 +13,26 @@ returns-in-Some-clause-group g c =
     let F = g.F.Filters in
     let query = test_query_by F c.args.cx.now.default_filter.now c.args.query.now in
     let overrides = map (meant_override F.meaning) c.args.self.now.overrides.items in
-    let slot : option_map (meant_override F.meaning) c.group_slot.result ≡ deciding_override query Test overrides at.TestGroup =
-    rw c.group_slot.ensures (slot_is (meant_override F.meaning) c.winners-winners.result (λ s. deciding_override query Test overrides s) (rw c.deref.ensures.value at c.winners-winners.ensures.winners) at.TestGroup) in
-    let decided = group_by_slot (meant_override F.meaning) c.group_slot.result (deciding_override query Test overrides at.TestGroup) slot in
-    c.written_group.ensures ∙ ap (λ s. option_and_then custom_group s.test_group) c.settings.ensures ∙ (rw c.in-Some.is at decided)
+    let slot : option_map (meant_override F.meaning) c.group_slot.result
+    ≡ deciding_override query Test overrides at.TestGroup =
+    rw c.group_slot.ensures (slot_is (meant_override F.meaning) c.winners-winners.result
+    (λ s. deciding_override query Test overrides s)
+    (rw c.deref.ensures.value at c.winners-winners.ensures.winners) at.TestGroup) in
+    let decided = group_by_slot (meant_override F.meaning) c.group_slot.result
+    (deciding_override query Test overrides at.TestGroup) slot in
+    c.written_group.ensures ∙ ap (λ s. option_and_then custom_group s.test_group) c.settings.ensures
+    ∙ (rw c.in-Some.is at decided)
 
 pub returns-in-None-clause-group : goal.returns-in-None-clause-group
 returns-in-None-clause-group g c =
     let F = g.F.Filters in
     let query = test_query_by F c.args.cx.now.default_filter.now c.args.query.now in
     let overrides = map (meant_override F.meaning) c.args.self.now.overrides.items in
-    let slot : option_map (meant_override F.meaning) c.group_slot.result ≡ deciding_override query Test overrides at.TestGroup =
-    rw c.group_slot.ensures (slot_is (meant_override F.meaning) c.winners-winners.result (λ s. deciding_override query Test overrides s) (rw c.deref.ensures.value at c.winners-winners.ensures.winners) at.TestGroup) in
-    let decided = group_by_slot (meant_override F.meaning) c.group_slot.result (deciding_override query Test overrides at.TestGroup) slot in
+    let slot : option_map (meant_override F.meaning) c.group_slot.result
+    ≡ deciding_override query Test overrides at.TestGroup =
+    rw c.group_slot.ensures (slot_is (meant_override F.meaning) c.winners-winners.result
+    (λ s. deciding_override query Test overrides s)
+    (rw c.deref.ensures.value at c.winners-winners.ensures.winners) at.TestGroup) in
+    let decided = group_by_slot (meant_override F.meaning) c.group_slot.result
+    (deciding_override query Test overrides at.TestGroup) slot in
     rw c.in-None.is at decided

@@ -14,6 +14,7 @@ invariant-loop-query g l =
     let overrides = map (meant_override F.meaning) l.self.overrides.items in
     record {
       groups : (binary_id name : List ℕ) → option_map (λ group. Custom group) (custom_group_in l.found binary_id name)
-          ≡ first_of (custom_group_by F.holds (F.meaning l.self.default_filter.expr.now) overrides) (reverse (filter (is_of_name binary_id name) (map test_view (take l.query-index l.queries))));
+          ≡ first_of (custom_group_by F.holds (F.meaning l.self.default_filter.expr.now) overrides)
+          (reverse (filter (is_of_name binary_id name) (map test_view (take l.query-index l.queries))));
       tally : (added : List ℕ) × (numbers l.tally ≡ numbers l.fn.tally ++ added);
     }

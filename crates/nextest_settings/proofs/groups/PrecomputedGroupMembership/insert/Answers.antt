@@ -21,10 +21,15 @@ returns c = λ id test.
       | in-Some w ↦ rw (w.tests-is, ← c.remove.ensures.value, w.in-Some.is) refl
       | in-None w ↦ rw (w.tests-is, ← c.remove.ensures.value, w.in-None.is, w.new-tests.ensures.empty) refl
     ] in
-    let keyed : (cs : List ℕ) → get_by_text t1 cs ≡ cond (bytes_eq (string_bytes c.in_ok-key.key) cs) (Some c.args.group) (get_by_text t0 cs) =
+    let keyed : (cs : List ℕ)
+    → get_by_text t1 cs ≡ cond (bytes_eq (string_bytes c.in_ok-key.key) cs) (Some c.args.group)
+    (get_by_text t0 cs) =
     btree_map_updates_text (string_bytes c.in_ok-key.key) t0 t1 (Some c.args.group) c.in_ok-insert.ensures.updates in
     let added = rw c.in_ok-key.ensures.ok at keyed in
-    let bound : (cs : List ℕ) → get_by_text m2 cs ≡ cond (bytes_eq (string_bytes c.in_ok-binary_key.binary_key) cs) (Some t1) (get_by_text m1 cs) =
-    btree_map_updates_text (string_bytes c.in_ok-binary_key.binary_key) m1 m2 (Some t1) c.in_ok-insert-2.ensures.updates in
+    let bound : (cs : List ℕ)
+    → get_by_text m2 cs ≡ cond (bytes_eq (string_bytes c.in_ok-binary_key.binary_key) cs) (Some t1)
+    (get_by_text m1 cs) =
+    btree_map_updates_text (string_bytes c.in_ok-binary_key.binary_key) m1 m2 (Some t1)
+    c.in_ok-insert-2.ensures.updates in
     let put = rw c.in_ok-binary_key.ensures.ok at bound in
     custom_group_in_after m0 m1 m2 t0 t1 b n c.args.group taken was added put id test

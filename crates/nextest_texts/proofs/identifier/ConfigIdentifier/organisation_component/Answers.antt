@@ -11,4 +11,5 @@ returns-clause-none c =
 pub returns-clause-name : goal.returns-clause-name
 returns-clause-name c =
     subst (λ text. IfSome c.split_organisation.result (λ name. HasOrganisationPart text name.now)) c.as_str.ensures.text
-    (split_is_name c.as_str.result.now c.split_organisation.result c.as_str.ensures.valid c.split_organisation.ensures.prefix c.split_organisation.ensures.name)
+    (split_is_name c.as_str.result.now c.split_organisation.result c.as_str.ensures.valid
+    c.split_organisation.ensures.prefix c.split_organisation.ensures.name)

@@ -10,5 +10,7 @@ returns-clause-none c =
 
 pub returns-clause-parts : goal.returns-clause-parts
 returns-clause-parts c =
-    subst (λ text. IfSome c.split_tool.result (λ parts. HasToolParts text parts.0.now parts.1.now)) c.as_str.ensures.text
-    (split_is_parts c.as_str.result.now c.split_tool.result c.as_str.ensures.valid c.split_tool.ensures.prefix c.split_tool.ensures.tool c.split_tool.ensures.name)
+    subst (λ text. IfSome c.split_tool.result (λ parts. HasToolParts text parts.0.now parts.1.now))
+    c.as_str.ensures.text
+    (split_is_parts c.as_str.result.now c.split_tool.result c.as_str.ensures.valid c.split_tool.ensures.prefix
+    c.split_tool.ensures.tool c.split_tool.ensures.name)

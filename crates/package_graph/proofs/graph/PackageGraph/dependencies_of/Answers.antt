@@ -7,7 +7,9 @@ use Rattle.package_graph.proofs.graph.PackageGraph.dependencies_of.Goals as goal
 pub returns : goal.returns
 returns g c = IfOk-weaker c.found_from.result _ _
     (λ set says name. (
-      (λ h. let found = (says name).0 h in let a = found.0 in let b = found.1 in let way = found.4 in (a, b, found.2, found.3, subst (λ edges. Reaches edges a b) (unturned c.args.self.now.edges.items) way)),
-      (λ (a, b, from, named, way). (says name).1 (a, b, from, named, subst (λ edges. Reaches edges a b) (sym (unturned c.args.self.now.edges.items)) way)),
+      (λ h. let found = (says name).0 h in let a = found.0 in let b = found.1 in let way = found.4 in
+          (a, b, found.2, found.3, subst (λ edges. Reaches edges a b) (unturned c.args.self.now.edges.items) way)),
+      (λ (a, b, from, named, way). (says name).1
+          (a, b, from, named, subst (λ edges. Reaches edges a b) (sym (unturned c.args.self.now.edges.items)) way)),
     ))
     c.found_from.ensures

@@ -12,9 +12,26 @@ returns g c = IfOk-weaker c.marked_members.result _ _
     let seen = c.deref-2.ensures.value in (
       (λ h.
           let member = (says name).0 h in
-          let start = (reached member.0).0 (subst (λ marks. IsMarked marks member.0) seen member.2) in
-          (start.0, member.0, (matched start.0).0 start.1, member.1, subst (λ edges. Reaches (map (oriented c.args.direction) edges) start.0 member.0) c.deref.ensures.value start.2)),
+          let start = (reached member.0).0 (subst (λ marks. IsMarked marks member.0) seen member.2) in (
+            start.0,
+            member.0,
+            (matched start.0).0 start.1,
+            member.1,
+            subst
+                (λ edges. Reaches (map (oriented c.args.direction) edges) start.0 member.0)
+                c.deref.ensures.value start.2,
+          )),
       (λ (a, b, from, named, way).
-          (says name).1 (b, named, subst (λ marks. IsMarked marks b) (sym seen) ((reached b).1 (a, (matched a).1 from, subst (λ edges. Reaches (map (oriented c.args.direction) edges) a b) (sym c.deref.ensures.value) way)))),
+          (says name).1 (
+            b,
+            named,
+            subst (λ marks. IsMarked marks b) (sym seen)
+                ((reached b).1 (
+                  a,
+                  (matched a).1 from,
+                  subst
+                      (λ edges. Reaches (map (oriented c.args.direction) edges) a b) (sym c.deref.ensures.value) way,
+                )),
+          )),
     ))
     c.marked_members.ensures

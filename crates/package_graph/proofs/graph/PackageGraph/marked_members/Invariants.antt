@@ -4,4 +4,5 @@ use Rattle.package_graph.proofs.Matching.{NamesMarked}
 use Rattle.package_graph.proofs.graph.PackageGraph.marked_members.Given as goal
 
 abbrev pub invariant-loop-place : goal.invariant-loop-place
-invariant-loop-place l = NamesMarked (names_view l.self.names.items) l.self.members.items l.marks (contains_text l.names) l.place-index
+invariant-loop-place l = NamesMarked (names_view l.self.names.items) l.self.members.items l.marks
+    (contains_text l.names) l.place-index

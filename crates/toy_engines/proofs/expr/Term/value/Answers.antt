@@ -6,4 +6,5 @@ pub returns-then-self-eq0 : goal.returns-then-self-eq0
 returns-then-self-eq0 c = c.value-value.ensures ∙ sym (negated_even _ _ c.if-self-eq0.true)
 
 pub returns-else-self-eq0 : goal.returns-else-self-eq0
-returns-else-self-eq0 c = c.negate.ensures ∙ ap (option_map not) c.value-value.ensures ∙ sym (negated_odd _ _ c.if-self-eq0.false)
+returns-else-self-eq0 c =
+    c.negate.ensures ∙ ap (option_map not) c.value-value.ensures ∙ sym (negated_odd _ _ c.if-self-eq0.false)

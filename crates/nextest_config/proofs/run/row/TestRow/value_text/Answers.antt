@@ -34,10 +34,12 @@ pub returns-in-FailureOutput : goal.returns-in-FailureOutput
 returns-in-FailureOutput c = rw c.in-FailureOutput.is c.to_string-in-FailureOutput.ensures.ok
 
 pub returns-in-JunitStoreSuccessOutput : goal.returns-in-JunitStoreSuccessOutput
-returns-in-JunitStoreSuccessOutput c = rw c.in-JunitStoreSuccessOutput.is c.to_string-in-JunitStoreSuccessOutput.ensures.ok
+returns-in-JunitStoreSuccessOutput c =
+    rw c.in-JunitStoreSuccessOutput.is c.to_string-in-JunitStoreSuccessOutput.ensures.ok
 
 pub returns-in-JunitStoreFailureOutput : goal.returns-in-JunitStoreFailureOutput
-returns-in-JunitStoreFailureOutput c = rw c.in-JunitStoreFailureOutput.is c.to_string-in-JunitStoreFailureOutput.ensures.ok
+returns-in-JunitStoreFailureOutput c =
+    rw c.in-JunitStoreFailureOutput.is c.to_string-in-JunitStoreFailureOutput.ensures.ok
 
 pub returns-in-JunitReportSkipped : goal.returns-in-JunitReportSkipped
 returns-in-JunitReportSkipped c = rw c.in-JunitReportSkipped.is c.to_string-in-JunitReportSkipped.ensures.ok
