@@ -127,7 +127,7 @@ class Reader:
             self.fail("InvalidGlob", begin, end)
         if sign == "/":
             try:
-                re.compile(value)
+                re.compile(pythons(value))
             except re.error:
                 self.fail("InvalidRegex", begin, end)
         close = self.close()
@@ -174,6 +174,15 @@ class Reader:
         end = self.text.find(b")", begin)
         end = len(self.text) if end < 0 else end
         self.fail("ExpectedCloseRegex", end, end)
+
+
+def pythons(regex):
+    """Python's regular expression for one of the `regex` crate, where they differ: counts may have
+    blanks, braces count, and no letter beyond ASCII is escaped."""
+    regex = re.sub(r"{ *(\d+) *(,?) *(\d*) *}", r"{\1\2\3}", regex)
+    if re.search(r"(?<!\\){(?!\d+(,\d*)?})|\\[^\0-\x7f]", regex):
+        raise re.error("not of the `regex` crate")
+    return regex
 
 
 def row(pattern, at, branch):
@@ -297,7 +306,7 @@ def matches(sign, pattern, name):
     if sign == "~":
         return pattern in name
     if sign == "/":
-        return re.search(pattern, name) is not None
+        return re.search(pythons(pattern), name) is not None
     return re.fullmatch(glob(pattern).encode("latin1"), name.encode(), re.S) is not None
 
 
