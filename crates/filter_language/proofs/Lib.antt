@@ -19,3 +19,5 @@ pub mod BodiesRead
 pub mod PredicatesRead
 pub mod PredicatesSpelled
 pub mod MarksRead
+pub mod MarksSpelled
+pub mod Writings

@@ -23,10 +23,10 @@ use Rattle.filter_language.proofs.Spelled.{both_true, skips}
 
 -- What a mark begins with is no blank.
 pub record IsMarkFront (spelling : List ℕ) : Type 0 where
-  first : ℕ
-  more : List ℕ
-  is : spelling ≡ first ∷ more
-  unblank : (text : List ℕ) → is_blank first text ≡ false
+  pub first : ℕ
+  pub more : List ℕ
+  pub is : spelling ≡ first ∷ more
+  pub unblank : (text : List ℕ) → is_blank first text ≡ false
 
 front_is : (spelling : List ℕ) (c : ℕ) (more : List ℕ) → spelling ≡ c ∷ more
     → ((text : List ℕ) → is_blank c text ≡ false) → IsMarkFront spelling
@@ -79,7 +79,7 @@ asked_read : {L : Type 0} (compiler : Compiler L) (knows : Bool) (kind : Filters
     → negated_or_not compiler knows kind shape place text (after_one (codes "not ") (codes "!") text)
     ≡ Ok (plain (Asked q) rest next)
 asked_read {L} compiler knows kind shape next place text rest q is ban same =
-    let then : PredicateRead L → Result (MarkRead L) Misreading = λ p. Ok (record {
+    let reading : PredicateRead L → Result (MarkRead L) Misreading = λ p. Ok (record {
       mark = Asked p.question;
       objection = option_map (objection_to text p) (question_ban kind knows p.question);
       rest = p.rest;
@@ -96,7 +96,7 @@ asked_read {L} compiler knows kind shape next place text rest q is ban same =
     ap (negated_or_not compiler knows kind shape place text) is.head.no_not
     ∙ ap (opened_or_asked compiler knows kind shape place text) is.head.no_open
     ∙ ap (asked_in compiler knows kind shape place text) is.head.is_word
-    ∙ ap (λ r. r >>= then) is.is_found
+    ∙ ap (λ r. r >>= reading) is.is_found
     ∙ ap (λ o. marked is.found.question is.found.rest (option_map (objection_to text is.found) o) (complete_shape shape))
     none
     ∙ ap (λ x. marked x is.found.rest None (complete_shape shape)) is.question

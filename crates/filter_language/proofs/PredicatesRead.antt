@@ -32,16 +32,16 @@ word_bytes (Matches field) = field_word field
 
 -- No operator stands in front of a text, and a word does.
 pub record Heads (text : List ℕ) (word : Word) (behind : List ℕ) : Type 0 where
-  first : ℕ
-  more : List ℕ
-  begins : text ≡ first ∷ more
-  unblank : (rest : List ℕ) → is_blank first rest ≡ false
-  no_bar : after_prefix (codes "|") text ≡ None
-  no_and : after_prefix (codes "&") text ≡ None
-  no_not : after_one (codes "not ") (codes "!") text ≡ None
-  no_open : after_prefix (codes "(") text ≡ None
-  no_operator : operator_of text ≡ None
-  is_word : word_in text ≡ Some (word, behind)
+  pub first : ℕ
+  pub more : List ℕ
+  pub begins : text ≡ first ∷ more
+  pub unblank : (rest : List ℕ) → is_blank first rest ≡ false
+  pub no_bar : after_prefix (codes "|") text ≡ None
+  pub no_and : after_prefix (codes "&") text ≡ None
+  pub no_not : after_one (codes "not ") (codes "!") text ≡ None
+  pub no_open : after_prefix (codes "(") text ≡ None
+  pub no_operator : operator_of text ≡ None
+  pub is_word : word_in text ≡ Some (word, behind)
 
 no_id : (blanks more : List ℕ) → AreBlanks blanks → after_prefix (codes "_id") (blanks ++ (40 ∷ more)) ≡ None
 no_id [] more are = refl
@@ -104,13 +104,13 @@ call_text word blanks inside rest =
 
 -- A predicate in front of a rest is read.
 pub record IsAsked {L : Type 0} (compiler : Compiler L) (q : Question L) (text rest : List ℕ) : Type 0 where
-  word : Word
-  behind : List ℕ
-  head : Heads text word behind
-  found : PredicateRead L
-  is_found : predicate_in compiler word text behind ≡ Ok found
-  question : found.question ≡ q
-  ends : found.rest ≡ rest
+  pub word : Word
+  pub behind : List ℕ
+  pub head : Heads text word behind
+  pub found : PredicateRead L
+  pub is_found : predicate_in compiler word text behind ≡ Ok found
+  pub question : found.question ≡ q
+  pub ends : found.rest ≡ rest
 
 -- It is enough that its inside is read.
 asked : {L : Type 0} (compiler : Compiler L) (q : Question L) (word : Word) (inside spelling rest : List ℕ)
@@ -169,10 +169,10 @@ platform_read L p blanks bytes text rest are unblank spells name =
 
 -- What stands behind a sign is read.
 record BodyIs (sign : Sign) (bytes start rest : List ℕ) : Type 0 where
-  body : Body
-  is_body : body_behind sign start ≡ Ok body
-  same : body.bytes ≡ bytes
-  closed : closed_in body.behind ≡ Ok (41 ∷ rest, rest)
+  pub body : Body
+  pub is_body : body_behind sign start ≡ Ok body
+  pub same : body.bytes ≡ bytes
+  pub closed : closed_in body.behind ≡ Ok (41 ∷ rest, rest)
 
 text_body : (bytes text rest : List ℕ) → SpellsFilled bytes text
     → (body : Body) × (text_in (text ++ (41 ∷ rest)) ≡ Ok body) × (body.bytes ≡ bytes)
