@@ -157,7 +157,7 @@ plain_next {L} compiler knows kind shape next text rest m found (spelling, spell
 
 closed_next : {L : Type 0} (compiler : Compiler L) (knows : Bool) (kind : FiltersetKind) (shape : Shape)
     (place text rest : List ℕ) (bound : Option Shape) (found : MarkRead L)
-    → ((spelling : List ℕ) × SpellsMark compiler {L = L} CloseMark spelling × (text ≡ spelling ++ rest))
+    → ((spelling : List ℕ) × SpellsMark compiler CloseMark spelling × (text ≡ spelling ++ rest))
     → closed_shape shape.outer ≡ bound → closed_level place rest bound ≡ Ok (Some found)
     → IsNext compiler knows kind false shape text found
 closed_next compiler knows kind shape place text rest None found at is e = absurd (cc)

@@ -49,11 +49,11 @@ from_prefix {X} x y spelling text behind (Some r) is e =
     let pair : ◌≡◌ {A = X × List ℕ} (x, r) (y, behind) = cc in
     (first_same x y r behind pair, after_is spelling text behind (is ∙ ap Some (second_same x y r behind pair)))
 
-one_way : {X : Type 0} (x y : X) (spelling text behind : List ℕ) → spelled x spelling text ≡ Some (y, behind)
+pub one_way : {X : Type 0} (x y : X) (spelling text behind : List ℕ) → spelled x spelling text ≡ Some (y, behind)
     → (x ≡ y) × (text ≡ spelling ++ behind)
 one_way x y spelling text behind e = from_prefix x y spelling text behind _ refl e
 
-either_way : {X : Type 0} (P : Type 0) (a b : Option X) (x : X) → (a ≡ Some x → P) → (b ≡ Some x → P)
+pub either_way : {X : Type 0} (P : Type 0) (a b : Option X) (x : X) → (a ≡ Some x → P) → (b ≡ Some x → P)
     → option_or a b ≡ Some x → P
 either_way P None b x first second e = second e
 either_way P (Some y) b x first second e = first e

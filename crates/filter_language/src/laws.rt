@@ -9,7 +9,7 @@ ghost use Rattle.filter_language.specs.Writing.{Writes, IsFilter};
 ghost use Rattle.filter_language.specs.Reading.{read};
 ghost use Rattle.filter_language.specs.Values.{value, Subject, answer};
 ghost use Rattle.filter_language.specs.Evaluation.{marks_value};
-ghost use Rattle.filter_language.specs.Truth.{ValuesAreTrue, BinariesSpeakForTests, OnlyTestsAreUnknown};
+ghost use Rattle.filter_language.specs.Truth.{ValuesAreTrue, BinariesSpeakForTests, OnlyTestsAreUnknown, OppositesChangePlaces};
 
 use crate::matchers::Matchers;
 
@@ -54,4 +54,9 @@ pub fn law_binaries<E: Matchers>()
 /// A filter that asks neither for a test nor for the default filter has an answer for each binary.
 pub fn law_decided<E: Matchers>()
     ensures { OnlyTestsAreUnknown E.accepts }
+{}
+
+/// `not (a or b)` has the value of `not a and not b`, and `not (a and b)` that of `not a or not b`.
+pub fn law_opposites<E: Matchers>()
+    ensures { OppositesChangePlaces E.accepts }
 {}
