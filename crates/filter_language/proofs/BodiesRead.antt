@@ -152,8 +152,7 @@ ended_text : (before rest bytes end : List ℕ)
 ended_text before rest bytes end pair =
     let read : before ++ front_until text_stops rest ≡ bytes = ap (λ (x : List ℕ × List ℕ). x.0) pair in
     let behind : rest_until text_stops rest ≡ end = ap (λ (x : List ℕ × List ℕ). x.1) pair in
-    let front = front_until text_stops rest in
-    (
+    let front = front_until text_stops rest in (
       front ++ [],
       front ++ [],
       plain_front front [] [] (front_is_none text_stops rest) no_text,
@@ -267,8 +266,7 @@ ended_regex : (before rest bytes end behind : List ℕ) → end ≡ 47 ∷ behin
 ended_regex before rest bytes end behind close pair =
     let read : before ++ front_until regex_stops rest ≡ bytes = ap (λ (x : List ℕ × List ℕ). x.0) pair in
     let last : rest_until regex_stops rest ≡ end = ap (λ (x : List ℕ × List ℕ). x.1) pair in
-    let front = front_until regex_stops rest in
-    (
+    let front = front_until regex_stops rest in (
       front ++ [],
       front ++ codes "/",
       bare_front front [] (codes "/") (front_is_none regex_stops rest) closing,
@@ -388,5 +386,6 @@ pub regex_in_spelled : (start : List ℕ) (body : Body) → regex_in start ≡ O
 unfolding body_in
 regex_in_spelled start body e =
     from_slashed start body (body_in regex_turn start)
-    (λ bytes end behind close is. regex_turns_spell (suc (length start)) [] start bytes end behind (omega arith) close is)
+    (λ bytes end behind close is. regex_turns_spell (suc (length start)) [] start bytes end behind
+    (omega arith) close is)
     e

@@ -95,8 +95,7 @@ by_scalar digits text inside r c number rest None is hex whole split e = absurd 
 by_scalar digits text inside r c number rest (Some d) is hex whole split e =
     let pair : (d, r) ≡ (c, rest) = cc in
     let character : d ≡ c = ap (λ (x : ℕ × List ℕ). x.0) pair in
-    let behind : r ≡ rest = ap (λ (x : ℕ × List ℕ). x.1) pair in
-    (
+    let behind : r ≡ rest = ap (λ (x : ℕ × List ℕ). x.1) pair in (
       codes "u{" ++ (digits ++ codes "}"),
       of_number digits number c hex (is ∙ ap Some character),
       whole ∙ ap (λ l. codes "u{" ++ l) (split ∙ ap (λ l. digits ++ (125 ∷ l)) behind

@@ -64,7 +64,8 @@ pub rest_shorter : (blanks spelling rest place : List ℕ) → IsMarkFront spell
 rest_shorter blanks spelling rest place front split =
     let whole : length place ≡ length blanks + length (spelling ++ rest) =
     ap length split ∙ length-append blanks (spelling ++ rest) in
-    let begins : length (spelling ++ rest) ≡ suc (length (front.more ++ rest)) = ap (λ l. length (l ++ rest)) front.is in
+    let begins : length (spelling ++ rest) ≡ suc (length (front.more ++ rest)) =
+    ap (λ l. length (l ++ rest)) front.is in
     let more : length (front.more ++ rest) ≡ length front.more + length rest = length-append front.more rest in
     omega (arith, whole, begins, more)
 
@@ -97,7 +98,8 @@ asked_read {L} compiler knows kind shape next place text rest q is ban same =
     ∙ ap (opened_or_asked compiler knows kind shape place text) is.head.no_open
     ∙ ap (asked_in compiler knows kind shape place text) is.head.is_word
     ∙ ap (λ r. r >>= reading) is.is_found
-    ∙ ap (λ o. marked is.found.question is.found.rest (option_map (objection_to text is.found) o) (complete_shape shape))
+    ∙ ap (λ o. marked is.found.question is.found.rest (option_map (objection_to text is.found) o)
+    (complete_shape shape))
     none
     ∙ ap (λ x. marked x is.found.rest None (complete_shape shape)) is.question
     ∙ ap (λ x. marked q x None (complete_shape shape)) is.ends
@@ -167,7 +169,8 @@ joining_at {L} compiler shape next place spelling rest AndMark (inl is) clear st
     ap (λ l. joined_at {L = L} shape place (l ++ rest)) is ∙ some_plain AndMark rest (joined_shape shape) next step
 joining_at {L} compiler shape next place spelling rest AndMark (inr is) clear step =
     ap (λ l. joined_at {L = L} shape place (l ++ rest)) is
-    ∙ ap (λ o. foreign_or (38 ∷ rest) None (option_or o None) >>= joined_or_ended {L = L} shape place (38 ∷ rest)) clear.1
+    ∙ ap (λ o. foreign_or (38 ∷ rest) None (option_or o None) >>= joined_or_ended {L = L} shape place
+    (38 ∷ rest)) clear.1
     ∙ some_plain AndMark rest (joined_shape shape) next step
 joining_at {L} compiler shape next place spelling rest OrMark (inl is) clear step =
     ap (λ l. joined_at {L = L} shape place (l ++ rest)) is ∙ some_plain OrMark rest (joined_shape shape) next step
@@ -290,7 +293,8 @@ none_is : {X : Type 0} (o : Option X) → is_none o ≡ true → o ≡ None
 none_is None e = refl
 none_is (Some x) e = absurd (cc)
 
-pub marks_read : {L : Type 0} (compiler : Compiler L) (knows : Bool) (kind : FiltersetKind) (marks before : List (Mark L))
+pub marks_read : {L : Type 0} (compiler : Compiler L) (knows : Bool) (kind : FiltersetKind)
+    (marks before : List (Mark L))
     (n : ℕ) (shape : Shape) (place : List ℕ) → length place < n → Writes compiler place marks
     → EndsBehind shape marks → are_allowed kind knows marks ≡ true
     → marks_within compiler knows kind n (before, None) shape place ≡ Ok (before ++ marks, None)

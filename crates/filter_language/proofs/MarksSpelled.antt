@@ -109,7 +109,8 @@ abbrev Operates : {L : Type 0} → Compiler L → List ℕ → Operator → List
 Operates compiler text operator rest =
     (spelling : List ℕ) × SpellsMark compiler (operator_mark operator) spelling × (text ≡ spelling ++ rest)
 
-some_operator : {L : Type 0} (compiler : Compiler L) (text : List ℕ) (operator other : Operator) (behind : Option (List ℕ))
+some_operator : {L : Type 0} (compiler : Compiler L) (text : List ℕ) (operator other : Operator)
+    (behind : Option (List ℕ))
     (rest : List ℕ)
     → ((r : List ℕ) → behind ≡ Some r → Operates compiler text operator r)
     → option_map {U = Operator × List ℕ} (λ r. (operator, r)) behind ≡ Some (other, rest)
@@ -119,15 +120,18 @@ some_operator compiler text operator other (Some r) rest known e =
     let pair : ◌≡◌ {A = Operator × List ℕ} (operator, r) (other, rest) = cc in
     let first : operator ≡ other = ap (λ (x : Operator × List ℕ). x.0) pair in
     let second : r ≡ rest = ap (λ (x : Operator × List ℕ). x.1) pair in
-    let it = known r refl in
-    (it.0, subst (λ o. SpellsMark compiler (operator_mark o) it.0) first it.1,
-    it.2 ∙ ap (λ l. it.0 ++ l) second)
+    let it = known r refl in (
+      it.0,
+      subst (λ o. SpellsMark compiler (operator_mark o) it.0) first it.1,
+      it.2 ∙ ap (λ l. it.0 ++ l) second,
+    )
 
 or_spelled : {L : Type 0} (compiler : Compiler L) (text r : List ℕ)
     → option_or (after_prefix (codes "or ") text) (after_one (codes "|") (codes "+") text) ≡ Some r
     → Operates compiler text Or r
 or_spelled compiler text r =
-    either_way (Operates compiler text Or r) (after_prefix (codes "or ") text) (after_one (codes "|") (codes "+") text) r
+    either_way (Operates compiler text Or r) (after_prefix (codes "or ") text)
+    (after_one (codes "|") (codes "+") text) r
     (λ e. (codes "or ", inl refl, after_is (codes "or ") text r e))
     (one_spelling (SpellsMark compiler OrMark) (codes "|") (codes "+") text r (inr (inl refl)) (inr (inr refl)))
 
@@ -176,7 +180,8 @@ joined_next compiler knows kind shape place text rest Or found at e =
 joined_next compiler knows kind shape place text rest Minus found at e =
     plain_next compiler knows kind shape (joined_shape shape) text rest MinusMark found at refl refl e
 
-no_more : {L : Type 0} (place outer text : List ℕ) (found : MarkRead L) → ended_in place outer text ≡ Ok (Some found) → ⊥
+no_more : {L : Type 0} (place outer text : List ℕ) (found : MarkRead L)
+    → ended_in place outer text ≡ Ok (Some found) → ⊥
 no_more place (around ∷ outer) text found e = cc
 no_more place [] [] found e = cc
 no_more place [] (c ∷ text) found e = cc
@@ -215,7 +220,8 @@ next_if compiler knows kind shape place wants = if wants
     then wanted_in compiler knows kind shape place >>= (λ found. Ok (Some found)) else joining_in shape place
 
 next_spelled_if : {L : Type 0} (compiler : Compiler L) (knows : Bool) (kind : FiltersetKind) (shape : Shape)
-    (place : List ℕ) (found : MarkRead L) (wants : Bool) → next_if compiler knows kind shape place wants ≡ Ok (Some found)
+    (place : List ℕ) (found : MarkRead L) (wants : Bool)
+    → next_if compiler knows kind shape place wants ≡ Ok (Some found)
     → IsNext compiler knows kind wants shape (skipped place) found
 next_spelled_if {L} compiler knows kind shape place found true e =
     let it = bound_ok (wanted_in compiler knows kind shape place) (λ (f : MarkRead L). Ok (Some f)) (Some found) e in
@@ -261,7 +267,8 @@ ends_if : {L : Type 0} (compiler : Compiler L) (knows : Bool) (kind : FiltersetK
     (place : List ℕ) (wants : Bool) → next_if compiler knows kind shape place wants ≡ Ok None
     → (wants ≡ false) × IsEnd shape (skipped place)
 ends_if {L} compiler knows kind shape place true e =
-    let it = bound_ok (wanted_in compiler knows kind shape place) (λ (f : MarkRead L). Ok (Some f)) None e in absurd (cc)
+    let it = bound_ok (wanted_in compiler knows kind shape place) (λ (f : MarkRead L). Ok (Some f)) None e in
+    absurd (cc)
 ends_if {L} compiler knows kind shape place false e =
     let it = bound_ok (operator_in (skipped place)) (joined_or_ended {L = L} shape place (skipped place)) None e in
     (refl, found_ends L shape place (skipped place) it.0 it.2)

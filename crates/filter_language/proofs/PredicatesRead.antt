@@ -80,7 +80,8 @@ heads (Matches Package) blanks more are = head_of _ _ _ _ _ refl (λ rest. refl)
 heads (Matches Deps) blanks more are = head_of _ _ _ _ _ refl (λ rest. refl) refl refl refl refl refl refl
 heads (Matches Rdeps) blanks more are = head_of _ _ _ _ _ refl (λ rest. refl) refl refl refl refl refl refl
 heads (Matches BinaryId) blanks more are = head_of _ _ _ _ _ refl (λ rest. refl) refl refl refl refl refl refl
-heads (Matches BinaryName) blanks more are = head_of _ _ _ _ _ refl (λ rest. refl) refl refl refl refl refl (rw (no_id blanks more are) refl)
+heads (Matches BinaryName) blanks more are =
+    head_of _ _ _ _ _ refl (λ rest. refl) refl refl refl refl refl (rw (no_id blanks more are) refl)
 heads (Matches Kind) blanks more are = head_of _ _ _ _ _ refl (λ rest. refl) refl refl refl refl refl refl
 heads (Matches Group) blanks more are = head_of _ _ _ _ _ refl (λ rest. refl) refl refl refl refl refl refl
 
@@ -267,7 +268,8 @@ matching_read : {L : Type 0} (compiler : Compiler L) (field : Field) (sign : Sig
     → matching_in compiler field start ((blanks ++ argument) ++ (41 ∷ rest))
     ≡ Ok (asking (OfName (pattern_of field sign is_default bytes (before_rest start rest) meaning))
     ((blanks ++ argument) ++ (41 ∷ rest)) (41 ∷ rest, rest))
-matching_read compiler field sign true start bytes blanks argument rest meaning are (own, unblank, no_sign, spells) means =
+matching_read compiler field sign true start bytes blanks argument rest meaning are
+    (own, unblank, no_sign, spells) means =
     let inside = (blanks ++ argument) ++ (41 ∷ rest) in
     ap (λ l. signed_in compiler field start inside (sign_in field l)) (text_behind blanks argument rest are unblank)
     ∙ ap (signed_in compiler field start inside) (unsigned field argument (41 ∷ rest) no_sign)

@@ -143,8 +143,7 @@ bare_spelled q inside found e =
     let it = bound_ok (closed_bare_in inside) (λ pair. Ok (asking q inside pair)) found e in
     let same : asking q inside it.0 ≡ found = cc in
     let closed = bare_closed inside (trim (front_until (codes ")") inside)) (rest_until (codes ")") inside) it.0 it.1 in
-    let rest : it.0.1 ≡ found.rest = ap (λ p. p.rest) same in
-    (
+    let rest : it.0.1 ≡ found.rest = ap (λ p. p.rest) same in (
       front_until (codes ")") inside,
       closed.0,
       front_is_none (codes ")") inside,
@@ -233,8 +232,7 @@ platform_spelled {L} compiler start inside found e =
     (λ pair. of_platform {L = L} inside body.end pair (platform_named (trim body.bytes))) found it.2 in
     let pair = also.0 in
     let kept = platform_kept L inside body.end pair (trim body.bytes) _ found refl also.2 in
-    let at = text_inside inside body pair it.1 also.1 in
-    (
+    let at = text_inside inside body pair it.1 also.1 in (
       at.blanks ++ at.text,
       at.split ∙ ap (λ r. (at.blanks ++ at.text) ++ (41 ∷ r)) (sym kept.3),
       λ spelling whole call. subst (λ q. SpellsQuestion compiler q spelling) (sym kept.2)
@@ -265,7 +263,8 @@ other_byte more true e = absurd (cc)
 begins_other : (d c : ℕ) (argument more : List ℕ) (sign : Sign) → argument ≡ c ∷ more
     → spelled sign (d ∷ []) argument ≡ None → (d == c) ≡ false
 begins_other d c argument more sign is none =
-    other_byte more (d == c) (sym (ap (after_prefix (d ∷ [])) is) ∙ no_prefix sign (after_prefix (d ∷ []) argument) none)
+    other_byte more (d == c) (sym (ap (after_prefix (d ∷ [])) is)
+    ∙ no_prefix sign (after_prefix (d ∷ []) argument) none)
 
 abbrev sign_found : List ℕ → Option (Sign × List ℕ)
 sign_found argument =
@@ -294,8 +293,12 @@ no_sign argument c more none is =
     let first = none_of_both (spelled Equal (codes "=") argument) _ none in
     let second = none_of_both (spelled Contains (codes "~") argument) _ first.1 in
     let third = none_of_both (spelled Glob (codes "#") argument) (spelled Regex (codes "/") argument) second.1 in
-    rw (begins_other 61 c argument more Equal is first.0, begins_other 126 c argument more Contains is second.0,
-    begins_other 35 c argument more Glob is third.0, begins_other 47 c argument more Regex is third.1) refl
+    rw (
+      begins_other 61 c argument more Equal is first.0,
+      begins_other 126 c argument more Contains is second.0,
+      begins_other 35 c argument more Glob is third.0,
+      begins_other 47 c argument more Regex is third.1,
+    ) refl
 
 sign_is : (field : Field) (argument : List ℕ) (found : Option (Sign × List ℕ)) → sign_found argument ≡ found
     → SignIs field argument (sign_of field argument found)
@@ -323,8 +326,7 @@ body_before Regex begin body pair is closed =
     let at = regex_in_spelled begin body is in
     let blank = skipped_are body.behind in
     let last : body.behind ≡ blank.0 ++ (41 ∷ pair.1) =
-    blank.2 ∙ ap (λ l. blank.0 ++ l) (closed_spelled body.behind pair closed) in
-    (
+    blank.2 ∙ ap (λ l. blank.0 ++ l) (closed_spelled body.behind pair closed) in (
       at.0 ++ blank.0,
       (at.0, blank.0, at.1, blank.1, refl),
       at.2 ∙ ap (λ l. at.0 ++ l) last ∙ sym (append_assoc at.0 blank.0 (41 ∷ pair.1)),
@@ -355,18 +357,20 @@ argument_in field sign true bytes inside begin rest (own, same, none) (written, 
     let begins : skipped inside ≡ written ++ (41 ∷ rest) = same ∙ split in
     let blank = skipped_are inside in
     let unsigned : BeginsUnsigned (first.0 ∷ first.1) =
-    none first.0 (first.1 ++ (41 ∷ rest)) (begins ∙ ap (λ l. l ++ (41 ∷ rest)) first.2) in
-    (
+    none first.0 (first.1 ++ (41 ∷ rest)) (begins ∙ ap (λ l. l ++ (41 ∷ rest)) first.2) in (
       blank.0,
       written,
       blank.1,
-      (own, begins_unblank inside written rest first.0 first.1 first.2 begins,
-      subst BeginsUnsigned (sym first.2) unsigned, spells),
+      (
+        own,
+        begins_unblank inside written rest first.0 first.1 first.2 begins,
+        subst BeginsUnsigned (sym first.2) unsigned,
+        spells,
+      ),
       blank.2 ∙ ap (λ l. blank.0 ++ l) begins ∙ sym (append_assoc blank.0 written (41 ∷ rest)),
     )
 argument_in field sign false bytes inside begin rest same (written, spells, split) =
-    let blank = skipped_are inside in
-    (
+    let blank = skipped_are inside in (
       blank.0,
       sign_spelling sign ++ written,
       blank.1,
@@ -401,7 +405,8 @@ pattern_spelled {L} compiler field start inside sign is_default begin found sign
     let last : List ℕ → L → List ℕ × List ℕ → Result (PredicateRead L) Misreading =
     λ bytes m pair. Ok (asking (OfName (pattern_at field sign is_default bytes (before_rest start pair.1) m)) inside
     pair) in
-    let first = bound_ok (body_behind sign begin) (λ body. meaning_of sign begin body.end (compiler field sign body.bytes)
+    let first = bound_ok (body_behind sign begin)
+    (λ body. meaning_of sign begin body.end (compiler field sign body.bytes)
     >>= (λ m. closed_in body.behind >>= last body.bytes m)) found e in
     let body = first.0 in
     let second = bound_ok (meaning_of sign begin body.end (compiler field sign body.bytes))
@@ -409,19 +414,25 @@ pattern_spelled {L} compiler field start inside sign is_default begin found sign
     let meaning = second.0 in
     let third = bound_ok (closed_in body.behind) (last body.bytes meaning) found second.2 in
     let pair = third.0 in
-    let same : asking (OfName (pattern_at field sign is_default body.bytes (before_rest start pair.1) meaning)) inside pair
+    let same : asking (OfName
+    (pattern_at field sign is_default body.bytes (before_rest start pair.1) meaning)) inside pair
     ≡ found = cc in
     let rest : pair.1 ≡ found.rest = ap (λ (p : PredicateRead L). p.rest) same in
     let at = argument_in field sign is_default body.bytes inside begin pair.1 signs
-    (body_before sign begin body pair first.1 third.1) in
-    (
+    (body_before sign begin body pair first.1 third.1) in (
       at.0 ++ at.1,
       at.4 ∙ ap (λ r. (at.0 ++ at.1) ++ (41 ∷ r)) rest,
       λ spelling whole call. subst (λ q. SpellsQuestion compiler q spelling)
-          (ap (λ (p : PredicateRead L). p.question) same)
-          (at.0, at.1, at.2, at.3, call,
-          ap (λ r. before_rest start r) rest ∙ ap (λ s. before_rest s found.rest) whole ∙ before_own spelling found.rest,
-          meaning_kept sign begin body.end (compiler field sign body.bytes) meaning second.1),
+          (ap (λ (p : PredicateRead L). p.question) same) (
+            at.0,
+            at.1,
+            at.2,
+            at.3,
+            call,
+            ap (λ r. before_rest start r) rest ∙ ap (λ s. before_rest s found.rest) whole
+                ∙ before_own spelling found.rest,
+            meaning_kept sign begin body.end (compiler field sign body.bytes) meaning second.1,
+          ),
     )
 
 matching_spelled : {L : Type 0} (compiler : Compiler L) (field : Field) (start inside : List ℕ)
@@ -435,17 +446,26 @@ matching_spelled compiler field start inside found e =
 worded_spelled : {L : Type 0} (compiler : Compiler L) (word : Word) (start inside : List ℕ) (found : PredicateRead L)
     → worded_in compiler word start inside ≡ Ok found → AskedInside compiler word start inside found
 worded_spelled compiler All start inside found e =
-    let it = bare_spelled Always inside found e in
-    (it.0, it.3, λ spelling whole call. subst (λ q. SpellsQuestion compiler q spelling) (sym it.4)
-    (it.0, it.1, it.2, call))
+    let it = bare_spelled Always inside found e in (
+      it.0,
+      it.3,
+      λ spelling whole call. subst (λ q. SpellsQuestion compiler q spelling) (sym it.4)
+          (it.0, it.1, it.2, call),
+    )
 worded_spelled compiler Nothing start inside found e =
-    let it = bare_spelled Never inside found e in
-    (it.0, it.3, λ spelling whole call. subst (λ q. SpellsQuestion compiler q spelling) (sym it.4)
-    (it.0, it.1, it.2, call))
+    let it = bare_spelled Never inside found e in (
+      it.0,
+      it.3,
+      λ spelling whole call. subst (λ q. SpellsQuestion compiler q spelling) (sym it.4)
+          (it.0, it.1, it.2, call),
+    )
 worded_spelled compiler Default start inside found e =
-    let it = bare_spelled TheDefault inside found e in
-    (it.0, it.3, λ spelling whole call. subst (λ q. SpellsQuestion compiler q spelling) (sym it.4)
-    (it.0, it.1, it.2, call))
+    let it = bare_spelled TheDefault inside found e in (
+      it.0,
+      it.3,
+      λ spelling whole call. subst (λ q. SpellsQuestion compiler q spelling) (sym it.4)
+          (it.0, it.1, it.2, call),
+    )
 worded_spelled compiler Platform start inside found e = platform_spelled compiler start inside found e
 worded_spelled compiler (Matches field) start inside found e = matching_spelled compiler field start inside found e
 

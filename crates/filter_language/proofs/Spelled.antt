@@ -35,7 +35,8 @@ unblank_or false true d e f known is = is
 unblank_or false false true e f known is = known is
 unblank_or false false false e f known is = refl
 
-some_if : {X : Type 0} (b : Bool) (x y : X) → is_some (if b then Some x else None) ≡ is_some (if b then Some y else None)
+some_if : {X : Type 0} (b : Bool) (x y : X)
+    → is_some (if b then Some x else None) ≡ is_some (if b then Some y else None)
 some_if true x y = refl
 some_if false x y = refl
 
@@ -74,7 +75,8 @@ no_line_skipped : (text : List ℕ) → begins_line (skipped text) ≡ false
 no_line_skipped [] = refl
 no_line_skipped (c ∷ text) = first (is_blank c text) refl (no_line_skipped text)
   where
-    first : (b : Bool) → is_blank c text ≡ b → begins_line (skipped text) ≡ false → begins_line (skipped (c ∷ text)) ≡ false
+    first : (b : Bool) → is_blank c text ≡ b → begins_line (skipped text) ≡ false
+        → begins_line (skipped (c ∷ text)) ≡ false
     first true is known = rw is known
     first false is known =
         elim (eqb_tells 10 c) [

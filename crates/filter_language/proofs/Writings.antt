@@ -13,9 +13,9 @@ use Rattle.filter_language.specs.Lexing.{word_in, operator_of, after_one}
 use Rattle.filter_language.specs.Nesting.{Shape, start_shape, shape_step, shape_behind, MayEnd, operator_mark}
 use Rattle.filter_language.specs.Places.{Misreading}
 use Rattle.filter_language.specs.Predicates.{Compiler, PredicateRead, predicate_in}
-use Rattle.filter_language.specs.Reading.{Left, Progress, Wanted, Complete, begun, once_more, beside, Meets, Lacks, either, taken, within, step, finished, run}
+use Rattle.filter_language.specs.Reading.{Left, Progress, Wanted, Complete, begun, once_more, beside, Meets, Lacks, either, taken, within, step, finished, run, read}
 use Rattle.filter_language.specs.Texts.{after_prefix, skipped}
-use Rattle.filter_language.specs.Writing.{AreBlanks, SpellsMark, Writes, IsFilter}
+use Rattle.filter_language.specs.Writing.{AreBlanks, SpellsMark, Writes, WritesFilter, IsFilter}
 use Rattle.filter_language.proofs.MarksRead.{mark_front, at_mark, blanks_end, EndsBehind, marks_read}
 use Rattle.filter_language.proofs.MarksSpelled.{marks_spelled}
 use Rattle.filter_language.proofs.PredicatesRead.{IsAsked, question_read}
@@ -57,7 +57,8 @@ finished_may_end (Wanted l outer) f got = absurd (cc)
 finished_may_end (Complete n g k []) f got = (refl, refl)
 finished_may_end (Complete n g k (l ∷ outer)) f got = absurd (cc)
 
-run_next : {L : Type 0} (p : Progress L) (m : Mark L) (marks : List (Mark L)) (f : Formula L) (found : Option (Progress L))
+run_next : {L : Type 0} (p : Progress L) (m : Mark L) (marks : List (Mark L)) (f : Formula L)
+    (found : Option (Progress L))
     → step p m ≡ found → ((q : Progress L) → run q marks ≡ Some f → EndsBehind (shape_of q) marks)
     → option_and_then (λ next. run next marks) found ≡ Some f → EndsBehind (shape_of p) (m ∷ marks)
 run_next p m marks f None is known got = absurd (cc)
@@ -101,9 +102,11 @@ pub read_is_filter : {L : Type 0} (compiler : Compiler L) (knows : Bool) (kind :
     (marks : List (Mark L)) → filter_in compiler knows kind text ≡ Ok marks → IsFilter compiler knows kind text marks
 unfolding marks_in
 read_is_filter {L} compiler knows kind text marks e =
-    let whole = nothing_objected (marks_within compiler knows kind (suc (length text)) ([], None) start_shape text) marks
+    let whole = nothing_objected
+    (marks_within compiler knows kind (suc (length text)) ([], None) start_shape text) marks
     (mapped_ok text (marks_in compiler knows kind text) marks e) in
-    let it = marks_spelled compiler knows kind (suc (length text)) ([], None) start_shape text marks (omega arith) whole in
+    let it = marks_spelled compiler knows kind (suc (length text)) ([], None) start_shape text marks
+    (omega arith) whole in
     subst (IsFilter compiler knows kind text) (sym it.whole)
     (it.writes, may_end_spells it.more it.ends.0 it.ends.1 it.ends.2, it.allowed)
 
@@ -189,3 +192,11 @@ one_filter compiler (m ∷ marks) (n ∷ more) text (blanks, spelling, rest, are
     ∙ mark_in_front compiler n other behind also) in
     let tail = one_filter compiler marks more rest writes (subst (λ r. Writes compiler r more) (sym same.1) written) in
     ap (λ x. x ∷ marks) same.0 ∙ ap (λ l. n ∷ l) tail
+
+pub one_formula : {L : Type 0} (compiler : Compiler L) (text : List ℕ) (f g : Formula L)
+    → WritesFilter compiler text f → WritesFilter compiler text g → f ≡ g
+one_formula {L} compiler text f g (marks, writes, spells, fits) (more, also, tells, within) =
+    let same : ◌≡◌ {A = Option (Formula L)} (Some f) (Some g) =
+    sym (spelled_is_read marks f spells fits) ∙ ap read (one_filter compiler marks more text writes also)
+    ∙ spelled_is_read more g tells within in
+    cc

@@ -11,8 +11,8 @@ use Rattle.filter_language.specs.declared.words.Field.TheVariants.{TestName, Pac
 use Rattle.filter_language.specs.declared.words.Sign.{Sign}
 use Rattle.filter_language.specs.declared.words.Sign.TheVariants.{Equal, Contains, Glob, Regex}
 use Rattle.filter_language.specs.Texts.{is_blank}
-use Rattle.filter_language.specs.Formula.{Pattern, Question, Always, Never, TheDefault, OfPlatform, OfName}
-use Rattle.filter_language.specs.Grammar.{Mark, Asked, NotMark, OpenMark, CloseMark, AndMark, OrMark, MinusMark, WritesAFilter}
+use Rattle.filter_language.specs.Formula.{Pattern, Question, Always, Never, TheDefault, OfPlatform, OfName, Formula}
+use Rattle.filter_language.specs.Grammar.{Mark, Asked, NotMark, OpenMark, CloseMark, AndMark, OrMark, MinusMark, Spells, NestsWithin, WritesAFilter}
 use Rattle.filter_language.specs.Bans.{are_allowed}
 use Rattle.filter_language.specs.Arguments.{hex_in, scalar_in}
 use Rattle.filter_language.specs.Predicates.{Compiler, default_sign}
@@ -49,14 +49,14 @@ pub data SpellsText : List ℕ → List ℕ → Type 0 where
   plain : (c : ℕ) (bytes text : List ℕ) → is_none_of (codes ",)\\") c ≡ true
       → SpellsText bytes text → SpellsText (c ∷ bytes) (c ∷ text)
   escaped : (c : ℕ) (escape bytes text : List ℕ) → SpellsEscape c escape
-      → SpellsText bytes text → SpellsText (encode_utf8 c ++ bytes) (92 ∷ (escape ++ text))
+      → SpellsText bytes text → SpellsText (encode_utf8 c ++ bytes) (codes "\\" ++ (escape ++ text))
 
 -- The bytes of a regex are written so, up to its closing `/`: a `/` as `\/`, and another byte as
 -- it is. No `\` stands before the closing `/`.
 pub data SpellsRegex : List ℕ → List ℕ → Type 0 where
   closing : SpellsRegex [] (codes "/")
   escaped_slash : (bytes text : List ℕ) → SpellsRegex bytes text
-      → SpellsRegex (47 ∷ bytes) (92 ∷ (47 ∷ text))
+      → SpellsRegex (codes "/" ++ bytes) (codes "\\/" ++ text)
   bare : (c : ℕ) (bytes text : List ℕ) → c ≢ 47 → (c ≡ 92 → bytes ≢ [])
       → SpellsRegex bytes text → SpellsRegex (c ∷ bytes) (c ∷ text)
 
@@ -108,7 +108,7 @@ platform_name Target = codes "target"
 -- A word, blanks, and parentheses with something inside.
 abbrev pub SpellsCall : List ℕ → List ℕ → List ℕ → Type 0
 SpellsCall word inside spelling = (blanks : List ℕ) × AreBlanks blanks
-    × (spelling ≡ word ++ (blanks ++ (40 ∷ (inside ++ codes ")"))))
+    × (spelling ≡ word ++ (blanks ++ (codes "(" ++ (inside ++ codes ")"))))
 
 -- A set without an argument: white space alone stands in its parentheses.
 abbrev pub SpellsBare : List ℕ → List ℕ → Type 0
@@ -153,9 +153,19 @@ Writes compiler text (m ∷ marks) = (blanks : List ℕ) × (spelling : List ℕ
     × AreBlanks blanks × SpellsMark compiler m spelling × (text ≡ blanks ++ (spelling ++ rest))
     × Writes compiler rest marks
 
+-- A text writes a filter: it writes marks that spell one, and that nests within the bound.
+abbrev pub WritesFilter : {L : Type 0} → Compiler L → List ℕ → Formula L → Type 0
+WritesFilter {L} compiler text f =
+    (marks : List (Mark L)) × Writes compiler text marks × Spells marks f × NestsWithin f
+
 -- A text is a filter for a kind, of these marks: it writes them, they write a filter that nests
 -- within the bound, and each may stand in a filter of the kind, as far as packages are known.
 abbrev pub IsFilter : {L : Type 0} → Compiler L → Bool → FiltersetKind → List ℕ → List (Mark L)
     → Type 0
 IsFilter compiler knows_packages kind text marks = Writes compiler text marks
     × WritesAFilter marks × (are_allowed kind knows_packages marks ≡ true)
+
+-- A text is no filter for a kind.
+abbrev pub IsNoFilter : {L : Type 0} → Compiler L → Bool → FiltersetKind → List ℕ → Type 0
+IsNoFilter {L} compiler knows_packages kind text =
+    (marks : List (Mark L)) → ¬ (IsFilter compiler knows_packages kind text marks)

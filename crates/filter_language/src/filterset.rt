@@ -1,9 +1,9 @@
 //! Filters.
-ghost use Rattle.std.specs.Prelude.{◌≡◌, ◌↔◌, ◌+◌, ◌≤◌, ◌++◌, List, true, length, map, string_bytes, option_map, Some, None, Ok, Err, IfOk, IfErr};
+ghost use Rattle.std.specs.Prelude.{◌≡◌, ◌↔◌, ◌+◌, ◌≤◌, ◌++◌, true, length, map, string_bytes, option_map, Some, None, Ok, Err, IfOk, IfErr};
 ghost use Rattle.filter_language.specs.Formula.{Formula};
-ghost use Rattle.filter_language.specs.Grammar.{Mark, mark_view, Spells, NestsWithin};
+ghost use Rattle.filter_language.specs.Grammar.{mark_view, Spells, NestsWithin};
 ghost use Rattle.filter_language.specs.Truth.{HoldsBeside};
-ghost use Rattle.filter_language.specs.Writing.{IsFilter};
+ghost use Rattle.filter_language.specs.Writing.{IsFilter, IsNoFilter};
 ghost use Rattle.filter_language.specs.Filters.{refusal_at, filter_in};
 ghost use Rattle.filter_language.specs.Leaves.{mark_leaves, leaves};
 ghost use Rattle.filter_language.specs.Places.{IfMisread, StandsIn, IfRefused};
@@ -155,9 +155,7 @@ impl<M: Drop> Filterset<M> {
             IsFilter (E.compiled engine.now) (E.knows_packages engine.now) kind text.now
             (marks_view E.meaning filter)) }
         ensures unwritten { IfErr result (λ fault. IfRefused fault (λ _.
-            (marks : List (Mark E.Meaning))
-            → ¬ (IsFilter (E.compiled engine.now) (E.knows_packages engine.now) kind text.now
-            marks))) }
+            IsNoFilter (E.compiled engine.now) (E.knows_packages engine.now) kind text.now)) }
         ensures span { IfErr result (λ fault. IfRefused fault (λ refusal.
             refusal.span.start + refusal.span.length ≤ length text.now)) }
     {

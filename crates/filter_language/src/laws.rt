@@ -5,7 +5,7 @@ ghost use Rattle.filter_language.specs.Formula.{Formula};
 ghost use Rattle.filter_language.specs.Grammar.{Mark, Spells, nesting};
 ghost use Rattle.filter_language.specs.Predicates.{Compiler};
 ghost use Rattle.filter_language.specs.Filters.{filter_in};
-ghost use Rattle.filter_language.specs.Writing.{Writes, IsFilter};
+ghost use Rattle.filter_language.specs.Writing.{Writes, WritesFilter, IsFilter};
 ghost use Rattle.filter_language.specs.Reading.{read};
 ghost use Rattle.filter_language.specs.Values.{value, Subject, answer};
 ghost use Rattle.filter_language.specs.Evaluation.{marks_value};
@@ -28,10 +28,13 @@ pub fn law_texts<E: Matchers>()
         ↔ IsFilter compiler knows_packages kind text marks }
 {}
 
-/// A text writes one list of marks at most.
+/// A text writes one list of marks at most, and one filter at most.
 pub fn law_one_filter<E: Matchers>()
-    ensures { (compiler : Compiler E.Meaning) (text : List ℕ) (marks more : List (Mark E.Meaning))
+    ensures marks { (compiler : Compiler E.Meaning) (text : List ℕ)
+        (marks more : List (Mark E.Meaning))
         → Writes compiler text marks → Writes compiler text more → marks ≡ more }
+    ensures filter { (compiler : Compiler E.Meaning) (text : List ℕ) (f g : Formula E.Meaning)
+        → WritesFilter compiler text f → WritesFilter compiler text g → f ≡ g }
 {}
 
 /// What marks say is the value of the filter that they spell.

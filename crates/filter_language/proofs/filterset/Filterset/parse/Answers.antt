@@ -8,7 +8,7 @@ use Rattle.filter_language.specs.Filters.{marks_in, fault_in, refusal_at, filter
 use Rattle.filter_language.specs.Grammar.{Mark, mark_view}
 use Rattle.filter_language.specs.Places.{misreading_view, IfMisread, IfRefused}
 use Rattle.filter_language.specs.Predicates.{Compiler}
-use Rattle.filter_language.specs.Writing.{IsFilter}
+use Rattle.filter_language.specs.Writing.{IsNoFilter}
 use Rattle.filter_language.proofs.Writings.{filter_is_read, read_is_filter}
 use Rattle.filter_language.proofs.filterset.Filterset.parse.Goals as goal
 
@@ -25,10 +25,10 @@ not_both : {L : Type 0} (found : Result (List (Mark L)) FiltersetFault) (marks :
 not_both found marks fault ok err =
     let clash : ◌≡◌ {A = Result (List (Mark _)) FiltersetFault} (Ok marks) (Err fault) = sym ok ∙ err in cc
 
-unwritten_is : {L : Type 0} (compiler : Compiler L) (knows : Bool) (kind : FiltersetKind) (text : List ℕ) (s : stop.Stop)
+unwritten_is : {L : Type 0} (compiler : Compiler L) (knows : Bool) (kind : FiltersetKind) (text : List ℕ)
+    (s : stop.Stop)
     → IfMisread s (λ m. marks_in compiler knows kind text ≡ Err m)
-    → IfRefused (refusal_at text s)
-    (λ _. (marks : List (Mark L)) → IsFilter compiler knows kind text marks → ⊥)
+    → IfRefused (refusal_at text s) (λ _. IsNoFilter compiler knows kind text)
 unwritten_is {L} compiler knows kind text (Misread m) wrong =
     λ marks is. not_both (filter_in compiler knows kind text) marks (fault_in text (misreading_view m))
     (filter_is_read compiler knows kind text marks is)
