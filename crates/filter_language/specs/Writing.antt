@@ -83,8 +83,8 @@ abbrev pub BeginsUnsigned : List ℕ → Type 0
 BeginsUnsigned [] = ⊥
 BeginsUnsigned (c ∷ text) = is_none_of (codes "=~#/") c ≡ true
 
--- An argument: the field's own sign is not written where the text begins with no sign and no
--- blank; another one is written before its text or regex.
+-- An argument: a text by the field's own sign, which begins with no sign and no blank; or a sign
+-- that is written, and its text or regex.
 abbrev pub SpellsArgument : Field → Sign → Bool → List ℕ → List ℕ → Type 0
 SpellsArgument field sign true bytes argument = (sign ≡ default_sign field)
     × BeginsUnblank argument × BeginsUnsigned argument × SpellsBody sign bytes argument
