@@ -1,11 +1,11 @@
 -- A text and a regex are read exactly where they are spelled.
-use Rattle.std.proofs.Common.{◌≡◌, ◌≢◌, ◌<◌, ◌+◌, ℕ, zero, suc, Bool, true, false, List, [], ◌∷◌, ◌++◌, Option, None, Some, Result, Ok, Err, length, codes, refl, sym, ◌∙◌, ap, subst, arith, inl, inr, append_assoc, append-nil, length-append}
+use Rattle.std.proofs.Common.{◌≡◌, ◌≢◌, ◌<◌, ◌+◌, ℕ, zero, suc, true, false, List, [], ◌∷◌, ◌++◌, Option, None, Some, Result, Ok, Err, length, codes, refl, sym, ◌∙◌, ap, subst, arith, inl, inr, append_assoc, append-nil, length-append}
 use Rattle.std.proofs.lemmas.Bool.Decides.{eqb_tells}
 use Rattle.std.specs.List.{list_all}
 use Rattle.std.specs.Char.{char_set_contains, encode_utf8}
 use Rattle.filter_language.specs.Texts.{after_prefix, skipped, front_until, rest_until}
 use Rattle.filter_language.specs.Places.{Misreading}
-use Rattle.filter_language.specs.Arguments.{Turn, Onward, Over, escape_in, escaped_turn, backslash_turn, text_turn, bare_turn, slash_turn, regex_turn, behind_turn, body_within, body_in, Body, filled, text_in, closed_regex, slashed, regex_in}
+use Rattle.filter_language.specs.Arguments.{Turn, escape_in, escaped_turn, backslash_turn, text_turn, bare_turn, slash_turn, regex_turn, behind_turn, body_within, body_in, Body, filled, text_in, closed_regex, slashed, regex_in}
 use Rattle.filter_language.specs.Writing.{is_none_of, SpellsEscape, SpellsText, no_text, plain, escaped, SpellsRegex, closing, escaped_slash, bare, SpellsFilled}
 use Rattle.filter_language.proofs.PartsOfTexts.{after_is}
 use Rattle.filter_language.proofs.Spelled.{both_true, not_true, parts, front_is_none, end_stays}

@@ -1,20 +1,16 @@
 -- Marks that a text writes, and that write a filter that may stand there, are read.
-use Rattle.std.proofs.Common.{◌≡◌, ◌≤◌, ◌<◌, ◌+◌, ◌==◌, ◌&&◌, ℕ, zero, suc, Bool, true, false, ◌⊎◌, inl, inr, List, [], ◌∷◌, ◌++◌, Option, None, Some, Result, Ok, Err, is_none, option_map, length, codes, refl, sym, ◌∙◌, ap, subst, arith, append_assoc, append-nil, length-append, if◌then◌else◌}
+use Rattle.std.proofs.Common.{◌≡◌, ◌<◌, ◌+◌, ◌==◌, ℕ, zero, suc, Bool, true, false, inl, inr, List, [], ◌∷◌, ◌++◌, Option, None, Some, Result, Ok, is_none, option_map, length, codes, refl, sym, ◌∙◌, ap, subst, arith, append_assoc, append-nil, length-append, if◌then◌else◌}
 use Rattle.std.proofs.lemmas.Bool.Decides.{eqb_tells}
-use Rattle.std.specs.List.{list_all}
 use Rattle.std.specs.Option.{option_or, option_and_then}
 use Rattle.nextest_engines.specs.declared.queries.FiltersetKind.{FiltersetKind}
-use Rattle.filter_language.specs.declared.reading.operator.Operator.{Operator}
-use Rattle.filter_language.specs.declared.reading.operator.Operator.TheVariants.{And, Or, Minus, Close}
-use Rattle.filter_language.specs.declared.words.Word.{Word}
 use Rattle.filter_language.specs.Bans.{question_ban, mark_ban, are_allowed}
-use Rattle.filter_language.specs.Filters.{MarkRead, Objected, plain, within_bound, objection_to, asked_in, opened_or_asked, negated_or_not, wanted_in, ended_in, closed_level, joined_in, joined_or_ended, joining_in, next_in, behind_mark, marks_within}
+use Rattle.filter_language.specs.Filters.{MarkRead, plain, within_bound, objection_to, asked_in, opened_or_asked, negated_or_not, wanted_in, ended_in, closed_level, joined_or_ended, next_in, behind_mark, marks_within}
 use Rattle.filter_language.specs.Formula.{Question}
 use Rattle.filter_language.specs.Grammar.{Mark, Asked, NotMark, OpenMark, CloseMark, AndMark, OrMark, MinusMark}
-use Rattle.filter_language.specs.Lexing.{word_in, operator_of, foreign_or, operator_in, after_one}
-use Rattle.filter_language.specs.Nesting.{Shape, negated_shape, opened_shape, complete_shape, joined_shape, closed_shape, wanted_step, joining_step, shape_step, shape_behind, MayEnd, operator_mark}
+use Rattle.filter_language.specs.Lexing.{foreign_or, operator_in, after_one}
+use Rattle.filter_language.specs.Nesting.{Shape, negated_shape, opened_shape, complete_shape, joined_shape, wanted_step, joining_step, shape_step, shape_behind, MayEnd}
 use Rattle.filter_language.specs.Places.{Misreading}
-use Rattle.filter_language.specs.Predicates.{Compiler, PredicateRead, predicate_in, ◌>>=◌}
+use Rattle.filter_language.specs.Predicates.{Compiler, PredicateRead, ◌>>=◌}
 use Rattle.filter_language.specs.Texts.{after_prefix, is_blank, skipped}
 use Rattle.filter_language.specs.Writing.{AreBlanks, SpellsMark, Writes}
 use Rattle.filter_language.proofs.Marks.{next_wanted, next_joining}

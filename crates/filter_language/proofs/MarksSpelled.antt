@@ -1,24 +1,22 @@
 -- Marks that are read are written by the text, write a filter, and may stand in it.
-use Rattle.std.proofs.Common.{◌≡◌, ◌<◌, ◌&&◌, ℕ, zero, suc, Bool, true, false, ◌⊎◌, inl, inr, List, [], ◌∷◌, ◌++◌, Option, None, Some, Result, Ok, Err, is_none, option_map, length, codes, refl, sym, ◌∙◌, ap, subst, arith, append_assoc, append-nil, if◌then◌else◌}
+use Rattle.std.proofs.Common.{◌≡◌, ◌<◌, ◌&&◌, ℕ, zero, suc, Bool, true, false, inl, inr, List, [], ◌∷◌, ◌++◌, Option, None, Some, Result, Ok, Err, is_none, option_map, length, codes, refl, sym, ◌∙◌, ap, subst, arith, append_assoc, append-nil, if◌then◌else◌}
 use Rattle.std.specs.Option.{option_or, option_and_then}
 use Rattle.nextest_engines.specs.declared.queries.FiltersetKind.{FiltersetKind}
-use Rattle.filter_language.specs.declared.fault.FaultKind.{FaultKind}
 use Rattle.filter_language.specs.declared.reading.operator.Operator.{Operator}
 use Rattle.filter_language.specs.declared.reading.operator.Operator.TheVariants.{And, Or, Minus, Close}
 use Rattle.filter_language.specs.declared.words.Word.{Word}
 use Rattle.filter_language.specs.Bans.{question_ban, mark_ban, are_allowed}
 use Rattle.filter_language.specs.Filters.{MarkRead, Objected, plain, within_bound, objection_to, asked_in, opened_or_asked, negated_or_not, wanted_in, ended_in, closed_level, joined_in, joined_or_ended, joining_in, next_in, behind_mark, marks_within}
-use Rattle.filter_language.specs.Formula.{Question}
 use Rattle.filter_language.specs.Grammar.{Mark, Asked, NotMark, OpenMark, CloseMark, AndMark, OrMark, MinusMark}
-use Rattle.filter_language.specs.Lexing.{spelled, word_in, operator_of, foreign_or, operator_in, after_one}
-use Rattle.filter_language.specs.Nesting.{Shape, negated_shape, opened_shape, complete_shape, joined_shape, closed_shape, wanted_step, joining_step, shape_step, shape_behind, MayEnd, operator_mark}
+use Rattle.filter_language.specs.Lexing.{word_in, operator_of, foreign_or, operator_in, after_one}
+use Rattle.filter_language.specs.Nesting.{Shape, negated_shape, opened_shape, complete_shape, joined_shape, closed_shape, wanted_step, joining_step, shape_behind, MayEnd, operator_mark}
 use Rattle.filter_language.specs.Places.{Misreading}
 use Rattle.filter_language.specs.Predicates.{Compiler, PredicateRead, predicate_in, ◌>>=◌}
 use Rattle.filter_language.specs.Texts.{after_prefix, skipped}
 use Rattle.filter_language.specs.Writing.{AreBlanks, SpellsMark, Writes}
-use Rattle.filter_language.proofs.MarksRead.{IsMarkFront, mark_front, rest_shorter, EndsBehind}
+use Rattle.filter_language.proofs.MarksRead.{mark_front, rest_shorter, EndsBehind}
 use Rattle.filter_language.proofs.PartsOfTexts.{after_is}
-use Rattle.filter_language.proofs.PredicatesSpelled.{bound_ok, either_way, one_way, predicate_spelled}
+use Rattle.filter_language.proofs.PredicatesSpelled.{bound_ok, either_way, predicate_spelled}
 use Rattle.filter_language.proofs.Spelled.{skipped_are}
 
 -- A mark is spelled in front of what follows it, may stand where it does, and is not banned unless

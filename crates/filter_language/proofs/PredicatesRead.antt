@@ -1,5 +1,5 @@
 -- A predicate that is spelled in front of a rest is read.
-use Rattle.std.proofs.Common.{◌≡◌, ◌==◌, ℕ, Bool, true, false, List, [], ◌∷◌, ◌++◌, Option, None, Some, Result, Ok, Err, codes, refl, sym, ◌∙◌, ap, inl, inr, append_assoc}
+use Rattle.std.proofs.Common.{◌≡◌, ℕ, Bool, true, false, List, [], ◌∷◌, ◌++◌, None, Some, Result, Ok, codes, refl, sym, ◌∙◌, ap, inl, inr, append_assoc}
 use Rattle.std.proofs.lemmas.Bool.Decides.{eqb_tells}
 use Rattle.std.specs.List.{list_all}
 use Rattle.std.specs.Char.{char_set_contains}
@@ -12,13 +12,13 @@ use Rattle.filter_language.specs.declared.words.Sign.{Sign}
 use Rattle.filter_language.specs.declared.words.Sign.TheVariants.{Equal, Contains, Glob, Regex}
 use Rattle.filter_language.specs.declared.words.Word.{Word}
 use Rattle.filter_language.specs.declared.words.Word.TheVariants.{All, Nothing, Default, Platform, Matches}
-use Rattle.filter_language.specs.Texts.{after_prefix, is_blank, skipped, front_until, rest_until}
+use Rattle.filter_language.specs.Texts.{after_prefix, is_blank, skipped, rest_until}
 use Rattle.filter_language.specs.Formula.{Pattern, Question, Always, Never, TheDefault, OfPlatform, OfName}
 use Rattle.filter_language.specs.Places.{Misreading}
 use Rattle.filter_language.specs.Lexing.{word_in, inside_of, opened_in, close_of, no_close, closed_in, bare_close, closed_bare_in, after_one, operator_of}
 use Rattle.filter_language.specs.Arguments.{Body, text_in, regex_in}
 use Rattle.filter_language.specs.Predicates.{Compiler, PredicateRead, asking, platform_named, of_platform, platform_in, default_sign, sign_in, body_behind, meaning_of, before_rest, signed_in, matching_in, bare_in, worded_in, predicate_in, ◌>>=◌}
-use Rattle.filter_language.specs.Writing.{AreBlanks, BeginsUnblank, is_none_of, SpellsText, SpellsFilled, SpellsRegex, SpellsBody, sign_spelling, BeginsUnsigned, SpellsArgument, field_word, platform_name, SpellsCall, SpellsBare, SpellsPlatform, SpellsPattern, SpellsQuestion}
+use Rattle.filter_language.specs.Writing.{AreBlanks, BeginsUnblank, is_none_of, SpellsFilled, SpellsBody, sign_spelling, BeginsUnsigned, SpellsArgument, field_word, platform_name, SpellsCall, SpellsQuestion}
 use Rattle.filter_language.proofs.Spelled.{not_true, skips, stays_before, front_of, rest_of, before_own}
 use Rattle.filter_language.proofs.BodiesRead.{text_in_read, regex_in_read}
 

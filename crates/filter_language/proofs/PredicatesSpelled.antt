@@ -1,10 +1,8 @@
 -- A predicate that is read is spelled in front of what follows it.
-use Rattle.std.proofs.Common.{◌≡◌, ◌≢◌, ◌==◌, ℕ, Bool, true, false, List, [], ◌∷◌, ◌++◌, Option, None, Some, Result, Ok, Err, option_map, codes, refl, sym, ◌∙◌, ap, subst, inl, inr, append_assoc, if◌then◌else◌}
-use Rattle.std.proofs.lemmas.Bool.Decides.{eqb_tells}
+use Rattle.std.proofs.Common.{◌≡◌, ◌≢◌, ◌==◌, ℕ, Bool, true, false, List, [], ◌∷◌, ◌++◌, Option, None, Some, Result, Ok, Err, option_map, codes, refl, sym, ◌∙◌, ap, subst, append_assoc, if◌then◌else◌}
 use Rattle.std.proofs.lemmas.Slice.Eq.{bytes_eq-Decides}
 use Rattle.std.specs.List.{list_all}
 use Rattle.std.specs.Option.{option_or}
-use Rattle.std.specs.Char.{char_set_contains}
 use Rattle.std.specs.Str.{trim, bytes_eq}
 use Rattle.nextest_engines.specs.declared.queries.BuildPlatform.{BuildPlatform}
 use Rattle.nextest_engines.specs.declared.queries.BuildPlatform.TheVariants.{Host, Target}
@@ -20,12 +18,12 @@ use Rattle.filter_language.specs.Texts.{after_prefix, is_blank, skipped, front_u
 use Rattle.filter_language.specs.Formula.{Pattern, Question, Always, Never, TheDefault, OfPlatform, OfName}
 use Rattle.filter_language.specs.Places.{Misreading}
 use Rattle.filter_language.specs.Lexing.{spelled, field_in, word_in, inside_of, opened_in, close_of, no_close, closed_in, bare_close, closed_bare_in}
-use Rattle.filter_language.specs.Arguments.{Body, text_in, regex_in}
+use Rattle.filter_language.specs.Arguments.{Body, text_in}
 use Rattle.filter_language.specs.Predicates.{Compiler, PredicateRead, asking, platform_named, of_platform, platform_in, default_sign, sign_of, sign_in, body_behind, meaning_of, before_rest, signed_in, matching_in, bare_in, worded_in, predicate_in, ◌>>=◌}
-use Rattle.filter_language.specs.Writing.{AreBlanks, BeginsUnblank, is_none_of, SpellsText, no_text, plain, escaped, SpellsFilled, SpellsRegex, closing, escaped_slash, bare, SpellsBody, sign_spelling, BeginsUnsigned, SpellsArgument, field_word, platform_name, SpellsCall, SpellsBare, SpellsPlatform, SpellsPattern, SpellsQuestion}
+use Rattle.filter_language.specs.Writing.{AreBlanks, BeginsUnblank, is_none_of, SpellsText, no_text, plain, escaped, SpellsFilled, SpellsRegex, closing, escaped_slash, bare, SpellsBody, sign_spelling, BeginsUnsigned, SpellsArgument, field_word, platform_name, SpellsCall, SpellsQuestion}
 use Rattle.filter_language.proofs.PartsOfTexts.{after_is}
 use Rattle.filter_language.proofs.Spelled.{skipped_are, skipped_unblank, blank_before, parts, front_is_none, before_own}
-use Rattle.filter_language.proofs.BodiesRead.{TextAt, RegexAt, text_in_spelled, regex_in_spelled}
+use Rattle.filter_language.proofs.BodiesRead.{text_in_spelled, regex_in_spelled}
 use Rattle.filter_language.proofs.PredicatesRead.{word_bytes, call_text}
 
 -- A step that went well.

@@ -1,9 +1,8 @@
 -- A text is read to marks exactly where it is a filter of them, and it writes one list at most.
-use Rattle.std.proofs.Common.{◌≡◌, ◌≤◌, ◌<◌, ◌+◌, ℕ, suc, nat_lt, Bool, true, false, inl, inr, List, [], ◌∷◌, ◌++◌, Option, None, Some, Result, Ok, Err, map, option_map, length, codes, refl, sym, ◌∙◌, ap, subst, arith, if◌then◌else◌}
+use Rattle.std.proofs.Common.{◌≡◌, ◌+◌, ℕ, suc, nat_lt, Bool, true, false, inl, inr, List, [], ◌∷◌, ◌++◌, Option, None, Some, Result, Ok, Err, option_map, length, codes, refl, sym, ◌∙◌, ap, subst, arith, if◌then◌else◌}
 use Rattle.std.specs.Option.{option_or, option_and_then}
 use Rattle.std.specs.Result.{result_map_both}
 use Rattle.nextest_engines.specs.declared.queries.FiltersetKind.{FiltersetKind}
-use Rattle.filter_language.specs.declared.fault.FiltersetFault.{FiltersetFault}
 use Rattle.filter_language.specs.declared.reading.operator.Operator.{Operator}
 use Rattle.filter_language.specs.declared.words.Word.{Word}
 use Rattle.filter_language.specs.Filters.{Objected, marks_within, unless_objected, marks_in, fault_in, filter_in}
@@ -14,7 +13,7 @@ use Rattle.filter_language.specs.Nesting.{Shape, start_shape, shape_step, shape_
 use Rattle.filter_language.specs.Places.{Misreading}
 use Rattle.filter_language.specs.Predicates.{Compiler, PredicateRead, predicate_in}
 use Rattle.filter_language.specs.Reading.{Left, Progress, Wanted, Complete, begun, once_more, beside, Meets, Lacks, either, taken, within, step, finished, run, read}
-use Rattle.filter_language.specs.Texts.{after_prefix, skipped}
+use Rattle.filter_language.specs.Texts.{after_prefix}
 use Rattle.filter_language.specs.Writing.{AreBlanks, SpellsMark, Writes, WritesFilter, IsFilter}
 use Rattle.filter_language.proofs.MarksRead.{mark_front, at_mark, blanks_end, EndsBehind, marks_read}
 use Rattle.filter_language.proofs.MarksSpelled.{marks_spelled}
