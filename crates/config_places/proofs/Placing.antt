@@ -1,5 +1,5 @@
 -- The place of a path, between two numbers of lines.
-use Rattle.std.proofs.Common.{◌≡◌, ℕ, zero, suc, ◌+◌, ◌<◌, ◌≤◌, Bool, true, false, ◌==◌, List, [], ◌∷◌, length, Option, Some, None, is_some, refl, sym, ap, ◌∙◌, inl, inr, ◌⊎◌, arith, add-one}
+use Rattle.std.proofs.Common.{◌≡◌, ℕ, zero, suc, ◌+◌, ◌<◌, ◌≤◌, true, false, ◌==◌, List, [], ◌∷◌, length, Some, None, refl, sym, ap, ◌∙◌, inl, inr, ◌⊎◌, arith, add-one}
 use Rattle.std.proofs.lemmas.Bool.{cases_Bool, true≢false}
 use Rattle.std.specs.Option.{option_map_or}
 use Rattle.nextest_tree.specs.Node.{Node}
@@ -8,7 +8,6 @@ use Rattle.nextest_script_order.specs.Lines.{first_lines, line_count}
 use Rattle.nextest_script_order.specs.Search.{IsDocument, NoDocumentBetween}
 use Rattle.nextest_script_order.proofs.Keeping.{all_lines}
 use Rattle.nextest_script_order.proofs.Sections.{empty_is, some_of}
-use Rattle.config_places.specs.declared.place.Lines.{Lines}
 use Rattle.config_places.specs.declared.step.Step.{Step}
 use Rattle.config_places.specs.declared.step.Step.TheVariants.{Key, Position}
 use Rattle.config_places.specs.Path.{has_path}

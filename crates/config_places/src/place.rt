@@ -54,7 +54,10 @@ fn place_between(
     let mut high = high;
     'halves: loop {
         let Some((count, document)) = document_between(alloc, fronts, low, high)? else {
-            return Ok(Lines { first: low + 1, last: high });
+            return Ok(Lines {
+                first: low + 1,
+                last: high,
+            });
         };
         if has_path(&document, path) {
             high = count;

@@ -1,6 +1,6 @@
 //! A line: a text and a path.
 use config_places::{Step, place_of};
-use std::alloc::{AllocError, Global};
+use std::alloc::{AllocError, AllocFailed, Global};
 
 /// Why a line has no answer.
 #[derive(Clone, Copy, Debug, PartialEq, Eq)]
@@ -13,6 +13,12 @@ pub(crate) enum RowError {
 
 impl From<AllocError> for RowError {
     fn from(_error: AllocError) -> RowError {
+        RowError::Memory
+    }
+}
+
+impl<T: Drop> From<AllocFailed<T>> for RowError {
+    fn from(_refused: AllocFailed<T>) -> RowError {
         RowError::Memory
     }
 }
