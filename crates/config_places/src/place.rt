@@ -21,6 +21,9 @@ pub struct Lines {
 /// These are the last of the first lines that are the shortest document with the path, from the
 /// end of the document before it on: the whole of a value that goes over several lines, and of a
 /// table the header that first names it. The text itself need not be a document.
+///
+/// A text that is a document is read once. If it has the path, as many of its fronts are read as
+/// its number of lines can be halved, and more where a value goes over many lines.
 pub fn place_of(alloc: Global, text: &str, path: &[Step]) -> Result<Option<Lines>, AllocError>
     ensures { IfOk result (λ place.
         MatchOption place (HasNoPlace path.now text.now) (IsPlace path.now text.now)) }
