@@ -20,10 +20,12 @@ rules_runs-push root sources key n (first ∷ rules) rule =
     ap (λ rest. rule_runs root sources key n first ++ rest)
     (rules_runs-push root sources key (n + 1) rules rule
     ∙ ap (λ m. rules_runs root sources key (n + 1) rules ++ rule_runs root sources key m rule) same)
-    ∙ sym (append_assoc (rule_runs root sources key n first) (rules_runs root sources key (n + 1) rules) (rule_runs root sources key (n + length (first ∷ rules)) rule))
+    ∙ sym (append_assoc (rule_runs root sources key n first) (rules_runs root sources key (n + 1) rules)
+    (rule_runs root sources key (n + length (first ∷ rules)) rule))
 
 -- what one rule more of a page has written
-pub rules_more : (tint : Colour) (root : List ℕ) (sources : List Source) (key : List ℕ) (rules : List Rule) (i : ℕ) (rule : Rule)
+pub rules_more : (tint : Colour) (root : List ℕ) (sources : List Source) (key : List ℕ) (rules : List Rule)
+    (i : ℕ) (rule : Rule)
     → i < length rules → rule ≡ get_or rules i rule
     → (start old new : List ℕ) → old ≡ start ++ page_text tint (rules_runs root sources key 0 (take i rules))
     → new ≡ old ++ page_text tint (rule_runs root sources key i rule)

@@ -163,7 +163,8 @@ written_runs key verdict (Some value) = if shows_value verdict then value_runs k
 -- the first line of a rule: its number, the verdict, and where it stands
 abbrev pub verdict_runs : ℕ → Verdict → List ℕ → List Run
 verdict_runs n verdict origin =
-    number_run verdict n ∷ plain (codes "  ") ∷ styled (verdict_style verdict) (verdict_text verdict)
+    number_run verdict n ∷ plain (codes "  ")
+    ∷ styled (verdict_style verdict) (verdict_text verdict)
     ∷ repeated 32 (14 - width (verdict_text verdict)) ∷ plain (codes "  ") ∷ plain origin
     ∷ ending ∷ []
 

@@ -48,4 +48,5 @@ item_text item = quoted (string_bytes item)
 abbrev pub value_text : Value → List ℕ
 value_text (values.Scalar scalar) = scalar_text scalar
 value_text (values.Texts items) = 91 ∷ (joined (codes ", ") item_text items.items ++ 93 ∷ [])
-value_text (values.Table fields) = codes "{ " ++ (joined (codes ", ") field_text fields.items ++ codes " }")
+value_text (values.Table fields) =
+    codes "{ " ++ (joined (codes ", ") field_text fields.items ++ codes " }")
