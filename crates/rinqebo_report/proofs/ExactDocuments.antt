@@ -1,12 +1,12 @@
 -- The document of a report nests little, and has no number that is a float.
-use Rattle.std.proofs.Common.{◌≡◌, ◌≤◌, ◌+◌, ℕ, ℤ, pos, negsuc, Bool, false, List, [], ◌∷◌, Option, None, Some, String, string_bytes, fold, refl, arith}
+use Rattle.std.proofs.Common.{◌≡◌, ◌≤◌, ◌+◌, ℕ, ℤ, pos, negsuc, false, List, [], ◌∷◌, Option, None, Some, String, string_bytes, refl, arith}
 use Rattle.std.specs.declared.alloc.Global.{Global}
-use Rattle.serde_json.specs.Data.{Data, null, number, array, object, no_items, Members, no_members, depth}
+use Rattle.serde_json.specs.Data.{Data, null, number, array, no_items, no_members, depth}
 use Rattle.serde_json.specs.Find.{of_integer}
 use Rattle.serde_json.specs.Read.{max_depth}
 use Rattle.serde_json.specs.Written.{has_float}
-use Rattle.rinqebo_report.specs.Document.{AskedData, asked_data, content_asked, rules_data, tests_data, entries_data, unused_data, document_with, document_data}
-use Rattle.rinqebo_report.specs.Documents.{count_data, text_data, optional_text_data, optional_count_data, list_data, pair_data, lines_data, scalar_data, with_field, value_data, optional_value_data, part_data, kind_data, origin_data, setting_data, with_setting, test_data, entry_data, rule_data, tool_data, source_data, unreached_data, place_source_data, place_lines_data, span_data, expression_data, expression_span_data, finding_data}
+use Rattle.rinqebo_report.specs.Document.{AskedData, asked_data, content_asked, rules_data, tests_data, entries_data, unused_data, document_data}
+use Rattle.rinqebo_report.specs.Documents.{count_data, text_data, optional_text_data, optional_count_data, list_data, pair_data, lines_data, scalar_data, value_data, optional_value_data, part_data, kind_data, origin_data, setting_data, test_data, entry_data, rule_data, tool_data, source_data, unreached_data, place_source_data, place_lines_data, span_data, expression_data, expression_span_data, finding_data}
 use Rattle.rinqebo_report.specs.declared.finding.Expression.{Expression}
 use Rattle.rinqebo_report.specs.declared.finding.Finding.{Finding}
 use Rattle.rinqebo_report.specs.declared.finding.Span.{Span}
@@ -33,7 +33,7 @@ use Rattle.rinqebo_report.specs.declared.value.Scalar.{Scalar}
 use Rattle.rinqebo_report.specs.declared.value.Scalar.TheVariants as scalars
 use Rattle.rinqebo_report.specs.declared.value.Value.{Value}
 use Rattle.rinqebo_report.specs.declared.value.Value.TheVariants as values
-use Rattle.rinqebo_report.proofs.Exact.{IsExact, AreExact, exact_text, exact_null, exact_truth, exact_list, no_more, and_member, exact_object, exact_puts}
+use Rattle.rinqebo_report.proofs.Exact.{IsExact, exact_text, exact_null, exact_truth, exact_list, no_more, and_member, exact_object, exact_puts}
 
 count : (n m : ℕ) → IsExact n (count_data m)
 count n m = record { nests = omega arith; whole = refl }

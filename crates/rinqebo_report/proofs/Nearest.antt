@@ -1,5 +1,5 @@
 -- The nearest of known names, where one name more is known.
-use Rattle.std.proofs.Common.{◌≡◌, ◌<◌, ◌≤◌, ◌+◌, ℕ, Bool, true, false, cond, eqb, ltb, List, [], ◌∷◌, ◌++◌, length, take, get_or, map, Option, None, Some, All, MatchOption, Bor, refl, sym, ap, ap₂, ◌∙◌, subst, lt-ltb, arith}
+use Rattle.std.proofs.Common.{◌≡◌, ◌<◌, ◌≤◌, ◌+◌, ℕ, Bool, true, false, cond, eqb, List, [], ◌∷◌, ◌++◌, length, take, get_or, map, Option, None, Some, All, MatchOption, Bor, refl, sym, ap, ap₂, ◌∙◌, subst, lt-ltb, arith}
 use Rattle.std.specs.List.{Contains}
 use Rattle.std.specs.Cmp.{IsTotalOrder}
 use Rattle.std.specs.Cmp.Lexicographic.{slice_cmp}

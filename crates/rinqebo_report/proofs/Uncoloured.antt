@@ -1,12 +1,12 @@
 -- Pages in colour are the plain pages without their escapes.
-use Rattle.std.proofs.Common.{◌≡◌, ◌<◌, ◌≤◌, ◌+◌, ◌/◌, ◌%◌, ℕ, zero, suc, Bool, true, false, cond, eqb, ltb, List, [], ◌∷◌, ◌++◌, codes, flat_map, replicate, decimal, refl, sym, ap, ◌∙◌, append_assoc, arith}
+use Rattle.std.proofs.Common.{◌≡◌, ◌<◌, ◌≤◌, ◌+◌, ◌/◌, ◌%◌, ℕ, zero, suc, Bool, true, false, cond, eqb, ltb, List, [], ◌∷◌, ◌++◌, codes, flat_map, replicate, decimal, refl, ap, ◌∙◌, append_assoc, arith}
 use Rattle.std.proofs.lemmas.Bool.{ne_eqb}
 use Rattle.std.proofs.lemmas.Bool.Decides.{nat_tests}
 use Rattle.std.specs.Bool.{⊤}
 use Rattle.std.specs.Char.{is_control, encode_utf8}
 use Rattle.std.specs.Fmt.{digit_glyph, digits, digits_onto}
 use Rattle.std.specs.Str.{chars}
-use Rattle.rinqebo_report.specs.Pieces.{Run, styled, repeated, numbered, ending, escape_of, shown_char, shown_text, style_code, in_colour, painted_text, painted, page_text}
+use Rattle.rinqebo_report.specs.Pieces.{Run, styled, repeated, numbered, ending, escape_of, shown_char, shown_text, painted_text, painted, page_text}
 use Rattle.rinqebo_report.specs.Uncoloured.{left_of, uncoloured}
 use Rattle.rinqebo_report.specs.declared.piece.Colour.TheVariants as colours
 use Rattle.rinqebo_report.specs.declared.piece.Style.{Style}

@@ -31,7 +31,6 @@ use Rattle.rinqebo_report.specs.declared.report.TestRows.{TestRows}
 use Rattle.rinqebo_report.specs.declared.report.Unreached.{Unreached}
 use Rattle.rinqebo_report.specs.declared.report.Verdict.{Verdict}
 use Rattle.rinqebo_report.specs.declared.report.Verdict.TheVariants as verdicts
-use Rattle.rinqebo_report.specs.declared.value.Value.{Value}
 use Rattle.rinqebo_report.specs.Joined.{joined}
 use Rattle.rinqebo_report.specs.OriginText.{origin_text, path_at}
 use Rattle.rinqebo_report.specs.Pieces.{Run, styled, repeated, numbered, ending, shown_char}

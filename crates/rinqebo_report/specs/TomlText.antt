@@ -1,5 +1,5 @@
 -- Values as TOML, on one line.
-use Rattle.std.specs.Prelude.{ℕ, ◌==◌, ◌/◌, ◌%◌, Bool, true, false, List, [], ◌∷◌, ◌++◌, ◌||◌, codes, flat_map, encode_utf8, String, string_bytes, if◌then◌else◌}
+use Rattle.std.specs.Prelude.{ℕ, ◌==◌, ◌/◌, ◌%◌, true, false, List, [], ◌∷◌, ◌++◌, ◌||◌, codes, flat_map, encode_utf8, String, string_bytes, if◌then◌else◌}
 use Rattle.std.specs.Char.{is_control}
 use Rattle.std.specs.declared.alloc.Global.{Global}
 use Rattle.std.specs.Fmt.{digit_glyph, signed_decimal}

@@ -1,4 +1,4 @@
-use Rattle.std.proofs.Common.{codes, string_bytes}
+use Rattle.std.proofs.Common.{codes}
 use Rattle.rinqebo_report.proofs.Joined.{joined_more}
 use Rattle.rinqebo_report.specs.OriginText.{origin_text}
 use Rattle.rinqebo_report.proofs.origin_text.add_origins.Goals as goal
