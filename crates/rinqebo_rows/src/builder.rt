@@ -288,19 +288,12 @@ impl Builder {
             key: line.text(self.alloc, 1)?,
             value: scalar_of(self.alloc, line, 2)?,
         };
-        let value = if let Some(entry) = self.entries.last_mut() {
-            Some(&mut entry.value)
+        if let Some(entry) = self.entries.last_mut() {
+            push_field(&mut entry.value, field)
         } else if let Some(rule) = self.rules.last_mut() {
-            rule.value.as_mut()
+            push_optional_field(&mut rule.value, field)
         } else {
-            self.last_setting()?.value.as_mut()
-        };
-        match value {
-            Some(Value::Table(fields)) => {
-                fields.push(field).map_err(AllocError::from)?;
-                Ok(())
-            }
-            _ => Err(RowError::NoRow),
+            push_optional_field(&mut self.last_setting()?.value, field)
         }
     }
 
@@ -363,6 +356,25 @@ impl Builder {
         };
         self.unreached.push(unreached).map_err(AllocError::from)?;
         Ok(())
+    }
+}
+
+/// Adds a member to a value, which is to be a table.
+fn push_field(value: &mut Value, field: Field) -> Result<(), RowError> {
+    match value {
+        Value::Table(fields) => {
+            fields.push(field).map_err(AllocError::from)?;
+            Ok(())
+        }
+        Value::Scalar(_) | Value::Texts(_) => Err(RowError::NoRow),
+    }
+}
+
+/// Adds a member to a value, which is to be there.
+fn push_optional_field(value: &mut Option<Value>, field: Field) -> Result<(), RowError> {
+    match value {
+        Some(value) => push_field(value, field),
+        None => Err(RowError::NoRow),
     }
 }
 
