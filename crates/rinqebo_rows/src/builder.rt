@@ -1,0 +1,476 @@
+//! Puts a report together, line by line.
+use crate::line::{Line, RowError};
+use rinqebo_report::{
+    Asked, Condition, ConditionAnswer, Content, Entry, Expression, Field, Finding, Level, Lines,
+    Origin, Part, Place, Platform, Report, Rule, RunMode, Scalar, SettingRow, Source, SourceKind,
+    Span, TestRows, Unreached, Value, Verdict, Written,
+};
+use std::alloc::{AllocError, Global};
+use std::mem;
+
+/// The command that a report answers: `check`, unless another one is named.
+#[derive(Drop)]
+enum Command {
+    Explain,
+    Why(String),
+    List,
+    ShowConfig,
+}
+
+/// A report as far as it is put together.
+#[derive(Drop)]
+pub struct Builder {
+    alloc: Global,
+    pub name: String,
+    root: String,
+    sources: Vec<Source>,
+    command: Option<Command>,
+    asked: Option<Asked>,
+    tests: Vec<TestRows>,
+    rules: Vec<Rule>,
+    entries: Vec<Entry>,
+    unused: Vec<Origin>,
+    findings: Vec<Finding>,
+    unreached: Vec<Unreached>,
+}
+
+/// No words yet, for a condition.
+fn absent(alloc: Global) -> Condition {
+    Condition {
+        text: String::new(alloc),
+        answer: ConditionAnswer::Absent,
+    }
+}
+
+impl Builder {
+    /// No report yet.
+    pub fn new(alloc: Global) -> Builder {
+        Builder {
+            alloc,
+            name: String::new(alloc),
+            root: String::new(alloc),
+            sources: Vec::new(alloc),
+            command: None,
+            asked: None,
+            tests: Vec::new(alloc),
+            rules: Vec::new(alloc),
+            entries: Vec::new(alloc),
+            unused: Vec::new(alloc),
+            findings: Vec::new(alloc),
+            unreached: Vec::new(alloc),
+        }
+    }
+
+    /// The report that is put together. None is there after it.
+    pub fn take_report(&mut self) -> Result<Report, RowError> {
+        let alloc = self.alloc;
+        let content = self.take_content()?;
+        Ok(Report {
+            root: mem::replace(&mut self.root, String::new(alloc)),
+            sources: mem::replace(&mut self.sources, Vec::new(alloc)),
+            findings: mem::replace(&mut self.findings, Vec::new(alloc)),
+            unreached: mem::replace(&mut self.unreached, Vec::new(alloc)),
+            content,
+        })
+    }
+
+    fn take_content(&mut self) -> Result<Content, RowError> {
+        let Some(asked) = self.asked.take() else {
+            return Ok(Content::Check);
+        };
+        let alloc = self.alloc;
+        match self.command.take() {
+            Some(Command::Explain) => Ok(Content::Explain {
+                asked,
+                test: self.tests.pop().ok_or(RowError::NoRow)?,
+            }),
+            Some(Command::Why(key)) => Ok(Content::Why {
+                asked,
+                key,
+                rules: mem::replace(&mut self.rules, Vec::new(alloc)),
+            }),
+            Some(Command::List) => Ok(Content::List {
+                asked,
+                tests: mem::replace(&mut self.tests, Vec::new(alloc)),
+                unused: mem::replace(&mut self.unused, Vec::new(alloc)),
+            }),
+            Some(Command::ShowConfig) => Ok(Content::ShowConfig {
+                asked,
+                entries: mem::replace(&mut self.entries, Vec::new(alloc)),
+            }),
+            None => Err(RowError::NoRow),
+        }
+    }
+
+    /// Takes a line of a report.
+    pub fn take(&mut self, line: &Line) -> Result<(), RowError> {
+        match line.word(0)? {
+            "case" => self.begin(line),
+            "source" => self.add_source(line),
+            "asked" => self.set_asked(line),
+            "explain" | "why" | "list" | "show-config" => self.set_command(line),
+            "test" => self.add_test(line),
+            "setting" => self.add_setting(line),
+            "rule" => self.add_rule(line),
+            "entry" | "hidden" => self.add_entry(line),
+            "unused" => self.add_unused(line),
+            "host" | "target" | "filter" => self.set_condition(line),
+            "value" | "texts" | "table" => self.set_value(line),
+            "field" => self.add_field(line),
+            "built-in" | "default-table" | "profile" | "override" | "script" => {
+                self.add_origin(line)
+            }
+            "finding" => self.add_finding(line),
+            "at" | "path" | "expression" | "expected" | "help" => self.complete_finding(line),
+            "unreached" => self.add_unreached(line),
+            _ => Err(RowError::NoRow),
+        }
+    }
+
+    fn begin(&mut self, line: &Line) -> Result<(), RowError> {
+        let mut fresh = Builder::new(self.alloc);
+        fresh.name = line.text(self.alloc, 1)?;
+        fresh.root = line.text(self.alloc, 2)?;
+        *self = fresh;
+        Ok(())
+    }
+
+    fn add_source(&mut self, line: &Line) -> Result<(), RowError> {
+        let kind = match line.word(1)? {
+            "default" => SourceKind::Default,
+            "tool" => SourceKind::Tool(line.text(self.alloc, 2)?),
+            "explicit" => SourceKind::Explicit,
+            "discovered" => SourceKind::Discovered,
+            _ => return Err(RowError::NoRow),
+        };
+        let path = line.optional_text(self.alloc, 3)?;
+        self.sources
+            .push(Source { kind, path })
+            .map_err(AllocError::from)?;
+        Ok(())
+    }
+
+    fn set_asked(&mut self, line: &Line) -> Result<(), RowError> {
+        let mut chain = Vec::new(self.alloc);
+        for profile in line.word(2)?.split(' ') {
+            let profile = String::from_str(self.alloc, profile)?;
+            chain.push(profile).map_err(AllocError::from)?;
+        }
+        let mode = match line.word(3)? {
+            "test" => RunMode::Test,
+            "benchmark" => RunMode::Benchmark,
+            _ => return Err(RowError::NoRow),
+        };
+        self.asked = Some(Asked {
+            profile: line.text(self.alloc, 1)?,
+            chain,
+            mode,
+            host: line.text(self.alloc, 4)?,
+            target: line.optional_text(self.alloc, 5)?,
+        });
+        Ok(())
+    }
+
+    fn add_test(&mut self, line: &Line) -> Result<(), RowError> {
+        let platform = match line.word(3)? {
+            "host" => Platform::Host,
+            "target" => Platform::Target,
+            _ => return Err(RowError::NoRow),
+        };
+        let test = TestRows {
+            binary: line.text(self.alloc, 1)?,
+            name: line.text(self.alloc, 2)?,
+            platform,
+            settings: Vec::new(self.alloc),
+        };
+        self.tests.push(test).map_err(AllocError::from)?;
+        Ok(())
+    }
+
+    fn set_command(&mut self, line: &Line) -> Result<(), RowError> {
+        let command = match line.word(0)? {
+            "explain" => Command::Explain,
+            "why" => Command::Why(line.text(self.alloc, 1)?),
+            "list" => Command::List,
+            _ => Command::ShowConfig,
+        };
+        self.command = Some(command);
+        Ok(())
+    }
+
+    fn add_setting(&mut self, line: &Line) -> Result<(), RowError> {
+        let key = line.text(self.alloc, 1)?;
+        let origins = Vec::new(self.alloc);
+        let Some(test) = self.tests.last_mut() else {
+            return Err(RowError::NoRow);
+        };
+        let row = SettingRow {
+            key,
+            value: None,
+            origins,
+        };
+        test.settings.push(row).map_err(AllocError::from)?;
+        Ok(())
+    }
+
+    fn add_rule(&mut self, line: &Line) -> Result<(), RowError> {
+        let verdict = verdict_of(line.word(1)?).ok_or(RowError::NoRow)?;
+        let rule = Rule {
+            verdict,
+            origin: Origin::BuiltIn,
+            host: absent(self.alloc),
+            target: absent(self.alloc),
+            filter: absent(self.alloc),
+            value: None,
+        };
+        self.rules.push(rule).map_err(AllocError::from)?;
+        Ok(())
+    }
+
+    fn add_entry(&mut self, line: &Line) -> Result<(), RowError> {
+        let entry = Entry {
+            key: line.text(self.alloc, 1)?,
+            value: Value::Table(Vec::new(self.alloc)),
+            origin: Origin::BuiltIn,
+            is_hidden: line.word(0)? == "hidden",
+        };
+        self.entries.push(entry).map_err(AllocError::from)?;
+        Ok(())
+    }
+
+    fn add_unused(&mut self, line: &Line) -> Result<(), RowError> {
+        let origin = written_of(self.alloc, line, 1)?;
+        self.unused.push(origin).map_err(AllocError::from)?;
+        Ok(())
+    }
+
+    fn set_condition(&mut self, line: &Line) -> Result<(), RowError> {
+        let answer = answer_of(line.word(1)?).ok_or(RowError::NoRow)?;
+        let text = line.text(self.alloc, 2)?;
+        let Some(rule) = self.rules.last_mut() else {
+            return Err(RowError::NoRow);
+        };
+        let condition = Condition { text, answer };
+        match line.word(0)? {
+            "host" => rule.host = condition,
+            "target" => rule.target = condition,
+            _ => rule.filter = condition,
+        }
+        Ok(())
+    }
+
+    fn set_value(&mut self, line: &Line) -> Result<(), RowError> {
+        let value = match line.word(0)? {
+            "value" => Value::Scalar(scalar_of(self.alloc, line, 1)?),
+            "texts" => Value::Texts(line.texts(self.alloc, 1)?),
+            _ => Value::Table(Vec::new(self.alloc)),
+        };
+        if let Some(entry) = self.entries.last_mut() {
+            entry.value = value;
+        } else if let Some(rule) = self.rules.last_mut() {
+            rule.value = Some(value);
+        } else {
+            self.last_setting()?.value = Some(value);
+        }
+        Ok(())
+    }
+
+    /// The last setting of the last test.
+    fn last_setting(&mut self) -> Result<&mut SettingRow, RowError> {
+        match self.tests.last_mut() {
+            Some(test) => test.settings.last_mut().ok_or(RowError::NoRow),
+            None => Err(RowError::NoRow),
+        }
+    }
+
+    fn add_field(&mut self, line: &Line) -> Result<(), RowError> {
+        let field = Field {
+            key: line.text(self.alloc, 1)?,
+            value: scalar_of(self.alloc, line, 2)?,
+        };
+        if let Some(entry) = self.entries.last_mut() {
+            push_field(&mut entry.value, field)
+        } else if let Some(rule) = self.rules.last_mut() {
+            push_optional_field(&mut rule.value, field)
+        } else {
+            push_optional_field(&mut self.last_setting()?.value, field)
+        }
+    }
+
+    fn add_origin(&mut self, line: &Line) -> Result<(), RowError> {
+        let origin = origin_of(self.alloc, line)?;
+        if let Some(entry) = self.entries.last_mut() {
+            entry.origin = origin;
+        } else if let Some(rule) = self.rules.last_mut() {
+            rule.origin = origin;
+        } else {
+            let row = self.last_setting()?;
+            row.origins.push(origin).map_err(AllocError::from)?;
+        }
+        Ok(())
+    }
+
+    fn add_finding(&mut self, line: &Line) -> Result<(), RowError> {
+        let level = match line.word(1)? {
+            "error" => Level::Error,
+            "warning" => Level::Warning,
+            _ => return Err(RowError::NoRow),
+        };
+        let finding = Finding {
+            level,
+            code: line.text(self.alloc, 2)?,
+            place: None,
+            column: None,
+            path: None,
+            message: line.text(self.alloc, 3)?,
+            expression: None,
+            expected: None,
+            help: None,
+        };
+        self.findings.push(finding).map_err(AllocError::from)?;
+        Ok(())
+    }
+
+    fn complete_finding(&mut self, line: &Line) -> Result<(), RowError> {
+        let alloc = self.alloc;
+        let Some(finding) = self.findings.last_mut() else {
+            return Err(RowError::NoRow);
+        };
+        match line.word(0)? {
+            "at" => {
+                finding.place = Some(place_of(line, 1)?);
+                finding.column = line.optional_number(4)?;
+            }
+            "path" => finding.path = Some(line.text(alloc, 1)?),
+            "expression" => finding.expression = Some(expression_of(alloc, line)?),
+            "expected" => finding.expected = Some(line.text(alloc, 1)?),
+            _ => finding.help = Some(line.text(alloc, 1)?),
+        }
+        Ok(())
+    }
+
+    fn add_unreached(&mut self, line: &Line) -> Result<(), RowError> {
+        let unreached = Unreached {
+            source: line.number(1)? as usize,
+            checks: line.texts(self.alloc, 2)?,
+        };
+        self.unreached.push(unreached).map_err(AllocError::from)?;
+        Ok(())
+    }
+}
+
+/// Adds a member to a value, which is to be a table.
+fn push_field(value: &mut Value, field: Field) -> Result<(), RowError> {
+    match value {
+        Value::Table(fields) => {
+            fields.push(field).map_err(AllocError::from)?;
+            Ok(())
+        }
+        Value::Scalar(_) | Value::Texts(_) => Err(RowError::NoRow),
+    }
+}
+
+/// Adds a member to a value, which is to be there.
+fn push_optional_field(value: &mut Option<Value>, field: Field) -> Result<(), RowError> {
+    match value {
+        Some(value) => push_field(value, field),
+        None => Err(RowError::NoRow),
+    }
+}
+
+/// The verdict of these words.
+fn verdict_of(words: &str) -> Option<Verdict> {
+    match words {
+        "platform no" => Some(Verdict::PlatformNo),
+        "filter no" => Some(Verdict::FilterNo),
+        "sets nothing" => Some(Verdict::SetsNothing),
+        "decided before" => Some(Verdict::DecidedBefore),
+        "decides" => Some(Verdict::Decides),
+        "fallback" => Some(Verdict::Fallback),
+        _ => None,
+    }
+}
+
+/// The answer of this word.
+fn answer_of(word: &str) -> Option<ConditionAnswer> {
+    match word {
+        "absent" => Some(ConditionAnswer::Absent),
+        "yes" => Some(ConditionAnswer::Yes),
+        "no" => Some(ConditionAnswer::No),
+        "unknown" => Some(ConditionAnswer::Unknown),
+        "unasked" => Some(ConditionAnswer::Unasked),
+        _ => None,
+    }
+}
+
+/// The scalar whose kind stands at a place, and whose text behind it.
+fn scalar_of(alloc: Global, line: &Line, place: usize) -> Result<Scalar, RowError> {
+    let text = line.word(place.saturating_add(1))?;
+    match line.word(place)? {
+        "boolean" => Ok(Scalar::Boolean(text == "true")),
+        "integer" => match text.parse::<i64>() {
+            Ok(number) => Ok(Scalar::Integer(number)),
+            Err(_) => Err(RowError::NoRow),
+        },
+        "text" => Ok(Scalar::Text(String::from_str(alloc, text)?)),
+        "duration" => match text.parse::<u128>() {
+            Ok(nanoseconds) => Ok(Scalar::Duration(nanoseconds)),
+            Err(_) => Err(RowError::NoRow),
+        },
+        _ => Err(RowError::NoRow),
+    }
+}
+
+/// The place whose source stands at a place of the line, and whose lines behind it.
+fn place_of(line: &Line, place: usize) -> Result<Place, RowError> {
+    let source = line.number(place)? as usize;
+    let first = line.optional_number(place.saturating_add(1))?;
+    let last = line.optional_number(place.saturating_add(2))?;
+    let lines = match (first, last) {
+        (Some(first), Some(last)) => Some(Lines { first, last }),
+        _ => None,
+    };
+    Ok(Place { source, lines })
+}
+
+/// The origin of a line.
+fn origin_of(alloc: Global, line: &Line) -> Result<Origin, RowError> {
+    match line.word(0)? {
+        "built-in" => Ok(Origin::BuiltIn),
+        "default-table" => Ok(Origin::DefaultTable),
+        _ => written_of(alloc, line, 0),
+    }
+}
+
+/// What is written in a file, whose kind stands at a place of the line.
+fn written_of(alloc: Global, line: &Line, place: usize) -> Result<Origin, RowError> {
+    let index = line.optional_number(place.saturating_add(2))?;
+    let part = match (line.word(place)?, index) {
+        ("profile", None) => Part::Fields,
+        ("override", Some(index)) => Part::Override(index as usize),
+        ("script", Some(index)) => Part::Script(index as usize),
+        _ => return Err(RowError::NoRow),
+    };
+    Ok(Origin::Written(Written {
+        place: place_of(line, place.saturating_add(3))?,
+        profile: line.text(alloc, place.saturating_add(1))?,
+        part,
+    }))
+}
+
+/// The expression of a line.
+fn expression_of(alloc: Global, line: &Line) -> Result<Expression, RowError> {
+    let from = line.optional_number(2)?;
+    let to = line.optional_number(3)?;
+    let span = match (from, to) {
+        (Some(from), Some(to)) => Some(Span {
+            from: from as usize,
+            to: to as usize,
+        }),
+        _ => None,
+    };
+    Ok(Expression {
+        text: line.text(alloc, 1)?,
+        span,
+    })
+}

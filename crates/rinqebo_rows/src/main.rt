@@ -1,0 +1,71 @@
+//! Prints reports in each of their forms.
+//!
+//! The reports come on standard input. Empty lines and lines that begin with `#` say nothing. Each
+//! other line has words with tabs between them, in which `\n`, `\t`, `\e` and `\\` stand for the end
+//! of a line, a tab, an escape and a backslash; `-` stands for nothing. It is one of these:
+//!
+//! | Line | What it says |
+//! |---|---|
+//! | `case NAME ROOT` | a report begins, of a workspace with this root |
+//! | `source KIND TOOL PATH` | a source: `default`, `tool`, `explicit` or `discovered` |
+//! | `asked PROFILE CHAIN MODE HOST TARGET` | what is asked for; the chain has spaces in it |
+//! | `explain`, `why KEY`, `list` or `show-config` | the command; without one it is `check` |
+//! | `test BINARY NAME PLATFORM` | a test |
+//! | `setting KEY` | a setting of the test |
+//! | `entry KEY`, `hidden KEY` | a leaf of the configuration |
+//! | `rule VERDICT` | a rule |
+//! | `host`, `target` or `filter`, then `ANSWER TEXT` | a condition of the rule |
+//! | `value KIND TEXT` | the value of the setting, rule or leaf: `boolean`, `integer`, `text` or `duration` |
+//! | `texts TEXT ..`, `table` | the value is a list of texts, or a table |
+//! | `field KEY KIND TEXT` | a member of the table |
+//! | `built-in`, `default-table` | where the setting, rule or leaf comes from |
+//! | `profile`, `override` or `script`, then `PROFILE INDEX SOURCE FIRST LAST` | the same, with the place of the source from 0, and lines |
+//! | `unused`, and the same behind it | a rule that holds for no test |
+//! | `finding LEVEL CODE MESSAGE` | what is wrong |
+//! | `at SOURCE FIRST LAST COLUMN` | where it is |
+//! | `path KEYS` | the keys that lead to it |
+//! | `expression TEXT FROM TO` | the expression, and the span of it that is wrong |
+//! | `expected TEXT`, `help TEXT` | remarks on it |
+//! | `unreached SOURCE NAME ..` | checks that were not reached |
+//! | `print FORM ..` | what is printed: `text`, `colour`, `json`, `findings`, `concise`, `coloured-concise` or `github:FOLDER` |
+//! | `nearest NAME KNOWN ..` | the known name that is nearest to a name is printed |
+//!
+//! A line of another form is told on standard error, and the status is 2.
+#![tactic(auto)]
+
+mod builder;
+mod line;
+mod print;
+
+use builder::Builder;
+use line::{Line, RowError};
+use print::printed;
+use std::io;
+use std::process::ExitCode;
+
+fn main(rt: HostRuntime) -> io::Result<ExitCode> {
+    let alloc = rt.alloc();
+    let text = io::read_to_string(alloc, rt.stdin())?;
+    let mut builder = Builder::new(alloc);
+    for line in text.lines() {
+        if line.is_empty() || line.starts_with("#") {
+            continue;
+        }
+        let shown = match Line::read(alloc, line) {
+            Ok(words) => printed(alloc, &mut builder, &words),
+            Err(error) => Err(error),
+        };
+        match shown {
+            Ok(shown) => print!(rt; "{shown}")?,
+            Err(RowError::NoRow) => {
+                eprintln!(rt; "error: no line of a report: `{line}`")?;
+                return Ok(ExitCode::from(2));
+            }
+            Err(RowError::Memory) => {
+                eprintln!(rt; "error: out of memory")?;
+                return Ok(ExitCode::from(2));
+            }
+        }
+    }
+    Ok(ExitCode::SUCCESS)
+}
