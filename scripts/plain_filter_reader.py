@@ -180,7 +180,7 @@ def pythons(regex):
     """Python's regular expression for one of the `regex` crate, where they differ: a code may stand
     in braces, counts may have blanks, braces count, and no letter beyond ASCII is escaped."""
     regex = re.sub(r"\\[uUx]{([0-9a-fA-F]{1,6})}", lambda m: "\\U" + m[1].zfill(8), regex)
-    regex = re.sub(r"{ *(\d+) *(,?) *(\d*) *}", r"{\1\2\3}", regex)
+    regex = re.sub(r"{\s*(\d+)\s*(,?)\s*(\d*)\s*}", r"{\1\2\3}", regex)
     if re.search(r"(?<!\\){(?!\d+(,\d*)?})|\\[^\0-\x7f]", regex):
         raise re.error("not of the `regex` crate")
     return regex
