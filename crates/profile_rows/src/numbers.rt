@@ -6,6 +6,7 @@ ghost use Rattle.toy_engines.specs.Filters.{filter_read, filter_matches, filter_
 
 use crate::case::Case;
 use crate::lines::Lines;
+use crate::refusal::Refusal;
 use nextest_config::{
     BinaryQuery, BuildPlatforms, ConfigExperimental, EvalContext, EvaluatableProfile, FilterFault,
     Filters, NextestConfig, NextestRunMode, ParseContext, Tally, TestQuery,
@@ -140,6 +141,15 @@ const ENGINES: ParseContext<'static, NotingFilters, ToySpecs> = ParseContext {
     specs: &ToySpecs,
 };
 
+/// What a call answers, or nothing where it refuses for another reason than want of memory.
+fn unless_refused<T, E: Refusal>(answer: Result<T, E>) -> Result<Option<T>, AllocError> {
+    match answer {
+        Ok(answered) => Ok(Some(answered)),
+        Err(error) if error.is_memory() => Err(AllocError),
+        Err(_) => Ok(None),
+    }
+}
+
 /// Adds the numbers of the rules whose filters are evaluated for the tests and binaries of a case,
 /// if its files are accepted and have the profile.
 pub fn add_numbers(
@@ -154,10 +164,10 @@ pub fn add_numbers(
     let shared = &case.paths.shared;
     let tools = &case.tools;
     let loaded = NextestConfig::from_sources(alloc, root, shared, &ENGINES, None, tools, features);
-    let Ok(config) = loaded else {
+    let Some(config) = unless_refused(loaded)? else {
         return Ok(());
     };
-    let Ok(early) = config.profile(alloc, profile) else {
+    let Some(early) = unless_refused(config.profile(alloc, profile))? else {
         return Ok(());
     };
     match early.apply_build_platforms(alloc, platforms) {
