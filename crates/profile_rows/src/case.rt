@@ -1,7 +1,7 @@
 //! The cases: files in memory, a build, and what is asked of which profiles.
 use nextest_config::{
-    BinaryQuery, BuildPlatform, ConfigPath, ConfigPaths, FileInput, ReadOutcome, TestQuery,
-    ToolConfigFile, ToolName,
+    BinaryQuery, BuildPlatform, ConfigPath, ConfigPaths, FileInput, InvalidIdentifier, ReadOutcome,
+    TestQuery, ToolConfigFile, ToolName,
 };
 use std::alloc::{AllocError, Global};
 use thiserror::Error;
@@ -77,11 +77,18 @@ fn file_at(alloc: Global, path: &str, outcome: ReadOutcome) -> Result<FileInput,
     })
 }
 
+/// A tool of this name.
+fn tool_of(alloc: Global, name: &str) -> Result<ToolName, CaseError<'_>> {
+    match ToolName::new(alloc, name) {
+        Ok(tool) => Ok(tool),
+        Err(InvalidIdentifier::Memory) => Err(CaseError::Memory),
+        Err(_) => Err(CaseError::Tool(name)),
+    }
+}
+
 /// An empty file of a tool.
 fn tool_file<'a>(alloc: Global, name: &'a str) -> Result<ToolConfigFile, CaseError<'a>> {
-    let Ok(tool) = ToolName::new(alloc, name) else {
-        return Err(CaseError::Tool(name));
-    };
+    let tool = tool_of(alloc, name)?;
     let path = format!(in alloc; "/{name}.toml")?;
     let empty = ReadOutcome::Text(String::new(alloc));
     Ok(ToolConfigFile {
