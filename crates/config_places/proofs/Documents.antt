@@ -11,7 +11,7 @@ use Rattle.nextest_script_order.proofs.Kept.{Kept}
 use Rattle.nextest_script_order.proofs.Values.{line_kept}
 use Rattle.nextest_script_order.proofs.Documents.{after_line, not_over, not_over_long, grown_from, bom_grown, closed}
 use Rattle.config_places.proofs.Stands.{Grows}
-use Rattle.config_places.proofs.Growing.{NodesGrow, table_grows, define_grows}
+use Rattle.config_places.proofs.NodesGrow.{NodesGrow, table_grows, define_grows}
 
 then_grows : (doc last : Document) (made : Option Document) (rest : Document → Option Document)
     → ((next : Document) → made ≡ Some next → NodesGrow doc.0 next.0)

@@ -1,5 +1,5 @@
 pub mod Stands
-pub mod Growing
+pub mod NodesGrow
 pub mod Documents
 pub mod Nodes
 pub mod Keeping
