@@ -1,0 +1,9 @@
+pub mod WholeTexts
+pub mod Joined
+pub mod Prefixes
+pub mod Pages
+pub mod Uncoloured
+pub mod ReadDurations
+pub mod Exact
+pub mod ExactDocuments
+pub mod Nearest

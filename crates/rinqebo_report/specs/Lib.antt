@@ -1,0 +1,14 @@
+pub mod Durations
+pub mod Joined
+pub mod TomlText
+pub mod OriginText
+pub mod Pages
+pub mod Pieces
+pub mod PieceView
+pub mod Github
+pub mod Rendered
+pub mod Documents
+pub mod Document
+pub mod DocumentViews
+pub mod Uncoloured
+pub mod Hints

@@ -1,0 +1,376 @@
+-- The pages of a report.
+use Rattle.std.specs.Prelude.{ℕ, ◌+◌, ◌-◌, max, Bool, true, false, List, [], ◌∷◌, ◌++◌, Option, None, Some, is_some, option_map, length, fold, flat_map, unwrap_or, count_by, codes, decimal, take, String, string_bytes, if◌then◌else◌, not}
+use Rattle.std.specs.declared.alloc.Global.{Global}
+use Rattle.std.specs.Str.{chars}
+use Rattle.rinqebo_report.specs.declared.finding.Expression.{Expression}
+use Rattle.rinqebo_report.specs.declared.finding.Finding.{Finding}
+use Rattle.rinqebo_report.specs.declared.finding.Level.{Level}
+use Rattle.rinqebo_report.specs.declared.finding.Level.TheVariants as levels
+use Rattle.rinqebo_report.specs.declared.finding.Span.{Span}
+use Rattle.rinqebo_report.specs.declared.origin.Lines.{Lines}
+use Rattle.rinqebo_report.specs.declared.origin.Origin.{Origin}
+use Rattle.rinqebo_report.specs.declared.origin.Place.{Place}
+use Rattle.rinqebo_report.specs.declared.origin.Source.{Source}
+use Rattle.rinqebo_report.specs.declared.piece.Style.TheVariants as styles
+use Rattle.rinqebo_report.specs.declared.piece.Style.{Style}
+use Rattle.rinqebo_report.specs.declared.report.Asked.{Asked}
+use Rattle.rinqebo_report.specs.declared.report.Condition.{Condition}
+use Rattle.rinqebo_report.specs.declared.report.ConditionAnswer.{ConditionAnswer}
+use Rattle.rinqebo_report.specs.declared.report.ConditionAnswer.TheVariants as answers
+use Rattle.rinqebo_report.specs.declared.report.Content.{Content}
+use Rattle.rinqebo_report.specs.declared.report.Content.TheVariants as contents
+use Rattle.rinqebo_report.specs.declared.report.Entry.{Entry}
+use Rattle.rinqebo_report.specs.declared.report.Platform.{Platform}
+use Rattle.rinqebo_report.specs.declared.report.Platform.TheVariants as platforms
+use Rattle.rinqebo_report.specs.declared.report.Report.{Report}
+use Rattle.rinqebo_report.specs.declared.report.Rule.{Rule}
+use Rattle.rinqebo_report.specs.declared.report.RunMode.{RunMode}
+use Rattle.rinqebo_report.specs.declared.report.RunMode.TheVariants as modes
+use Rattle.rinqebo_report.specs.declared.report.SettingRow.{SettingRow}
+use Rattle.rinqebo_report.specs.declared.report.TestRows.{TestRows}
+use Rattle.rinqebo_report.specs.declared.report.Unreached.{Unreached}
+use Rattle.rinqebo_report.specs.declared.report.Verdict.{Verdict}
+use Rattle.rinqebo_report.specs.declared.report.Verdict.TheVariants as verdicts
+use Rattle.rinqebo_report.specs.declared.value.Value.{Value}
+use Rattle.rinqebo_report.specs.Joined.{joined}
+use Rattle.rinqebo_report.specs.OriginText.{origin_text, path_at}
+use Rattle.rinqebo_report.specs.Pieces.{Run, styled, repeated, numbered, ending, shown_char}
+use Rattle.rinqebo_report.specs.TomlText.{value_text}
+
+-- a text like others
+abbrev pub plain : List ℕ → Run
+plain text = styled styles.Plain text
+
+-- how many characters a text has
+abbrev pub width : List ℕ → ℕ
+width text = length (chars text)
+
+-- how wide the key of a row is: a row without a value counts for nothing
+abbrev pub key_width : SettingRow → ℕ
+key_width row = if is_some row.value then width (string_bytes row.key) else 0
+
+-- how wide the widest key of rows is
+abbrev pub widest : List SettingRow → ℕ
+widest rows = fold (λ w row. max w (key_width row)) 0 rows
+
+-- that a setting has no value
+abbrev pub absent_runs : List ℕ → List Run
+absent_runs key = styled styles.Remark (codes "# " ++ (key ++ codes ": none")) ∷ ending ∷ []
+
+-- a row of a setting: the key, an equals sign, the value, and where it comes from
+abbrev pub setting_runs : ℕ → List ℕ → Option (List ℕ) → List ℕ → List Run
+setting_runs w key (Some value) remark =
+    styled styles.Key key ∷ repeated 32 (w - width key) ∷ plain (codes " = ")
+    ∷ plain value ∷ repeated 32 (12 - width value) ∷ plain (codes "  ")
+    ∷ styled styles.Remark remark ∷ ending ∷ []
+setting_runs w key None remark = absent_runs key
+
+-- the origins of a row, behind a mark
+abbrev pub remark_of : List ℕ → List Source → SettingRow → List ℕ
+remark_of root sources row =
+    codes "# " ++ joined (codes ", ") (origin_text root sources) row.origins.items
+
+-- a row of a test
+abbrev pub row_runs : List ℕ → List Source → ℕ → SettingRow → List Run
+row_runs root sources w row =
+    setting_runs w (string_bytes row.key) (option_map value_text row.value)
+    (remark_of root sources row)
+
+-- the word of a mode
+abbrev pub mode_word : RunMode → List ℕ
+mode_word modes.Test = codes "test"
+mode_word modes.Benchmark = codes "benchmark"
+
+-- the word of a platform
+abbrev pub platform_word : Platform → List ℕ
+platform_word platforms.Host = codes "host"
+platform_word platforms.Target = codes "target"
+
+-- the triple of a platform: without a target, what is built for it runs on the host
+abbrev pub triple_of : Asked → Platform → List ℕ
+triple_of asked platforms.Host = string_bytes asked.host
+triple_of asked platforms.Target = string_bytes (unwrap_or asked.target asked.host)
+
+-- what is asked about: the test, the profiles, the mode, and what it runs on
+abbrev pub header_text : Asked → TestRows → List ℕ
+header_text asked test =
+    codes "# " ++ (string_bytes test.binary ++ (codes " " ++ (string_bytes test.name
+    ++ (codes ", profile " ++ (joined (codes " < ") string_bytes asked.chain.items
+    ++ (codes ", " ++ (mode_word asked.mode ++ (codes ", " ++ (platform_word test.platform
+    ++ (codes " " ++ triple_of asked test.platform))))))))))
+
+-- the settings of a test
+abbrev pub explain_runs : List ℕ → List Source → Asked → TestRows → List Run
+explain_runs root sources asked test =
+    styled styles.Remark (header_text asked test) ∷ ending
+    ∷ flat_map (row_runs root sources (widest test.settings.items)) test.settings.items
+
+-- the words of a verdict
+abbrev pub verdict_text : Verdict → List ℕ
+verdict_text verdicts.PlatformNo = codes "platform no"
+verdict_text verdicts.FilterNo = codes "filter no"
+verdict_text verdicts.SetsNothing = codes "sets nothing"
+verdict_text verdicts.DecidedBefore = codes "decided before"
+verdict_text verdicts.Decides = codes "decides"
+verdict_text verdicts.Fallback = codes "fallback"
+
+-- how a verdict is shown
+abbrev pub verdict_style : Verdict → Style
+verdict_style verdicts.Decides = styles.Good
+verdict_style _ = styles.Plain
+
+-- the number of a rule, from 1: the fallback has none
+abbrev pub number_run : Verdict → ℕ → Run
+number_run verdicts.Fallback n = plain (codes "-")
+number_run _ n = numbered (n + 1)
+
+-- what is told of a condition: that it does not hold, or that it can't be told
+abbrev pub told_answer : ConditionAnswer → Option (List ℕ)
+told_answer answers.No = Some (codes ": no")
+told_answer answers.Unknown = Some (codes ": unknown")
+told_answer _ = None
+
+-- a line of a rule, if something is told there
+abbrev pub told_runs : List ℕ → List ℕ → Option (List ℕ) → List Run
+told_runs word text None = []
+told_runs word text (Some told) =
+    plain (codes "     ") ∷ plain word ∷ plain (codes " ") ∷ plain text ∷ plain told ∷ ending ∷ []
+
+-- a condition, where it does not hold or can't be told
+abbrev pub condition_runs : List ℕ → Condition → List Run
+condition_runs word condition =
+    told_runs word (string_bytes condition.text) (told_answer condition.answer)
+
+-- what a rule writes is shown where it decides, or another one does so before it
+abbrev pub shows_value : Verdict → Bool
+shows_value verdicts.PlatformNo = false
+shows_value verdicts.FilterNo = false
+shows_value verdicts.SetsNothing = false
+shows_value verdicts.DecidedBefore = true
+shows_value verdicts.Decides = true
+shows_value verdicts.Fallback = true
+
+-- a key and a value
+abbrev pub value_runs : List ℕ → List ℕ → List Run
+value_runs key value =
+    plain (codes "     ") ∷ styled styles.Key key ∷ plain (codes " = ") ∷ plain value ∷ ending ∷ []
+
+-- what a rule writes for a setting
+abbrev pub written_runs : List ℕ → Verdict → Option (List ℕ) → List Run
+written_runs key verdict None = []
+written_runs key verdict (Some value) = if shows_value verdict then value_runs key value else []
+
+-- the first line of a rule: its number, the verdict, and where it stands
+abbrev pub verdict_runs : ℕ → Verdict → List ℕ → List Run
+verdict_runs n verdict origin =
+    number_run verdict n ∷ plain (codes "  ") ∷ styled (verdict_style verdict) (verdict_text verdict)
+    ∷ repeated 32 (14 - width (verdict_text verdict)) ∷ plain (codes "  ") ∷ plain origin
+    ∷ ending ∷ []
+
+-- the conditions of a rule
+abbrev pub conditions_runs : Rule → List Run
+conditions_runs rule =
+    condition_runs (codes "host") rule.host
+    ++ (condition_runs (codes "target") rule.target ++ condition_runs (codes "filter") rule.filter)
+
+-- a rule: the verdict, and then what says so
+abbrev pub rule_runs : List ℕ → List Source → List ℕ → ℕ → Rule → List Run
+rule_runs root sources key n rule =
+    verdict_runs n rule.verdict (origin_text root sources rule.origin)
+    ++ (conditions_runs rule
+    ++ written_runs key rule.verdict (option_map value_text rule.value))
+
+-- rules from a number on
+abbrev pub rules_runs : List ℕ → List Source → List ℕ → ℕ → List Rule → List Run
+rules_runs root sources key n [] = []
+rules_runs root sources key n (rule ∷ rules) =
+    rule_runs root sources key n rule ++ rules_runs root sources key (n + 1) rules
+
+-- the names of a test
+abbrev pub test_line_runs : List ℕ → List ℕ → List Run
+test_line_runs binary name = plain binary ∷ plain (codes " ") ∷ plain name ∷ ending ∷ []
+
+-- a row of a test in a list
+abbrev pub indented_runs : List ℕ → List Source → ℕ → SettingRow → List Run
+indented_runs root sources w row = plain (codes "    ") ∷ row_runs root sources w row
+
+-- a test in a list
+abbrev pub listed_runs : List ℕ → List Source → TestRows → List Run
+listed_runs root sources test =
+    test_line_runs (string_bytes test.binary) (string_bytes test.name)
+    ++ flat_map (indented_runs root sources (widest test.settings.items)) test.settings.items
+
+-- how many tests there are
+abbrev pub count_runs : ℕ → List Run
+count_runs n = plain (codes "tests: ") ∷ numbered n ∷ ending ∷ []
+
+-- a rule that holds for no test
+abbrev pub unused_line_runs : List ℕ → List Run
+unused_line_runs origin = plain (codes "unused: ") ∷ plain origin ∷ ending ∷ []
+
+-- where a rule that holds for no test stands
+abbrev pub unused_runs : List ℕ → List Source → Origin → List Run
+unused_runs root sources origin = unused_line_runs (origin_text root sources origin)
+
+-- tests, how many there are, and the rules that hold for none
+abbrev pub list_runs : List ℕ → List Source → List TestRows → List Origin → List Run
+list_runs root sources tests unused =
+    flat_map (listed_runs root sources) tests
+    ++ (count_runs (length tests) ++ flat_map (unused_runs root sources) unused)
+
+-- how wide the key of a leaf is: one that is hidden counts for nothing
+abbrev pub entry_width : Entry → ℕ
+entry_width entry = if entry.is_hidden then 0 else width (string_bytes entry.key)
+
+-- how wide the widest key of leaves is
+abbrev pub widest_entry : List Entry → ℕ
+widest_entry entries = fold (λ w entry. max w (entry_width entry)) 0 entries
+
+-- a leaf that another one hides
+abbrev pub hidden_runs : List ℕ → List ℕ → List ℕ → List Run
+hidden_runs key value remark =
+    styled styles.Remark (codes "# hidden: "
+    ++ (key ++ (codes " = " ++ (value ++ (codes "  " ++ remark)))))
+    ∷ ending ∷ []
+
+-- a leaf
+abbrev pub entry_runs : List ℕ → List Source → ℕ → Entry → List Run
+entry_runs root sources w entry =
+    if entry.is_hidden
+    then hidden_runs (string_bytes entry.key) (value_text entry.value)
+    (codes "# " ++ origin_text root sources entry.origin)
+    else setting_runs w (string_bytes entry.key) (Some (value_text entry.value))
+    (codes "# " ++ origin_text root sources entry.origin)
+
+-- leaves of a configuration
+abbrev pub config_runs : List ℕ → List Source → List Entry → List Run
+config_runs root sources entries =
+    flat_map (entry_runs root sources (widest_entry entries)) entries
+
+-- the word of a level
+abbrev pub level_word : Level → List ℕ
+level_word levels.Error = codes "error"
+level_word levels.Warning = codes "warning"
+
+-- how a level is shown
+abbrev pub level_style : Level → Style
+level_style levels.Error = styles.Error
+level_style levels.Warning = styles.Warning
+
+-- a colon and a column
+abbrev pub column_text : Option ℕ → List ℕ
+column_text None = []
+column_text (Some column) = codes ":" ++ decimal column
+
+-- a colon, the first of lines, and a column there
+abbrev pub spot_text : Option Lines → Option ℕ → List ℕ
+spot_text None column = []
+spot_text (Some lines) column = codes ":" ++ (decimal lines.first ++ column_text column)
+
+-- where a finding is, before what is told
+abbrev pub finding_place : List ℕ → List Source → Option Place → Option ℕ → List ℕ
+finding_place root sources None column = []
+finding_place root sources (Some place) column =
+    path_at root sources place.source ++ (spot_text place.lines column ++ codes ": ")
+
+-- the level of a finding, and its name in brackets
+abbrev pub level_text : Finding → List ℕ
+level_text finding =
+    level_word finding.level ++ (codes "[" ++ (string_bytes finding.code ++ codes "]"))
+
+-- a place, a level in its style, and a message
+abbrev pub head_line_runs : List ℕ → Style → List ℕ → List ℕ → List Run
+head_line_runs place style level message =
+    plain place ∷ styled style level ∷ plain (codes ": ") ∷ plain message ∷ ending ∷ []
+
+-- the first line of a finding
+abbrev pub head_runs : List ℕ → List Source → Finding → List Run
+head_runs root sources finding =
+    head_line_runs (finding_place root sources finding.place finding.column)
+    (level_style finding.level) (level_text finding) (string_bytes finding.message)
+
+-- how many characters the first ones of a text take, as they are shown
+abbrev pub shown_width : List ℕ → ℕ → ℕ
+shown_width text n = width (flat_map shown_char (take n (chars text)))
+
+-- a caret below each character of a span, and one at least
+abbrev pub caret_runs : List ℕ → Option Span → List Run
+caret_runs text None = []
+caret_runs text (Some span) =
+    plain (codes "    ") ∷ repeated 32 (shown_width text span.from)
+    ∷ repeated 94 (max 1 (shown_width text span.to - shown_width text span.from)) ∷ ending ∷ []
+
+-- an expression, and carets below its span
+abbrev pub expression_runs : Option Expression → List Run
+expression_runs None = []
+expression_runs (Some expression) =
+    plain (codes "    ") ∷ plain (string_bytes expression.text) ∷ ending
+    ∷ caret_runs (string_bytes expression.text) expression.span
+
+-- a remark below a finding
+abbrev pub remark_runs : List ℕ → Option (String Global) → List Run
+remark_runs word None = []
+remark_runs word (Some text) =
+    plain (codes "    ") ∷ styled styles.Help word ∷ plain (string_bytes text) ∷ ending ∷ []
+
+-- a finding
+abbrev pub finding_runs : List ℕ → List Source → Finding → List Run
+finding_runs root sources finding =
+    head_runs root sources finding ++ (expression_runs finding.expression
+    ++ (remark_runs (codes "= expected: ") finding.expected
+    ++ remark_runs (codes "= help: ") finding.help))
+
+-- whether a level refuses
+abbrev pub is_refusal : Level → Bool
+is_refusal levels.Error = true
+is_refusal levels.Warning = false
+
+-- whether a finding refuses
+abbrev pub is_error : Finding → Bool
+is_error finding = is_refusal finding.level
+
+-- whether a finding only warns
+abbrev pub is_warning : Finding → Bool
+is_warning finding = not (is_error finding)
+
+-- the checks of a source that were not reached
+abbrev pub unreached_text : List ℕ → List Source → Unreached → List ℕ
+unreached_text root sources unreached =
+    codes "; not reached in " ++ (path_at root sources unreached.source
+    ++ (codes ": " ++ joined (codes ", ") string_bytes unreached.checks.items))
+
+-- how many findings refuse, and how many only warn
+abbrev pub counts_text : List Finding → List ℕ
+counts_text findings =
+    codes "errors: " ++ (decimal (count_by is_error findings)
+    ++ (codes ", warnings: " ++ decimal (count_by is_warning findings)))
+
+-- how many findings there are, and which checks were not reached
+abbrev pub summary_text : Report → List ℕ
+summary_text report =
+    counts_text report.findings.items
+    ++ flat_map (unreached_text (string_bytes report.root) report.sources.items)
+    report.unreached.items
+
+-- the findings
+abbrev pub findings_runs : Report → List Run
+findings_runs report =
+    flat_map (finding_runs (string_bytes report.root) report.sources.items) report.findings.items
+
+-- the first lines of the findings
+abbrev pub concise_runs : Report → List Run
+concise_runs report =
+    flat_map (head_runs (string_bytes report.root) report.sources.items) report.findings.items
+
+-- the page of what a command answers
+abbrev pub content_runs : Report → Content → List Run
+content_runs report (contents.Explain asked test) =
+    explain_runs (string_bytes report.root) report.sources.items asked test
+content_runs report (contents.Why asked key rules) =
+    rules_runs (string_bytes report.root) report.sources.items (string_bytes key) 0 rules.items
+content_runs report (contents.List asked tests unused) =
+    list_runs (string_bytes report.root) report.sources.items tests.items unused.items
+content_runs report (contents.ShowConfig asked entries) =
+    config_runs (string_bytes report.root) report.sources.items entries.items
+content_runs report contents.Check =
+    findings_runs report ++ (plain (summary_text report) ∷ ending ∷ [])

@@ -1,0 +1,51 @@
+-- Values as TOML, on one line.
+use Rattle.std.specs.Prelude.{ℕ, ◌==◌, ◌/◌, ◌%◌, Bool, true, false, List, [], ◌∷◌, ◌++◌, ◌||◌, codes, flat_map, encode_utf8, String, string_bytes, if◌then◌else◌}
+use Rattle.std.specs.Char.{is_control}
+use Rattle.std.specs.declared.alloc.Global.{Global}
+use Rattle.std.specs.Fmt.{digit_glyph, signed_decimal}
+use Rattle.std.specs.Str.{chars}
+use Rattle.rinqebo_report.specs.declared.value.Field.{Field}
+use Rattle.rinqebo_report.specs.declared.value.Scalar.{Scalar}
+use Rattle.rinqebo_report.specs.declared.value.Scalar.TheVariants as scalars
+use Rattle.rinqebo_report.specs.declared.value.Value.{Value}
+use Rattle.rinqebo_report.specs.declared.value.Value.TheVariants as values
+use Rattle.rinqebo_report.specs.Durations.{duration_text}
+use Rattle.rinqebo_report.specs.Joined.{joined}
+
+-- a hexadecimal digit
+abbrev pub hex_digit : ℕ → ℕ
+hex_digit n = digit_glyph false n
+
+-- a character within quotes: a quote or a backslash has a backslash before it, and a control
+-- character is `\u` and four hexadecimal digits
+abbrev pub toml_char : ℕ → List ℕ
+toml_char c =
+    if c == 34 || c == 92 then 92 ∷ c ∷ []
+    else (if is_control c then codes "\\u00" ++ hex_digit (c / 16) ∷ hex_digit (c % 16) ∷ []
+    else encode_utf8 c)
+
+-- a text in quotes
+abbrev pub quoted : List ℕ → List ℕ
+quoted text = 34 ∷ (flat_map toml_char (chars text) ++ 34 ∷ [])
+
+-- a value that holds no others
+abbrev pub scalar_text : Scalar → List ℕ
+scalar_text (scalars.Boolean true) = codes "true"
+scalar_text (scalars.Boolean false) = codes "false"
+scalar_text (scalars.Integer z) = signed_decimal z
+scalar_text (scalars.Text text) = quoted (string_bytes text)
+scalar_text (scalars.Duration n) = 34 ∷ (duration_text n ++ 34 ∷ [])
+
+-- a member of a table
+abbrev pub field_text : Field → List ℕ
+field_text field = string_bytes field.key ++ (codes " = " ++ scalar_text field.value)
+
+-- a text of a list
+abbrev pub item_text : String Global → List ℕ
+item_text item = quoted (string_bytes item)
+
+-- a value
+abbrev pub value_text : Value → List ℕ
+value_text (values.Scalar scalar) = scalar_text scalar
+value_text (values.Texts items) = 91 ∷ (joined (codes ", ") item_text items.items ++ 93 ∷ [])
+value_text (values.Table fields) = codes "{ " ++ (joined (codes ", ") field_text fields.items ++ codes " }")

@@ -1,0 +1,226 @@
+//! The page of a test: its settings, each with its value and where it comes from.
+ghost use Rattle.std.specs.Prelude.{◌≡◌, ◌++◌, Some, OnOk, IfOk, codes, flat_map, string_bytes};
+ghost use Rattle.rinqebo_report.specs.Joined.{joined};
+ghost use Rattle.rinqebo_report.specs.Pages.{width, key_width, widest, mode_word, platform_word, triple_of, header_text, absent_runs, setting_runs, row_runs, explain_runs};
+ghost use Rattle.rinqebo_report.specs.Pieces.{page_text};
+
+use crate::origin::Source;
+use crate::origin_text::origins_text;
+use crate::piece::{Colour, Piece, Style, add_pieces};
+use crate::report::{Asked, Platform, RunMode, SettingRow, TestRows};
+use crate::toml_text::value_text;
+use std::alloc::{AllocError, Global};
+
+/// How many characters a value's column has at least.
+const VALUE_WIDTH: usize = 12;
+
+/// How many characters a text has.
+pub(crate) fn width(text: &str) -> usize
+    ensures { result ≡ width text.now }
+{
+    text.chars().count()
+}
+
+/// How wide the key of a row is: a row without a value counts for nothing.
+fn key_width(row: &SettingRow) -> usize
+    ensures { result ≡ key_width row.now }
+{
+    if row.value.is_some() {
+        width(row.key.as_str())
+    } else {
+        0
+    }
+}
+
+/// How wide the widest key of rows is.
+pub(crate) fn widest(rows: &[SettingRow]) -> usize
+    ensures { result ≡ widest rows.now }
+{
+    let mut most = 0usize;
+    for row in rows {
+        most = most.max(key_width(row));
+    }
+    most
+}
+
+impl RunMode {
+    /// Its word.
+    pub(crate) fn word(self) -> &'static str
+        ensures { result.now ≡ mode_word self }
+    {
+        match self {
+            RunMode::Test => "test",
+            RunMode::Benchmark => "benchmark",
+        }
+    }
+}
+
+impl Platform {
+    /// Its word.
+    pub(crate) fn word(self) -> &'static str
+        ensures { result.now ≡ platform_word self }
+    {
+        match self {
+            Platform::Host => "host",
+            Platform::Target => "target",
+        }
+    }
+}
+
+/// The triple of a platform: without a target, what is built for it runs on the host.
+fn triple_of(asked: &Asked, platform: Platform) -> &str
+    ensures { result.now ≡ triple_of asked.now platform }
+{
+    match (platform, &asked.target) {
+        (Platform::Target, Some(target)) => target.as_str(),
+        _ => asked.host.as_str(),
+    }
+}
+
+/// Writes profiles, the nearest first.
+fn add_chain(out: &mut String, chain: &[String]) -> Result<(), AllocError>
+    ensures { OnOk result (string_bytes out.new
+        ≡ string_bytes out.old ++ joined (codes " < ") string_bytes chain.now) }
+{
+    let mut separator = "";
+    for profile in chain {
+        out.push_str(separator)?;
+        out.push_str(profile.as_str())?;
+        separator = " < ";
+    }
+    Ok(())
+}
+
+/// Writes what a test runs on.
+fn add_run(out: &mut String, asked: &Asked, platform: Platform) -> Result<(), AllocError>
+    ensures { OnOk result (string_bytes out.new ≡ string_bytes out.old
+        ++ (codes ", " ++ (mode_word asked.now.mode ++ (codes ", " ++ (platform_word platform
+        ++ (codes " " ++ triple_of asked.now platform)))))) }
+{
+    out.push_str(", ")?;
+    out.push_str(asked.mode.word())?;
+    out.push_str(", ")?;
+    out.push_str(platform.word())?;
+    out.push_str(" ")?;
+    out.push_str(triple_of(asked, platform))
+}
+
+/// What is asked about, in one line.
+fn header_text(alloc: Global, asked: &Asked, test: &TestRows) -> Result<String, AllocError>
+    ensures { IfOk result (λ text. string_bytes text ≡ header_text asked.now test.now) }
+{
+    let mut text = String::from_str(alloc, "# ")?;
+    text.push_str(test.binary.as_str())?;
+    text.push_str(" ")?;
+    text.push_str(test.name.as_str())?;
+    text.push_str(", profile ")?;
+    add_chain(&mut text, &asked.chain)?;
+    add_run(&mut text, asked, test.platform)?;
+    Ok(text)
+}
+
+/// Writes the row of a setting that has a value.
+pub(crate) fn add_valued<'x>(
+    out: &mut String,
+    colour: Colour,
+    widest: usize,
+    key: &'x str,
+    value: &'x str,
+    remark: &'x str,
+) -> Result<(), AllocError>
+    ensures { OnOk result (string_bytes out.new ≡ string_bytes out.old
+        ++ page_text colour (setting_runs widest key.now (Some value.now) remark.now)) }
+{
+    add_pieces(
+        out,
+        colour,
+        &[
+            Piece::Text(Style::Key, key),
+            Piece::Repeat(' ', widest.saturating_sub(width(key))),
+            Piece::Text(Style::Plain, " = "),
+            Piece::Text(Style::Plain, value),
+            Piece::Repeat(' ', VALUE_WIDTH.saturating_sub(width(value))),
+            Piece::Text(Style::Plain, "  "),
+            Piece::Text(Style::Remark, remark),
+            Piece::End,
+        ],
+    )
+}
+
+/// Writes that a setting has no value.
+fn add_absent(alloc: Global, out: &mut String, colour: Colour, key: &str) -> Result<(), AllocError>
+    ensures { OnOk result (string_bytes out.new ≡ string_bytes out.old
+        ++ page_text colour (absent_runs key.now)) }
+{
+    let text = format!(in alloc; "# {key}: none")?;
+    add_pieces(
+        out,
+        colour,
+        &[Piece::Text(Style::Remark, text.as_str()), Piece::End],
+    )
+}
+
+/// Writes the row of a setting.
+pub(crate) fn add_row(
+    alloc: Global,
+    out: &mut String,
+    colour: Colour,
+    root: &str,
+    sources: &[Source],
+    widest: usize,
+    row: &SettingRow,
+) -> Result<(), AllocError>
+    ensures { OnOk result (string_bytes out.new ≡ string_bytes out.old
+        ++ page_text colour (row_runs root.now sources.now widest row.now)) }
+{
+    let key = row.key.as_str();
+    match &row.value {
+        Some(value) => {
+            let value = value_text(alloc, value)?;
+            let remark = origins_text(alloc, root, sources, &row.origins)?;
+            add_valued(out, colour, widest, key, value.as_str(), remark.as_str())
+        }
+        None => add_absent(alloc, out, colour, key),
+    }
+}
+
+/// Writes the rows of settings.
+fn add_rows(
+    alloc: Global,
+    out: &mut String,
+    colour: Colour,
+    root: &str,
+    sources: &[Source],
+    rows: &[SettingRow],
+) -> Result<(), AllocError>
+    ensures { OnOk result (string_bytes out.new ≡ string_bytes out.old
+        ++ page_text colour (flat_map (row_runs root.now sources.now (widest rows.now)) rows.now)) }
+{
+    let widest = widest(rows);
+    for row in rows {
+        add_row(alloc, out, colour, root, sources, widest, row)?;
+    }
+    Ok(())
+}
+
+/// Writes the page of a test.
+pub(crate) fn add_explain(
+    alloc: Global,
+    out: &mut String,
+    colour: Colour,
+    root: &str,
+    sources: &[Source],
+    asked: &Asked,
+    test: &TestRows,
+) -> Result<(), AllocError>
+    ensures { OnOk result (string_bytes out.new ≡ string_bytes out.old
+        ++ page_text colour (explain_runs root.now sources.now asked.now test.now)) }
+{
+    let header = header_text(alloc, asked, test)?;
+    add_pieces(
+        out,
+        colour,
+        &[Piece::Text(Style::Remark, header.as_str()), Piece::End],
+    )?;
+    add_rows(alloc, out, colour, root, sources, &test.settings)
+}

@@ -1,0 +1,47 @@
+//! What is wrong with a file.
+use crate::origin::Place;
+
+/// How bad it is.
+#[derive(Clone, Copy)]
+pub enum Level {
+    /// The files are refused.
+    Error,
+    /// They are not.
+    Warning,
+}
+
+/// A part of a text, in characters from 0.
+#[derive(Clone, Copy)]
+pub struct Span {
+    /// The first character.
+    pub from: usize,
+    /// The one behind the last.
+    pub to: usize,
+}
+
+/// An expression that is refused.
+#[derive(Drop)]
+pub struct Expression {
+    pub text: String,
+    /// The part that is wrong.
+    pub span: Option<Span>,
+}
+
+/// What is wrong, and where.
+#[derive(Drop)]
+pub struct Finding {
+    pub level: Level,
+    /// The name of what is wrong.
+    pub code: String,
+    pub place: Option<Place>,
+    /// The column in the first line, from 1.
+    pub column: Option<u64>,
+    /// The keys that lead to it, with dots between them.
+    pub path: Option<String>,
+    pub message: String,
+    pub expression: Option<Expression>,
+    /// What would be right there.
+    pub expected: Option<String>,
+    /// What to do.
+    pub help: Option<String>,
+}

@@ -1,0 +1,105 @@
+//! A report as a text.
+ghost use Rattle.std.specs.Prelude.{◌≡◌, ◌++◌, OnOk, IfOk, string_bytes};
+ghost use Rattle.rinqebo_report.specs.Pages.{content_runs, findings_runs, concise_runs};
+ghost use Rattle.rinqebo_report.specs.Pieces.{page_text};
+ghost use Rattle.rinqebo_report.specs.Rendered.{rendered};
+
+use crate::check_page::{add_check, add_findings, add_heads};
+use crate::config_page::add_config;
+use crate::explain_page::add_explain;
+use crate::github::github_text;
+use crate::json_document::render_json;
+use crate::list_page::add_list;
+use crate::piece::Colour;
+use crate::report::{Content, Report};
+use crate::why_page::add_why;
+use std::alloc::{AllocError, Global};
+
+/// How a report is written.
+#[derive(Clone, Copy)]
+pub enum Format<'a> {
+    /// The page of what a command answers.
+    Text,
+    /// One document of JSON, on a line.
+    Json,
+    /// The first lines of the findings.
+    Concise,
+    /// The findings as commands of GitHub's workflows, with paths below the folder in which a
+    /// workflow runs.
+    Github(&'a str),
+}
+
+/// Writes the page of what a command answers.
+fn add_content(
+    alloc: Global,
+    out: &mut String,
+    colour: Colour,
+    report: &Report,
+) -> Result<(), AllocError>
+    ensures { OnOk result (string_bytes out.new ≡ string_bytes out.old
+        ++ page_text colour (content_runs report.now report.now.content)) }
+{
+    let root = report.root.as_str();
+    let sources = report.sources.as_slice();
+    match &report.content {
+        Content::Explain { asked, test } => {
+            add_explain(alloc, out, colour, root, sources, asked, test)
+        }
+        Content::Why { key, rules, .. } => {
+            add_why(alloc, out, colour, root, sources, key.as_str(), rules)
+        }
+        Content::List { tests, unused, .. } => {
+            add_list(alloc, out, colour, root, sources, tests, unused)
+        }
+        Content::ShowConfig { entries, .. } => {
+            add_config(alloc, out, colour, root, sources, entries)
+        }
+        Content::Check => add_check(alloc, out, colour, report),
+    }
+}
+
+/// The page of what a command answers.
+fn content_text(alloc: Global, report: &Report, colour: Colour) -> Result<String, AllocError>
+    ensures { IfOk result (λ text. string_bytes text
+        ≡ page_text colour (content_runs report.now report.now.content)) }
+{
+    let mut text = String::new(alloc);
+    add_content(alloc, &mut text, colour, report)?;
+    Ok(text)
+}
+
+/// The first lines of the findings.
+fn concise_text(alloc: Global, report: &Report, colour: Colour) -> Result<String, AllocError>
+    ensures { IfOk result (λ text. string_bytes text ≡ page_text colour (concise_runs report.now)) }
+{
+    let mut text = String::new(alloc);
+    add_heads(alloc, &mut text, colour, report)?;
+    Ok(text)
+}
+
+/// The findings of a report alone, as its page shows them.
+pub fn render_findings(alloc: Global, report: &Report, colour: Colour) -> Result<String, AllocError>
+    ensures { IfOk result (λ text. string_bytes text
+        ≡ page_text colour (findings_runs report.now)) }
+{
+    let mut text = String::new(alloc);
+    add_findings(alloc, &mut text, colour, report)?;
+    Ok(text)
+}
+
+/// A report in a format, with colours or without. Only pages have colours.
+pub fn render(
+    alloc: Global,
+    report: &Report,
+    format: Format<'_>,
+    colour: Colour,
+) -> Result<String, AllocError>
+    ensures { IfOk result (λ text. string_bytes text ≡ rendered report.now format.entry colour) }
+{
+    match format {
+        Format::Text => content_text(alloc, report, colour),
+        Format::Json => render_json(alloc, report),
+        Format::Concise => concise_text(alloc, report, colour),
+        Format::Github(workspace) => github_text(alloc, workspace, report),
+    }
+}

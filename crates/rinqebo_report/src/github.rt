@@ -1,0 +1,165 @@
+//! Findings as commands of GitHub's workflows, which show them beside the lines.
+ghost use Rattle.std.specs.Prelude.{◌≡◌, ◌++◌, OnOk, IfOk, option_map, flat_map, string_bytes};
+ghost use Rattle.std.specs.Str.{chars};
+ghost use Rattle.rinqebo_report.specs.Github.{message_char, property_char, file_at, path_property, file_property, lines_property, properties_text, github_line, github_text};
+
+use crate::finding::Finding;
+use crate::origin::{Lines, Place, Source};
+use crate::origin_text::below;
+use crate::report::Report;
+use std::alloc::{AllocError, Global};
+use std::fmt::Write;
+
+/// Writes a character of a message.
+fn add_message_char(out: &mut String, c: char) -> Result<(), AllocError>
+    ensures { OnOk result (string_bytes out.new ≡ string_bytes out.old ++ message_char c) }
+{
+    match c {
+        '%' => out.push_str("%25"),
+        '\r' => out.push_str("%0D"),
+        '\n' => out.push_str("%0A"),
+        _ => out.push(c),
+    }
+}
+
+/// Writes a character of a property.
+fn add_property_char(out: &mut String, c: char) -> Result<(), AllocError>
+    ensures { OnOk result (string_bytes out.new ≡ string_bytes out.old ++ property_char c) }
+{
+    match c {
+        ':' => out.push_str("%3A"),
+        ',' => out.push_str("%2C"),
+        _ => add_message_char(out, c),
+    }
+}
+
+/// Writes a message.
+fn add_message(out: &mut String, text: &str) -> Result<(), AllocError>
+    ensures { OnOk result (string_bytes out.new
+        ≡ string_bytes out.old ++ flat_map message_char (chars text.now)) }
+{
+    for c in text.chars() {
+        add_message_char(out, c)?;
+    }
+    Ok(())
+}
+
+/// Writes the value of a property.
+fn add_property(out: &mut String, text: &str) -> Result<(), AllocError>
+    ensures { OnOk result (string_bytes out.new
+        ≡ string_bytes out.old ++ flat_map property_char (chars text.now)) }
+{
+    for c in text.chars() {
+        add_property_char(out, c)?;
+    }
+    Ok(())
+}
+
+/// Writes the properties of lines.
+fn add_lines(out: &mut String, lines: Option<Lines>) -> Result<(), AllocError>
+    ensures { OnOk result (string_bytes out.new ≡ string_bytes out.old ++ lines_property lines) }
+{
+    match lines {
+        Some(Lines { first, last }) => write!(out, "line={first},endLine={last},"),
+        None => Ok(()),
+    }
+}
+
+/// The path of the source at a place among sources, if it has one.
+fn file_at(sources: &[Source], source: usize) -> Option<&str>
+    ensures { option_map (λ path. path.now) result ≡ file_at sources.now source }
+{
+    match sources.get(source) {
+        Some(
+            Source {
+                path: Some(path),
+                ..
+            },
+        ) => Some(path.as_str()),
+        _ => None,
+    }
+}
+
+/// Writes the properties of a file and of lines in it.
+fn add_path(
+    out: &mut String,
+    workspace: &str,
+    lines: Option<Lines>,
+    path: Option<&str>,
+) -> Result<(), AllocError>
+    ensures { OnOk result (string_bytes out.new ≡ string_bytes out.old
+        ++ path_property workspace.now lines (option_map (λ path. path.now) path.entry)) }
+{
+    let Some(path) = path else {
+        return Ok(());
+    };
+    out.push_str("file=")?;
+    add_property(out, below(workspace, path))?;
+    out.push_str(",")?;
+    add_lines(out, lines)
+}
+
+/// Writes the properties of a place.
+fn add_file(
+    out: &mut String,
+    workspace: &str,
+    sources: &[Source],
+    place: Option<Place>,
+) -> Result<(), AllocError>
+    ensures { OnOk result (string_bytes out.new
+        ≡ string_bytes out.old ++ file_property workspace.now sources.now place) }
+{
+    match place {
+        Some(place) => add_path(out, workspace, place.lines, file_at(sources, place.source)),
+        None => Ok(()),
+    }
+}
+
+/// Writes the properties of a finding.
+fn add_properties(
+    out: &mut String,
+    workspace: &str,
+    sources: &[Source],
+    finding: &Finding,
+) -> Result<(), AllocError>
+    ensures { OnOk result (string_bytes out.new
+        ≡ string_bytes out.old ++ properties_text workspace.now sources.now finding.now) }
+{
+    add_file(out, workspace, sources, finding.place)?;
+    out.push_str("title=")?;
+    add_property(out, finding.code.as_str())
+}
+
+/// Writes a finding.
+fn add_line(
+    out: &mut String,
+    workspace: &str,
+    sources: &[Source],
+    finding: &Finding,
+) -> Result<(), AllocError>
+    ensures { OnOk result (string_bytes out.new
+        ≡ string_bytes out.old ++ github_line workspace.now sources.now finding.now) }
+{
+    out.push_str("::")?;
+    out.push_str(finding.level.word())?;
+    out.push_str(" ")?;
+    add_properties(out, workspace, sources, finding)?;
+    out.push_str("::")?;
+    add_message(out, finding.message.as_str())?;
+    out.push_str("\n")
+}
+
+/// The findings of a report, a line each.
+pub(crate) fn github_text(
+    alloc: Global,
+    workspace: &str,
+    report: &Report,
+) -> Result<String, AllocError>
+    ensures { IfOk result (λ text. string_bytes text ≡ github_text workspace.now report.now) }
+{
+    let mut text = String::new(alloc);
+    for finding in &report.findings {
+        add_line(&mut text, workspace, &report.sources, finding)?;
+    }
+    Ok(text)
+}

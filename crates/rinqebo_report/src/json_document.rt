@@ -1,0 +1,238 @@
+//! A report as one document of JSON, for other programs.
+ghost use Rattle.std.specs.Prelude.{◌≡◌, ◌++◌, [], ◌∷◌, Some, IfOk, OnOk, string_bytes};
+ghost use Rattle.serde_json.specs.Read.{read};
+ghost use Rattle.serde_json.specs.View.{members_view, view};
+ghost use Rattle.serde_json.specs.Written.{compact_text};
+ghost use Rattle.rinqebo_report.specs.DocumentViews.{asked_view, answers_view};
+ghost use Rattle.rinqebo_report.specs.Document.{asked_data, content_asked, command_word, rules_data, tests_data, entries_data, unused_data, answers_data, with_asked, with_answers, with_title, document_data};
+
+use crate::json_parts::{
+    all_unreached_json, entries_json, findings_json, optional_text_json, origins_json, rules_json,
+    sources_json, test_json, tests_json, texts_json,
+};
+use crate::report::{Asked, Content, Report};
+use serde_json::{Map, Value, json, put};
+use std::alloc::{AllocError, Global};
+
+/// What was asked for, as the document tells it.
+#[derive(Drop)]
+struct AskedJson {
+    chain: Value,
+    host: Value,
+    mode: Value,
+    profile: Value,
+    target: Value,
+}
+
+/// This was asked for.
+fn asked_json(alloc: Global, asked: &Asked) -> Result<AskedJson, AllocError>
+    ensures { IfOk result (λ json. asked_view json ≡ asked_data asked.now) }
+{
+    Ok(AskedJson {
+        chain: texts_json(alloc, &asked.chain)?,
+        host: Value::try_from_str(alloc, asked.host.as_str())?,
+        mode: Value::try_from_str(alloc, asked.mode.word())?,
+        profile: Value::try_from_str(alloc, asked.profile.as_str())?,
+        target: optional_text_json(alloc, &asked.target)?,
+    })
+}
+
+impl Content {
+    /// What was asked for.
+    fn asked_json(&self, alloc: Global) -> Result<AskedJson, AllocError>
+        ensures { IfOk result (λ json. asked_view json ≡ content_asked self.now) }
+    {
+        match self {
+            Content::Explain { asked, .. } => asked_json(alloc, asked),
+            Content::Why { asked, .. } => asked_json(alloc, asked),
+            Content::List { asked, .. } => asked_json(alloc, asked),
+            Content::ShowConfig { asked, .. } => asked_json(alloc, asked),
+            Content::Check => Ok(AskedJson {
+                chain: Value::Array(Vec::new(alloc)),
+                host: Value::Null,
+                mode: Value::Null,
+                profile: Value::Null,
+                target: Value::Null,
+            }),
+        }
+    }
+
+    /// The word of the command.
+    fn command(&self) -> &'static str
+        ensures { result.now ≡ command_word self.now }
+    {
+        match self {
+            Content::Explain { .. } | Content::Why { .. } => "explain",
+            Content::List { .. } => "list",
+            Content::ShowConfig { .. } => "show-config",
+            Content::Check => "check",
+        }
+    }
+
+    /// The rules that are answered.
+    fn rules_json(&self, alloc: Global) -> Result<Value, AllocError>
+        ensures { IfOk result (λ value. view value ≡ rules_data self.now) }
+    {
+        match self {
+            Content::Why { rules, .. } => rules_json(alloc, rules),
+            Content::Explain { .. }
+            | Content::List { .. }
+            | Content::ShowConfig { .. }
+            | Content::Check => Ok(Value::Array(Vec::new(alloc))),
+        }
+    }
+
+    /// The tests that are answered.
+    fn tests_json(&self, alloc: Global) -> Result<Value, AllocError>
+        ensures { IfOk result (λ value. view value ≡ tests_data self.now) }
+    {
+        match self {
+            Content::Explain { test, .. } => {
+                let test = test_json(alloc, test)?;
+                json!(in alloc; [test])
+            }
+            Content::List { tests, .. } => tests_json(alloc, tests),
+            Content::Why { .. } | Content::ShowConfig { .. } | Content::Check => {
+                Ok(Value::Array(Vec::new(alloc)))
+            }
+        }
+    }
+
+    /// The leaves that are answered.
+    fn entries_json(&self, alloc: Global) -> Result<Value, AllocError>
+        ensures { IfOk result (λ value. view value ≡ entries_data self.now) }
+    {
+        match self {
+            Content::ShowConfig { entries, .. } => entries_json(alloc, entries),
+            Content::Explain { .. } | Content::Why { .. } | Content::List { .. } | Content::Check =>
+                { Ok(Value::Array(Vec::new(alloc))) }
+        }
+    }
+
+    /// The rules that hold for no test.
+    fn unused_json(&self, alloc: Global) -> Result<Value, AllocError>
+        ensures { IfOk result (λ value. view value ≡ unused_data self.now) }
+    {
+        match self {
+            Content::List { unused, .. } => origins_json(alloc, unused),
+            Content::Explain { .. }
+            | Content::Why { .. }
+            | Content::ShowConfig { .. }
+            | Content::Check => Ok(Value::Array(Vec::new(alloc))),
+        }
+    }
+}
+
+/// What a report answers, as the document tells it.
+#[derive(Drop)]
+struct AnswersJson {
+    entries: Value,
+    findings: Value,
+    rules: Value,
+    sources: Value,
+    tests: Value,
+    unreached: Value,
+    unused: Value,
+}
+
+/// This is answered.
+fn answers_json(alloc: Global, report: &Report) -> Result<AnswersJson, AllocError>
+    ensures { IfOk result (λ json. answers_view json ≡ answers_data report.now) }
+{
+    Ok(AnswersJson {
+        entries: report.content.entries_json(alloc)?,
+        findings: findings_json(alloc, &report.findings)?,
+        rules: report.content.rules_json(alloc)?,
+        sources: sources_json(alloc, &report.sources)?,
+        tests: report.content.tests_json(alloc)?,
+        unreached: all_unreached_json(alloc, &report.unreached)?,
+        unused: report.content.unused_json(alloc)?,
+    })
+}
+
+/// Puts what was asked for among members.
+fn put_asked(
+    members: &mut Map<String, Value>,
+    alloc: Global,
+    asked: AskedJson,
+) -> Result<(), AllocError>
+    ensures { OnOk result (members_view members.new.entries
+        ≡ with_asked (asked_view asked) (members_view members.old.entries)) }
+{
+    put(members, alloc, "chain", asked.chain)?;
+    put(members, alloc, "host", asked.host)?;
+    put(members, alloc, "mode", asked.mode)?;
+    put(members, alloc, "profile", asked.profile)?;
+    put(members, alloc, "target", asked.target)
+}
+
+/// Puts what is answered among members.
+fn put_answers(
+    members: &mut Map<String, Value>,
+    alloc: Global,
+    answers: AnswersJson,
+) -> Result<(), AllocError>
+    ensures { OnOk result (members_view members.new.entries
+        ≡ with_answers (answers_view answers) (members_view members.old.entries)) }
+{
+    put(members, alloc, "entries", answers.entries)?;
+    put(members, alloc, "findings", answers.findings)?;
+    put(members, alloc, "rules", answers.rules)?;
+    put(members, alloc, "sources", answers.sources)?;
+    put(members, alloc, "tests", answers.tests)?;
+    put(members, alloc, "unreached", answers.unreached)?;
+    put(members, alloc, "unused", answers.unused)
+}
+
+/// Puts among members which document this is.
+fn put_title(
+    members: &mut Map<String, Value>,
+    alloc: Global,
+    report: &Report,
+) -> Result<(), AllocError>
+    ensures { OnOk result (members_view members.new.entries
+        ≡ with_title report.now (members_view members.old.entries)) }
+{
+    let command = Value::try_from_str(alloc, report.content.command())?;
+    let root = Value::try_from_str(alloc, report.root.as_str())?;
+    put(members, alloc, "command", command)?;
+    put(members, alloc, "root", root)?;
+    put(members, alloc, "version", Value::from(1u64))
+}
+
+/// The document of a report.
+pub fn document(alloc: Global, report: &Report) -> Result<Value, AllocError>
+    ensures { IfOk result (λ value. view value ≡ document_data report.now) }
+{
+    let asked = report.content.asked_json(alloc)?;
+    let answers = answers_json(alloc, report)?;
+    let mut members = Map::new(alloc);
+    put_asked(&mut members, alloc, asked)?;
+    put_answers(&mut members, alloc, answers)?;
+    put_title(&mut members, alloc, report)?;
+    Ok(Value::Object(members))
+}
+
+/// The document of a report as a text without spaces, which reads back.
+fn document_text(alloc: Global, report: &Report) -> Result<String, AllocError>
+    ensures text { IfOk result (λ text. string_bytes text
+        ≡ compact_text (document_data report.now)) }
+    ensures reads_back { IfOk result (λ text. read (string_bytes text)
+        ≡ Some (document_data report.now)) }
+{
+    let document = document(alloc, report)?;
+    let text = document.to_string(alloc)?;
+    Ok(text)
+}
+
+/// The document of a report, on one line. Without the end of the line it reads back.
+pub fn render_json(alloc: Global, report: &Report) -> Result<String, AllocError>
+    ensures text { IfOk result (λ text. string_bytes text
+        ≡ compact_text (document_data report.now) ++ 10 ∷ []) }
+    ensures reads_back { IfOk result (λ text.
+        read (compact_text (document_data report.now)) ≡ Some (document_data report.now)) }
+{
+    let mut text = document_text(alloc, report)?;
+    text.push('\n')?;
+    Ok(text)
+}

@@ -1,0 +1,434 @@
+//! Parts of a report as JSON.
+ghost use Rattle.std.specs.Prelude.{◌≡◌, IfOk, fold};
+ghost use Rattle.serde_json.specs.Data.{null, object, no_members};
+ghost use Rattle.serde_json.specs.View.{view};
+ghost use Rattle.rinqebo_report.specs.Documents.{count_data, text_data, optional_text_data, optional_count_data, list_data, lines_data, scalar_data, with_field, value_data, optional_value_data, part_word, part_data, kind_data, origin_data, setting_data, with_setting, test_data, entry_data, answer_word, rule_data, kind_word, tool_data, source_data, unreached_data, place_source_data, place_lines_data, span_data, expression_data, expression_span_data, finding_data};
+
+use crate::duration::add_duration;
+use crate::finding::{Expression, Finding, Span};
+use crate::origin::{Lines, Origin, Part, Place, Source, SourceKind, Written};
+use crate::report::{ConditionAnswer, Entry, Rule, SettingRow, TestRows, Unreached};
+use crate::value::{Field, Scalar, Value as SettingValue};
+use serde_json::{Map, Value, json};
+use std::alloc::{AllocError, Global};
+
+/// A text, or null.
+pub(crate) fn optional_text_json(alloc: Global, text: &Option<String>) -> Result<Value, AllocError>
+    ensures { IfOk result (λ value. view value ≡ optional_text_data text.now) }
+{
+    match text {
+        Some(text) => Value::try_from_str(alloc, text.as_str()),
+        None => Ok(Value::Null),
+    }
+}
+
+/// A number, or null.
+fn optional_count_json(count: Option<u64>) -> Value
+    ensures { view result ≡ optional_count_data count }
+{
+    match count {
+        Some(count) => Value::from(count),
+        None => Value::Null,
+    }
+}
+
+/// A list of texts.
+pub(crate) fn texts_json(alloc: Global, texts: &[String]) -> Result<Value, AllocError>
+    ensures { IfOk result (λ value. view value ≡ list_data text_data texts.now) }
+{
+    let mut list = Vec::new(alloc);
+    for text in texts {
+        list.push(Value::try_from_str(alloc, text.as_str())?)?;
+    }
+    Ok(Value::Array(list))
+}
+
+/// Lines, or null.
+fn lines_json(alloc: Global, lines: Option<Lines>) -> Result<Value, AllocError>
+    ensures { IfOk result (λ value. view value ≡ lines_data lines) }
+{
+    match lines {
+        Some(Lines { first, last }) => json!(in alloc; [first, last]),
+        None => Ok(Value::Null),
+    }
+}
+
+/// A value that holds no others: a duration is the text of it.
+fn scalar_json(alloc: Global, scalar: &Scalar) -> Result<Value, AllocError>
+    ensures { IfOk result (λ value. view value ≡ scalar_data scalar.now) }
+{
+    match scalar {
+        Scalar::Boolean(truth) => Ok(Value::Bool(*truth)),
+        Scalar::Integer(number) => Ok(Value::from(*number)),
+        Scalar::Text(text) => Value::try_from_str(alloc, text.as_str()),
+        Scalar::Duration(nanoseconds) => {
+            let mut text = String::new(alloc);
+            add_duration(&mut text, *nanoseconds)?;
+            Ok(Value::String(text))
+        }
+    }
+}
+
+/// A table.
+fn fields_json(alloc: Global, fields: &[Field]) -> Result<Value, AllocError>
+    ensures { IfOk result (λ value.
+        view value ≡ object (fold with_field no_members fields.now)) }
+{
+    let mut members = Map::new(alloc);
+    for field in fields {
+        let value = scalar_json(alloc, &field.value)?;
+        serde_json::put(&mut members, alloc, field.key.as_str(), value)?;
+    }
+    Ok(Value::Object(members))
+}
+
+/// A value.
+fn value_json(alloc: Global, value: &SettingValue) -> Result<Value, AllocError>
+    ensures { IfOk result (λ json. view json ≡ value_data value.now) }
+{
+    match value {
+        SettingValue::Scalar(scalar) => scalar_json(alloc, scalar),
+        SettingValue::Texts(texts) => texts_json(alloc, texts),
+        SettingValue::Table(fields) => fields_json(alloc, fields),
+    }
+}
+
+/// A value, or null.
+fn optional_value_json(alloc: Global, value: &Option<SettingValue>) -> Result<Value, AllocError>
+    ensures { IfOk result (λ json. view json ≡ optional_value_data value.now) }
+{
+    match value {
+        Some(value) => value_json(alloc, value),
+        None => Ok(Value::Null),
+    }
+}
+
+impl Part {
+    /// The word for it.
+    fn word(self) -> &'static str
+        ensures { result.now ≡ part_word self }
+    {
+        match self {
+            Part::Fields => "profile",
+            Part::Override(_) => "override",
+            Part::Script(_) => "script",
+        }
+    }
+
+    /// Its position in its file, or null.
+    fn index_json(self) -> Value
+        ensures { view result ≡ part_data self }
+    {
+        match self {
+            Part::Fields => Value::Null,
+            Part::Override(index) | Part::Script(index) => Value::from(index),
+        }
+    }
+}
+
+/// An origin that no file writes.
+fn unwritten_json(alloc: Global, kind: &str) -> Result<Value, AllocError>
+    ensures { IfOk result (λ value. view value ≡ kind_data kind.now null null null null) }
+{
+    json!(in alloc; {"kind": kind, "profile": null, "index": null, "source": null, "lines": null})
+}
+
+/// What is written in a file.
+fn written_json(alloc: Global, written: &Written) -> Result<Value, AllocError>
+    ensures { IfOk result (λ value. view value ≡ kind_data (part_word written.now.part)
+        (part_data written.now.part) (lines_data written.now.place.lines)
+        (text_data written.now.profile) (count_data written.now.place.source)) }
+{
+    let lines = lines_json(alloc, written.place.lines)?;
+    json!(in alloc; {
+        "kind": written.part.word(),
+        "profile": written.profile.as_str(),
+        "index": written.part.index_json(),
+        "source": written.place.source,
+        "lines": lines
+    })
+}
+
+/// An origin.
+fn origin_json(alloc: Global, origin: &Origin) -> Result<Value, AllocError>
+    ensures { IfOk result (λ value. view value ≡ origin_data origin.now) }
+{
+    match origin {
+        Origin::BuiltIn => unwritten_json(alloc, "built-in"),
+        Origin::DefaultTable => unwritten_json(alloc, "default-table"),
+        Origin::Written(written) => written_json(alloc, written),
+    }
+}
+
+/// Origins.
+pub(crate) fn origins_json(alloc: Global, origins: &[Origin]) -> Result<Value, AllocError>
+    ensures { IfOk result (λ value. view value ≡ list_data origin_data origins.now) }
+{
+    let mut list = Vec::new(alloc);
+    for origin in origins {
+        list.push(origin_json(alloc, origin)?)?;
+    }
+    Ok(Value::Array(list))
+}
+
+/// A setting of a test.
+fn setting_json(alloc: Global, row: &SettingRow) -> Result<Value, AllocError>
+    ensures { IfOk result (λ value. view value ≡ setting_data row.now) }
+{
+    let origins = origins_json(alloc, &row.origins)?;
+    let value = optional_value_json(alloc, &row.value)?;
+    json!(in alloc; {"value": value, "origins": origins})
+}
+
+/// Settings, by their keys.
+fn settings_json(alloc: Global, rows: &[SettingRow]) -> Result<Value, AllocError>
+    ensures { IfOk result (λ value.
+        view value ≡ object (fold with_setting no_members rows.now)) }
+{
+    let mut members = Map::new(alloc);
+    for row in rows {
+        let value = setting_json(alloc, row)?;
+        serde_json::put(&mut members, alloc, row.key.as_str(), value)?;
+    }
+    Ok(Value::Object(members))
+}
+
+/// A test.
+pub(crate) fn test_json(alloc: Global, test: &TestRows) -> Result<Value, AllocError>
+    ensures { IfOk result (λ value. view value ≡ test_data test.now) }
+{
+    let settings = settings_json(alloc, &test.settings)?;
+    json!(in alloc; {
+        "binary-id": test.binary.as_str(),
+        "name": test.name.as_str(),
+        "platform": test.platform.word(),
+        "settings": settings
+    })
+}
+
+/// Tests.
+pub(crate) fn tests_json(alloc: Global, tests: &[TestRows]) -> Result<Value, AllocError>
+    ensures { IfOk result (λ value. view value ≡ list_data test_data tests.now) }
+{
+    let mut list = Vec::new(alloc);
+    for test in tests {
+        list.push(test_json(alloc, test)?)?;
+    }
+    Ok(Value::Array(list))
+}
+
+/// A leaf of the configuration.
+fn entry_json(alloc: Global, entry: &Entry) -> Result<Value, AllocError>
+    ensures { IfOk result (λ value. view value ≡ entry_data entry.now) }
+{
+    let origin = origin_json(alloc, &entry.origin)?;
+    let value = value_json(alloc, &entry.value)?;
+    json!(in alloc; {
+        "hidden": entry.is_hidden,
+        "key": entry.key.as_str(),
+        "origin": origin,
+        "value": value
+    })
+}
+
+/// Leaves of the configuration.
+pub(crate) fn entries_json(alloc: Global, entries: &[Entry]) -> Result<Value, AllocError>
+    ensures { IfOk result (λ value. view value ≡ list_data entry_data entries.now) }
+{
+    let mut list = Vec::new(alloc);
+    for entry in entries {
+        list.push(entry_json(alloc, entry)?)?;
+    }
+    Ok(Value::Array(list))
+}
+
+impl ConditionAnswer {
+    /// Its word.
+    fn word(self) -> &'static str
+        ensures { result.now ≡ answer_word self }
+    {
+        match self {
+            ConditionAnswer::Absent => "absent",
+            ConditionAnswer::Yes => "yes",
+            ConditionAnswer::No => "no",
+            ConditionAnswer::Unknown => "unknown",
+            ConditionAnswer::Unasked => "unasked",
+        }
+    }
+}
+
+/// A rule.
+fn rule_json(alloc: Global, rule: &Rule) -> Result<Value, AllocError>
+    ensures { IfOk result (λ value. view value ≡ rule_data rule.now) }
+{
+    let origin = origin_json(alloc, &rule.origin)?;
+    let value = optional_value_json(alloc, &rule.value)?;
+    json!(in alloc; {
+        "verdict": rule.verdict.text(),
+        "origin": origin,
+        "host": rule.host.answer.word(),
+        "target": rule.target.answer.word(),
+        "filter": rule.filter.answer.word(),
+        "value": value
+    })
+}
+
+/// Rules.
+pub(crate) fn rules_json(alloc: Global, rules: &[Rule]) -> Result<Value, AllocError>
+    ensures { IfOk result (λ value. view value ≡ list_data rule_data rules.now) }
+{
+    let mut list = Vec::new(alloc);
+    for rule in rules {
+        list.push(rule_json(alloc, rule)?)?;
+    }
+    Ok(Value::Array(list))
+}
+
+impl SourceKind {
+    /// Its word.
+    fn word(&self) -> &'static str
+        ensures { result.now ≡ kind_word self.now }
+    {
+        match self {
+            SourceKind::Default => "default",
+            SourceKind::Tool(_) => "tool",
+            SourceKind::Explicit => "explicit",
+            SourceKind::Discovered => "discovered",
+        }
+    }
+}
+
+/// The tool of a kind of source, or null.
+fn tool_json(alloc: Global, kind: &SourceKind) -> Result<Value, AllocError>
+    ensures { IfOk result (λ value. view value ≡ tool_data kind.now) }
+{
+    match kind {
+        SourceKind::Tool(name) => Value::try_from_str(alloc, name.as_str()),
+        SourceKind::Default | SourceKind::Explicit | SourceKind::Discovered => Ok(Value::Null),
+    }
+}
+
+/// A source.
+fn source_json(alloc: Global, source: &Source) -> Result<Value, AllocError>
+    ensures { IfOk result (λ value. view value ≡ source_data source.now) }
+{
+    let tool = tool_json(alloc, &source.kind)?;
+    let path = optional_text_json(alloc, &source.path)?;
+    json!(in alloc; {"kind": source.kind.word(), "tool": tool, "path": path})
+}
+
+/// Sources.
+pub(crate) fn sources_json(alloc: Global, sources: &[Source]) -> Result<Value, AllocError>
+    ensures { IfOk result (λ value. view value ≡ list_data source_data sources.now) }
+{
+    let mut list = Vec::new(alloc);
+    for source in sources {
+        list.push(source_json(alloc, source)?)?;
+    }
+    Ok(Value::Array(list))
+}
+
+/// Checks of a source that were not reached.
+fn unreached_json(alloc: Global, unreached: &Unreached) -> Result<Value, AllocError>
+    ensures { IfOk result (λ value. view value ≡ unreached_data unreached.now) }
+{
+    let checks = texts_json(alloc, &unreached.checks)?;
+    json!(in alloc; {"source": unreached.source, "checks": checks})
+}
+
+/// Checks of sources that were not reached.
+pub(crate) fn all_unreached_json(alloc: Global, all: &[Unreached]) -> Result<Value, AllocError>
+    ensures { IfOk result (λ value. view value ≡ list_data unreached_data all.now) }
+{
+    let mut list = Vec::new(alloc);
+    for unreached in all {
+        list.push(unreached_json(alloc, unreached)?)?;
+    }
+    Ok(Value::Array(list))
+}
+
+/// The place of a finding's source, or null.
+fn place_source_json(place: Option<Place>) -> Value
+    ensures { view result ≡ place_source_data place }
+{
+    match place {
+        Some(place) => Value::from(place.source),
+        None => Value::Null,
+    }
+}
+
+/// The lines of a finding, or null.
+fn place_lines_json(alloc: Global, place: Option<Place>) -> Result<Value, AllocError>
+    ensures { IfOk result (λ value. view value ≡ place_lines_data place) }
+{
+    match place {
+        Some(place) => lines_json(alloc, place.lines),
+        None => Ok(Value::Null),
+    }
+}
+
+/// The text of an expression, or null.
+fn expression_json(alloc: Global, expression: &Option<Expression>) -> Result<Value, AllocError>
+    ensures { IfOk result (λ value. view value ≡ expression_data expression.now) }
+{
+    match expression {
+        Some(expression) => Value::try_from_str(alloc, expression.text.as_str()),
+        None => Ok(Value::Null),
+    }
+}
+
+/// A span, or null.
+fn span_json(alloc: Global, span: Option<Span>) -> Result<Value, AllocError>
+    ensures { IfOk result (λ value. view value ≡ span_data span) }
+{
+    match span {
+        Some(Span { from, to }) => json!(in alloc; [from, to]),
+        None => Ok(Value::Null),
+    }
+}
+
+/// The span of an expression, or null.
+fn expression_span_json(alloc: Global, expression: &Option<Expression>) -> Result<Value, AllocError>
+    ensures { IfOk result (λ value. view value ≡ expression_span_data expression.now) }
+{
+    match expression {
+        Some(expression) => span_json(alloc, expression.span),
+        None => Ok(Value::Null),
+    }
+}
+
+/// A finding.
+fn finding_json(alloc: Global, finding: &Finding) -> Result<Value, AllocError>
+    ensures { IfOk result (λ value. view value ≡ finding_data finding.now) }
+{
+    let expected = optional_text_json(alloc, &finding.expected)?;
+    let expression = expression_json(alloc, &finding.expression)?;
+    let help = optional_text_json(alloc, &finding.help)?;
+    let lines = place_lines_json(alloc, finding.place)?;
+    let path = optional_text_json(alloc, &finding.path)?;
+    let span = expression_span_json(alloc, &finding.expression)?;
+    json!(in alloc; {
+        "code": finding.code.as_str(),
+        "column": optional_count_json(finding.column),
+        "expected": expected,
+        "expression": expression,
+        "help": help,
+        "level": finding.level.word(),
+        "lines": lines,
+        "message": finding.message.as_str(),
+        "path": path,
+        "source": place_source_json(finding.place),
+        "span": span
+    })
+}
+
+/// Findings.
+pub(crate) fn findings_json(alloc: Global, findings: &[Finding]) -> Result<Value, AllocError>
+    ensures { IfOk result (λ value. view value ≡ list_data finding_data findings.now) }
+{
+    let mut list = Vec::new(alloc);
+    for finding in findings {
+        list.push(finding_json(alloc, finding)?)?;
+    }
+    Ok(Value::Array(list))
+}

@@ -1,0 +1,37 @@
+//! What the program `rinqebo` prints: the settings of a test or of each test, the rules of a setting,
+//! the leaves of a configuration, and what is wrong with files, as a text, with colours or without,
+//! and in three forms for other programs.
+#![tactic(auto)]
+
+mod check_page;
+mod config_page;
+mod duration;
+mod explain_page;
+mod finding;
+mod format;
+mod github;
+mod hint;
+mod json_document;
+mod json_parts;
+mod laws;
+mod list_page;
+mod origin;
+mod origin_text;
+mod piece;
+mod report;
+mod toml_text;
+mod value;
+mod why_page;
+
+pub use finding::{Expression, Finding, Level, Span};
+pub use format::{Format, render, render_findings};
+pub use hint::nearest_name;
+pub use json_document::{document, render_json};
+pub use laws::{law_colours, law_durations};
+pub use origin::{Lines, Origin, Part, Place, Source, SourceKind, Written};
+pub use piece::Colour;
+pub use report::{
+    Asked, Condition, ConditionAnswer, Content, Entry, Platform, Report, Rule, RunMode, SettingRow,
+    TestRows, Unreached, Verdict,
+};
+pub use value::{Field, Scalar, Value};

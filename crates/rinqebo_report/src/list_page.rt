@@ -1,0 +1,141 @@
+//! The page of a list: each test, what is set for it, and the rules that hold for none.
+ghost use Rattle.std.specs.Prelude.{◌≡◌, ◌++◌, OnOk, flat_map, string_bytes};
+ghost use Rattle.rinqebo_report.specs.Pages.{widest, test_line_runs, indented_runs, listed_runs, unused_line_runs, unused_runs, count_runs, list_runs};
+ghost use Rattle.rinqebo_report.specs.Pieces.{page_text};
+
+use crate::explain_page::{add_row, widest};
+use crate::origin::{Origin, Source};
+use crate::origin_text::origin_text;
+use crate::piece::{Colour, Piece, Style, add_pieces};
+use crate::report::{SettingRow, TestRows};
+use std::alloc::{AllocError, Global};
+
+/// Writes the names of a test.
+fn add_test_line<'x>(
+    out: &mut String,
+    colour: Colour,
+    binary: &'x str,
+    name: &'x str,
+) -> Result<(), AllocError>
+    ensures { OnOk result (string_bytes out.new ≡ string_bytes out.old
+        ++ page_text colour (test_line_runs binary.now name.now)) }
+{
+    add_pieces(
+        out,
+        colour,
+        &[
+            Piece::Text(Style::Plain, binary),
+            Piece::Text(Style::Plain, " "),
+            Piece::Text(Style::Plain, name),
+            Piece::End,
+        ],
+    )
+}
+
+/// Writes a row behind four spaces.
+fn add_indented(
+    alloc: Global,
+    out: &mut String,
+    colour: Colour,
+    root: &str,
+    sources: &[Source],
+    widest: usize,
+    row: &SettingRow,
+) -> Result<(), AllocError>
+    ensures { OnOk result (string_bytes out.new ≡ string_bytes out.old
+        ++ page_text colour (indented_runs root.now sources.now widest row.now)) }
+{
+    add_pieces(out, colour, &[Piece::Text(Style::Plain, "    ")])?;
+    add_row(alloc, out, colour, root, sources, widest, row)
+}
+
+/// Writes a test and its rows.
+fn add_listed(
+    alloc: Global,
+    out: &mut String,
+    colour: Colour,
+    root: &str,
+    sources: &[Source],
+    test: &TestRows,
+) -> Result<(), AllocError>
+    ensures { OnOk result (string_bytes out.new ≡ string_bytes out.old
+        ++ page_text colour (listed_runs root.now sources.now test.now)) }
+{
+    add_test_line(out, colour, test.binary.as_str(), test.name.as_str())?;
+    let widest = widest(&test.settings);
+    for row in &test.settings {
+        add_indented(alloc, out, colour, root, sources, widest, row)?;
+    }
+    Ok(())
+}
+
+/// Writes a rule that holds for no test.
+fn add_unused_line(out: &mut String, colour: Colour, origin: &str) -> Result<(), AllocError>
+    ensures { OnOk result (string_bytes out.new ≡ string_bytes out.old
+        ++ page_text colour (unused_line_runs origin.now)) }
+{
+    add_pieces(
+        out,
+        colour,
+        &[
+            Piece::Text(Style::Plain, "unused: "),
+            Piece::Text(Style::Plain, origin),
+            Piece::End,
+        ],
+    )
+}
+
+/// Writes the rules that hold for no test.
+fn add_unused(
+    alloc: Global,
+    out: &mut String,
+    colour: Colour,
+    root: &str,
+    sources: &[Source],
+    unused: &[Origin],
+) -> Result<(), AllocError>
+    ensures { OnOk result (string_bytes out.new ≡ string_bytes out.old
+        ++ page_text colour (flat_map (unused_runs root.now sources.now) unused.now)) }
+{
+    for origin in unused {
+        let text = origin_text(alloc, root, sources, origin)?;
+        add_unused_line(out, colour, text.as_str())?;
+    }
+    Ok(())
+}
+
+/// Writes how many tests there are.
+fn add_count(out: &mut String, colour: Colour, count: u64) -> Result<(), AllocError>
+    ensures { OnOk result (string_bytes out.new ≡ string_bytes out.old
+        ++ page_text colour (count_runs count)) }
+{
+    add_pieces(
+        out,
+        colour,
+        &[
+            Piece::Text(Style::Plain, "tests: "),
+            Piece::Number(count),
+            Piece::End,
+        ],
+    )
+}
+
+/// Writes the page of a list.
+pub(crate) fn add_list(
+    alloc: Global,
+    out: &mut String,
+    colour: Colour,
+    root: &str,
+    sources: &[Source],
+    tests: &[TestRows],
+    unused: &[Origin],
+) -> Result<(), AllocError>
+    ensures { OnOk result (string_bytes out.new ≡ string_bytes out.old
+        ++ page_text colour (list_runs root.now sources.now tests.now unused.now)) }
+{
+    for test in tests {
+        add_listed(alloc, out, colour, root, sources, test)?;
+    }
+    add_count(out, colour, tests.len() as u64)?;
+    add_unused(alloc, out, colour, root, sources, unused)
+}

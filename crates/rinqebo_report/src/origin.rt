@@ -1,0 +1,70 @@
+//! Where a value, a rule or a finding comes from.
+
+/// What brings a file.
+#[derive(Drop)]
+pub enum SourceKind {
+    /// The defaults, which are no file.
+    Default,
+    /// The tool of this name.
+    Tool(String),
+    /// A user, who named it.
+    Explicit,
+    /// The workspace, below whose root it was looked for.
+    Discovered,
+}
+
+/// A source of the configuration.
+#[derive(Drop)]
+pub struct Source {
+    pub kind: SourceKind,
+    /// The path of the file. The defaults have none.
+    pub path: Option<String>,
+}
+
+/// Lines of a file.
+#[derive(Clone, Copy)]
+pub struct Lines {
+    /// The first line, from 1.
+    pub first: u64,
+    /// The last line: the first one where there is one alone.
+    pub last: u64,
+}
+
+/// A place in a file.
+#[derive(Clone, Copy)]
+pub struct Place {
+    /// The place of the source among those of the report, from 0.
+    pub source: usize,
+    pub lines: Option<Lines>,
+}
+
+/// What of a profile is meant.
+#[derive(Clone, Copy)]
+pub enum Part {
+    /// Its own fields.
+    Fields,
+    /// The override at this position of its file, from 0.
+    Override(usize),
+    /// The script rule at this position of its file, from 0.
+    Script(usize),
+}
+
+/// What is written in a file.
+#[derive(Drop)]
+pub struct Written {
+    pub place: Place,
+    /// The profile under which it stands.
+    pub profile: String,
+    pub part: Part,
+}
+
+/// Where a value comes from.
+#[derive(Drop)]
+pub enum Origin {
+    /// Nothing writes it.
+    BuiltIn,
+    /// The defaults write it.
+    DefaultTable,
+    /// A file writes it.
+    Written(Written),
+}

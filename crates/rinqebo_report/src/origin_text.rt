@@ -1,0 +1,197 @@
+//! Origins as pages show them.
+ghost use Rattle.std.specs.Prelude.{◌≡◌, ◌++◌, MatchOption, None, Some, option_map, OnOk, IfOk, codes, string_bytes};
+ghost use Rattle.rinqebo_report.specs.Joined.{joined};
+ghost use Rattle.rinqebo_report.specs.OriginText.{after_prefix, ends_with_slash, below, path_at, lines_text, tool_at, tool_text, place_text, part_text, written_text, origin_text};
+
+use crate::origin::{Lines, Origin, Part, Place, Source, SourceKind, Written};
+use std::alloc::{AllocError, Global};
+use std::fmt::Write;
+
+/// What follows a prefix of a text, if the text begins with it.
+fn after_prefix<'a>(prefix: &str, text: &'a str) -> Option<&'a str>
+    ensures { MatchOption result (after_prefix prefix.now text.now ≡ None)
+        (λ rest. after_prefix prefix.now text.now ≡ Some rest.now) }
+{
+    text.strip_prefix(prefix)
+}
+
+/// Whether a path ends with a slash.
+fn ends_with_slash(path: &str) -> bool
+    ensures { result ≡ ends_with_slash path.now }
+{
+    path.ends_with('/')
+}
+
+/// A path below a root without the root and the slash behind it, and another path as it is.
+pub(crate) fn below<'a>(root: &str, path: &'a str) -> &'a str
+    ensures { result.now ≡ below root.now path.now }
+{
+    match after_prefix(root, path) {
+        Some(rest) if ends_with_slash(root) => rest,
+        Some(rest) => after_prefix("/", rest).unwrap_or(path),
+        None => path,
+    }
+}
+
+/// The path of a source, below the root where it is. The defaults have none.
+pub(crate) fn path_at<'a>(root: &str, sources: &'a [Source], source: usize) -> &'a str
+    ensures { result.now ≡ path_at root.now sources.now source }
+{
+    match sources.get(source) {
+        Some(
+            Source {
+                path: Some(path),
+                ..
+            },
+        ) => below(root, path.as_str()),
+        _ => "default table",
+    }
+}
+
+/// Writes a colon and lines.
+fn add_lines(out: &mut String, lines: Option<Lines>) -> Result<(), AllocError>
+    ensures { OnOk result (string_bytes out.new ≡ string_bytes out.old ++ lines_text lines) }
+{
+    let Some(Lines { first, last }) = lines else {
+        return Ok(());
+    };
+    if first == last {
+        write!(out, ":{first}")
+    } else {
+        write!(out, ":{first}-{last}")
+    }
+}
+
+/// The tool that brings a source, if one does.
+fn tool_at(sources: &[Source], source: usize) -> Option<&str>
+    ensures { option_map (λ tool. tool.now) result ≡ tool_at sources.now source }
+{
+    match sources.get(source) {
+        Some(
+            Source {
+                kind: SourceKind::Tool(name),
+                ..
+            },
+        ) => Some(name.as_str()),
+        _ => None,
+    }
+}
+
+/// Writes a tool, in parentheses.
+fn add_tool(out: &mut String, tool: Option<&str>) -> Result<(), AllocError>
+    ensures { OnOk result (string_bytes out.new ≡ string_bytes out.old
+        ++ tool_text (option_map (λ tool. tool.now) tool.entry)) }
+{
+    match tool {
+        Some(name) => write!(out, " (tool {name})"),
+        None => Ok(()),
+    }
+}
+
+/// Writes a place.
+fn add_place(
+    out: &mut String,
+    root: &str,
+    sources: &[Source],
+    place: Place,
+) -> Result<(), AllocError>
+    ensures { OnOk result (string_bytes out.new
+        ≡ string_bytes out.old ++ place_text root.now sources.now place) }
+{
+    out.push_str(path_at(root, sources, place.source))?;
+    add_lines(out, place.lines)?;
+    add_tool(out, tool_at(sources, place.source))
+}
+
+/// Writes a part of a profile.
+fn add_part(out: &mut String, part: Part) -> Result<(), AllocError>
+    ensures { OnOk result (string_bytes out.new ≡ string_bytes out.old ++ part_text part) }
+{
+    match part {
+        Part::Fields => Ok(()),
+        Part::Override(index) => write!(out, ".overrides.{index}"),
+        Part::Script(index) => write!(out, ".scripts.{index}"),
+    }
+}
+
+/// Writes what is written in a file.
+fn add_written(
+    out: &mut String,
+    root: &str,
+    sources: &[Source],
+    written: &Written,
+) -> Result<(), AllocError>
+    ensures { OnOk result (string_bytes out.new
+        ≡ string_bytes out.old ++ written_text root.now sources.now written.now) }
+{
+    add_place(out, root, sources, written.place)?;
+    out.push_str(" profile.")?;
+    out.push_str(written.profile.as_str())?;
+    add_part(out, written.part)
+}
+
+/// Writes an origin.
+fn add_origin(
+    out: &mut String,
+    root: &str,
+    sources: &[Source],
+    origin: &Origin,
+) -> Result<(), AllocError>
+    ensures { OnOk result (string_bytes out.new
+        ≡ string_bytes out.old ++ origin_text root.now sources.now origin.now) }
+{
+    match origin {
+        Origin::BuiltIn => out.push_str("built in"),
+        Origin::DefaultTable => out.push_str("default table"),
+        Origin::Written(written) => add_written(out, root, sources, written),
+    }
+}
+
+/// An origin as a text.
+pub(crate) fn origin_text(
+    alloc: Global,
+    root: &str,
+    sources: &[Source],
+    origin: &Origin,
+) -> Result<String, AllocError>
+    ensures { IfOk result (λ text.
+        string_bytes text ≡ origin_text root.now sources.now origin.now) }
+{
+    let mut text = String::new(alloc);
+    add_origin(&mut text, root, sources, origin)?;
+    Ok(text)
+}
+
+/// Writes origins, with commas between them.
+fn add_origins(
+    out: &mut String,
+    root: &str,
+    sources: &[Source],
+    origins: &[Origin],
+) -> Result<(), AllocError>
+    ensures { OnOk result (string_bytes out.new ≡ string_bytes out.old
+        ++ joined (codes ", ") (origin_text root.now sources.now) origins.now) }
+{
+    let mut separator = "";
+    for origin in origins {
+        out.push_str(separator)?;
+        add_origin(out, root, sources, origin)?;
+        separator = ", ";
+    }
+    Ok(())
+}
+
+/// A mark and origins, with commas between them.
+pub(crate) fn origins_text(
+    alloc: Global,
+    root: &str,
+    sources: &[Source],
+    origins: &[Origin],
+) -> Result<String, AllocError>
+    ensures { IfOk result (λ text. string_bytes text ≡ codes "# "
+        ++ joined (codes ", ") (origin_text root.now sources.now) origins.now) }
+{
+    let mut text = String::from_str(alloc, "# ")?;
+    add_origins(&mut text, root, sources, origins)?;
+    Ok(text)
+}

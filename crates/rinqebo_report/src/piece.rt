@@ -1,0 +1,139 @@
+//! Pieces of a page, and how they are painted.
+ghost use Rattle.std.specs.Prelude.{◌≡◌, ◌++◌, OnOk, map, flat_map, replicate, string_bytes};
+ghost use Rattle.std.specs.Str.{chars};
+ghost use Rattle.rinqebo_report.specs.Pieces.{shown_char, shown_text, escape_of, style_code, painted_text, painted, page_text};
+ghost use Rattle.rinqebo_report.specs.PieceView.{piece_view};
+
+use std::alloc::AllocError;
+use std::fmt::Write;
+
+/// Whether a page has colours.
+#[derive(Clone, Copy, PartialEq, Eq)]
+pub enum Colour {
+    Plain,
+    Coloured,
+}
+
+/// What a text of a page is.
+#[derive(Clone, Copy, PartialEq, Eq)]
+pub(crate) enum Style {
+    /// A text like others.
+    Plain,
+    /// The name of a setting.
+    Key,
+    /// What is said beside.
+    Remark,
+    /// What decides.
+    Good,
+    /// What is refused.
+    Error,
+    /// What is warned of.
+    Warning,
+    /// What to do.
+    Help,
+}
+
+/// A piece of a page.
+#[derive(Clone, Copy)]
+pub(crate) enum Piece<'a> {
+    Text(Style, &'a str),
+    /// So many characters of one kind.
+    Repeat(char, usize),
+    /// A number, in decimal digits.
+    Number(u64),
+    /// The end of a line.
+    End,
+}
+
+impl Style {
+    /// The parameters with which a terminal shows it.
+    fn code(self) -> &'static str
+        ensures { result.now ≡ style_code self }
+    {
+        match self {
+            Style::Plain => "",
+            Style::Key => "1",
+            Style::Remark => "2",
+            Style::Good => "32",
+            Style::Error => "1;31",
+            Style::Warning => "1;33",
+            Style::Help => "36",
+        }
+    }
+}
+
+/// Writes a character: a control character is spelled as an escape.
+pub(crate) fn add_char(out: &mut String, c: char) -> Result<(), AllocError>
+    ensures { OnOk result (string_bytes out.new ≡ string_bytes out.old ++ shown_char c) }
+{
+    if c.is_control() {
+        let number = u32::from(c);
+        write!(out, "\\u{{{number:x}}}")
+    } else {
+        out.push(c)
+    }
+}
+
+/// Writes a text, in which control characters are spelled as escapes.
+fn add_shown(out: &mut String, text: &str) -> Result<(), AllocError>
+    ensures { OnOk result (string_bytes out.new ≡ string_bytes out.old ++ shown_text text.now) }
+{
+    for c in text.chars() {
+        add_char(out, c)?;
+    }
+    Ok(())
+}
+
+/// Writes a text in its style.
+fn add_text(out: &mut String, colour: Colour, style: Style, text: &str) -> Result<(), AllocError>
+    ensures { OnOk result (string_bytes out.new
+        ≡ string_bytes out.old ++ painted_text colour style text.now) }
+{
+    if colour == Colour::Plain || style == Style::Plain {
+        return add_shown(out, text);
+    }
+    out.push_str("\u{1b}[")?;
+    out.push_str(style.code())?;
+    out.push_str("m")?;
+    add_shown(out, text)?;
+    out.push_str("\u{1b}[0m")
+}
+
+/// Writes a character so many times.
+fn add_repeated(out: &mut String, c: char, count: usize) -> Result<(), AllocError>
+    ensures { OnOk result (string_bytes out.new
+        ≡ string_bytes out.old ++ flat_map shown_char (replicate count c)) }
+{
+    for _index in 0..count {
+        add_char(out, c)?;
+    }
+    Ok(())
+}
+
+/// Writes a piece.
+fn add_piece(out: &mut String, colour: Colour, piece: &Piece<'_>) -> Result<(), AllocError>
+    ensures { OnOk result (string_bytes out.new
+        ≡ string_bytes out.old ++ painted colour (piece_view piece.now)) }
+{
+    match *piece {
+        Piece::Text(style, text) => add_text(out, colour, style, text),
+        Piece::Repeat(c, count) => add_repeated(out, c, count),
+        Piece::Number(number) => write!(out, "{number}"),
+        Piece::End => out.push('\n'),
+    }
+}
+
+/// Writes pieces, one behind another.
+pub(crate) fn add_pieces(
+    out: &mut String,
+    colour: Colour,
+    pieces: &[Piece<'_>],
+) -> Result<(), AllocError>
+    ensures { OnOk result (string_bytes out.new
+        ≡ string_bytes out.old ++ page_text colour (map piece_view pieces.now)) }
+{
+    for piece in pieces {
+        add_piece(out, colour, piece)?;
+    }
+    Ok(())
+}

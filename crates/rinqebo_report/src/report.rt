@@ -1,0 +1,162 @@
+//! What is reported.
+use crate::finding::Finding;
+use crate::origin::{Origin, Source};
+use crate::value::Value;
+
+/// For what tests are run.
+#[derive(Clone, Copy)]
+pub enum RunMode {
+    Test,
+    Benchmark,
+}
+
+/// For what a binary is built.
+#[derive(Clone, Copy)]
+pub enum Platform {
+    Host,
+    Target,
+}
+
+/// What was asked for.
+#[derive(Drop)]
+pub struct Asked {
+    pub profile: String,
+    /// The profiles that count, the nearest first.
+    pub chain: Vec<String>,
+    pub mode: RunMode,
+    /// The triple of the host.
+    pub host: String,
+    /// The triple of the target, where there is one.
+    pub target: Option<String>,
+}
+
+/// A setting of a test.
+#[derive(Drop)]
+pub struct SettingRow {
+    pub key: String,
+    /// Its value, if it has one.
+    pub value: Option<Value>,
+    /// What decides it, each once.
+    pub origins: Vec<Origin>,
+}
+
+/// A test and its settings.
+#[derive(Drop)]
+pub struct TestRows {
+    pub binary: String,
+    pub name: String,
+    pub platform: Platform,
+    pub settings: Vec<SettingRow>,
+}
+
+/// A leaf of the configuration.
+#[derive(Drop)]
+pub struct Entry {
+    /// The keys that lead to it, with dots between them.
+    pub key: String,
+    pub value: Value,
+    pub origin: Origin,
+    /// Whether another source's value counts in place of this one.
+    pub is_hidden: bool,
+}
+
+/// What comes of a rule for a test and a setting.
+#[derive(Clone, Copy)]
+pub enum Verdict {
+    /// Its platforms do not hold.
+    PlatformNo,
+    /// Its filter does not match.
+    FilterNo,
+    /// It does not write the setting.
+    SetsNothing,
+    /// It would decide, but one before it does.
+    DecidedBefore,
+    /// It decides.
+    Decides,
+    /// It is what counts where no rule decides.
+    Fallback,
+}
+
+/// What a condition of a rule says of a test.
+#[derive(Clone, Copy)]
+pub enum ConditionAnswer {
+    /// The rule has no such condition.
+    Absent,
+    Yes,
+    No,
+    /// It cannot be told, which counts as met.
+    Unknown,
+    /// It was not asked.
+    Unasked,
+}
+
+/// A condition of a rule.
+#[derive(Drop)]
+pub struct Condition {
+    /// How the rule writes it.
+    pub text: String,
+    pub answer: ConditionAnswer,
+}
+
+/// A rule, and what comes of it.
+#[derive(Drop)]
+pub struct Rule {
+    pub verdict: Verdict,
+    pub origin: Origin,
+    pub host: Condition,
+    pub target: Condition,
+    pub filter: Condition,
+    /// What it writes for the setting, where it decides or would.
+    pub value: Option<Value>,
+}
+
+/// Checks of a source that were not reached.
+#[derive(Drop)]
+pub struct Unreached {
+    /// The place of the source among those of the report, from 0.
+    pub source: usize,
+    /// The names of the checks.
+    pub checks: Vec<String>,
+}
+
+/// What a command answers beside its findings.
+#[derive(Drop)]
+pub enum Content {
+    /// The settings of a test.
+    Explain {
+        asked: Asked,
+        test: TestRows,
+    },
+    /// The rules of a setting, in order, and then what counts where none decides.
+    Why {
+        asked: Asked,
+        key: String,
+        rules: Vec<Rule>,
+    },
+    /// What is set for each test.
+    List {
+        asked: Asked,
+        tests: Vec<TestRows>,
+        /// The rules that hold for no test.
+        unused: Vec<Origin>,
+    },
+    /// Leaves of the configuration.
+    ShowConfig {
+        asked: Asked,
+        entries: Vec<Entry>,
+    },
+    /// Nothing else.
+    Check,
+}
+
+/// What is reported.
+#[derive(Drop)]
+pub struct Report {
+    /// The root of the workspace.
+    pub root: String,
+    /// The sources, the lowest first.
+    pub sources: Vec<Source>,
+    pub findings: Vec<Finding>,
+    pub unreached: Vec<Unreached>,
+    pub content: Content,
+}

@@ -1,0 +1,134 @@
+//! Values as TOML, on one line.
+ghost use Rattle.std.specs.Prelude.{◌≡◌, ◌==◌, ◌/◌, ◌%◌, ◌++◌, ◌<◌, [], ◌∷◌, OnOk, IfOk, codes, flat_map, string_bytes, if◌then◌else◌};
+ghost use Rattle.std.specs.Str.{chars};
+ghost use Rattle.rinqebo_report.specs.Joined.{joined};
+ghost use Rattle.rinqebo_report.specs.TomlText.{hex_digit, toml_char, quoted, scalar_text, field_text, item_text, value_text};
+
+use crate::duration::add_duration;
+use crate::value::{Field, Scalar, Value};
+use std::alloc::{AllocError, Global};
+use std::fmt::Write;
+
+/// Writes a control character as a text of TOML spells it.
+fn add_control(out: &mut String, c: char) -> Result<(), AllocError>
+    requires { c < 256 }
+    ensures { OnOk result (string_bytes out.new ≡ string_bytes out.old
+        ++ (codes "\\u00" ++ hex_digit (c / 16) ∷ hex_digit (c % 16) ∷ [])) }
+{
+    let number = u32::from(c);
+    write!(out, "\\u00{number:02x}")
+}
+
+/// Writes a character within a text of TOML.
+fn add_toml_char(out: &mut String, c: char) -> Result<(), AllocError>
+    ensures { OnOk result (string_bytes out.new ≡ string_bytes out.old ++ toml_char c) }
+{
+    if c == '"' || c == '\\' {
+        out.push('\\')?;
+        out.push(c)
+    } else if c.is_control() {
+        add_control(out, c)
+    } else {
+        out.push(c)
+    }
+}
+
+/// Writes the characters within a text of TOML.
+fn add_toml_chars(out: &mut String, text: &str) -> Result<(), AllocError>
+    ensures { OnOk result (string_bytes out.new
+        ≡ string_bytes out.old ++ flat_map toml_char (chars text.now)) }
+{
+    for c in text.chars() {
+        add_toml_char(out, c)?;
+    }
+    Ok(())
+}
+
+/// Writes a text of TOML.
+fn add_quoted(out: &mut String, text: &str) -> Result<(), AllocError>
+    ensures { OnOk result (string_bytes out.new ≡ string_bytes out.old ++ quoted text.now) }
+{
+    out.push('"')?;
+    add_toml_chars(out, text)?;
+    out.push('"')
+}
+
+/// Writes a value that holds no others.
+fn add_scalar(out: &mut String, scalar: &Scalar) -> Result<(), AllocError>
+    ensures { OnOk result (string_bytes out.new ≡ string_bytes out.old ++ scalar_text scalar.now) }
+{
+    match scalar {
+        Scalar::Boolean(truth) => write!(out, "{truth}"),
+        Scalar::Integer(number) => write!(out, "{number}"),
+        Scalar::Text(text) => add_quoted(out, text.as_str()),
+        Scalar::Duration(nanoseconds) => {
+            out.push('"')?;
+            add_duration(out, *nanoseconds)?;
+            out.push('"')
+        }
+    }
+}
+
+/// Writes texts of a list.
+fn add_items(out: &mut String, items: &[String]) -> Result<(), AllocError>
+    ensures { OnOk result (string_bytes out.new ≡ string_bytes out.old ++ joined (codes ", ") item_text items.now) }
+{
+    let mut separator = "";
+    for item in items {
+        out.push_str(separator)?;
+        add_quoted(out, item.as_str())?;
+        separator = ", ";
+    }
+    Ok(())
+}
+
+/// Writes a member of a table.
+fn add_field(out: &mut String, field: &Field) -> Result<(), AllocError>
+    ensures { OnOk result (string_bytes out.new ≡ string_bytes out.old ++ field_text field.now) }
+{
+    out.push_str(field.key.as_str())?;
+    out.push_str(" = ")?;
+    add_scalar(out, &field.value)
+}
+
+/// Writes members of a table.
+fn add_fields(out: &mut String, fields: &[Field]) -> Result<(), AllocError>
+    ensures { OnOk result (string_bytes out.new
+        ≡ string_bytes out.old ++ joined (codes ", ") field_text fields.now) }
+{
+    let mut separator = "";
+    for field in fields {
+        out.push_str(separator)?;
+        add_field(out, field)?;
+        separator = ", ";
+    }
+    Ok(())
+}
+
+/// Writes a value.
+fn add_value(out: &mut String, value: &Value) -> Result<(), AllocError>
+    ensures { OnOk result (string_bytes out.new ≡ string_bytes out.old ++ value_text value.now) }
+{
+    match value {
+        Value::Scalar(scalar) => add_scalar(out, scalar),
+        Value::Texts(items) => {
+            out.push('[')?;
+            add_items(out, items)?;
+            out.push(']')
+        }
+        Value::Table(fields) => {
+            out.push_str("{ ")?;
+            add_fields(out, fields)?;
+            out.push_str(" }")
+        }
+    }
+}
+
+/// A value as TOML, on one line.
+pub(crate) fn value_text(alloc: Global, value: &Value) -> Result<String, AllocError>
+    ensures { IfOk result (λ text. string_bytes text ≡ value_text value.now) }
+{
+    let mut text = String::new(alloc);
+    add_value(&mut text, value)?;
+    Ok(text)
+}

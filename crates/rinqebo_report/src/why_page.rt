@@ -1,0 +1,229 @@
+//! The page of a setting: what comes of each rule, and what counts where none decides.
+ghost use Rattle.std.specs.Prelude.{◌≡◌, ◌++◌, ◌+◌, ◌^◌, ◌<◌, option_map, OnOk, string_bytes};
+ghost use Rattle.rinqebo_report.specs.Pages.{verdict_text, verdict_style, number_run, told_answer, condition_runs, shows_value, value_runs, written_runs, verdict_runs, conditions_runs, rule_runs, rules_runs};
+ghost use Rattle.rinqebo_report.specs.Pieces.{page_text};
+ghost use Rattle.rinqebo_report.specs.PieceView.{piece_view};
+ghost use Rattle.rinqebo_report.specs.TomlText.{value_text};
+
+use crate::explain_page::width;
+use crate::origin::Source;
+use crate::origin_text::origin_text;
+use crate::piece::{Colour, Piece, Style, add_pieces};
+use crate::report::{Condition, ConditionAnswer, Rule, Verdict};
+use crate::toml_text::value_text;
+use crate::value::Value;
+use std::alloc::{AllocError, Global};
+
+/// How many characters a verdict's column has.
+const VERDICT_WIDTH: usize = 14;
+
+impl Verdict {
+    /// Its words.
+    pub(crate) fn text(self) -> &'static str
+        ensures { result.now ≡ verdict_text self }
+    {
+        match self {
+            Verdict::PlatformNo => "platform no",
+            Verdict::FilterNo => "filter no",
+            Verdict::SetsNothing => "sets nothing",
+            Verdict::DecidedBefore => "decided before",
+            Verdict::Decides => "decides",
+            Verdict::Fallback => "fallback",
+        }
+    }
+
+    /// How it is shown.
+    fn style(self) -> Style
+        ensures { result ≡ verdict_style self }
+    {
+        match self {
+            Verdict::Decides => Style::Good,
+            _ => Style::Plain,
+        }
+    }
+
+    /// The number of a rule, from 1: the fallback has none.
+    fn number(self, place: u64) -> Piece<'static>
+        requires { place + 1 < 2 ^ 64 }
+        ensures { piece_view result ≡ number_run self place }
+    {
+        match self {
+            Verdict::Fallback => Piece::Text(Style::Plain, "-"),
+            _ => Piece::Number(place + 1),
+        }
+    }
+
+    /// Whether what a rule writes is shown.
+    fn shows_value(self) -> bool
+        ensures { result ≡ shows_value self }
+    {
+        match self {
+            Verdict::PlatformNo | Verdict::FilterNo | Verdict::SetsNothing => false,
+            Verdict::DecidedBefore | Verdict::Decides | Verdict::Fallback => true,
+        }
+    }
+}
+
+impl ConditionAnswer {
+    /// What is told of it: that it does not hold, or that it can't be told.
+    fn told(self) -> Option<&'static str>
+        ensures { option_map (λ told. told.now) result ≡ told_answer self }
+    {
+        match self {
+            ConditionAnswer::No => Some(": no"),
+            ConditionAnswer::Unknown => Some(": unknown"),
+            _ => None,
+        }
+    }
+}
+
+/// Writes a condition, where it does not hold or can't be told.
+fn add_condition<'x>(
+    out: &mut String,
+    colour: Colour,
+    word: &'x str,
+    condition: &'x Condition,
+) -> Result<(), AllocError>
+    ensures { OnOk result (string_bytes out.new ≡ string_bytes out.old
+        ++ page_text colour (condition_runs word.now condition.now)) }
+{
+    let Some(told) = condition.answer.told() else {
+        return Ok(());
+    };
+    add_pieces(
+        out,
+        colour,
+        &[
+            Piece::Text(Style::Plain, "     "),
+            Piece::Text(Style::Plain, word),
+            Piece::Text(Style::Plain, " "),
+            Piece::Text(Style::Plain, condition.text.as_str()),
+            Piece::Text(Style::Plain, told),
+            Piece::End,
+        ],
+    )
+}
+
+/// Writes the conditions of a rule.
+fn add_conditions(out: &mut String, colour: Colour, rule: &Rule) -> Result<(), AllocError>
+    ensures { OnOk result (string_bytes out.new ≡ string_bytes out.old
+        ++ page_text colour (conditions_runs rule.now)) }
+{
+    add_condition(out, colour, "host", &rule.host)?;
+    add_condition(out, colour, "target", &rule.target)?;
+    add_condition(out, colour, "filter", &rule.filter)
+}
+
+/// Writes a key and a value.
+fn add_value_line<'x>(
+    out: &mut String,
+    colour: Colour,
+    key: &'x str,
+    value: &'x str,
+) -> Result<(), AllocError>
+    ensures { OnOk result (string_bytes out.new ≡ string_bytes out.old
+        ++ page_text colour (value_runs key.now value.now)) }
+{
+    add_pieces(
+        out,
+        colour,
+        &[
+            Piece::Text(Style::Plain, "     "),
+            Piece::Text(Style::Key, key),
+            Piece::Text(Style::Plain, " = "),
+            Piece::Text(Style::Plain, value),
+            Piece::End,
+        ],
+    )
+}
+
+/// Writes what a rule writes for a setting.
+fn add_written(
+    alloc: Global,
+    out: &mut String,
+    colour: Colour,
+    key: &str,
+    verdict: Verdict,
+    value: Option<&Value>,
+) -> Result<(), AllocError>
+    ensures { OnOk result (string_bytes out.new ≡ string_bytes out.old
+        ++ page_text colour (written_runs key.now verdict
+        (option_map (λ v. value_text v.now) value.entry))) }
+{
+    let Some(value) = value else {
+        return Ok(());
+    };
+    if !verdict.shows_value() {
+        return Ok(());
+    }
+    let value = value_text(alloc, value)?;
+    add_value_line(out, colour, key, value.as_str())
+}
+
+/// Writes the first line of a rule.
+fn add_verdict(
+    out: &mut String,
+    colour: Colour,
+    place: u64,
+    verdict: Verdict,
+    origin: &str,
+) -> Result<(), AllocError>
+    requires { place + 1 < 2 ^ 64 }
+    ensures { OnOk result (string_bytes out.new ≡ string_bytes out.old
+        ++ page_text colour (verdict_runs place verdict origin.now)) }
+{
+    let text = verdict.text();
+    add_pieces(
+        out,
+        colour,
+        &[
+            verdict.number(place),
+            Piece::Text(Style::Plain, "  "),
+            Piece::Text(verdict.style(), text),
+            Piece::Repeat(' ', VERDICT_WIDTH.saturating_sub(width(text))),
+            Piece::Text(Style::Plain, "  "),
+            Piece::Text(Style::Plain, origin),
+            Piece::End,
+        ],
+    )
+}
+
+/// Writes a rule.
+fn add_rule(
+    alloc: Global,
+    out: &mut String,
+    colour: Colour,
+    root: &str,
+    sources: &[Source],
+    key: &str,
+    place: u64,
+    rule: &Rule,
+) -> Result<(), AllocError>
+    requires { place + 1 < 2 ^ 64 }
+    ensures { OnOk result (string_bytes out.new ≡ string_bytes out.old
+        ++ page_text colour (rule_runs root.now sources.now key.now place rule.now)) }
+{
+    let origin = origin_text(alloc, root, sources, &rule.origin)?;
+    add_verdict(out, colour, place, rule.verdict, origin.as_str())?;
+    add_conditions(out, colour, rule)?;
+    add_written(alloc, out, colour, key, rule.verdict, rule.value.as_ref())
+}
+
+/// Writes the page of a setting.
+pub(crate) fn add_why(
+    alloc: Global,
+    out: &mut String,
+    colour: Colour,
+    root: &str,
+    sources: &[Source],
+    key: &str,
+    rules: &[Rule],
+) -> Result<(), AllocError>
+    ensures { OnOk result (string_bytes out.new ≡ string_bytes out.old
+        ++ page_text colour (rules_runs root.now sources.now key.now 0 rules.now)) }
+{
+    for (place, rule) in rules.iter().enumerate() {
+        add_rule(alloc, out, colour, root, sources, key, place as u64, rule)?;
+    }
+    Ok(())
+}
