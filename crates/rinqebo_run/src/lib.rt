@@ -6,15 +6,19 @@
 #![tactic(auto)]
 
 mod answer;
+mod binary;
 mod check;
 mod engines;
 mod environment;
 mod explain;
+mod expressions;
+mod fallback;
+mod fault_words;
 mod features;
-mod filter_words;
 mod findings;
 mod gather;
 mod grounds;
+mod hints;
 mod keys;
 mod layers;
 mod options;
@@ -23,6 +27,8 @@ mod perform;
 mod refusals;
 mod request;
 mod root;
+mod rules;
+mod session;
 mod values;
 mod why;
 

@@ -21,6 +21,7 @@ pub enum SettingValue<'v> {
     SlowTimeout(SlowTimeout),
     LeakTimeout(LeakTimeout),
     Group(&'v TestGroup),
+    GlobalGroup,
     Output(TestOutputDisplay),
     IsStored(bool),
     Skipped(ReportSkipPolicy),
@@ -234,6 +235,10 @@ pub fn reported(alloc: Global, value: SettingValue<'_>) -> Result<Value, AllocEr
         SettingValue::SlowTimeout(slow) => slow_timeout_value(alloc, slow),
         SettingValue::LeakTimeout(leak) => leak_timeout_value(alloc, leak),
         SettingValue::Group(group) => Ok(Value::Scalar(name(alloc, group)?)),
+        SettingValue::GlobalGroup => Ok(Value::Scalar(Scalar::Text(String::from_str(
+            alloc,
+            TestGroup::GLOBAL_STR,
+        )?))),
         SettingValue::Output(display) => Ok(Value::Scalar(name(alloc, &display)?)),
         SettingValue::IsStored(is_stored) => Ok(Value::Scalar(Scalar::Boolean(is_stored))),
         SettingValue::Skipped(policy) => Ok(Value::Scalar(name(alloc, &policy)?)),

@@ -1,0 +1,166 @@
+//! What is wrong with files.
+use crate::answer::{Answer, Failure};
+use crate::findings::{finding, warning_findings};
+use crate::hints::text_hint;
+use crate::layers::sources_of;
+use crate::refusals::{add_refusal, refused_place};
+use crate::session::Session;
+use nextest_config::run::ResolveFault;
+use nextest_config::{ConfigParseError, DefaultConfigWarnings, ProfileNotFound};
+use rinqebo_report::{Content, Finding, Level, Report, Unreached};
+use std::alloc::{AllocError, Global};
+
+/// What a load checks of a source, in order, and then of all of them.
+const CHECKS: [&str; 8] = [
+    "elements",
+    "names",
+    "features",
+    "inheritance",
+    "compilation",
+    "groups",
+    "script rules",
+    "merged tree",
+];
+
+/// How many checks are behind a refusal of this number.
+fn checks_done(kind: u8) -> usize {
+    match kind {
+        4 => 1,
+        5..=7 | 17 => 2,
+        8..=11 | 18 => 3,
+        12 => 4,
+        13 => 5,
+        14 => 6,
+        15 => 7,
+        _ => 0,
+    }
+}
+
+/// The checks of the refused source that were not reached.
+fn unreached_of(
+    alloc: Global,
+    session: &Session<'_>,
+    error: &ConfigParseError,
+) -> Result<Vec<Unreached>, AllocError> {
+    let mut unreached = Vec::new(alloc);
+    let Some(source) = refused_place(&session.layers, error) else {
+        return Ok(unreached);
+    };
+    let mut checks = Vec::new(alloc);
+    for check in CHECKS.iter().skip(checks_done(error.kind().number())) {
+        checks.push(String::from_str(alloc, *check)?)?;
+    }
+    unreached.push(Unreached { source, checks })?;
+    Ok(unreached)
+}
+
+/// A report of findings.
+fn report_of(
+    alloc: Global,
+    session: &Session<'_>,
+    findings: Vec<Finding>,
+    unreached: Vec<Unreached>,
+) -> Result<Report, AllocError> {
+    Ok(Report {
+        root: session.gathered.paths.workspace_root.clone()?,
+        sources: sources_of(alloc, &session.layers)?,
+        findings,
+        unreached,
+        content: Content::Check,
+    })
+}
+
+/// The report of a refused load: its warnings, and all that the refusal tells.
+fn report_of_refusal(
+    alloc: Global,
+    session: &Session<'_>,
+    warnings: &DefaultConfigWarnings,
+    error: &ConfigParseError,
+) -> Result<Report, AllocError> {
+    let mut findings = warning_findings(alloc, &session.layers, warnings)?;
+    add_refusal(alloc, session, error, &mut findings)?;
+    let unreached = unreached_of(alloc, session, error)?;
+    report_of(alloc, session, findings, unreached)
+}
+
+/// Why a run answers nothing whose load refuses.
+pub fn failure_of_load(
+    alloc: Global,
+    session: &Session<'_>,
+    warnings: &DefaultConfigWarnings,
+    error: &ConfigParseError,
+) -> Result<Failure, AllocError> {
+    if error.config_file().is_none() {
+        return Ok(Failure::Memory);
+    }
+    let report = report_of_refusal(alloc, session, warnings, error)?;
+    Ok(Failure::Refused(report))
+}
+
+/// The finding that there is no profile of a name.
+fn no_profile(alloc: Global, missing: &ProfileNotFound) -> Result<Finding, AllocError> {
+    let name = missing.name.as_str();
+    let path = Some(format!(in alloc; "profile.{name}")?);
+    let message = missing.to_string(alloc)?;
+    let mut found = finding(alloc, Level::Error, "NoProfile", None, path, message)?;
+    found.help = text_hint(alloc, name, &missing.known)?;
+    Ok(found)
+}
+
+/// Why a run answers nothing whose profile is missing.
+pub fn failure_of_profile(
+    alloc: Global,
+    session: &Session<'_>,
+    warnings: &DefaultConfigWarnings,
+    missing: &ProfileNotFound,
+) -> Result<Failure, AllocError> {
+    let mut findings = warning_findings(alloc, &session.layers, warnings)?;
+    findings.push(no_profile(alloc, missing)?)?;
+    let report = report_of(alloc, session, findings, Vec::new(alloc))?;
+    Ok(Failure::NoProfile(report))
+}
+
+/// Why a run answers nothing that has no rows.
+pub fn failure_of_run(
+    alloc: Global,
+    session: &Session<'_>,
+    warnings: &DefaultConfigWarnings,
+    fault: &ResolveFault,
+) -> Result<Failure, AllocError> {
+    match fault {
+        ResolveFault::Config(error) => failure_of_load(alloc, session, warnings, error),
+        ResolveFault::NoProfile(missing) => failure_of_profile(alloc, session, warnings, missing),
+        ResolveFault::Memory => Ok(Failure::Memory),
+    }
+}
+
+/// The exit status of a check whose load accepts.
+fn status_of(findings: &[Finding], deny_warnings: bool) -> u8 {
+    if deny_warnings && !findings.is_empty() {
+        1
+    } else {
+        0
+    }
+}
+
+/// What is wrong with the files.
+pub fn check(
+    alloc: Global,
+    session: &Session<'_>,
+    deny_warnings: bool,
+) -> Result<Answer, Failure> {
+    let mut warnings = DefaultConfigWarnings::new(alloc);
+    match session.load(alloc, &mut warnings) {
+        Ok(_) => {
+            let findings = warning_findings(alloc, &session.layers, &warnings)?;
+            let status = status_of(&findings, deny_warnings);
+            let report = report_of(alloc, session, findings, Vec::new(alloc))?;
+            Ok(Answer { report, status })
+        }
+        Err(error) if error.config_file().is_none() => Err(Failure::Memory),
+        Err(error) => {
+            let report = report_of_refusal(alloc, session, &warnings, &error)?;
+            Ok(Answer { report, status: 3 })
+        }
+    }
+}

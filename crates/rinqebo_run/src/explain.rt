@@ -1,0 +1,219 @@
+//! The settings of a test.
+use crate::answer::Failure;
+use crate::binary::query_of;
+use crate::check::{failure_of_load, failure_of_run};
+use crate::findings::warning_findings;
+use crate::grounds::{built_in, profile_grounds};
+use crate::keys::SettingKey;
+use crate::layers::{Layer, place_of, sources_of};
+use crate::request::{Request, TestName};
+use crate::rules::{chain_of_profile, copied_names};
+use crate::session::{Config, Session};
+use crate::values::{reported_if_set, row_value};
+use nextest_config::run::{PlainSource, TestRow, resolve};
+use nextest_config::{
+    BuildPlatform, ConfigSource, DefaultConfigWarnings, NextestRunMode, Setting,
+};
+use nextest_filters::NextestTally;
+use rinqebo_report::{
+    Asked, Content, Origin, Part, Place, Platform, Report, RunMode, SettingRow, TestRows, Written,
+};
+use std::alloc::{AllocError, Global};
+
+/// Where an override stands.
+pub fn override_origin(
+    alloc: Global,
+    layers: &[Layer],
+    source: &ConfigSource,
+    profile: &str,
+    index: usize,
+) -> Result<Origin, AllocError> {
+    let Some(place) = place_of(layers, source) else {
+        return Ok(Origin::BuiltIn);
+    };
+    Ok(Origin::Written(Written {
+        place: Place {
+            source: place,
+            lines: None,
+        },
+        profile: String::from_str(alloc, profile)?,
+        part: Part::Override(index),
+    }))
+}
+
+/// Where the value of a setting comes from.
+fn origins_of(
+    alloc: Global,
+    layers: &[Layer],
+    chain: &[&str],
+    source: Option<&PlainSource>,
+    key: SettingKey,
+) -> Result<Vec<Origin>, AllocError> {
+    match source {
+        None | Some(PlainSource::Script) => Ok(Vec::new(alloc)),
+        Some(PlainSource::Default) => built_in(alloc),
+        Some(PlainSource::Profile) => profile_grounds(alloc, layers, chain, key),
+        Some(PlainSource::Override {
+            source,
+            profile,
+            index,
+        }) => {
+            let mut origins = Vec::new(alloc);
+            let origin = override_origin(alloc, layers, source, profile.as_str(), *index)?;
+            origins.push(origin)?;
+            Ok(origins)
+        }
+    }
+}
+
+/// A setting of a row.
+fn setting_row(
+    alloc: Global,
+    layers: &[Layer],
+    chain: &[&str],
+    row: &TestRow,
+    setting: Setting,
+    mode: NextestRunMode,
+) -> Result<SettingRow, AllocError> {
+    let key = SettingKey::of(setting, mode);
+    Ok(SettingRow {
+        key: key.text(alloc)?,
+        value: reported_if_set(alloc, row_value(row, setting))?,
+        origins: origins_of(alloc, layers, chain, row.source(setting), key)?,
+    })
+}
+
+/// Settings of a row, in the order in which they are asked for.
+fn setting_rows(
+    alloc: Global,
+    layers: &[Layer],
+    chain: &[&str],
+    row: &TestRow,
+    settings: &[Setting],
+    mode: NextestRunMode,
+) -> Result<Vec<SettingRow>, AllocError> {
+    let mut rows = Vec::new(alloc);
+    for setting in settings {
+        rows.push(setting_row(alloc, layers, chain, row, *setting, mode)?)?;
+    }
+    Ok(rows)
+}
+
+/// For what a binary is built, as it is reported.
+fn reported_platform(platform: BuildPlatform) -> Platform {
+    match platform {
+        BuildPlatform::Host => Platform::Host,
+        BuildPlatform::Target => Platform::Target,
+    }
+}
+
+/// For what tests are run, as it is reported.
+fn reported_mode(mode: NextestRunMode) -> RunMode {
+    match mode {
+        NextestRunMode::Test => RunMode::Test,
+        NextestRunMode::Benchmark => RunMode::Benchmark,
+    }
+}
+
+/// What is asked about.
+pub fn asked_of(
+    alloc: Global,
+    request: &Request<'_>,
+    profile: &str,
+    chain: &[&str],
+    mode: NextestRunMode,
+) -> Result<Asked, AllocError> {
+    let target = match request.engines.target {
+        Some(target) => Some(String::from_str(alloc, target)?),
+        None => None,
+    };
+    Ok(Asked {
+        profile: String::from_str(alloc, profile)?,
+        chain: copied_names(alloc, chain)?,
+        mode: reported_mode(mode),
+        host: String::from_str(alloc, request.engines.host)?,
+        target,
+    })
+}
+
+/// The one row of a test.
+fn row_of_test(
+    alloc: Global,
+    session: &Session<'_>,
+    profile: &str,
+    test: &TestName<'_>,
+    warnings: &mut DefaultConfigWarnings,
+) -> Result<Vec<TestRow>, Failure> {
+    let rows = resolve(
+        alloc,
+        &session.inputs(),
+        &session.parse_context(),
+        profile,
+        &session.engines.platforms,
+        test.mode,
+        &[query_of(test)],
+        warnings,
+        &mut NextestTally::new(),
+    );
+    match rows {
+        Ok(rows) => Ok(rows),
+        Err(fault) => Err(failure_of_run(alloc, session, warnings, &fault)?),
+    }
+}
+
+/// The settings of a test, as they are reported.
+fn test_rows(
+    alloc: Global,
+    layers: &[Layer],
+    chain: &[&str],
+    rows: &[TestRow],
+    test: &TestName<'_>,
+    settings: &[Setting],
+) -> Result<TestRows, AllocError> {
+    let told = match rows.first() {
+        Some(row) => setting_rows(alloc, layers, chain, row, settings, test.mode)?,
+        None => Vec::new(alloc),
+    };
+    Ok(TestRows {
+        binary: String::from_str(alloc, test.binary)?,
+        name: String::from_str(alloc, test.name)?,
+        platform: reported_platform(test.platform),
+        settings: told,
+    })
+}
+
+/// The configuration of a session. Its warnings were told before.
+pub fn load_again(alloc: Global, session: &Session<'_>) -> Result<Config, Failure> {
+    let mut warnings = DefaultConfigWarnings::new(alloc);
+    match session.load(alloc, &mut warnings) {
+        Ok(config) => Ok(config),
+        Err(error) => Err(failure_of_load(alloc, session, &warnings, &error)?),
+    }
+}
+
+/// The settings of a test.
+pub fn explain(
+    alloc: Global,
+    request: &Request<'_>,
+    session: &Session<'_>,
+    profile: &str,
+    test: &TestName<'_>,
+    settings: &[Setting],
+) -> Result<Report, Failure> {
+    let mut warnings = DefaultConfigWarnings::new(alloc);
+    let rows = row_of_test(alloc, session, profile, test, &mut warnings)?;
+    let config = load_again(alloc, session)?;
+    let chain = chain_of_profile(alloc, &config, profile)?;
+    let findings = warning_findings(alloc, &session.layers, &warnings)?;
+    let content = Content::Explain {
+        asked: asked_of(alloc, request, profile, &chain, test.mode)?,
+        test: test_rows(alloc, &session.layers, &chain, &rows, test, settings)?,
+    };
+    Ok(Report {
+        root: session.gathered.paths.workspace_root.clone()?,
+        sources: sources_of(alloc, &session.layers)?,
+        findings,
+        unreached: Vec::new(alloc),
+        content,
+    })
+}

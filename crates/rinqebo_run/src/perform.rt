@@ -1,0 +1,159 @@
+//! Answers a request, and writes what it answers.
+use crate::answer::{Answer, Failure};
+use crate::check::check;
+use crate::explain::explain;
+use crate::gather::{GatherFault, Gathered};
+use crate::parse::ParseStop;
+use crate::request::{Question, Request};
+use crate::session::Session;
+use crate::why::why;
+use nextest_explain::refuse_for_memory;
+use rinqebo_report::{Colour, Content, Format, Report, render, render_findings};
+use std::alloc::{AllocError, Global};
+use std::io::{self, Write};
+
+/// The answer that is a report, where a run succeeds.
+fn answered(report: Result<Report, Failure>) -> Result<Answer, Failure> {
+    match report {
+        Ok(report) => Ok(Answer { report, status: 0 }),
+        Err(failure) => Err(failure),
+    }
+}
+
+/// What a request is answered, over the files that it names.
+fn answer_of(
+    alloc: Global,
+    request: &Request<'_>,
+    gathered: &Gathered,
+) -> Result<Answer, Failure> {
+    let session = Session::new(alloc, request, gathered)?;
+    match &request.question {
+        Question::Explain {
+            profile,
+            test,
+            settings,
+        } => answered(explain(alloc, request, &session, *profile, test, settings)),
+        Question::Why {
+            profile,
+            test,
+            setting,
+        } => answered(why(alloc, request, &session, *profile, test, *setting)),
+        Question::Check { deny_warnings } => check(alloc, &session, *deny_warnings),
+    }
+}
+
+/// The status, unless the last write failed.
+fn status_of_write(written: io::Result<()>, status: u8) -> u8 {
+    match written {
+        Ok(()) => status,
+        Err(_) => 6,
+    }
+}
+
+/// Writes a text, and answers a status, or 6 where a write fails.
+fn tell<W: Write>(text: &str, status: u8, out: &mut W) -> u8 {
+    if out.write_all(text.as_bytes()).is_err() {
+        return 6;
+    }
+    status_of_write(out.flush(), status)
+}
+
+/// What standard error is told beside a page: its findings, where the page does not have them.
+fn notes_of(
+    alloc: Global,
+    report: &Report,
+    format: Format<'_>,
+    colour: Colour,
+) -> Result<String, AllocError> {
+    match (&report.content, format) {
+        (Content::Check, _) | (_, Format::Json) => Ok(String::new(alloc)),
+        _ => render_findings(alloc, report, colour),
+    }
+}
+
+/// Writes an answer: its notes, and then the report.
+fn tell_answer<O: Write, E: Write>(
+    alloc: Global,
+    request: &Request<'_>,
+    answer: &Answer,
+    out: &mut O,
+    err: &mut E,
+) -> u8 {
+    let report = &answer.report;
+    let Ok(notes) = notes_of(alloc, report, request.format, request.colour) else {
+        return refuse_for_memory(err);
+    };
+    let Ok(text) = render(alloc, report, request.format, request.colour) else {
+        return refuse_for_memory(err);
+    };
+    match tell(notes.as_str(), 0, err) {
+        0 => tell(text.as_str(), answer.status, out),
+        status => status,
+    }
+}
+
+/// Tells the findings for which a run answers nothing.
+fn refuse_with<E: Write>(
+    alloc: Global,
+    report: &Report,
+    colour: Colour,
+    status: u8,
+    err: &mut E,
+) -> u8 {
+    match render_findings(alloc, report, colour) {
+        Ok(text) => tell(text.as_str(), status, err),
+        Err(_) => refuse_for_memory(err),
+    }
+}
+
+/// Tells a message, and answers a status.
+fn refuse_message<E: Write>(message: Result<String, AllocError>, status: u8, err: &mut E) -> u8 {
+    match message {
+        Ok(text) => tell(text.as_str(), status, err),
+        Err(_) => refuse_for_memory(err),
+    }
+}
+
+/// Tells why a run answers nothing, and answers the exit status.
+fn refuse<E: Write>(alloc: Global, failure: &Failure, colour: Colour, err: &mut E) -> u8 {
+    match failure {
+        Failure::Engines(fault) => refuse_message(format!(in alloc; "error: {fault}\n"), 2, err),
+        Failure::Refused(report) => refuse_with(alloc, report, colour, 3, err),
+        Failure::NoProfile(report) => refuse_with(alloc, report, colour, 4, err),
+        Failure::Memory => refuse_for_memory(err),
+    }
+}
+
+/// Answers a request over the files that it names, and answers the exit status: 0, or 1 for warnings
+/// that are denied, 2 for platforms and metadata that are not understood, 3 where the files are
+/// refused, 4 where there is no such profile, 5 for want of memory, 6 where a write fails. Nothing
+/// goes to standard output where a run refuses, but for the findings of a check.
+pub fn perform<O: Write, E: Write>(
+    alloc: Global,
+    request: &Request<'_>,
+    gathered: &Gathered,
+    out: &mut O,
+    err: &mut E,
+) -> u8 {
+    match answer_of(alloc, request, gathered) {
+        Ok(answer) => tell_answer(alloc, request, &answer, out, err),
+        Err(failure) => refuse(alloc, &failure, request.colour, err),
+    }
+}
+
+/// Tells why words are no request, and answers the exit status. Help goes to standard output.
+pub fn refuse_words<O: Write, E: Write>(stop: &ParseStop, out: &mut O, err: &mut E) -> u8 {
+    match stop {
+        ParseStop::Help(text) => tell(text.as_str(), 0, out),
+        ParseStop::Usage(text) => tell(text.as_str(), 2, err),
+        ParseStop::Memory => refuse_for_memory(err),
+    }
+}
+
+/// Tells why the files of a request were not read, and answers the exit status.
+pub fn refuse_gathering<E: Write>(alloc: Global, fault: &GatherFault, err: &mut E) -> u8 {
+    match fault {
+        GatherFault::Memory => refuse_for_memory(err),
+        fault => refuse_message(format!(in alloc; "error: {fault}\n"), 2, err),
+    }
+}
