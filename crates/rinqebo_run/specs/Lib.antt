@@ -1,0 +1,4 @@
+pub mod Told
+pub mod SettingValues
+pub mod Keys
+pub mod Statuses

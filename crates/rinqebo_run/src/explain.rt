@@ -9,7 +9,7 @@ use crate::layers::{Layer, place_of, sources_of};
 use crate::request::{Request, TestName};
 use crate::rules::{chain_of_profile, copied_names};
 use crate::session::{Config, Session};
-use crate::values::{reported_if_set, row_value};
+use crate::values::{reported_if_set, value_in_row};
 use nextest_config::run::{PlainSource, TestRow, resolve};
 use nextest_config::{
     BuildPlatform, ConfigSource, DefaultConfigWarnings, NextestRunMode, Setting,
@@ -78,7 +78,7 @@ fn setting_row(
     let key = SettingKey::of(setting, mode);
     Ok(SettingRow {
         key: key.text(alloc)?,
-        value: reported_if_set(alloc, row_value(row, setting))?,
+        value: reported_if_set(alloc, value_in_row(row, setting))?,
         origins: origins_of(alloc, layers, chain, row.source(setting), key)?,
     })
 }

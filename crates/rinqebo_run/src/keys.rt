@@ -1,4 +1,8 @@
 //! The keys of settings, as files write them.
+ghost use Rattle.std.specs.Prelude.{◌≡◌, IfOk, Some, codes, map, option_map, string_bytes};
+ghost use Rattle.nextest_settings.specs.Settings.{settings};
+ghost use Rattle.rinqebo_run.specs.Keys.{key_table, key_name, dotted, key_text};
+
 use nextest_config::{NextestRunMode, Setting};
 use std::alloc::{AllocError, Global};
 
@@ -10,7 +14,10 @@ pub struct SettingKey {
 }
 
 /// A key of the report's table.
-fn in_report(key: &'static str) -> SettingKey {
+fn in_report(key: &'static str) -> SettingKey
+    ensures table { option_map (λ table. table.now) result.table ≡ Some (codes "junit") }
+    ensures key { result.key.now ≡ key.entry.now }
+{
     SettingKey {
         table: Some("junit"),
         key,
@@ -19,7 +26,10 @@ fn in_report(key: &'static str) -> SettingKey {
 
 impl SettingKey {
     /// Where a setting is written. Benchmarks have a slow timeout of their own.
-    pub fn of(setting: Setting, mode: NextestRunMode) -> SettingKey {
+    pub fn of(setting: Setting, mode: NextestRunMode) -> SettingKey
+        ensures table { option_map (λ table. table.now) result.table ≡ key_table setting mode }
+        ensures key { result.key.now ≡ key_name setting }
+    {
         match (setting, mode) {
             (Setting::SlowTimeout, NextestRunMode::Benchmark) => SettingKey {
                 table: Some("bench"),
@@ -42,7 +52,10 @@ impl SettingKey {
     }
 
     /// The keys with a dot between them.
-    pub fn text(self, alloc: Global) -> Result<String, AllocError> {
+    pub fn text(self, alloc: Global) -> Result<String, AllocError>
+        ensures { IfOk result (λ text. string_bytes text
+            ≡ dotted (option_map (λ table. table.now) self.entry.table) self.entry.key.now) }
+    {
         let key = self.key;
         match self.table {
             Some(table) => format!(in alloc; "{table}.{key}"),

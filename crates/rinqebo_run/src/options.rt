@@ -177,6 +177,7 @@ fn check_command<'a>(alloc: Global) -> Result<Command<'a>, AllocError> {
 /// The program's commands.
 pub fn program<'a>(alloc: Global) -> Result<Command<'a>, AllocError> {
     Command::new(alloc, "rinqebo")
+        .bin_name("rinqebo")?
         .about("Tells what a configuration of nextest gives to tests")
         .subcommand_required(true)
         .subcommand(explain_command(alloc)?)?

@@ -63,17 +63,13 @@ fn set<'a>(variable: &'a Option<String>) -> Option<&'a str> {
     }
 }
 
-/// The file of a tool.
-fn tool_file<'a>(alloc: Global, value: &'a str) -> Result<ToolFile<'a>, ParseStop> {
-    let Some((tool, path)) = value.split_once(':') else {
-        let message = format!(in alloc; "`{value}` is not of the form TOOL:PATH")?;
-        return Err(usage(alloc, message.as_str(), None)?);
-    };
-    match ToolName::new(alloc, tool) {
-        Ok(tool) => Ok(ToolFile { tool, path }),
+/// The name of a tool.
+fn tool_name(alloc: Global, name: &str) -> Result<ToolName, ParseStop> {
+    match ToolName::new(alloc, name) {
+        Ok(tool) => Ok(tool),
         Err(InvalidIdentifier::Memory) => Err(ParseStop::Memory),
         Err(_) => {
-            let message = format!(in alloc; "`{tool}` is no name of a tool")?;
+            let message = format!(in alloc; "`{name}` is no name of a tool")?;
             Err(usage(alloc, message.as_str(), None)?)
         }
     }
@@ -86,8 +82,13 @@ fn tool_files<'a>(
 ) -> Result<Vec<ToolFile<'a>>, ParseStop> {
     let mut tools = Vec::new(alloc);
     for value in matches.get_strs("tool-config-file").unwrap_or(&[]) {
+        let Some((tool, path)) = value.split_once(':') else {
+            let message = format!(in alloc; "`{value}` is not of the form TOOL:PATH")?;
+            return Err(usage(alloc, message.as_str(), None)?);
+        };
+        let tool = tool_name(alloc, tool)?;
         tools
-            .push(tool_file(alloc, *value)?)
+            .push(ToolFile { tool, path })
             .map_err(AllocError::from)?;
     }
     Ok(tools)

@@ -1,4 +1,10 @@
 //! Values of settings, as they are reported.
+ghost use Rattle.std.specs.Prelude.{◌≡◌, ◌++◌, IfOk, OnOk, map, option_map, string_bytes};
+ghost use Rattle.nextest_config.specs.RowView.{row_value};
+ghost use Rattle.nextest_settings.specs.Settings.{sets};
+ghost use Rattle.nextest_tables.specs.View.{settings_view};
+ghost use Rattle.rinqebo_run.specs.SettingValues.{told_value};
+ghost use Rattle.rinqebo_run.specs.Told.{ToldScalar, ToldValue, scalar_view, field_view, value_view, told_count, one, one_if, one_if_true, retry_fields, told_fixed, told_retries, told_slow, told_leak, told_threads, told_of};
 use nextest_config::run::TestRow;
 use nextest_config::{
     FlakyResult, JunitFlakyFailStatus, LeakTimeout, NextestRunMode, OverrideSettings,
@@ -7,7 +13,6 @@ use nextest_config::{
 };
 use rinqebo_report::{Field, Scalar, Value};
 use std::alloc::{AllocError, Global};
-use std::fmt::Display;
 
 /// The value of a setting.
 #[derive(Clone, Copy)]
@@ -29,7 +34,10 @@ pub enum SettingValue<'v> {
 }
 
 /// The value that a row has of a setting, if it has one: only a run wrapper may be absent.
-pub fn row_value(row: &TestRow, setting: Setting) -> Option<SettingValue<'_>> {
+pub fn value_in_row(row: &TestRow, setting: Setting) -> Option<SettingValue<'_>>
+    ensures { option_map told_value result
+        ≡ option_map (told_of setting) (row_value row.now setting) }
+{
     match setting {
         Setting::Priority => Some(SettingValue::Priority(row.priority)),
         Setting::ThreadsRequired => Some(SettingValue::Threads(row.threads_required)),
@@ -92,7 +100,10 @@ pub fn written_value(
     written: &OverrideSettings,
     setting: Setting,
     mode: NextestRunMode,
-) -> Option<SettingValue<'_>> {
+) -> Option<SettingValue<'_>>
+    ensures { option_map told_value result
+        ≡ option_map (told_of setting) (sets (settings_view written.now) mode setting) }
+{
     match setting {
         Setting::Priority => Some(SettingValue::Priority(written.priority?)),
         Setting::ThreadsRequired => Some(SettingValue::Threads(written.runs.threads_required?)),
@@ -116,33 +127,100 @@ pub fn written_value(
 }
 
 /// A number as one of TOML. Files write no greater one.
-fn integer(number: u64) -> Scalar {
+fn count(number: u64) -> Scalar
+    ensures { scalar_view result ≡ told_count number }
+{
     Scalar::Integer(i64::try_from(number).unwrap_or(i64::MAX))
 }
 
-/// A name.
-fn name<D: Display>(alloc: Global, name: &D) -> Result<Scalar, AllocError> {
-    Ok(Scalar::Text(name.to_string(alloc)?))
+/// A text as a value.
+fn text_value(text: String) -> Value
+    ensures { value_view result ≡ ToldValue.scalar (ToldScalar.text (string_bytes text)) }
+{
+    Value::Scalar(Scalar::Text(text))
 }
 
-/// A member of a table.
-fn field(alloc: Global, key: &str, value: Scalar) -> Result<Field, AllocError> {
-    Ok(Field {
-        key: String::from_str(alloc, key)?,
-        value,
-    })
+/// Adds a member of a table.
+fn add_field(
+    alloc: Global,
+    fields: &mut Vec<Field>,
+    key: &str,
+    value: Scalar,
+) -> Result<(), AllocError>
+    ensures { OnOk result (map field_view fields.new.items
+        ≡ map field_view fields.old.items ++ one key.now (scalar_view value)) }
+{
+    let key = String::from_str(alloc, key)?;
+    fields.push(Field { key, value })?;
+    Ok(())
+}
+
+/// Adds a duration that may be absent.
+fn add_duration(
+    alloc: Global,
+    fields: &mut Vec<Field>,
+    key: &str,
+    duration: Option<u128>,
+) -> Result<(), AllocError>
+    ensures { OnOk result (map field_view fields.new.items
+        ≡ map field_view fields.old.items ++ one_if key.now ToldScalar.duration duration) }
+{
+    match duration {
+        Some(duration) => add_field(alloc, fields, key, Scalar::Duration(duration)),
+        None => Ok(()),
+    }
+}
+
+/// Adds a count that may be absent.
+fn add_count(
+    alloc: Global,
+    fields: &mut Vec<Field>,
+    key: &str,
+    number: Option<u64>,
+) -> Result<(), AllocError>
+    ensures { OnOk result (map field_view fields.new.items
+        ≡ map field_view fields.old.items ++ one_if key.now told_count number) }
+{
+    match number {
+        Some(number) => add_field(alloc, fields, key, count(number)),
+        None => Ok(()),
+    }
+}
+
+/// Adds that something is so, or nothing.
+fn add_if_true(
+    alloc: Global,
+    fields: &mut Vec<Field>,
+    key: &str,
+    is_so: bool,
+) -> Result<(), AllocError>
+    ensures { OnOk result (map field_view fields.new.items
+        ≡ map field_view fields.old.items ++ one_if_true key.now is_so) }
+{
+    if is_so {
+        add_field(alloc, fields, key, Scalar::Boolean(true))
+    } else {
+        Ok(())
+    }
 }
 
 /// How many threads a test takes.
-fn threads_value(alloc: Global, threads: ThreadsRequired) -> Result<Scalar, AllocError> {
+fn threads_value(alloc: Global, threads: ThreadsRequired) -> Result<Scalar, AllocError>
+    ensures { IfOk result (λ scalar. scalar_view scalar ≡ told_threads threads) }
+{
     match threads {
-        ThreadsRequired::Count(count) => Ok(integer(count)),
-        ThreadsRequired::NumCpus | ThreadsRequired::NumTestThreads => name(alloc, &threads),
+        ThreadsRequired::Count(number) => Ok(count(number)),
+        ThreadsRequired::NumCpus | ThreadsRequired::NumTestThreads => {
+            Ok(Scalar::Text(threads.to_string(alloc)?))
+        }
     }
 }
 
 /// Copies of arguments.
-fn arguments_value(alloc: Global, arguments: &[String]) -> Result<Value, AllocError> {
+fn arguments_value(alloc: Global, arguments: &[String]) -> Result<Value, AllocError>
+    ensures { IfOk result (λ value. value_view value
+        ≡ ToldValue.texts (map string_bytes arguments.now)) }
+{
     let mut texts = Vec::new(alloc);
     for argument in arguments {
         texts.push(argument.clone()?)?;
@@ -158,34 +236,45 @@ fn retry_table(
     delay: u128,
     jitter: bool,
     max_delay: Option<u128>,
-) -> Result<Value, AllocError> {
+) -> Result<Value, AllocError>
+    ensures { IfOk result (λ value. value_view value
+        ≡ ToldValue.table (retry_fields backoff.now count delay jitter max_delay)) }
+{
     let mut fields = Vec::new(alloc);
     let backoff = String::from_str(alloc, backoff)?;
-    fields.push(field(alloc, "backoff", Scalar::Text(backoff))?)?;
-    fields.push(field(alloc, "count", Scalar::Integer(i64::from(count)))?)?;
-    fields.push(field(alloc, "delay", Scalar::Duration(delay))?)?;
-    if jitter {
-        fields.push(field(alloc, "jitter", Scalar::Boolean(true))?)?;
-    }
-    if let Some(max_delay) = max_delay {
-        fields.push(field(alloc, "max-delay", Scalar::Duration(max_delay))?)?;
-    }
+    add_field(alloc, &mut fields, "backoff", Scalar::Text(backoff))?;
+    add_field(alloc, &mut fields, "count", Scalar::Integer(i64::from(count)))?;
+    add_field(alloc, &mut fields, "delay", Scalar::Duration(delay))?;
+    add_if_true(alloc, &mut fields, "jitter", jitter)?;
+    add_duration(alloc, &mut fields, "max-delay", max_delay)?;
     Ok(Value::Table(fields))
 }
 
-/// A retry policy: a count where it is fixed without delay and jitter.
-fn retries_value(alloc: Global, retries: RetryPolicy) -> Result<Value, AllocError> {
+/// A fixed retry policy: a count where it has neither delay nor jitter.
+fn fixed_value(
+    alloc: Global,
+    count: u32,
+    delay: u128,
+    jitter: bool,
+) -> Result<Value, AllocError>
+    ensures { IfOk result (λ value. value_view value ≡ told_fixed count delay jitter) }
+{
+    if delay == 0 && !jitter {
+        return Ok(Value::Scalar(Scalar::Integer(i64::from(count))));
+    }
+    retry_table(alloc, "fixed", count, delay, jitter, None)
+}
+
+/// A retry policy.
+fn retries_value(alloc: Global, retries: RetryPolicy) -> Result<Value, AllocError>
+    ensures { IfOk result (λ value. value_view value ≡ told_retries retries) }
+{
     match retries {
-        RetryPolicy::Fixed {
-            count,
-            delay: 0,
-            jitter: false,
-        } => Ok(Value::Scalar(Scalar::Integer(i64::from(count)))),
         RetryPolicy::Fixed {
             count,
             delay,
             jitter,
-        } => retry_table(alloc, "fixed", count, delay, jitter, None),
+        } => fixed_value(alloc, count, delay, jitter),
         RetryPolicy::Exponential {
             count,
             delay,
@@ -196,53 +285,53 @@ fn retries_value(alloc: Global, retries: RetryPolicy) -> Result<Value, AllocErro
 }
 
 /// The table of a slow timeout.
-fn slow_timeout_value(alloc: Global, slow: SlowTimeout) -> Result<Value, AllocError> {
+fn slow_timeout_value(alloc: Global, slow: SlowTimeout) -> Result<Value, AllocError>
+    ensures { IfOk result (λ value. value_view value ≡ told_slow slow) }
+{
     let mut fields = Vec::new(alloc);
-    fields.push(field(alloc, "period", Scalar::Duration(slow.period))?)?;
-    if let Some(periods) = slow.terminate_after {
-        fields.push(field(alloc, "terminate-after", integer(periods))?)?;
-    }
-    fields.push(field(
-        alloc,
-        "grace-period",
-        Scalar::Duration(slow.grace_period),
-    )?)?;
-    let on_timeout = name(alloc, &slow.on_timeout)?;
-    fields.push(field(alloc, "on-timeout", on_timeout)?)?;
+    let on_timeout = slow.on_timeout.to_string(alloc)?;
+    add_field(alloc, &mut fields, "period", Scalar::Duration(slow.period))?;
+    add_count(alloc, &mut fields, "terminate-after", slow.terminate_after)?;
+    let grace_period = Scalar::Duration(slow.grace_period);
+    add_field(alloc, &mut fields, "grace-period", grace_period)?;
+    add_field(alloc, &mut fields, "on-timeout", Scalar::Text(on_timeout))?;
     Ok(Value::Table(fields))
 }
 
 /// The table of a leak timeout.
-fn leak_timeout_value(alloc: Global, leak: LeakTimeout) -> Result<Value, AllocError> {
+fn leak_timeout_value(alloc: Global, leak: LeakTimeout) -> Result<Value, AllocError>
+    ensures { IfOk result (λ value. value_view value ≡ told_leak leak) }
+{
     let mut fields = Vec::new(alloc);
-    fields.push(field(alloc, "period", Scalar::Duration(leak.period))?)?;
-    let result = name(alloc, &leak.result)?;
-    fields.push(field(alloc, "result", result)?)?;
+    let result = leak.result.to_string(alloc)?;
+    add_field(alloc, &mut fields, "period", Scalar::Duration(leak.period))?;
+    add_field(alloc, &mut fields, "result", Scalar::Text(result))?;
     Ok(Value::Table(fields))
 }
 
 /// A value, as it is reported.
-pub fn reported(alloc: Global, value: SettingValue<'_>) -> Result<Value, AllocError> {
+pub fn reported(alloc: Global, value: SettingValue<'_>) -> Result<Value, AllocError>
+    ensures { IfOk result (λ told. value_view told ≡ told_value value.entry) }
+{
     match value {
         SettingValue::Priority(TestPriority(priority)) => {
             Ok(Value::Scalar(Scalar::Integer(i64::from(priority))))
         }
         SettingValue::Threads(threads) => Ok(Value::Scalar(threads_value(alloc, threads)?)),
-        SettingValue::Wrapper(id) => Ok(Value::Scalar(name(alloc, id)?)),
+        SettingValue::Wrapper(id) => Ok(text_value(id.to_string(alloc)?)),
         SettingValue::Arguments(arguments) => arguments_value(alloc, arguments),
         SettingValue::Retries(retries) => retries_value(alloc, retries),
-        SettingValue::FlakyResult(result) => Ok(Value::Scalar(name(alloc, &result)?)),
+        SettingValue::FlakyResult(result) => Ok(text_value(result.to_string(alloc)?)),
         SettingValue::SlowTimeout(slow) => slow_timeout_value(alloc, slow),
         SettingValue::LeakTimeout(leak) => leak_timeout_value(alloc, leak),
-        SettingValue::Group(group) => Ok(Value::Scalar(name(alloc, group)?)),
-        SettingValue::GlobalGroup => Ok(Value::Scalar(Scalar::Text(String::from_str(
-            alloc,
-            TestGroup::GLOBAL_STR,
-        )?))),
-        SettingValue::Output(display) => Ok(Value::Scalar(name(alloc, &display)?)),
+        SettingValue::Group(group) => Ok(text_value(group.to_string(alloc)?)),
+        SettingValue::GlobalGroup => {
+            Ok(text_value(String::from_str(alloc, TestGroup::GLOBAL_STR)?))
+        }
+        SettingValue::Output(display) => Ok(text_value(display.to_string(alloc)?)),
         SettingValue::IsStored(is_stored) => Ok(Value::Scalar(Scalar::Boolean(is_stored))),
-        SettingValue::Skipped(policy) => Ok(Value::Scalar(name(alloc, &policy)?)),
-        SettingValue::FlakyFailStatus(status) => Ok(Value::Scalar(name(alloc, &status)?)),
+        SettingValue::Skipped(policy) => Ok(text_value(policy.to_string(alloc)?)),
+        SettingValue::FlakyFailStatus(status) => Ok(text_value(status.to_string(alloc)?)),
     }
 }
 
@@ -250,7 +339,10 @@ pub fn reported(alloc: Global, value: SettingValue<'_>) -> Result<Value, AllocEr
 pub fn reported_if_set(
     alloc: Global,
     value: Option<SettingValue<'_>>,
-) -> Result<Option<Value>, AllocError> {
+) -> Result<Option<Value>, AllocError>
+    ensures { IfOk result (λ told. option_map value_view told
+        ≡ option_map told_value value.entry) }
+{
     match value {
         Some(value) => Ok(Some(reported(alloc, value)?)),
         None => Ok(None),
