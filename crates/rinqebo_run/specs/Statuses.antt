@@ -31,3 +31,10 @@ abbrev pub IsFailureOf : Question → Failure → Type 0
 IsFailureOf (questions.Check deny_warnings) (failures.Refused report) = ⊥
 IsFailureOf (questions.Check deny_warnings) (failures.NoProfile report) = ⊥
 IsFailureOf question failure = Unit {0}
+
+-- A failure of what all commands begin with: the engines, or want of memory.
+abbrev pub IsBeginningFailure : Failure → Type 0
+IsBeginningFailure (failures.Engines fault) = Unit {0}
+IsBeginningFailure (failures.Refused report) = ⊥
+IsBeginningFailure (failures.NoProfile report) = ⊥
+IsBeginningFailure failures.Memory = Unit {0}

@@ -1,4 +1,8 @@
 //! What is wrong with files.
+ghost use Rattle.std.specs.Prelude.{◌≡◌, ◌⊎◌, IfOk, IfErr};
+ghost use Rattle.rinqebo_run.specs.Checked.{IsCheckStatus};
+ghost use Rattle.rinqebo_run.specs.Statuses.{IsBeginningFailure};
+
 use crate::answer::{Answer, Failure};
 use crate::findings::{finding, warning_findings};
 use crate::hints::text_hint;
@@ -135,7 +139,9 @@ pub fn failure_of_run(
 }
 
 /// The exit status of a check whose load accepts.
-fn status_of(findings: &[Finding], deny_warnings: bool) -> u8 {
+fn status_of(findings: &[Finding], deny_warnings: bool) -> u8
+    ensures { (result ≡ 0) ⊎ (result ≡ 1) }
+{
     if deny_warnings && !findings.is_empty() {
         1
     } else {
@@ -148,7 +154,10 @@ pub fn check(
     alloc: Global,
     session: &Session<'_>,
     deny_warnings: bool,
-) -> Result<Answer, Failure> {
+) -> Result<Answer, Failure>
+    ensures ok { IfOk result (λ answer. IsCheckStatus session.now answer.status) }
+    ensures err { IfErr result IsBeginningFailure }
+{
     let mut warnings = DefaultConfigWarnings::new(alloc);
     match session.load(alloc, &mut warnings) {
         Ok(_) => {

@@ -1,4 +1,10 @@
 //! The settings of a test.
+ghost use Rattle.std.specs.Prelude.{◌≡◌, IfOk, Some, map, slice_get, string_bytes};
+ghost use Rattle.std.specs.List.{AllZip};
+ghost use Rattle.nextest_config.specs.Headline.{Row};
+ghost use Rattle.nextest_config.specs.RowView.{row_view};
+ghost use Rattle.rinqebo_run.specs.Explained.{AreRowsOf, IsTold, IsTestTold, Explains};
+
 use crate::answer::Failure;
 use crate::binary::query_of;
 use crate::check::{failure_of_load, failure_of_run};
@@ -74,7 +80,9 @@ fn setting_row(
     row: &TestRow,
     setting: Setting,
     mode: NextestRunMode,
-) -> Result<SettingRow, AllocError> {
+) -> Result<SettingRow, AllocError>
+    ensures { IfOk result (IsTold (row_view row.now) mode setting) }
+{
     let key = SettingKey::of(setting, mode);
     Ok(SettingRow {
         key: key.text(alloc)?,
@@ -91,7 +99,9 @@ fn setting_rows(
     row: &TestRow,
     settings: &[Setting],
     mode: NextestRunMode,
-) -> Result<Vec<SettingRow>, AllocError> {
+) -> Result<Vec<SettingRow>, AllocError>
+    ensures { IfOk result (λ rows. AllZip (IsTold (row_view row.now) mode) settings.now rows.items) }
+{
     let mut rows = Vec::new(alloc);
     for setting in settings {
         rows.push(setting_row(alloc, layers, chain, row, *setting, mode)?)?;
@@ -143,7 +153,10 @@ fn row_of_test(
     profile: &str,
     test: &TestName<'_>,
     warnings: &mut DefaultConfigWarnings,
-) -> Result<Vec<TestRow>, Failure> {
+) -> Result<Vec<TestRow>, Failure>
+    ensures { IfOk result (λ rows.
+        AreRowsOf session.now profile.now test.now (map row_view rows.items)) }
+{
     let rows = resolve(
         alloc,
         &session.inputs(),
@@ -169,7 +182,11 @@ fn test_rows(
     rows: &[TestRow],
     test: &TestName<'_>,
     settings: &[Setting],
-) -> Result<TestRows, AllocError> {
+) -> Result<TestRows, AllocError>
+    ensures { IfOk result (λ told. (row : Row)
+        → slice_get (map row_view rows.now) 0 ≡ Some row
+        → IsTestTold row test.now settings.now told) }
+{
     let told = match rows.first() {
         Some(row) => setting_rows(alloc, layers, chain, row, settings, test.mode)?,
         None => Vec::new(alloc),
@@ -199,7 +216,9 @@ pub fn explain(
     profile: &str,
     test: &TestName<'_>,
     settings: &[Setting],
-) -> Result<Report, Failure> {
+) -> Result<Report, Failure>
+    ensures { IfOk result (Explains session.now profile.now test.now settings.now) }
+{
     let mut warnings = DefaultConfigWarnings::new(alloc);
     let rows = row_of_test(alloc, session, profile, test, &mut warnings)?;
     let config = load_again(alloc, session)?;

@@ -1,4 +1,11 @@
 //! Answers a request, and writes what it answers.
+ghost use Rattle.std.specs.Prelude.{◌≡◌, ◌⊎◌, IsOk, IfOk, IfErr};
+ghost use Rattle.std.specs.Io.KnownBytes.{Appends};
+ghost use Rattle.std.specs.Result.{result_map};
+ghost use Rattle.rinqebo_report.specs.Rendered.{rendered};
+ghost use Rattle.rinqebo_run.specs.Answered.{AnswersQuestion, IsAnswer, Tells};
+ghost use Rattle.rinqebo_run.specs.Statuses.{IsStatus, IsAnswerStatus, IsFailureOf, failure_status};
+
 use crate::answer::{Answer, Failure};
 use crate::check::check;
 use crate::explain::explain;
@@ -13,7 +20,10 @@ use std::alloc::{AllocError, Global};
 use std::io::{self, Write};
 
 /// The answer that is a report, where a run succeeds.
-fn answered(report: Result<Report, Failure>) -> Result<Answer, Failure> {
+fn answered(report: Result<Report, Failure>) -> Result<Answer, Failure>
+    ensures status { IfOk result (λ answer. answer.status ≡ 0) }
+    ensures report { result_map (λ answer. answer.report) result ≡ report }
+{
     match report {
         Ok(report) => Ok(Answer { report, status: 0 }),
         Err(failure) => Err(failure),
@@ -25,25 +35,45 @@ fn answer_of(
     alloc: Global,
     request: &Request<'_>,
     gathered: &Gathered,
-) -> Result<Answer, Failure> {
+) -> Result<Answer, Failure>
+    ensures ok { IfOk result
+        (λ answer. IsAnswer request.now gathered.now answer.report answer.status) }
+    ensures err { IfErr result (IsFailureOf request.now.question) }
+{
     let session = Session::new(alloc, request, gathered)?;
+    answer_in(alloc, request, &session)
+}
+
+/// What a request is answered in a session.
+fn answer_in(
+    alloc: Global,
+    request: &Request<'_>,
+    session: &Session<'_>,
+) -> Result<Answer, Failure>
+    ensures ok { IfOk result (λ answer.
+        AnswersQuestion request.now.question session.now answer.report answer.status) }
+    ensures err { IfErr result (IsFailureOf request.now.question) }
+{
     match &request.question {
         Question::Explain {
             profile,
             test,
             settings,
-        } => answered(explain(alloc, request, &session, *profile, test, settings)),
+        } => answered(explain(alloc, request, session, *profile, test, settings)),
         Question::Why {
             profile,
             test,
             setting,
-        } => answered(why(alloc, request, &session, *profile, test, *setting)),
-        Question::Check { deny_warnings } => check(alloc, &session, *deny_warnings),
+        } => answered(why(alloc, request, session, *profile, test, *setting)),
+        Question::Check { deny_warnings } => check(alloc, session, *deny_warnings),
     }
 }
 
 /// The status, unless the last write failed.
-fn status_of_write(written: io::Result<()>, status: u8) -> u8 {
+fn status_of_write(written: io::Result<()>, status: u8) -> u8
+    ensures status { (result ≡ status) ⊎ (result ≡ 6) }
+    ensures failed { (result ≡ 6) ⊎ IsOk written }
+{
     match written {
         Ok(()) => status,
         Err(_) => 6,
@@ -51,7 +81,10 @@ fn status_of_write(written: io::Result<()>, status: u8) -> u8 {
 }
 
 /// Writes a text, and answers a status, or 6 where a write fails.
-fn tell<W: Write>(text: &str, status: u8, out: &mut W) -> u8 {
+fn tell<W: Write>(text: &str, status: u8, out: &mut W) -> u8
+    ensures status { (result ≡ status) ⊎ (result ≡ 6) }
+    ensures written { (result ≡ 6) ⊎ Appends (W.contents out.old) (W.contents out.new) text.now }
+{
     if out.write_all(text.as_bytes()).is_err() {
         return 6;
     }
@@ -78,7 +111,13 @@ fn tell_answer<O: Write, E: Write>(
     answer: &Answer,
     out: &mut O,
     err: &mut E,
-) -> u8 {
+) -> u8
+    ensures status { (result ≡ answer.now.status) ⊎ (result ≡ 5) ⊎ (result ≡ 6) }
+    ensures quiet { (result ≡ answer.now.status) ⊎ (result ≡ 6)
+        ⊎ (O.contents out.new ≡ O.contents out.old) }
+    ensures page { (result ≡ 5) ⊎ (result ≡ 6) ⊎ Appends (O.contents out.old) (O.contents out.new)
+        (rendered answer.now.report request.now.format request.now.colour) }
+{
     let report = &answer.report;
     let Ok(notes) = notes_of(alloc, report, request.format, request.colour) else {
         return refuse_for_memory(err);
@@ -99,7 +138,9 @@ fn refuse_with<E: Write>(
     colour: Colour,
     status: u8,
     err: &mut E,
-) -> u8 {
+) -> u8
+    ensures { (result ≡ status) ⊎ (result ≡ 5) ⊎ (result ≡ 6) }
+{
     match render_findings(alloc, report, colour) {
         Ok(text) => tell(text.as_str(), status, err),
         Err(_) => refuse_for_memory(err),
@@ -107,7 +148,9 @@ fn refuse_with<E: Write>(
 }
 
 /// Tells a message, and answers a status.
-fn refuse_message<E: Write>(message: Result<String, AllocError>, status: u8, err: &mut E) -> u8 {
+fn refuse_message<E: Write>(message: Result<String, AllocError>, status: u8, err: &mut E) -> u8
+    ensures { (result ≡ status) ⊎ (result ≡ 5) ⊎ (result ≡ 6) }
+{
     match message {
         Ok(text) => tell(text.as_str(), status, err),
         Err(_) => refuse_for_memory(err),
@@ -115,7 +158,9 @@ fn refuse_message<E: Write>(message: Result<String, AllocError>, status: u8, err
 }
 
 /// Tells why a run answers nothing, and answers the exit status.
-fn refuse<E: Write>(alloc: Global, failure: &Failure, colour: Colour, err: &mut E) -> u8 {
+fn refuse<E: Write>(alloc: Global, failure: &Failure, colour: Colour, err: &mut E) -> u8
+    ensures { (result ≡ failure_status failure.now) ⊎ (result ≡ 5) ⊎ (result ≡ 6) }
+{
     match failure {
         Failure::Engines(fault) => refuse_message(format!(in alloc; "error: {fault}\n"), 2, err),
         Failure::Refused(report) => refuse_with(alloc, report, colour, 3, err),
@@ -134,7 +179,13 @@ pub fn perform<O: Write, E: Write>(
     gathered: &Gathered,
     out: &mut O,
     err: &mut E,
-) -> u8 {
+) -> u8
+    ensures status { IsStatus result }
+    ensures quiet { IsAnswerStatus request.now.question result ⊎ (result ≡ 6)
+        ⊎ (O.contents out.new ≡ O.contents out.old) }
+    ensures page { IsAnswerStatus request.now.question result
+        → Tells request.now gathered.now result (O.contents out.old) (O.contents out.new) }
+{
     match answer_of(alloc, request, gathered) {
         Ok(answer) => tell_answer(alloc, request, &answer, out, err),
         Err(failure) => refuse(alloc, &failure, request.colour, err),
@@ -142,7 +193,10 @@ pub fn perform<O: Write, E: Write>(
 }
 
 /// Tells why words are no request, and answers the exit status. Help goes to standard output.
-pub fn refuse_words<O: Write, E: Write>(stop: &ParseStop, out: &mut O, err: &mut E) -> u8 {
+pub fn refuse_words<O: Write, E: Write>(stop: &ParseStop, out: &mut O, err: &mut E) -> u8
+    ensures status { (result ≡ 0) ⊎ (result ≡ 2) ⊎ (result ≡ 5) ⊎ (result ≡ 6) }
+    ensures quiet { (result ≡ 0) ⊎ (result ≡ 6) ⊎ (O.contents out.new ≡ O.contents out.old) }
+{
     match stop {
         ParseStop::Help(text) => tell(text.as_str(), 0, out),
         ParseStop::Usage(text) => tell(text.as_str(), 2, err),
@@ -151,7 +205,9 @@ pub fn refuse_words<O: Write, E: Write>(stop: &ParseStop, out: &mut O, err: &mut
 }
 
 /// Tells why the files of a request were not read, and answers the exit status.
-pub fn refuse_gathering<E: Write>(alloc: Global, fault: &GatherFault, err: &mut E) -> u8 {
+pub fn refuse_gathering<E: Write>(alloc: Global, fault: &GatherFault, err: &mut E) -> u8
+    ensures { (result ≡ 2) ⊎ (result ≡ 5) ⊎ (result ≡ 6) }
+{
     match fault {
         GatherFault::Memory => refuse_for_memory(err),
         fault => refuse_message(format!(in alloc; "error: {fault}\n"), 2, err),

@@ -1,4 +1,11 @@
 //! What all commands begin with: engines, features, and the layers of the files.
+ghost use Rattle.std.specs.Prelude.{◌≡◌, IfOk, IfErr, None, option_map};
+ghost use Rattle.nextest_rules.specs.KnownView.{features_view};
+ghost use Rattle.nextest_sources.specs.Inputs.{load_inputs_view};
+ghost use Rattle.nextest_sources.specs.Sources.{file_view};
+ghost use Rattle.rinqebo_run.specs.Sessions.{files_view, readings, IfLoaded};
+ghost use Rattle.rinqebo_run.specs.Statuses.{IsBeginningFailure};
+
 use crate::answer::Failure;
 use crate::engines::Engines;
 use crate::features::features_of;
@@ -35,7 +42,10 @@ impl<'g> Session<'g> {
         alloc: Global,
         request: &Request<'_>,
         gathered: &'g Gathered,
-    ) -> Result<Session<'g>, Failure> {
+    ) -> Result<Session<'g>, Failure>
+        ensures read { IfOk result (λ session. session.gathered.now ≡ gathered.now) }
+        ensures err { IfErr result IsBeginningFailure }
+    {
         Ok(Session {
             gathered,
             engines: Engines::new(alloc, &request.engines, gathered)?,
@@ -45,7 +55,9 @@ impl<'g> Session<'g> {
     }
 
     /// The engines that read the texts of the files.
-    pub fn parse_context(&self) -> ParseContext<'_, NextestFilters, TargetSpecs> {
+    pub fn parse_context(&self) -> ParseContext<'_, NextestFilters, TargetSpecs>
+        ensures { result.filters.now ≡ self.now.engines.filters }
+    {
         ParseContext {
             filters: &self.engines.filters,
             specs: &TargetSpecs,
@@ -53,12 +65,21 @@ impl<'g> Session<'g> {
     }
 
     /// The repository's file that a user named.
-    fn selection(&self) -> ConfigFileSelection<'_> {
+    fn selection(&self) -> ConfigFileSelection<'_>
+        ensures config_file { option_map (λ file. file_view file.now) result.config_file
+            ≡ option_map file_view self.now.gathered.now.config_file }
+        ensures organisation { result.organisation_file ≡ None }
+    {
         ConfigFileSelection::new(self.gathered.config_file.as_ref())
     }
 
     /// The files of a run, and its features.
-    pub fn inputs(&self) -> Inputs<'_> {
+    pub fn inputs(&self) -> Inputs<'_>
+        ensures root { result.paths.now ≡ self.now.gathered.now.paths }
+        ensures files { load_inputs_view result.paths.now.shared result.selection result.tools.now
+            ≡ files_view self.now.gathered.now }
+        ensures features { result.features.now ≡ self.now.features }
+    {
         Inputs {
             paths: &self.gathered.paths,
             selection: self.selection(),
@@ -72,7 +93,10 @@ impl<'g> Session<'g> {
         &self,
         alloc: Global,
         warnings: &mut W,
-    ) -> Result<Config, ConfigParseError> {
+    ) -> Result<Config, ConfigParseError>
+        ensures { IfLoaded (readings self.now.engines.filters) (features_view self.now.features)
+            (files_view self.now.gathered.now) result }
+    {
         let inputs = ConfigInputs {
             shared: &self.gathered.paths.shared,
             selection: self.selection(),
