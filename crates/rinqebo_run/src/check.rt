@@ -1,5 +1,6 @@
 //! What is wrong with files.
 ghost use Rattle.std.specs.Prelude.{◌≡◌, ◌⊎◌, IfOk, IfErr};
+ghost use Rattle.nextest_sources.specs.Endings.{IsMemory};
 ghost use Rattle.rinqebo_run.specs.Checked.{IsCheckStatus};
 ghost use Rattle.rinqebo_run.specs.Statuses.{IsBeginningFailure};
 
@@ -149,6 +150,38 @@ fn status_of(findings: &[Finding], deny_warnings: bool) -> u8
     }
 }
 
+/// The answer of a check whose load accepts.
+fn accepted(
+    alloc: Global,
+    session: &Session<'_>,
+    warnings: &DefaultConfigWarnings,
+    deny_warnings: bool,
+) -> Result<Answer, AllocError>
+    ensures { IfOk result (λ answer. (answer.status ≡ 0) ⊎ (answer.status ≡ 1)) }
+{
+    let findings = warning_findings(alloc, &session.layers, warnings)?;
+    let status = status_of(&findings, deny_warnings);
+    let report = report_of(alloc, session, findings, Vec::new(alloc))?;
+    Ok(Answer { report, status })
+}
+
+/// The answer of a check whose load refuses.
+fn refused(
+    alloc: Global,
+    session: &Session<'_>,
+    warnings: &DefaultConfigWarnings,
+    error: &ConfigParseError,
+) -> Result<Answer, AllocError>
+    ensures status { IfOk result (λ answer. answer.status ≡ 3) }
+    ensures cause { IfOk result (λ _. ¬ IsMemory error.now) }
+{
+    if error.config_file().is_none() {
+        return Err(AllocError);
+    }
+    let report = report_of_refusal(alloc, session, warnings, error)?;
+    Ok(Answer { report, status: 3 })
+}
+
 /// What is wrong with the files.
 pub fn check(
     alloc: Global,
@@ -159,17 +192,12 @@ pub fn check(
     ensures err { IfErr result IsBeginningFailure }
 {
     let mut warnings = DefaultConfigWarnings::new(alloc);
-    match session.load(alloc, &mut warnings) {
-        Ok(_) => {
-            let findings = warning_findings(alloc, &session.layers, &warnings)?;
-            let status = status_of(&findings, deny_warnings);
-            let report = report_of(alloc, session, findings, Vec::new(alloc))?;
-            Ok(Answer { report, status })
-        }
-        Err(error) if error.config_file().is_none() => Err(Failure::Memory),
-        Err(error) => {
-            let report = report_of_refusal(alloc, session, &warnings, &error)?;
-            Ok(Answer { report, status: 3 })
-        }
+    let answer = match session.load(alloc, &mut warnings) {
+        Ok(_) => accepted(alloc, session, &warnings, deny_warnings),
+        Err(error) => refused(alloc, session, &warnings, &error),
+    };
+    match answer {
+        Ok(answer) => Ok(answer),
+        Err(_) => Err(Failure::Memory),
     }
 }

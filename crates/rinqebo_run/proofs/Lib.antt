@@ -1,0 +1,3 @@
+pub mod Statuses
+pub mod Loads
+pub mod Rows
