@@ -16,6 +16,7 @@ use crate::request::{Request, TestName};
 use crate::rules::{chain_of_profile, copied_names};
 use crate::session::{Config, Session};
 use crate::values::{reported_if_set, value_in_row};
+use crate::wrappers::wrapping_origin;
 use nextest_config::run::{PlainSource, TestRow, resolve};
 use nextest_config::{
     BuildPlatform, ConfigSource, DefaultConfigWarnings, NextestRunMode, Setting,
@@ -47,26 +48,48 @@ pub fn override_origin(
     }))
 }
 
+/// What a row's settings are told with: the layers, the chain of the profile, and where the script
+/// rule stands that wraps the run of the test.
+#[derive(Drop)]
+struct Grounds<'g> {
+    layers: &'g [Layer],
+    chain: &'g [&'g str],
+    wrapping: Option<Origin>,
+}
+
+/// Where the run wrapper comes from.
+fn wrapping_origins(alloc: Global, wrapping: &Option<Origin>) -> Result<Vec<Origin>, AllocError> {
+    let mut origins = Vec::new(alloc);
+    if let Some(Origin::Written(written)) = wrapping {
+        origins.push(Origin::Written(Written {
+            place: written.place,
+            profile: written.profile.clone()?,
+            part: written.part,
+        }))?;
+    }
+    Ok(origins)
+}
+
 /// Where the value of a setting comes from.
 fn origins_of(
     alloc: Global,
-    layers: &[Layer],
-    chain: &[&str],
+    grounds: &Grounds<'_>,
     source: Option<&PlainSource>,
     key: SettingKey,
 ) -> Result<Vec<Origin>, AllocError> {
     match source {
-        None | Some(PlainSource::Script) => Ok(Vec::new(alloc)),
+        None => Ok(Vec::new(alloc)),
+        Some(PlainSource::Script) => wrapping_origins(alloc, &grounds.wrapping),
         Some(PlainSource::Default) => built_in(alloc),
-        Some(PlainSource::Profile) => profile_grounds(alloc, layers, chain, key),
+        Some(PlainSource::Profile) => profile_grounds(alloc, grounds.layers, grounds.chain, key),
         Some(PlainSource::Override {
             source,
             profile,
             index,
         }) => {
             let mut origins = Vec::new(alloc);
-            let origin = override_origin(alloc, layers, source, profile.as_str(), *index)?;
-            origins.push(origin)?;
+            let profile = profile.as_str();
+            origins.push(override_origin(alloc, grounds.layers, source, profile, *index)?)?;
             Ok(origins)
         }
     }
@@ -75,8 +98,7 @@ fn origins_of(
 /// A setting of a row.
 fn setting_row(
     alloc: Global,
-    layers: &[Layer],
-    chain: &[&str],
+    grounds: &Grounds<'_>,
     row: &TestRow,
     setting: Setting,
     mode: NextestRunMode,
@@ -87,15 +109,14 @@ fn setting_row(
     Ok(SettingRow {
         key: key.text(alloc)?,
         value: reported_if_set(alloc, value_in_row(row, setting))?,
-        origins: origins_of(alloc, layers, chain, row.source(setting), key)?,
+        origins: origins_of(alloc, grounds, row.source(setting), key)?,
     })
 }
 
 /// Settings of a row, in the order in which they are asked for.
 fn setting_rows(
     alloc: Global,
-    layers: &[Layer],
-    chain: &[&str],
+    grounds: &Grounds<'_>,
     row: &TestRow,
     settings: &[Setting],
     mode: NextestRunMode,
@@ -104,7 +125,7 @@ fn setting_rows(
 {
     let mut rows = Vec::new(alloc);
     for setting in settings {
-        rows.push(setting_row(alloc, layers, chain, row, *setting, mode)?)?;
+        rows.push(setting_row(alloc, grounds, row, *setting, mode)?)?;
     }
     Ok(rows)
 }
@@ -177,8 +198,7 @@ fn row_of_test(
 /// The settings of a test, as they are reported.
 fn test_rows(
     alloc: Global,
-    layers: &[Layer],
-    chain: &[&str],
+    grounds: &Grounds<'_>,
     rows: &[TestRow],
     test: &TestName<'_>,
     settings: &[Setting],
@@ -188,7 +208,7 @@ fn test_rows(
         → IsTestTold row test.now settings.now told) }
 {
     let told = match rows.first() {
-        Some(row) => setting_rows(alloc, layers, chain, row, settings, test.mode)?,
+        Some(row) => setting_rows(alloc, grounds, row, settings, test.mode)?,
         None => Vec::new(alloc),
     };
     Ok(TestRows {
@@ -224,9 +244,14 @@ pub fn explain(
     let config = load_again(alloc, session)?;
     let chain = chain_of_profile(alloc, &config, profile)?;
     let findings = warning_findings(alloc, &session.layers, &warnings)?;
+    let grounds = Grounds {
+        layers: &session.layers,
+        chain: &chain,
+        wrapping: wrapping_origin(alloc, session, &config, &chain, test)?,
+    };
     let content = Content::Explain {
         asked: asked_of(alloc, request, profile, &chain, test.mode)?,
-        test: test_rows(alloc, &session.layers, &chain, &rows, test, settings)?,
+        test: test_rows(alloc, &grounds, &rows, test, settings)?,
     };
     Ok(Report {
         root: session.gathered.paths.workspace_root.clone()?,

@@ -8,6 +8,7 @@
 mod answer;
 mod binary;
 mod check;
+mod conditions;
 mod engines;
 mod environment;
 mod explain;
@@ -31,6 +32,7 @@ mod rules;
 mod session;
 mod values;
 mod why;
+mod wrappers;
 
 pub use environment::Environment;
 pub use gather::{GatherFault, Gathered, gather};

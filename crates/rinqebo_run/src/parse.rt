@@ -168,7 +168,10 @@ fn format<'a>(matches: &ArgMatches<'a>, environment: &'a Environment) -> Format<
     match matches.get_str("format") {
         Some("json") => Format::Json,
         Some("concise") => Format::Concise,
-        Some("github") => Format::Github(set(&environment.workflow_folder).unwrap_or("")),
+        Some("github") => {
+            let folder = environment.folder.as_str();
+            Format::Github(set(&environment.workflow_folder).unwrap_or(folder))
+        }
         _ => Format::Text,
     }
 }

@@ -2,6 +2,7 @@
 use crate::answer::Failure;
 use crate::binary::query_of;
 use crate::check::{failure_of_load, failure_of_profile};
+use crate::conditions::{Answers, Asking, answers_of, default_filter};
 use crate::explain::{asked_of, override_origin};
 use crate::fallback::fallback_value;
 use crate::findings::warning_findings;
@@ -11,115 +12,24 @@ use crate::layers::{Layer, host_text, place_of, rule_at, sources_of, target_text
 use crate::request::{Request, TestName};
 use crate::rules::{chain_of_profile, missing_profile};
 use crate::session::{Config, Session};
-use crate::values::{reported_if_set, written_value};
-use nextest_config::{
-    BuildPlatform, BuildPlatforms, CompiledOverride, DefaultConfigWarnings, EvalContext, Filters,
-    Setting, Specs, TestQuery, Tree,
-};
-use nextest_filters::{NextestFilters, NextestTally};
-use nextest_settings::{default_filter_of, evaluate_overrides, nearest_filter, rules_of};
+use crate::values::{SettingValue, reported_if_set, written_value};
+use nextest_config::{CompiledOverride, DefaultConfigWarnings, NextestRunMode, Setting, Tree};
+use nextest_filters::NextestFilters;
+use nextest_settings::rules_of;
 use rinqebo_report::{Condition, ConditionAnswer, Content, Origin, Report, Rule, Verdict};
 use rule_verdicts::{RuleFacts, verdicts_of};
 use std::alloc::{AllocError, Global};
 use target_language::TargetSpecs;
-use target_platforms::Platform;
 
 /// An override of a configuration.
 type Override = CompiledOverride<NextestFilters, TargetSpecs>;
 
-/// What rules are held against: a test, on the platforms of a build, and a setting.
-#[derive(Clone, Copy)]
-struct Asking<'a> {
-    platforms: &'a BuildPlatforms<Platform>,
-    test: &'a TestName<'a>,
-    query: &'a TestQuery<'a>,
-    setting: Setting,
-}
-
-/// What the conditions of a rule say.
-#[derive(Clone, Copy)]
-struct Answers {
-    host: ConditionAnswer,
-    target: ConditionAnswer,
-    filter: ConditionAnswer,
-}
-
-/// What a platform says to a spec.
-fn spec_answer(
-    spec: &Option<<TargetSpecs as Specs>::Spec>,
-    platform: &Platform,
-) -> ConditionAnswer {
-    match spec {
-        None => ConditionAnswer::Absent,
-        Some(spec) => match <TargetSpecs as Specs>::eval(spec, platform) {
-            Some(true) => ConditionAnswer::Yes,
-            Some(false) => ConditionAnswer::No,
-            None => ConditionAnswer::Unknown,
-        },
-    }
-}
-
-/// The platform on which binaries run that are built for a platform.
-fn runs_on(platforms: &BuildPlatforms<Platform>, build: BuildPlatform) -> &Platform {
-    match (build, &platforms.target) {
-        (BuildPlatform::Target, Some(target)) => target,
-        (BuildPlatform::Target, None) | (BuildPlatform::Host, _) => &platforms.host,
-    }
-}
-
-/// Whether a condition does not stand against a rule.
-fn is_met(answer: ConditionAnswer) -> bool {
-    !matches!(answer, ConditionAnswer::No)
-}
-
-/// What the filter of a rule says of a test.
-fn filter_answer(
-    rule: &Override,
-    query: &TestQuery<'_>,
-    cx: &EvalContext<'_, <NextestFilters as Filters>::Expr>,
-) -> ConditionAnswer {
-    let Some(filter) = rule.filter() else {
-        return ConditionAnswer::Absent;
-    };
-    let mut tally = NextestTally::new();
-    if <NextestFilters as Filters>::matches_test(filter, 0, query, cx, &mut tally) {
-        ConditionAnswer::Yes
-    } else {
-        ConditionAnswer::No
-    }
-}
-
-/// What the conditions of a rule say. The filter is asked where the platforms hold.
-fn answers_of(
-    rule: &Override,
-    asking: &Asking<'_>,
-    cx: &EvalContext<'_, <NextestFilters as Filters>::Expr>,
-) -> Answers {
-    let specs = rule.platforms();
-    let host = spec_answer(&specs.host, &asking.platforms.host);
-    let runs_on = runs_on(asking.platforms, asking.test.platform);
-    let target = spec_answer(&specs.target, runs_on);
-    let filter = if is_met(host) && is_met(target) {
-        filter_answer(rule, asking.query, cx)
-    } else {
-        ConditionAnswer::Unasked
-    };
-    Answers {
-        host,
-        target,
-        filter,
-    }
-}
-
-/// What is known of a rule.
-fn facts_of(rule: &Override, asking: &Asking<'_>, answers: Answers) -> RuleFacts {
+/// What is known of a rule, where a setting is asked for.
+fn facts_of(rule: &Override, setting: Setting, mode: NextestRunMode, answers: Answers) -> RuleFacts {
     RuleFacts {
-        is_on: is_met(answers.host) && is_met(answers.target),
-        matches: matches!(
-            answers.filter,
-            ConditionAnswer::Yes | ConditionAnswer::Absent
-        ),
-        writes: written_value(rule.settings(), asking.setting, asking.test.mode).is_some(),
+        is_on: answers.is_on(),
+        matches: answers.matches(),
+        writes: written_value(rule.settings(), setting, mode).is_some(),
     }
 }
 
@@ -164,14 +74,13 @@ fn reported_rule(
     alloc: Global,
     layers: &[Layer],
     rule: &Override,
-    asking: &Asking<'_>,
+    value: Option<SettingValue<'_>>,
     answers: Answers,
     verdict: rule_verdicts::Verdict,
 ) -> Result<Rule, AllocError> {
     let id = rule.id();
     let profile = id.profile_name.as_str();
     let table = table_of(layers, rule);
-    let value = written_value(rule.settings(), asking.setting, asking.test.mode);
     Ok(Rule {
         verdict: reported_verdict(verdict),
         origin: override_origin(alloc, layers, &id.config_source, profile, id.index)?,
@@ -187,11 +96,10 @@ fn all_answers(
     alloc: Global,
     rules: &[&Override],
     asking: &Asking<'_>,
-    cx: &EvalContext<'_, <NextestFilters as Filters>::Expr>,
 ) -> Result<Vec<Answers>, AllocError> {
     let mut all = Vec::new(alloc);
     for rule in rules {
-        all.push(answers_of(*rule, asking, cx))?;
+        all.push(answers_of(rule.platforms(), rule.filter(), asking))?;
     }
     Ok(all)
 }
@@ -200,12 +108,13 @@ fn all_answers(
 fn all_verdicts(
     alloc: Global,
     rules: &[&Override],
-    asking: &Asking<'_>,
+    setting: Setting,
+    mode: NextestRunMode,
     answers: &[Answers],
 ) -> Result<Vec<rule_verdicts::Verdict>, AllocError> {
     let mut facts = Vec::new(alloc);
     for (rule, answers) in rules.iter().zip(answers) {
-        facts.push(facts_of(*rule, asking, *answers))?;
+        facts.push(facts_of(*rule, setting, mode, *answers))?;
     }
     verdicts_of(alloc, &facts)
 }
@@ -213,25 +122,20 @@ fn all_verdicts(
 /// The rules of a profile, each with its verdict.
 fn reported_rules(
     alloc: Global,
-    session: &Session<'_>,
-    config: &Config,
-    chain: &[&str],
+    layers: &[Layer],
+    rules: &[&Override],
+    setting: Setting,
     asking: &Asking<'_>,
 ) -> Result<Vec<Rule>, AllocError> {
-    let layers = config.layers();
-    let rules = rules_of(alloc, layers, chain)?;
-    let evaluated = evaluate_overrides(alloc, &rules.overrides, asking.platforms)?;
-    let nearest = nearest_filter(layers, chain);
-    let filter = default_filter_of(&evaluated, nearest, config.match_all());
-    let cx = EvalContext {
-        default_filter: filter.expr,
-    };
-    let answers = all_answers(alloc, &rules.overrides, asking, &cx)?;
-    let verdicts = all_verdicts(alloc, &rules.overrides, asking, &answers)?;
+    let mode = asking.test.mode;
+    let answers = all_answers(alloc, rules, asking)?;
+    let verdicts = all_verdicts(alloc, rules, setting, mode, &answers)?;
     let mut reported = Vec::new(alloc);
-    for ((rule, answers), verdict) in rules.overrides.iter().zip(&answers).zip(&verdicts) {
-        let rule = reported_rule(alloc, &session.layers, *rule, asking, *answers, *verdict)?;
-        reported.push(rule)?;
+    for ((rule, answers), verdict) in rules.iter().zip(&answers).zip(&verdicts) {
+        let value = written_value(rule.settings(), setting, mode);
+        reported.push(reported_rule(
+            alloc, layers, *rule, value, *answers, *verdict,
+        )?)?;
     }
     Ok(reported)
 }
@@ -261,19 +165,42 @@ fn fallback_rule(
     session: &Session<'_>,
     config: &Config,
     chain: &[&str],
-    asking: &Asking<'_>,
+    setting: Setting,
+    mode: NextestRunMode,
 ) -> Result<Rule, AllocError> {
-    let mode = asking.test.mode;
-    let key = SettingKey::of(asking.setting, mode);
-    let value = fallback_value(alloc, config, chain, asking.setting, mode)?;
+    let key = SettingKey::of(setting, mode);
+    let value = fallback_value(alloc, config, chain, setting, mode)?;
     Ok(Rule {
         verdict: Verdict::Fallback,
-        origin: fallback_origin(alloc, &session.layers, chain, asking.setting, key)?,
+        origin: fallback_origin(alloc, &session.layers, chain, setting, key)?,
         host: condition(alloc, None, ConditionAnswer::Absent)?,
         target: condition(alloc, None, ConditionAnswer::Absent)?,
         filter: condition(alloc, None, ConditionAnswer::Absent)?,
         value: reported_if_set(alloc, value)?,
     })
+}
+
+/// All rules of a setting, and then what counts where none decides.
+fn rules_and_fallback(
+    alloc: Global,
+    session: &Session<'_>,
+    config: &Config,
+    chain: &[&str],
+    test: &TestName<'_>,
+    setting: Setting,
+) -> Result<Vec<Rule>, AllocError> {
+    let platforms = &session.engines.platforms;
+    let asking = Asking {
+        platforms,
+        test,
+        query: &query_of(test),
+        default_filter: default_filter(alloc, config, chain, platforms)?,
+    };
+    let rules = rules_of(alloc, config.layers(), chain)?;
+    let mut reported = reported_rules(alloc, &session.layers, &rules.overrides, setting, &asking)?;
+    let fallback = fallback_rule(alloc, session, config, chain, setting, test.mode)?;
+    reported.push(fallback)?;
+    Ok(reported)
 }
 
 /// The rules of a setting, and what comes of each.
@@ -295,20 +222,10 @@ pub fn why(
         return Err(failure_of_profile(alloc, session, &warnings, &missing)?);
     }
     let chain = chain_of_profile(alloc, &config, profile)?;
-    let query = query_of(test);
-    let asking = Asking {
-        platforms: &session.engines.platforms,
-        test,
-        query: &query,
-        setting,
-    };
-    let mut rules = reported_rules(alloc, session, &config, &chain, &asking)?;
-    let fallback = fallback_rule(alloc, session, &config, &chain, &asking)?;
-    rules.push(fallback).map_err(AllocError::from)?;
     let content = Content::Why {
         asked: asked_of(alloc, request, profile, &chain, test.mode)?,
         key: SettingKey::of(setting, test.mode).text(alloc)?,
-        rules,
+        rules: rules_and_fallback(alloc, session, &config, &chain, test, setting)?,
     };
     Ok(Report {
         root: session.gathered.paths.workspace_root.clone()?,
