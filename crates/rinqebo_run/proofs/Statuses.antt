@@ -1,13 +1,15 @@
 -- Exit statuses: those of answers, and those of failures.
-use Rattle.std.proofs.Common.{◌≡◌, ◌⊎◌, ◌≤◌, inl, inr, ℕ, List, Option, arith, subst, sym}
+use Rattle.std.proofs.Common.{◌≡◌, ◌⊎◌, ◌≤◌, inl, inr, ℕ, List, Option, Result, Ok, Err, IfOk, arith, subst, sym}
 use Rattle.std.specs.Io.KnownBytes.{Appends}
+use Rattle.std.specs.Result.{result_map_both}
 use Rattle.rinqebo_report.specs.Rendered.{rendered}
 use Rattle.rinqebo_report.specs.declared.report.Report.{Report}
 use Rattle.rinqebo_run.specs.Answered.{AnswersQuestion, IsAnswer, Tells}
 use Rattle.rinqebo_run.specs.Statuses.{IsAnswerStatus, IsBeginningFailure, IsFailureOf, failure_status}
+use Rattle.rinqebo_run.specs.declared.answer.Answer.{Answer}
 use Rattle.rinqebo_run.specs.declared.answer.Failure.{Failure}
 use Rattle.rinqebo_run.specs.declared.answer.Failure.TheVariants as failures
-use Rattle.rinqebo_run.specs.declared.gather.Gathered.{Gathered}
+use Rattle.rinqebo_run.specs.declared.files.Gathered.{Gathered}
 use Rattle.rinqebo_run.specs.declared.request.Question.{Question}
 use Rattle.rinqebo_run.specs.declared.request.Question.TheVariants as questions
 use Rattle.rinqebo_run.specs.declared.request.Request.{Request}
@@ -127,3 +129,11 @@ module _ (q : Question) (f : Failure) (n : ℕ) (can : IsFailureOf q f) where
   failed_silent (inl same) is = absurd (no_failure q f can (subst (IsAnswerStatus q) same is))
   failed_silent (inr (inl five)) is = absurd (no_five q (subst (IsAnswerStatus q) five is))
   failed_silent (inr (inr six)) is = absurd (no_six q (subst (IsAnswerStatus q) six is))
+
+-- an answer that is a report answers what the report tells
+pub answered_by : (report : Result Report Failure) (answer : Result Answer Failure) (P : Report → Type 0)
+    → IfOk report P → IfOk answer (λ a. a.status ≡ 0)
+    → result_map_both (λ a. a.report) (λ f. f) answer ≡ report
+    → IfOk answer (λ a. (a.status ≡ 0) × P a.report)
+answered_by report (Ok answer) P tells zero same = (zero, subst (λ r. IfOk r P) (sym same) tells)
+answered_by report (Err failure) P tells zero same = tt

@@ -5,7 +5,7 @@ use Rattle.rinqebo_report.specs.Rendered.{rendered}
 use Rattle.rinqebo_report.specs.declared.report.Report.{Report}
 use Rattle.rinqebo_run.specs.Checked.{IsCheckStatus}
 use Rattle.rinqebo_run.specs.Explained.{Explains}
-use Rattle.rinqebo_run.specs.declared.gather.Gathered.{Gathered}
+use Rattle.rinqebo_run.specs.declared.files.Gathered.{Gathered}
 use Rattle.rinqebo_run.specs.declared.request.Question.{Question}
 use Rattle.rinqebo_run.specs.declared.request.Question.TheVariants as questions
 use Rattle.rinqebo_run.specs.declared.request.Request.{Request}

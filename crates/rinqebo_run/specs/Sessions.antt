@@ -15,7 +15,7 @@ use Rattle.target_language.specs.Messages.{spec_read}
 use Rattle.target_language.specs.Values.{spec_value}
 use Rattle.target_platforms.specs.Platforms.{platform_view}
 use Rattle.target_platforms.specs.declared.Platform.{Platform}
-use Rattle.rinqebo_run.specs.declared.gather.Gathered.{Gathered}
+use Rattle.rinqebo_run.specs.declared.files.Gathered.{Gathered}
 
 -- the files of a load, as they were read: none is the organisation's
 abbrev pub files_view : Gathered → LoadInputs

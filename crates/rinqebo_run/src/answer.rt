@@ -26,12 +26,21 @@ pub enum Failure {
 }
 
 impl From<AllocError> for Failure {
+    ghost use Rattle.std.specs.Prelude.{◌≡◌};
+    ghost use Rattle.rinqebo_run.specs.declared.answer.Failure.TheVariants.{Memory};
+
+    ghost from_gives = { λ _ failure. failure ≡ Memory };
+
     fn from(_error: AllocError) -> Failure {
         Failure::Memory
     }
 }
 
 impl From<EngineFault> for Failure {
+    ghost use Rattle.rinqebo_run.specs.Statuses.{IsBeginningFailure};
+
+    ghost from_gives = { λ _ failure. IsBeginningFailure failure };
+
     fn from(fault: EngineFault) -> Failure {
         match fault {
             EngineFault::Memory => Failure::Memory,

@@ -1,5 +1,5 @@
 //! The languages of filters and platforms, as a request has them.
-use crate::gather::Gathered;
+use crate::files::Gathered;
 use crate::request::EngineOptions;
 use nextest_config::BuildPlatforms;
 use nextest_filters::{MetadataFault, NextestFilters, PackageGraph};

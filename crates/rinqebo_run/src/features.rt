@@ -1,5 +1,5 @@
 //! The experimental features of a run.
-use crate::gather::Gathered;
+use crate::files::Gathered;
 use crate::layers::tree_of;
 use nextest_config::{ConfigExperimental, ReadOutcome, Tree};
 use std::alloc::{AllocError, Global};

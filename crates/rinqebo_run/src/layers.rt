@@ -1,5 +1,5 @@
 //! The sources of a run, with the trees of their texts.
-use crate::gather::Gathered;
+use crate::files::Gathered;
 use nextest_config::{
     ConfigPath, ConfigSource, ConfigSourceKind, DEFAULT_CONFIG, ReadOutcome, ToolName, Tree,
 };

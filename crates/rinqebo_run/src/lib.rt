@@ -16,28 +16,28 @@ mod expressions;
 mod fallback;
 mod fault_words;
 mod features;
+mod files;
 mod findings;
-mod gather;
 mod grounds;
 mod hints;
 mod keys;
 mod layers;
 mod options;
-mod parse;
-mod perform;
 mod refusals;
 mod request;
 mod root;
 mod rules;
+mod run;
 mod session;
 mod values;
 mod why;
+mod words;
 mod wrappers;
 
 pub use environment::Environment;
-pub use gather::{GatherFault, Gathered, gather};
-pub use parse::{ParseStop, parse};
-pub use perform::{perform, refuse_gathering, refuse_words};
+pub use files::{GatherFault, Gathered, gather};
 pub use request::{
     ConfigFile, EngineOptions, FileOptions, Question, Request, TestName, ToolFile,
 };
+pub use run::{perform, refuse_gathering, refuse_words};
+pub use words::{ParseStop, parse};

@@ -9,7 +9,7 @@ ghost use Rattle.rinqebo_run.specs.Statuses.{IsBeginningFailure};
 use crate::answer::Failure;
 use crate::engines::Engines;
 use crate::features::features_of;
-use crate::gather::Gathered;
+use crate::files::Gathered;
 use crate::layers::{Layer, layers_of};
 use crate::request::Request;
 use nextest_config::run::Inputs;

@@ -1,7 +1,7 @@
 //! Answers a request, and writes what it answers.
 ghost use Rattle.std.specs.Prelude.{◌≡◌, ◌⊎◌, IsOk, IfOk, IfErr};
 ghost use Rattle.std.specs.Io.KnownBytes.{Appends};
-ghost use Rattle.std.specs.Result.{result_map};
+ghost use Rattle.std.specs.Result.{result_map_both};
 ghost use Rattle.rinqebo_report.specs.Rendered.{rendered};
 ghost use Rattle.rinqebo_run.specs.Answered.{AnswersQuestion, IsAnswer, Tells};
 ghost use Rattle.rinqebo_run.specs.Statuses.{IsStatus, IsAnswerStatus, IsFailureOf, failure_status};
@@ -9,8 +9,8 @@ ghost use Rattle.rinqebo_run.specs.Statuses.{IsStatus, IsAnswerStatus, IsFailure
 use crate::answer::{Answer, Failure};
 use crate::check::check;
 use crate::explain::explain;
-use crate::gather::{GatherFault, Gathered};
-use crate::parse::ParseStop;
+use crate::files::{GatherFault, Gathered};
+use crate::words::ParseStop;
 use crate::request::{Question, Request};
 use crate::session::Session;
 use crate::why::why;
@@ -22,7 +22,8 @@ use std::io::{self, Write};
 /// The answer that is a report, where a run succeeds.
 fn answered(report: Result<Report, Failure>) -> Result<Answer, Failure>
     ensures status { IfOk result (λ answer. answer.status ≡ 0) }
-    ensures report { result_map (λ answer. answer.report) result ≡ report }
+    ensures report { result_map_both (λ answer. answer.report) (λ failure. failure) result
+        ≡ report }
 {
     match report {
         Ok(report) => Ok(Answer { report, status: 0 }),
