@@ -13,3 +13,11 @@ pub mod Hex
 pub mod Cuts
 pub mod Turns
 pub mod Marks
+pub mod Spelled
+pub mod Escapes
+pub mod BodiesRead
+pub mod PredicatesRead
+pub mod PredicatesSpelled
+pub mod MarksRead
+pub mod MarksSpelled
+pub mod Writings

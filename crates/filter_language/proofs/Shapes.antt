@@ -11,7 +11,7 @@ use Rattle.filter_language.specs.Nesting.{Shape, start_shape, shape_step, shape_
 use Rattle.filter_language.proofs.Readings.{read_is_spelled}
 
 -- What stands open where marks were read so far.
-abbrev shape_of : {L : Type 0} → Progress L → Shape
+abbrev pub shape_of : {L : Type 0} → Progress L → Shape
 shape_of (Wanted l outer) = record { around = l.around; nots = l.nots; wants = true; outer = map (λ k. k.around) outer }
 shape_of (Complete n f k outer) = record { around = n; nots = 0; wants = false; outer = map (λ k. k.around) outer }
 

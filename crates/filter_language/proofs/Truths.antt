@@ -7,7 +7,7 @@ use Rattle.filter_language.specs.declared.words.Field.{Field}
 use Rattle.filter_language.specs.declared.words.Field.TheVariants.{TestName, Package, Deps, Rdeps, BinaryId, BinaryName, Kind, Group}
 use Rattle.filter_language.specs.Formula.{Question, Always, Never, TheDefault, OfPlatform, OfName, Formula, Asks, Negated, Both, Either, Without, Grouped}
 use Rattle.filter_language.specs.Values.{known_and, known_or, same_platform, field_answer, answer, value, of_test, of_binary}
-use Rattle.filter_language.specs.Truth.{NameHas, Answers, Holds, Tells, Needs, a_test, the_default, under, within, both_left, both_right, either_left, either_right, without_left, without_right, ValuesAreTrue, BinariesSpeakForTests, OnlyTestsAreUnknown}
+use Rattle.filter_language.specs.Truth.{NameHas, Answers, Holds, Tells, Needs, a_test, the_default, under, within, both_left, both_right, either_left, either_right, without_left, without_right, ValuesAreTrue, BinariesSpeakForTests, OnlyTestsAreUnknown, OppositesChangePlaces}
 
 -- A test of names tells whether the name of a field passes.
 bool_tells : (b : Bool) → Tells (Some b) (b ≡ true)
@@ -195,3 +195,22 @@ value_known accepts (Without a b) binary d needless =
 
 pub only_tests : {L : Type 0} (accepts : L → List ℕ → Bool) → OnlyTestsAreUnknown accepts
 only_tests accepts f default binary needless = value_known accepts f binary _ needless
+
+-- Opposites of known and unknown values.
+not_or : (x y : Option Bool) → option_map not (known_or x y) ≡ known_and (option_map not x) (option_map not y)
+not_or (Some true) y = refl
+not_or (Some false) y = refl
+not_or None (Some true) = refl
+not_or None (Some false) = refl
+not_or None None = refl
+
+not_and : (x y : Option Bool) → option_map not (known_and x y) ≡ known_or (option_map not x) (option_map not y)
+not_and (Some true) y = refl
+not_and (Some false) y = refl
+not_and None (Some true) = refl
+not_and None (Some false) = refl
+not_and None None = refl
+
+pub opposites_change : {L : Type 0} (accepts : L → List ℕ → Bool) → OppositesChangePlaces accepts
+opposites_change accepts s a b =
+    (not_or (value accepts s a) (value accepts s b), not_and (value accepts s a) (value accepts s b))

@@ -16,4 +16,5 @@ pub mod Arguments
 pub mod Predicates
 pub mod Filters
 pub mod Messages
+pub mod Writing
 pub mod Decided

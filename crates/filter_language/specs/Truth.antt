@@ -4,7 +4,7 @@ use Rattle.nextest_engines.specs.Engines.{Binary, Test}
 use Rattle.filter_language.specs.declared.words.Field.{Field}
 use Rattle.filter_language.specs.declared.words.Field.TheVariants.{TestName, Package, Deps, Rdeps, BinaryId, BinaryName, Kind, Group}
 use Rattle.filter_language.specs.Formula.{Pattern, Question, Always, Never, TheDefault, OfPlatform, OfName, Formula, Asks, Negated, Both, Either, Without, Grouped}
-use Rattle.filter_language.specs.Values.{package_name, of_test, of_binary, value_beside}
+use Rattle.filter_language.specs.Values.{Subject, package_name, of_test, of_binary, value, value_beside}
 
 -- Something holds of the name that a field has at a test. No test is in a group.
 abbrev pub NameHas : (List ℕ → Type 0) → Field → Test → Type 0
@@ -75,3 +75,10 @@ pub data Needs (L : Type 0) : Formula L → Type 0 where
 abbrev pub OnlyTestsAreUnknown : {L : Type 0} → (L → List ℕ → Bool) → Type 0
 OnlyTestsAreUnknown {L} accepts = (f default : Formula L) (binary : Binary)
     → ¬ (Needs L f) → IsSome (value_beside accepts (of_binary binary) default f)
+
+-- `not` of an `or` has the value of the `and` of the opposites, and the other way round, of a test
+-- and of a binary alike.
+abbrev pub OppositesChangePlaces : {L : Type 0} → (L → List ℕ → Bool) → Type 0
+OppositesChangePlaces {L} accepts = (s : Subject) (a b : Formula L)
+    → (value accepts s (Negated (Either a b)) ≡ value accepts s (Both (Negated a) (Negated b)))
+    × (value accepts s (Negated (Both a b)) ≡ value accepts s (Either (Negated a) (Negated b)))

@@ -40,8 +40,6 @@ pub enum FaultKind {
     InvalidGlob,
     /// A malformed regex.
     InvalidRegex,
-    /// A pattern of a form that the engine does not answer.
-    NotBrought,
     /// A regex without its closing `/`.
     ExpectedCloseRegex,
     /// A platform that is neither `host` nor `target`.
@@ -170,7 +168,6 @@ impl FaultKind {
             FaultKind::InvalidEscapeCharacter => "InvalidEscapeCharacter",
             FaultKind::InvalidGlob => "InvalidGlob",
             FaultKind::InvalidRegex => "InvalidRegex",
-            FaultKind::NotBrought => "NotBrought",
             FaultKind::ExpectedCloseRegex => "ExpectedCloseRegex",
             FaultKind::InvalidPlatformArgument => "InvalidPlatformArgument",
             FaultKind::InvalidOrOperator => "InvalidOrOperator",
@@ -197,7 +194,6 @@ impl FaultKind {
             FaultKind::InvalidEscapeCharacter => "invalid escape character",
             FaultKind::InvalidGlob => "invalid glob",
             FaultKind::InvalidRegex => "invalid regex",
-            FaultKind::NotBrought => "unsupported pattern",
             FaultKind::ExpectedCloseRegex => "expected close regex",
             FaultKind::InvalidPlatformArgument => "invalid argument for platform",
             FaultKind::InvalidOrOperator => "invalid OR operator",
@@ -224,7 +220,6 @@ impl FaultKind {
             FaultKind::InvalidEscapeCharacter => "invalid escape character",
             FaultKind::InvalidGlob => "invalid glob",
             FaultKind::InvalidRegex => "invalid regex",
-            FaultKind::NotBrought => "patterns of this form are not brought",
             FaultKind::ExpectedCloseRegex => "missing `/`",
             FaultKind::InvalidPlatformArgument => "expected \"target\" or \"host\"",
             FaultKind::InvalidOrOperator => "expected `|`, `+`, or `or`",

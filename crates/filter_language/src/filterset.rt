@@ -1,9 +1,9 @@
 //! Filters.
 ghost use Rattle.std.specs.Prelude.{◌≡◌, ◌↔◌, ◌+◌, ◌≤◌, ◌++◌, true, length, map, string_bytes, option_map, Some, None, Ok, Err, IfOk, IfErr};
 ghost use Rattle.filter_language.specs.Formula.{Formula};
-ghost use Rattle.filter_language.specs.Grammar.{mark_view, Spells, NestsWithin, WritesAFilter};
+ghost use Rattle.filter_language.specs.Grammar.{mark_view, Spells, NestsWithin};
 ghost use Rattle.filter_language.specs.Truth.{HoldsBeside};
-ghost use Rattle.filter_language.specs.Bans.{are_allowed};
+ghost use Rattle.filter_language.specs.Writing.{IsFilter, IsNoFilter};
 ghost use Rattle.filter_language.specs.Filters.{refusal_at, filter_in};
 ghost use Rattle.filter_language.specs.Leaves.{mark_leaves, leaves};
 ghost use Rattle.filter_language.specs.Places.{IfMisread, StandsIn, IfRefused};
@@ -151,9 +151,11 @@ impl<M: Drop> Filterset<M> {
         ensures err { IfErr result (λ fault. IfRefused fault (λ refusal.
             filter_in (E.compiled engine.now) (E.knows_packages engine.now) kind text.now
             ≡ Err refusal)) }
-        ensures filter { IfOk result (λ filter. WritesAFilter (marks_view E.meaning filter)) }
-        ensures allowed { IfOk result (λ filter. are_allowed kind (E.knows_packages engine.now)
-            (marks_view E.meaning filter) ≡ true) }
+        ensures written { IfOk result (λ filter.
+            IsFilter (E.compiled engine.now) (E.knows_packages engine.now) kind text.now
+            (marks_view E.meaning filter)) }
+        ensures unwritten { IfErr result (λ fault. IfRefused fault (λ _.
+            IsNoFilter (E.compiled engine.now) (E.knows_packages engine.now) kind text.now)) }
         ensures span { IfErr result (λ fault. IfRefused fault (λ refusal.
             refusal.span.start + refusal.span.length ≤ length text.now)) }
     {

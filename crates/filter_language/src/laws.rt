@@ -1,11 +1,15 @@
 //! Laws of what filters say.
-ghost use Rattle.std.specs.Prelude.{◌≡◌, ◌≤◌, ◌↔◌, Some, List};
+ghost use Rattle.std.specs.Prelude.{◌≡◌, ◌≤◌, ◌↔◌, ℕ, Bool, Ok, Some, List};
+ghost use Rattle.nextest_engines.specs.declared.queries.FiltersetKind.{FiltersetKind};
 ghost use Rattle.filter_language.specs.Formula.{Formula};
 ghost use Rattle.filter_language.specs.Grammar.{Mark, Spells, nesting};
+ghost use Rattle.filter_language.specs.Predicates.{Compiler};
+ghost use Rattle.filter_language.specs.Filters.{filter_in};
+ghost use Rattle.filter_language.specs.Writing.{Writes, WritesFilter, IsFilter};
 ghost use Rattle.filter_language.specs.Reading.{read};
 ghost use Rattle.filter_language.specs.Values.{value, Subject, answer};
 ghost use Rattle.filter_language.specs.Evaluation.{marks_value};
-ghost use Rattle.filter_language.specs.Truth.{ValuesAreTrue, BinariesSpeakForTests, OnlyTestsAreUnknown};
+ghost use Rattle.filter_language.specs.Truth.{ValuesAreTrue, BinariesSpeakForTests, OnlyTestsAreUnknown, OppositesChangePlaces};
 
 use crate::matchers::Matchers;
 
@@ -13,6 +17,24 @@ use crate::matchers::Matchers;
 pub fn law_grammar<E: Matchers>()
     ensures { (marks : List (Mark E.Meaning)) (f : Formula E.Meaning)
         → (read marks ≡ Some f) ↔ (Spells marks f × (nesting f ≤ 128)) }
+{}
+
+/// A text is read to marks exactly where it writes them, they write a filter that nests within the
+/// bound, and each may stand in a filter of the kind.
+pub fn law_texts<E: Matchers>()
+    ensures { (compiler : Compiler E.Meaning) (knows_packages : Bool) (kind : FiltersetKind)
+        (text : List ℕ) (marks : List (Mark E.Meaning))
+        → (filter_in compiler knows_packages kind text ≡ Ok marks)
+        ↔ IsFilter compiler knows_packages kind text marks }
+{}
+
+/// A text writes one list of marks at most, and one filter at most.
+pub fn law_one_filter<E: Matchers>()
+    ensures marks { (compiler : Compiler E.Meaning) (text : List ℕ)
+        (marks more : List (Mark E.Meaning))
+        → Writes compiler text marks → Writes compiler text more → marks ≡ more }
+    ensures filter { (compiler : Compiler E.Meaning) (text : List ℕ) (f g : Formula E.Meaning)
+        → WritesFilter compiler text f → WritesFilter compiler text g → f ≡ g }
 {}
 
 /// What marks say is the value of the filter that they spell.
@@ -35,4 +57,9 @@ pub fn law_binaries<E: Matchers>()
 /// A filter that asks neither for a test nor for the default filter has an answer for each binary.
 pub fn law_decided<E: Matchers>()
     ensures { OnlyTestsAreUnknown E.accepts }
+{}
+
+/// `not (a or b)` has the value of `not a and not b`, and `not (a and b)` that of `not a or not b`.
+pub fn law_opposites<E: Matchers>()
+    ensures { OppositesChangePlaces E.accepts }
 {}

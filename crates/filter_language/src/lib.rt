@@ -8,13 +8,13 @@
 //! # The seam
 //!
 //! What names a pattern matches is no matter of this crate: an engine implements [`Matchers`]. The
-//! reader asks [`Matchers::compile`] once for each argument, at its end: with the field that is asked, the sign that stands before the text
-//! or that the field has by default, and the text with its escapes resolved (of a regex `\/`
-//! alone). A fault says that the pattern is malformed, and the reader reports `InvalidGlob` or
-//! `InvalidRegex` with the argument's span; or that the engine does not answer such patterns, and the
-//! reader reports `NotBrought`. [`Matchers::has_package_graph`] says whether `deps`
-//! and `rdeps` are answered; where it is false, a text with one is refused by `NoPackageGraph`
-//! after it was read whole, so `compile` is asked for their patterns too.
+//! reader asks [`Matchers::compile`] once for each argument, at its end: with the field that is
+//! asked, the sign that stands before the text or that the field has by default, and the text with
+//! its escapes resolved (of a regex `\/` alone). A fault says that the pattern is malformed, and the
+//! reader reports `InvalidGlob` or `InvalidRegex` with the argument's span.
+//! [`Matchers::has_package_graph`] says whether `deps` and `rdeps` are answered; where it is false,
+//! a text with one is refused by `NoPackageGraph` after it was read whole, so `compile` is asked for
+//! their patterns too.
 //!
 //! A compiled matcher is asked for one name: of the test, of the binary or its id, of its kind, or
 //! of its package. For `deps` and `rdeps` that is the package's name too, and the matcher is the
@@ -33,6 +33,9 @@ mod words;
 
 pub use fault::{Ban, FaultKind, FiltersetFault, ParseFault, Span};
 pub use filterset::Filterset;
-pub use laws::{law_binaries, law_decided, law_grammar, law_marks, law_values};
+pub use laws::{
+    law_binaries, law_decided, law_grammar, law_marks, law_one_filter, law_opposites, law_texts,
+    law_values,
+};
 pub use matchers::{Matchers, PatternFault};
 pub use words::{Field, Sign};

@@ -10,8 +10,6 @@ use std::alloc::{AllocError, Global};
 pub enum PatternFault {
     /// It is malformed.
     Malformed,
-    /// The engine does not answer patterns of this form.
-    NotBrought,
 }
 
 /// An engine of patterns.

@@ -1,5 +1,5 @@
 -- The rules of a source have no fault exactly where they are accepted.
-use Rattle.std.proofs.Common.{◌≡◌, ◌↔◌, ◌⊎◌, ⊎_elim, ℕ, ◌+◌, List, [], ◌∷◌, ◌++◌, length, map, filter, flat_map, Bool, true, false, not, ◌&&◌, ◌||◌, cond, is_some, Option, Some, None, option_to_list, Result, Ok, Err, nat_cmp, refl, ap, subst, inl, inr}
+use Rattle.std.proofs.Common.{◌≡◌, ◌↔◌, ⊎_elim, ℕ, List, [], ◌∷◌, ◌++◌, length, map, filter, flat_map, Bool, true, false, not, ◌&&◌, ◌||◌, cond, is_some, Option, Some, None, option_to_list, Result, Ok, Err, nat_cmp, refl, ap, subst, inl, inr}
 use Rattle.std.specs.Cmp.Lexicographic.{slice_cmp}
 use Rattle.std.specs.List.{enumerate_from}
 use Rattle.std.specs.List.Sorted.{IsStrictlySortedBy}
@@ -17,7 +17,6 @@ use Rattle.nextest_inheritance.specs.Faults.{is_known, AreSoundParents}
 use Rattle.nextest_inheritance.specs.Names.{default_first}
 use Rattle.nextest_inheritance.specs.Parents.{parents_in}
 use Rattle.nextest_inheritance.proofs.Naming.{sound_parents}
-use Rattle.nextest_scripts.specs.declared.script_type.ProfileScriptType.TheVariants as uses
 use Rattle.nextest_sources.specs.Causes.{NameSet, CompileCause, RuleSection, in_default_filter, in_override, in_script_rule, two_filters, no_constraint, UnknownGroup, bad_parents, compile_refusals, unknown_groups}
 use Rattle.nextest_sources.specs.InputFaults.{Each}
 use Rattle.nextest_sources.specs.Sources.{Source}
@@ -33,7 +32,7 @@ use Rattle.nextest_rules.specs.Rules.{LayerProfile, override_rule, layer_profile
 use Rattle.nextest_rules.specs.Steps.{rule_steps, written_parents, parent_cause, compile_cause, group_cause_in, script_cause_in, empty_steps_of, empty_steps_in}
 use Rattle.nextest_rules.proofs.Passing.{iff_trans, iff_both, both_pass, check_passes, warnings_pass, if_some_none, none_of_both, each_same, each_both, each_map, flat_none}
 use Rattle.nextest_rules.proofs.EachPart.{each_in_order, each_numbered, filter_map_none, listed_none, either}
-use Rattle.nextest_rules.proofs.AcceptedScripts.{err_is_ok, all_scripts}
+use Rattle.nextest_rules.proofs.AcceptedScripts.{RuleNames, all_scripts}
 
 -- ---- compilation
 

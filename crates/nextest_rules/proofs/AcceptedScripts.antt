@@ -1,9 +1,8 @@
 -- The scripts that rules name have no fault exactly where they are known for their uses.
-use Rattle.std.proofs.Common.{◌≡◌, ◌↔◌, ℕ, ◌+◌, List, [], ◌∷◌, ◌++◌, map, filter, Bool, true, false, not, ◌&&◌, ◌||◌, cond, IsTrue, IsSome, Option, Some, None, option_to_list, Result, Ok, Err, refl, sym, ap, ◌∙◌, inr}
+use Rattle.std.proofs.Common.{◌≡◌, ◌↔◌, ℕ, List, [], ◌∷◌, ◌++◌, map, Bool, true, false, not, ◌&&◌, ◌||◌, cond, IsTrue, IsSome, Option, Some, None, option_to_list, Result, Ok, Err, refl, sym, ap, ◌∙◌, inr}
 use Rattle.std.specs.Result.{result_ok}
 use Rattle.std.proofs.lemmas.Bool.{false≢true}
 use Rattle.nextest_tree.specs.Schema.{is_one_of}
-use Rattle.nextest_elements.specs.declared.test_group.TestGroup.TheVariants as groups
 use Rattle.nextest_engines.specs.Readings.{Readings}
 use Rattle.nextest_engines.specs.declared.queries.FiltersetKind.TheVariants.{DefaultFilter}
 use Rattle.nextest_inheritance.specs.Names.{default_first}
@@ -130,7 +129,7 @@ list_filter_none leaves read known profile f (Some id) is =
     (λ h some. whole.0 (sym same ∙ h), λ h. same ∙ whole.1 (h refl))
 
 -- a script rule names known scripts, and lists without tests
-abbrev RuleNames : {M K P : Type 0} → Readings M K P → KnownNames → ScriptRuleText → Type 0
+abbrev pub RuleNames : {M K P : Type 0} → Readings M K P → KnownNames → ScriptRuleText → Type 0
 RuleNames engines known r = AreKnownScripts known r.scripts × ListsWithoutTests engines r
 
 pub rule_scripts : {M K P : Type 0} (engines : Readings M K P) (known : KnownNames) (name : Name) (r : ScriptRuleText)

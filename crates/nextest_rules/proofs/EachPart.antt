@@ -2,9 +2,7 @@
 use Rattle.std.proofs.Common.{◌≡◌, ◌↔◌, ◌⊎◌, ⊎_elim, ℕ, ◌+◌, List, [], ◌∷◌, filter, Bool, true, false, not, ◌||◌, Option, Some, None, option_map, option_to_list, refl, inl, inr}
 use Rattle.std.specs.List.{cons_option, enumerate_from, filter_map}
 use Rattle.std.proofs.lemmas.Bool.{false≢true}
-use Rattle.nextest_elements.specs.declared.test_group.TestGroup.TheVariants as groups
 use Rattle.nextest_inheritance.specs.Names.{is_default, default_first}
-use Rattle.nextest_scripts.specs.declared.script_type.ProfileScriptType.TheVariants as uses
 use Rattle.nextest_sources.specs.InputFaults.{Each}
 use Rattle.nextest_tables.specs.Written.{Name}
 use Rattle.nextest_rules.specs.Accepted.{IfWritten}

@@ -1,10 +1,10 @@
 -- Values that nest to a depth at most, and have no number that is a float.
-use Rattle.std.proofs.Common.{◌≡◌, ◌≤◌, ◌+◌, ℕ, suc, max, Bool, true, false, ◌||◌, List, [], ◌∷◌, map, fold, refl, arith}
+use Rattle.std.proofs.Common.{◌≡◌, ◌≤◌, ◌+◌, ℕ, Bool, true, false, ◌||◌, List, [], ◌∷◌, map, fold, refl, arith}
 use Rattle.std.specs.Cmp.Lexicographic.{slice_cmp}
 use Rattle.std.specs.declared.cmp.Ordering.{Ordering}
 use Rattle.std.specs.declared.cmp.Ordering.TheVariants.{Less, Equal, Greater}
 use Rattle.std.specs.Ordering.{nat_cmp, match_ordering}
-use Rattle.serde_json.specs.Data.{Data, null, boolean, number, string, array, object, Items, no_items, item, Members, no_members, member, put, depth, items_depth, members_depth}
+use Rattle.serde_json.specs.Data.{Data, null, boolean, string, object, Members, no_members, member, put, depth, items_depth, members_depth}
 use Rattle.serde_json.specs.View.{items_of}
 use Rattle.serde_json.specs.Written.{has_float, items_have_float, members_have_float}
 use Rattle.rinqebo_report.specs.Documents.{list_data}
@@ -36,7 +36,8 @@ items_of_exact n f each (x ∷ xs) =
     let first = each x in
     (omega (arith, first.nests, rest.0), rw first.whole rest.1)
 
-pub exact_list : {X : Type 0} (n : ℕ) (f : X → Data) → ((x : X) → IsExact n (f x)) → (xs : List X) → IsExact (n + 1) (list_data f xs)
+pub exact_list : {X : Type 0} (n : ℕ) (f : X → Data) → ((x : X) → IsExact n (f x)) → (xs : List X)
+    → IsExact (n + 1) (list_data f xs)
 exact_list n f each xs =
     let items = items_of_exact n f each xs in
     record { nests = omega (arith, items.0); whole = items.1 }
@@ -45,7 +46,8 @@ exact_list n f each xs =
 pub no_more : (n : ℕ) → AreExact n no_members
 no_more n = record { nests = omega arith; whole = refl }
 
-pub and_member : {n : ℕ} {d : Data} {ms : Members} (k : List ℕ) → IsExact n d → AreExact n ms → AreExact n (member k d ms)
+pub and_member : {n : ℕ} {d : Data} {ms : Members} (k : List ℕ) → IsExact n d → AreExact n ms
+    → AreExact n (member k d ms)
 and_member k first rest =
     record { nests = omega (arith, first.nests, rest.nests); whole = rw first.whole rest.whole }
 
@@ -67,7 +69,8 @@ pub exact_put : {n : ℕ} (k : List ℕ) (d : Data) (ms : Members) → IsExact n
 exact_put k d no_members first h = and_member k first h
 exact_put {n} k d (member l e ms) first h =
     let rest = parts l e ms h in
-    let P : Ordering → Type 0 = λ o. AreExact n (match_ordering o (member k d (member l e ms)) (member l d ms) (member l e (put k d ms))) in
+    let P : Ordering → Type 0 =
+    λ o. AreExact n (match_ordering o (member k d (member l e ms)) (member l d ms) (member l e (put k d ms))) in
     elim (slice_cmp nat_cmp k l) as P [
       | Less ↦ and_member k first h
       | Equal ↦ and_member l first rest.1
@@ -77,4 +80,5 @@ exact_put {n} k d (member l e ms) first h =
 pub exact_puts : {X : Type 0} (n : ℕ) (key : X → List ℕ) (f : X → Data) → ((x : X) → IsExact n (f x))
     → (xs : List X) (ms : Members) → AreExact n ms → AreExact n (fold (λ members x. put (key x) (f x) members) ms xs)
 exact_puts n key f each [] ms h = h
-exact_puts n key f each (x ∷ xs) ms h = exact_puts n key f each xs (put (key x) (f x) ms) (exact_put (key x) (f x) ms (each x) h)
+exact_puts n key f each (x ∷ xs) ms h =
+    exact_puts n key f each xs (put (key x) (f x) ms) (exact_put (key x) (f x) ms (each x) h)

@@ -1,12 +1,12 @@
 -- The document of a report nests little, and has no number that is a float.
-use Rattle.std.proofs.Common.{◌≡◌, ◌≤◌, ◌+◌, ℕ, ℤ, pos, negsuc, Bool, false, List, [], ◌∷◌, Option, None, Some, String, string_bytes, fold, refl, arith}
+use Rattle.std.proofs.Common.{◌≡◌, ◌≤◌, ◌+◌, ℕ, ℤ, pos, negsuc, false, List, [], ◌∷◌, Option, None, Some, String, string_bytes, refl, arith}
 use Rattle.std.specs.declared.alloc.Global.{Global}
-use Rattle.serde_json.specs.Data.{Data, null, number, array, object, no_items, Members, no_members, depth}
+use Rattle.serde_json.specs.Data.{Data, null, number, array, no_items, no_members, depth}
 use Rattle.serde_json.specs.Find.{of_integer}
 use Rattle.serde_json.specs.Read.{max_depth}
 use Rattle.serde_json.specs.Written.{has_float}
-use Rattle.rinqebo_report.specs.Document.{AskedData, asked_data, content_asked, rules_data, tests_data, entries_data, unused_data, document_with, document_data}
-use Rattle.rinqebo_report.specs.Documents.{count_data, text_data, optional_text_data, optional_count_data, list_data, pair_data, lines_data, scalar_data, with_field, value_data, optional_value_data, part_data, kind_data, origin_data, setting_data, with_setting, test_data, entry_data, rule_data, tool_data, source_data, unreached_data, place_source_data, place_lines_data, span_data, expression_data, expression_span_data, finding_data}
+use Rattle.rinqebo_report.specs.Document.{AskedData, asked_data, content_asked, rules_data, tests_data, entries_data, unused_data, document_data}
+use Rattle.rinqebo_report.specs.Documents.{count_data, text_data, optional_text_data, optional_count_data, list_data, pair_data, lines_data, scalar_data, value_data, optional_value_data, part_data, kind_data, origin_data, setting_data, test_data, entry_data, rule_data, tool_data, source_data, unreached_data, place_source_data, place_lines_data, span_data, expression_data, expression_span_data, finding_data}
 use Rattle.rinqebo_report.specs.declared.finding.Expression.{Expression}
 use Rattle.rinqebo_report.specs.declared.finding.Finding.{Finding}
 use Rattle.rinqebo_report.specs.declared.finding.Span.{Span}
@@ -33,7 +33,7 @@ use Rattle.rinqebo_report.specs.declared.value.Scalar.{Scalar}
 use Rattle.rinqebo_report.specs.declared.value.Scalar.TheVariants as scalars
 use Rattle.rinqebo_report.specs.declared.value.Value.{Value}
 use Rattle.rinqebo_report.specs.declared.value.Value.TheVariants as values
-use Rattle.rinqebo_report.proofs.Exact.{IsExact, AreExact, exact_text, exact_null, exact_truth, exact_list, no_more, and_member, exact_object, exact_puts}
+use Rattle.rinqebo_report.proofs.Exact.{IsExact, exact_text, exact_null, exact_truth, exact_list, no_more, and_member, exact_object, exact_puts}
 
 count : (n m : ℕ) → IsExact n (count_data m)
 count n m = record { nests = omega arith; whole = refl }
@@ -80,7 +80,8 @@ value : (n : ℕ) (v : Value) → IsExact (n + 1) (value_data v)
 value n (values.Scalar s) = scalar (n + 1) s
 value n (values.Texts xs) = texts n xs.items
 value n (values.Table fields) =
-    exact_object n (exact_puts n (λ (field : Field). string_bytes field.key) (λ field. scalar_data field.value) (λ field. scalar n field.value) fields.items no_members (no_more n))
+    exact_object n (exact_puts n (λ (field : Field). string_bytes field.key)
+    (λ field. scalar_data field.value) (λ field. scalar n field.value) fields.items no_members (no_more n))
 
 optional_value : (n : ℕ) (v : Option Value) → IsExact (n + 1) (optional_value_data v)
 optional_value n None = exact_null (n + 1)
@@ -91,32 +92,44 @@ part n Fields = exact_null n
 part n (Override i) = count n i
 part n (Script i) = count n i
 
-kind : (n : ℕ) (word : List ℕ) (index lines profile source : Data) → IsExact n index → IsExact n lines → IsExact n profile → IsExact n source
+kind : (n : ℕ) (word : List ℕ) (index lines profile source : Data) → IsExact n index → IsExact n lines
+    → IsExact n profile → IsExact n source
     → IsExact (n + 1) (kind_data word index lines profile source)
 kind n word index lines profile source i l p s =
-    exact_object n (and_member _ i (and_member _ (exact_text n word) (and_member _ l (and_member _ p (and_member _ s (no_more n))))))
+    exact_object n (and_member _ i
+    (and_member _ (exact_text n word) (and_member _ l (and_member _ p (and_member _ s (no_more n))))))
 
 origin : (o : Origin) → IsExact 2 (origin_data o)
 origin origins.BuiltIn = kind 1 _ null null null null (exact_null 1) (exact_null 1) (exact_null 1) (exact_null 1)
 origin origins.DefaultTable = kind 1 _ null null null null (exact_null 1) (exact_null 1) (exact_null 1) (exact_null 1)
-origin (origins.Written w) = kind 1 _ _ _ _ _ (part 1 w.part) (lines 0 w.place.lines) (text 1 w.profile) (count 1 w.place.source)
+origin (origins.Written w) =
+    kind 1 _ _ _ _ _ (part 1 w.part) (lines 0 w.place.lines) (text 1 w.profile) (count 1 w.place.source)
 
 setting : (row : SettingRow) → IsExact 4 (setting_data row)
 setting row =
-    exact_object 3 (and_member _ (exact_list 2 origin_data origin row.origins.items) (and_member _ (optional_value 2 row.value) (no_more 3)))
+    exact_object 3 (and_member _ (exact_list 2 origin_data origin row.origins.items)
+    (and_member _ (optional_value 2 row.value) (no_more 3)))
 
 test : (t : TestRows) → IsExact 6 (test_data t)
 test t =
-    let settings = exact_object 4 (exact_puts 4 (λ (row : SettingRow). string_bytes row.key) setting_data setting t.settings.items no_members (no_more 4)) in
-    exact_object 5 (and_member _ (text 5 t.binary) (and_member _ (text 5 t.name) (and_member _ (exact_text 5 _) (and_member _ settings (no_more 5)))))
+    let settings = exact_object 4
+    (exact_puts 4 (λ (row : SettingRow). string_bytes row.key) setting_data setting t.settings.items
+    no_members (no_more 4)) in
+    exact_object 5 (and_member _ (text 5 t.binary)
+    (and_member _ (text 5 t.name) (and_member _ (exact_text 5 _) (and_member _ settings (no_more 5)))))
 
 entry : (e : Entry) → IsExact 3 (entry_data e)
 entry e =
-    exact_object 2 (and_member _ (exact_truth 2 e.is_hidden) (and_member _ (text 2 e.key) (and_member _ (origin e.origin) (and_member _ (value 1 e.value) (no_more 2)))))
+    exact_object 2 (and_member _ (exact_truth 2 e.is_hidden)
+    (and_member _ (text 2 e.key) (and_member _ (origin e.origin) (and_member _ (value 1 e.value) (no_more 2)))))
 
 rule : (r : Rule) → IsExact 3 (rule_data r)
 rule r =
-    exact_object 2 (and_member _ (exact_text 2 _) (and_member _ (exact_text 2 _) (and_member _ (origin r.origin) (and_member _ (exact_text 2 _) (and_member _ (optional_value 1 r.value) (and_member _ (exact_text 2 _) (no_more 2)))))))
+    exact_object 2 (and_member _ (exact_text 2 _)
+    (and_member _ (exact_text 2 _)
+    (and_member _ (origin r.origin)
+    (and_member _ (exact_text 2 _)
+    (and_member _ (optional_value 1 r.value) (and_member _ (exact_text 2 _) (no_more 2)))))))
 
 tool : (n : ℕ) (k : SourceKind) → IsExact n (tool_data k)
 tool n kinds.Default = exact_null n
@@ -125,7 +138,8 @@ tool n kinds.Explicit = exact_null n
 tool n kinds.Discovered = exact_null n
 
 source : (s : Source) → IsExact 1 (source_data s)
-source s = exact_object 0 (and_member _ (exact_text 0 _) (and_member _ (optional_text 0 s.path) (and_member _ (tool 0 s.kind) (no_more 0))))
+source s = exact_object 0
+    (and_member _ (exact_text 0 _) (and_member _ (optional_text 0 s.path) (and_member _ (tool 0 s.kind) (no_more 0))))
 
 unreached : (u : Unreached) → IsExact 2 (unreached_data u)
 unreached u = exact_object 1 (and_member _ (texts 0 u.checks.items) (and_member _ (count 1 u.source) (no_more 1)))
@@ -152,7 +166,16 @@ expression_span n (Some e) = span n e.span
 
 finding : (f : Finding) → IsExact 2 (finding_data f)
 finding f =
-    exact_object 1 (and_member _ (text 1 f.code) (and_member _ (optional_count 1 f.column) (and_member _ (optional_text 1 f.expected) (and_member _ (expression 1 f.expression) (and_member _ (optional_text 1 f.help) (and_member _ (exact_text 1 _) (and_member _ (place_lines 0 f.place) (and_member _ (text 1 f.message) (and_member _ (optional_text 1 f.path) (and_member _ (place_source 1 f.place) (and_member _ (expression_span 0 f.expression) (no_more 1))))))))))))
+    exact_object 1 (and_member _ (text 1 f.code)
+    (and_member _ (optional_count 1 f.column)
+    (and_member _ (optional_text 1 f.expected)
+    (and_member _ (expression 1 f.expression)
+    (and_member _ (optional_text 1 f.help)
+    (and_member _ (exact_text 1 _)
+    (and_member _ (place_lines 0 f.place)
+    (and_member _ (text 1 f.message)
+    (and_member _ (optional_text 1 f.path)
+    (and_member _ (place_source 1 f.place) (and_member _ (expression_span 0 f.expression) (no_more 1))))))))))))
 
 record IsExactAsked (asked : AskedData) : Type 0 where
   chain : IsExact 7 asked.chain
@@ -162,14 +185,26 @@ record IsExactAsked (asked : AskedData) : Type 0 where
   target : IsExact 7 asked.target
 
 asked : (a : Asked) → IsExactAsked (asked_data a)
-asked a = record { chain = texts 6 a.chain.items; host = text 7 a.host; mode = exact_text 7 _; profile = text 7 a.profile; target = optional_text 7 a.target }
+asked a = record {
+  chain = texts 6 a.chain.items;
+  host = text 7 a.host;
+  mode = exact_text 7 _;
+  profile = text 7 a.profile;
+  target = optional_text 7 a.target;
+}
 
 content : (c : Content) → IsExactAsked (content_asked c)
 content (contents.Explain a t) = asked a
 content (contents.Why a key rules) = asked a
 content (contents.List a tests unused) = asked a
 content (contents.ShowConfig a entries) = asked a
-content contents.Check = record { chain = nothing 6; host = exact_null 7; mode = exact_null 7; profile = exact_null 7; target = exact_null 7 }
+content contents.Check = record {
+  chain = nothing 6;
+  host = exact_null 7;
+  mode = exact_null 7;
+  profile = exact_null 7;
+  target = exact_null 7;
+}
 
 rules_of : (c : Content) → IsExact 7 (rules_data c)
 rules_of (contents.Explain a t) = nothing 6
@@ -189,13 +224,15 @@ entries_of : (c : Content) → IsExact 7 (entries_data c)
 entries_of (contents.Explain a t) = nothing 6
 entries_of (contents.Why a key rules) = nothing 6
 entries_of (contents.List a tests unused) = nothing 6
-entries_of (contents.ShowConfig a entries) = exact_list 6 entry_data (λ e. deeper 6 (entry e) (omega arith)) entries.items
+entries_of (contents.ShowConfig a entries) =
+    exact_list 6 entry_data (λ e. deeper 6 (entry e) (omega arith)) entries.items
 entries_of contents.Check = nothing 6
 
 unused_of : (c : Content) → IsExact 7 (unused_data c)
 unused_of (contents.Explain a t) = nothing 6
 unused_of (contents.Why a key rules) = nothing 6
-unused_of (contents.List a tests unused) = exact_list 6 origin_data (λ o. deeper 6 (origin o) (omega arith)) unused.items
+unused_of (contents.List a tests unused) =
+    exact_list 6 origin_data (λ o. deeper 6 (origin o) (omega arith)) unused.items
 unused_of (contents.ShowConfig a entries) = nothing 6
 unused_of contents.Check = nothing 6
 
@@ -205,7 +242,8 @@ document report =
     exact_object 7 (and_member _ a.chain (and_member _ (exact_text 7 _) (and_member _ (entries_of report.content)
     (and_member _ (exact_list 6 finding_data (λ f. deeper 6 (finding f) (omega arith)) report.findings.items)
     (and_member _ a.host (and_member _ a.mode (and_member _ a.profile (and_member _ (text 7 report.root)
-    (and_member _ (rules_of report.content) (and_member _ (exact_list 6 source_data (λ s. deeper 6 (source s) (omega arith)) report.sources.items)
+    (and_member _ (rules_of report.content)
+    (and_member _ (exact_list 6 source_data (λ s. deeper 6 (source s) (omega arith)) report.sources.items)
     (and_member _ a.target (and_member _ (tests_of report.content)
     (and_member _ (exact_list 6 unreached_data (λ u. deeper 6 (unreached u) (omega arith)) report.unreached.items)
     (and_member _ (unused_of report.content) (and_member _ (count 7 1) (no_more 7))))))))))))))))

@@ -1,5 +1,5 @@
 -- The nearest of known names, where one name more is known.
-use Rattle.std.proofs.Common.{◌≡◌, ◌<◌, ◌≤◌, ◌+◌, ℕ, Bool, true, false, cond, eqb, ltb, List, [], ◌∷◌, ◌++◌, length, take, get_or, map, Option, None, Some, All, MatchOption, Bor, refl, sym, ap, ap₂, ◌∙◌, subst, lt-ltb, arith}
+use Rattle.std.proofs.Common.{◌≡◌, ◌<◌, ◌≤◌, ◌+◌, ℕ, Bool, true, false, cond, eqb, List, [], ◌∷◌, ◌++◌, length, take, get_or, map, Option, None, Some, All, MatchOption, Bor, refl, sym, ap, ap₂, ◌∙◌, subst, lt-ltb, arith}
 use Rattle.std.specs.List.{Contains}
 use Rattle.std.specs.Cmp.{IsTotalOrder}
 use Rattle.std.specs.Cmp.Lexicographic.{slice_cmp}
@@ -17,9 +17,12 @@ by_distance_total : (name : List ℕ) → IsTotalOrder (by_distance name)
 by_distance_total name = then_total (on_total (distance name) nat_cmp_total) nat_list_cmp_total
 
 -- a nearer name comes before another
-nearer_first : (name one other : List ℕ) → distance name one < distance name other → is_gt (by_distance name one other) ≡ false
+nearer_first : (name one other : List ℕ) → distance name one < distance name other
+    → is_gt (by_distance name one other) ≡ false
 nearer_first name one other h =
-    ap (λ b. is_gt (ordering_then (cond b Less (cond (eqb (distance name one) (distance name other)) Equal Greater)) (slice_cmp nat_cmp one other)))
+    ap (λ b. is_gt (ordering_then
+    (cond b Less (cond (eqb (distance name one) (distance name other)) Equal Greater))
+    (slice_cmp nat_cmp one other)))
     (lt-ltb (distance name one) (distance name other) h)
 
 less_from : (o : Ordering) → is_lt o ≡ true → is_gt o ≡ false
@@ -32,13 +35,18 @@ not_more_from Less h = absurd (cc)
 not_more_from Equal h = refl
 not_more_from Greater h = refl
 
+-- another name does not come before this one
+abbrev IsFirst : List ℕ → List ℕ → Bor (List ℕ) → Type 0
+IsFirst name one other = is_gt (by_distance name one other.now) ≡ false
+
 -- what is found among known names
 abbrev pub IsFound : List ℕ → List (Bor (List ℕ)) → Option Candidate → Type 0
 IsFound name known found =
     MatchOption found (All (λ other. reach name < distance name other.now) known)
     (λ candidate. (candidate.distance ≡ distance name candidate.name.now) × IsNearest name known candidate.name.now)
 
-known_push : (xs : List (Bor (List ℕ))) (x : Bor (List ℕ)) (nearest : List ℕ) → Contains (map (λ other. other.now) xs) nearest → Contains (map (λ other. other.now) (xs ++ x ∷ [])) nearest
+known_push : (xs : List (Bor (List ℕ))) (x : Bor (List ℕ)) (nearest : List ℕ)
+    → Contains (map (λ other. other.now) xs) nearest → Contains (map (λ other. other.now) (xs ++ x ∷ [])) nearest
 known_push xs x nearest h =
     subst (λ names. Contains names nearest) (sym (map-append (λ (other : Bor (List ℕ)). other.now) xs (x ∷ [])))
     (Contains-append_left (map (λ (other : Bor (List ℕ)). other.now) xs) (x.now ∷ []) nearest h)
@@ -57,7 +65,7 @@ far_push name xs x (Some best) h far = (
   record {
     is_known = known_push xs x best.name.now h.1.is_known;
     near = h.1.near;
-    first = All-push (λ (other : Bor (List ℕ)). is_gt (by_distance name best.name.now other.now) ≡ false) xs x h.1.first
+    first = All-push (IsFirst name best.name.now) xs x h.1.first
         (nearer_first name best.name.now x.now (let near = h.1.near in omega arith));
   },
 )
@@ -71,7 +79,7 @@ near_push name xs c None h is near = (
   record {
     is_known = known_last xs c.name;
     near = omega arith;
-    first = All-push (λ (other : Bor (List ℕ)). is_gt (by_distance name c.name.now other.now) ≡ false) xs c.name
+    first = All-push (IsFirst name c.name.now) xs c.name
         (λ k d lt. let far = h k d lt in nearer_first name c.name.now _ (omega arith))
         (ap is_gt (tied_itself (by_distance_total name) c.name.now));
   },
@@ -88,7 +96,7 @@ near_push name xs c (Some best) h is near =
             record {
               is_known = known_last xs c.name;
               near = omega arith;
-              first = All-push (λ (other : Bor (List ℕ)). is_gt (by_distance name c.name.now other.now) ≡ false) xs c.name
+              first = All-push (IsFirst name c.name.now) xs c.name
                   (λ k d lt. upto order c.name.now best.name.now _ before (h.1.first k d lt))
                   (ap is_gt (tied_itself order c.name.now));
             },
@@ -100,12 +108,13 @@ near_push name xs c (Some best) h is near =
             record {
               is_known = known_push xs c.name best.name.now h.1.is_known;
               near = h.1.near;
-              first = All-push (λ (other : Bor (List ℕ)). is_gt (by_distance name best.name.now other.now) ≡ false) xs c.name h.1.first behind;
+              first = All-push (IsFirst name best.name.now) xs c.name h.1.first behind;
             },
           ))
     ] in
     cases (comes_before c best) refl
 
 -- the names that were gone through, with the next
-pub more_known : (xs : List (Bor (List ℕ))) (i : ℕ) (x : Bor (List ℕ)) → i < length xs → x ≡ get_or xs i x → take (i + 1) xs ≡ take i xs ++ x ∷ []
+pub more_known : (xs : List (Bor (List ℕ))) (i : ℕ) (x : Bor (List ℕ)) → i < length xs → x ≡ get_or xs i x
+    → take (i + 1) xs ≡ take i xs ++ x ∷ []
 more_known xs i x lt is = (take_at_read xs i x lt).1 ∙ ap (λ y. take i xs ++ y ∷ []) (sym is)

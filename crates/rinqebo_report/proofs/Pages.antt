@@ -1,5 +1,5 @@
 -- Pages that a loop writes.
-use Rattle.std.proofs.Common.{◌≡◌, ◌<◌, ◌+◌, ℕ, List, [], ◌∷◌, ◌++◌, length, take, get_or, flat_map, refl, sym, ap, ◌∙◌, append_assoc, arith, length-take}
+use Rattle.std.proofs.Common.{◌≡◌, ◌<◌, ◌+◌, ℕ, List, [], ◌∷◌, ◌++◌, length, take, get_or, flat_map, sym, ap, ◌∙◌, append_assoc, arith, length-take}
 use Rattle.std.proofs.lemmas.List.{append-nil}
 use Rattle.std.proofs.lemmas.Grind.{flat_map-append, take_at_read}
 use Rattle.rinqebo_report.specs.declared.origin.Source.{Source}
@@ -20,10 +20,12 @@ rules_runs-push root sources key n (first ∷ rules) rule =
     ap (λ rest. rule_runs root sources key n first ++ rest)
     (rules_runs-push root sources key (n + 1) rules rule
     ∙ ap (λ m. rules_runs root sources key (n + 1) rules ++ rule_runs root sources key m rule) same)
-    ∙ sym (append_assoc (rule_runs root sources key n first) (rules_runs root sources key (n + 1) rules) (rule_runs root sources key (n + length (first ∷ rules)) rule))
+    ∙ sym (append_assoc (rule_runs root sources key n first) (rules_runs root sources key (n + 1) rules)
+    (rule_runs root sources key (n + length (first ∷ rules)) rule))
 
 -- what one rule more of a page has written
-pub rules_more : (tint : Colour) (root : List ℕ) (sources : List Source) (key : List ℕ) (rules : List Rule) (i : ℕ) (rule : Rule)
+pub rules_more : (tint : Colour) (root : List ℕ) (sources : List Source) (key : List ℕ) (rules : List Rule)
+    (i : ℕ) (rule : Rule)
     → i < length rules → rule ≡ get_or rules i rule
     → (start old new : List ℕ) → old ≡ start ++ page_text tint (rules_runs root sources key 0 (take i rules))
     → new ≡ old ++ page_text tint (rule_runs root sources key i rule)

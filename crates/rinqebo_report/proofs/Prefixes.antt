@@ -15,15 +15,21 @@ after_is [] text rest e = cc
 after_is (c ∷ prefix) [] rest e = absurd (cc)
 after_is (c ∷ prefix) (d ∷ text) rest e =
     elim (eqb_tells c d) [
-      | inl same ↦ (let behind : text ≡ prefix ++ rest = after_is prefix text rest (rw same.0 at e) in let first : c ≡ d = same.1 in cc)
+      | inl same ↦ (let behind : text ≡ prefix ++ rest = after_is prefix text rest (rw same.0 at e) in
+          let first : c ≡ d = same.1 in cc)
       | inr other ↦ absurd (let none : None ≡ Some rest = rw other.0 at e in cc)
     ]
 
 -- A text that is no prefix and a rest has nothing after the prefix.
-pub after_none : (prefix text : List ℕ) → ((rest : List ℕ) → text ≡ prefix ++ rest → ⊥) → after_prefix prefix text ≡ None
+pub after_none : (prefix text : List ℕ) → ((rest : List ℕ) → text ≡ prefix ++ rest → ⊥)
+    → after_prefix prefix text ≡ None
 after_none prefix text none =
     let P : Option (List ℕ) → Type 0 = λ found. after_prefix prefix text ≡ found → found ≡ None in
-    let cases : (found : Option (List ℕ)) → P found = λ found. elim found as P [ None ↦ (λ e. refl) | Some rest ↦ (λ e. absurd (none rest (after_is prefix text rest e))) ] in
+    let cases : (found : Option (List ℕ)) → P found =
+    λ found. elim found as P [
+      | None ↦ (λ e. refl)
+      | Some rest ↦ (λ e. absurd (none rest (after_is prefix text rest e)))
+    ] in
     cases (after_prefix prefix text) refl
 
 -- What `strip_prefix` gives.

@@ -1,5 +1,5 @@
 -- Durations read back from how they are spelled.
-use Rattle.std.proofs.Common.{◌≡◌, ◌<◌, ◌≤◌, ◌^◌, ◌*◌, ◌/◌, ◌%◌, ◌==◌, ℕ, Bool, true, false, cond, eqb, List, [], ◌∷◌, ◌++◌, Option, Some, option_and_then, length, decimal, refl, sym, ap, ◌∙◌, inl, inr, arith, rules, tests}
+use Rattle.std.proofs.Common.{◌≡◌, ◌<◌, ◌≤◌, ◌^◌, ◌*◌, ◌/◌, ◌%◌, ℕ, true, cond, List, [], ◌∷◌, ◌++◌, Some, option_and_then, length, decimal, refl, ap, ◌∙◌, inl, inr, arith, rules, tests}
 use Rattle.std.proofs.Math.Nat.{div-le_self}
 use Rattle.std.proofs.lemmas.Bool.Decides.{eqb_tells}
 use Rattle.std.proofs.lemmas.Fmt.{decimal_is_IsNumeral_wide}
@@ -41,12 +41,14 @@ behind_digits_of (c ∷ cs) rest h e =
     ap (λ b. cond b (behind_digits (cs ++ rest)) (c ∷ (cs ++ rest))) (is_digit_test c h.0)
     ∙ behind_digits_of cs rest h.1 e
 
-count_of_digits : (ds : List ℕ) (unit : Unit') → 0 < length ds → read_count ds unit ≡ Some (digits_value 10 ds * unit_size unit)
+count_of_digits : (ds : List ℕ) (unit : Unit') → 0 < length ds
+    → read_count ds unit ≡ Some (digits_value 10 ds * unit_size unit)
 count_of_digits [] unit h = absurd (omega arith)
 count_of_digits (c ∷ cs) unit h = refl
 
 -- a number of a unit reads back
-count_reads_back : (k : ℕ) (unit : Unit') → k < 10 ^ 64 → read_duration (decimal k ++ unit_name unit) ≡ Some (k * unit_size unit)
+count_reads_back : (k : ℕ) (unit : Unit') → k < 10 ^ 64
+    → read_duration (decimal k ++ unit_name unit) ≡ Some (k * unit_size unit)
 count_reads_back k unit small =
     let numeral = decimal_is_IsNumeral_wide k small in
     let name = names unit in
@@ -72,10 +74,22 @@ chosen_divides unit other n h =
 unit_divides : (n : ℕ) → Divides (unit_of n) n
 unit_divides n =
     let last : Divides Nanosecond n = record { exact = omega arith } in
-    let of_many = chosen_divides Year _ n (chosen_divides Day _ n (chosen_divides Hour _ n (chosen_divides Minute _ n (chosen_divides Second _ n (chosen_divides Millisecond _ n (chosen_divides Microsecond Nanosecond n last)))))) in
-    let many : Unit' = cond (divides Year n) Year (cond (divides Day n) Day (cond (divides Hour n) Hour (cond (divides Minute n) Minute (cond (divides Second n) Second (cond (divides Millisecond n) Millisecond (cond (divides Microsecond n) Microsecond Nanosecond)))))) in
+    let of_many = chosen_divides Year _ n
+    (chosen_divides Day _ n
+    (chosen_divides Hour _ n
+    (chosen_divides Minute _ n
+    (chosen_divides Second _ n
+    (chosen_divides Millisecond _ n (chosen_divides Microsecond Nanosecond n last)))))) in
+    let many : Unit' = cond (divides Year n) Year
+    (cond (divides Day n) Day
+    (cond (divides Hour n) Hour
+    (cond (divides Minute n) Minute
+    (cond (divides Second n) Second
+    (cond (divides Millisecond n) Millisecond (cond (divides Microsecond n) Microsecond Nanosecond)))))) in
     elim (eqb_tells n 0) [
-      | inl none ↦ record { exact = ap (λ b. n % unit_size (cond b Second many)) none.0 ∙ ap (λ m. m % unit_size Second) none.1 }
+      | inl none ↦ record {
+        exact = ap (λ b. n % unit_size (cond b Second many)) none.0 ∙ ap (λ m. m % unit_size Second) none.1;
+      }
       | inr other ↦ record { exact = ap (λ b. n % unit_size (cond b Second many)) other.0 ∙ of_many.exact }
     ]
 

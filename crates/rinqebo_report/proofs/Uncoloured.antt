@@ -1,12 +1,12 @@
 -- Pages in colour are the plain pages without their escapes.
-use Rattle.std.proofs.Common.{◌≡◌, ◌<◌, ◌≤◌, ◌+◌, ◌/◌, ◌%◌, ℕ, zero, suc, Bool, true, false, cond, eqb, ltb, List, [], ◌∷◌, ◌++◌, codes, flat_map, replicate, decimal, refl, sym, ap, ◌∙◌, append_assoc, arith}
+use Rattle.std.proofs.Common.{◌≡◌, ◌<◌, ◌≤◌, ◌+◌, ◌/◌, ◌%◌, ℕ, zero, suc, Bool, true, false, cond, eqb, ltb, List, [], ◌∷◌, ◌++◌, codes, flat_map, replicate, decimal, refl, ap, ◌∙◌, append_assoc, arith}
 use Rattle.std.proofs.lemmas.Bool.{ne_eqb}
 use Rattle.std.proofs.lemmas.Bool.Decides.{nat_tests}
 use Rattle.std.specs.Bool.{⊤}
 use Rattle.std.specs.Char.{is_control, encode_utf8}
 use Rattle.std.specs.Fmt.{digit_glyph, digits, digits_onto}
 use Rattle.std.specs.Str.{chars}
-use Rattle.rinqebo_report.specs.Pieces.{Run, styled, repeated, numbered, ending, escape_of, shown_char, shown_text, style_code, in_colour, painted_text, painted, page_text}
+use Rattle.rinqebo_report.specs.Pieces.{Run, styled, repeated, numbered, ending, escape_of, shown_char, shown_text, painted_text, painted, page_text}
 use Rattle.rinqebo_report.specs.Uncoloured.{left_of, uncoloured}
 use Rattle.rinqebo_report.specs.declared.piece.Colour.TheVariants as colours
 use Rattle.rinqebo_report.specs.declared.piece.Style.{Style}
@@ -37,11 +37,14 @@ above c h = ne_eqb c 27 (λ e. absurd (omega arith))
 glyph_above : (n : ℕ) → 27 < digit_glyph false n
 glyph_above n = grind (arith, nat_tests)
 
-digits_onto_plain : (k base n : ℕ) (behind : List ℕ) → HasNoEscape behind → HasNoEscape (digits_onto k base false n behind)
+digits_onto_plain : (k base n : ℕ) (behind : List ℕ) → HasNoEscape behind
+    → HasNoEscape (digits_onto k base false n behind)
 digits_onto_plain zero base n behind h = h
 digits_onto_plain (suc k) base n behind h =
     let more : HasNoEscape (digit_glyph false (n % base) ∷ behind) = (above _ (glyph_above (n % base)), h) in
-    let P : Bool → Type 0 = λ b. HasNoEscape (cond b (digit_glyph false (n % base) ∷ behind) (digits_onto k base false (n / base) (digit_glyph false (n % base) ∷ behind))) in
+    let P : Bool → Type 0 = λ b. HasNoEscape
+    (cond b (digit_glyph false (n % base) ∷ behind)
+    (digits_onto k base false (n / base) (digit_glyph false (n % base) ∷ behind))) in
     elim (eqb (n / base) 0) as P [ true ↦ more | false ↦ digits_onto_plain k base (n / base) _ more ]
 
 digits_plain : (base n : ℕ) → HasNoEscape (digits base false n)
@@ -54,7 +57,11 @@ unfolding encode_utf8
 encoded_plain c low =
     let one : HasNoEscape (c ∷ []) = (above c (omega arith), tt) in
     let next : (n : ℕ) → eqb (128 + n % 64) 27 ≡ false = λ n. above _ (omega arith) in
-    let P : Bool → Bool → Bool → Type 0 = λ a b d. HasNoEscape (cond a (c ∷ []) (cond b ((192 + c / 64) ∷ (128 + c % 64) ∷ []) (cond d ((224 + c / 4096) ∷ (128 + (c / 64) % 64) ∷ (128 + c % 64) ∷ []) ((240 + c / 262144) ∷ (128 + (c / 4096) % 64) ∷ (128 + (c / 64) % 64) ∷ (128 + c % 64) ∷ [])))) in
+    let P : Bool → Bool → Bool → Type 0 =
+    λ a b d. HasNoEscape (cond a (c ∷ [])
+    (cond b ((192 + c / 64) ∷ (128 + c % 64) ∷ [])
+    (cond d ((224 + c / 4096) ∷ (128 + (c / 64) % 64) ∷ (128 + c % 64) ∷ [])
+    ((240 + c / 262144) ∷ (128 + (c / 4096) % 64) ∷ (128 + (c / 64) % 64) ∷ (128 + c % 64) ∷ [])))) in
     let all : (a b d : Bool) → P a b d = λ a b d. elim a as (λ a. P a b d) [
       | true ↦ one
       | false ↦ (elim b as (λ b. P false b d) [
@@ -84,10 +91,12 @@ text_left : (style : Style) (text rest : List ℕ)
     → left_of false (painted_text colours.Coloured style text ++ rest) ≡ shown_text text ++ left_of false rest
 text_left style text rest =
     let shown : HasNoEscape (shown_text text) = all_of shown_char shown_plain (chars text) in
-    let behind : left_of false ((shown_text text ++ 27 ∷ 91 ∷ codes "0m") ++ rest) ≡ shown_text text ++ left_of false rest =
+    let behind : left_of false ((shown_text text ++ 27 ∷ 91 ∷ codes "0m") ++ rest)
+    ≡ shown_text text ++ left_of false rest =
     ap (left_of false) (append_assoc (shown_text text) (27 ∷ 91 ∷ codes "0m") rest)
     ∙ left-of_text (shown_text text) (27 ∷ 91 ∷ 48 ∷ 109 ∷ rest) shown in
-    let P : Style → Type 0 = λ s. left_of false (painted_text colours.Coloured s text ++ rest) ≡ shown_text text ++ left_of false rest in
+    let P : Style → Type 0 = λ s. left_of false (painted_text colours.Coloured s text ++ rest)
+    ≡ shown_text text ++ left_of false rest in
     elim style as P [
       | styles.Plain ↦ left-of_text (shown_text text) rest shown
       | styles.Key ↦ behind
@@ -101,7 +110,8 @@ text_left style text rest =
 run_left : (run : Run) (rest : List ℕ)
     → left_of false (painted colours.Coloured run ++ rest) ≡ painted colours.Plain run ++ left_of false rest
 run_left (styled style text) rest = text_left style text rest
-run_left (repeated c n) rest = left-of_text (flat_map shown_char (replicate n c)) rest (all_of shown_char shown_plain (replicate n c))
+run_left (repeated c n) rest =
+    left-of_text (flat_map shown_char (replicate n c)) rest (all_of shown_char shown_plain (replicate n c))
 run_left (numbered n) rest = left-of_text (decimal n) rest (digits_plain 10 n)
 run_left ending rest = refl
 

@@ -1,7 +1,7 @@
 -- Reports as JSON: objects with their keys in the order of bytes.
-use Rattle.std.specs.Prelude.{ℕ, ℤ, ◌==◌, Bool, true, false, List, [], ◌∷◌, ◌++◌, Option, None, Some, map, fold, codes, String, string_bytes}
+use Rattle.std.specs.Prelude.{ℕ, List, Option, None, Some, map, fold, codes, String, string_bytes}
 use Rattle.std.specs.declared.alloc.Global.{Global}
-use Rattle.serde_json.specs.Data.{Data, null, boolean, number, unsigned, string, array, object, Items, no_items, item, Members, no_members, member, put}
+use Rattle.serde_json.specs.Data.{Data, null, boolean, number, unsigned, string, array, object, no_items, item, Members, no_members, member, put}
 use Rattle.serde_json.specs.Find.{of_integer}
 use Rattle.serde_json.specs.View.{items_of}
 use Rattle.rinqebo_report.specs.declared.finding.Expression.{Expression}
@@ -16,7 +16,6 @@ use Rattle.rinqebo_report.specs.declared.origin.Place.{Place}
 use Rattle.rinqebo_report.specs.declared.origin.Source.{Source}
 use Rattle.rinqebo_report.specs.declared.origin.SourceKind.{SourceKind}
 use Rattle.rinqebo_report.specs.declared.origin.SourceKind.TheVariants as kinds
-use Rattle.rinqebo_report.specs.declared.origin.Written.{Written}
 use Rattle.rinqebo_report.specs.declared.report.ConditionAnswer.{ConditionAnswer}
 use Rattle.rinqebo_report.specs.declared.report.ConditionAnswer.TheVariants as answers
 use Rattle.rinqebo_report.specs.declared.report.Entry.{Entry}

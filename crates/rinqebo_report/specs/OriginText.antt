@@ -27,10 +27,12 @@ abbrev pub behind_root : Bool → List ℕ → Option (List ℕ)
 behind_root true rest = Some rest
 behind_root false rest = after_prefix (codes "/") rest
 
--- a path below a root without the root and the slash behind it, and another path as it is
+-- a path below a root without the root and the slash behind it, and another path as it is, such as
+-- each path where the root is empty
 abbrev pub below : List ℕ → List ℕ → List ℕ
 below root path =
-    unwrap_or
+    if length root == 0 then path
+    else unwrap_or
     (option_and_then (behind_root (ends_with_slash root)) (after_prefix root path)) path
 
 -- the path of a source, below a root where it is; the defaults have none

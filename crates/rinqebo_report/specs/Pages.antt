@@ -31,7 +31,6 @@ use Rattle.rinqebo_report.specs.declared.report.TestRows.{TestRows}
 use Rattle.rinqebo_report.specs.declared.report.Unreached.{Unreached}
 use Rattle.rinqebo_report.specs.declared.report.Verdict.{Verdict}
 use Rattle.rinqebo_report.specs.declared.report.Verdict.TheVariants as verdicts
-use Rattle.rinqebo_report.specs.declared.value.Value.{Value}
 use Rattle.rinqebo_report.specs.Joined.{joined}
 use Rattle.rinqebo_report.specs.OriginText.{origin_text, path_at}
 use Rattle.rinqebo_report.specs.Pieces.{Run, styled, repeated, numbered, ending, shown_char}
@@ -163,7 +162,8 @@ written_runs key verdict (Some value) = if shows_value verdict then value_runs k
 -- the first line of a rule: its number, the verdict, and where it stands
 abbrev pub verdict_runs : ℕ → Verdict → List ℕ → List Run
 verdict_runs n verdict origin =
-    number_run verdict n ∷ plain (codes "  ") ∷ styled (verdict_style verdict) (verdict_text verdict)
+    number_run verdict n ∷ plain (codes "  ")
+    ∷ styled (verdict_style verdict) (verdict_text verdict)
     ∷ repeated 32 (14 - width (verdict_text verdict)) ∷ plain (codes "  ") ∷ plain origin
     ∷ ending ∷ []
 

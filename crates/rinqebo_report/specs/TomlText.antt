@@ -1,5 +1,5 @@
 -- Values as TOML, on one line.
-use Rattle.std.specs.Prelude.{ℕ, ◌==◌, ◌/◌, ◌%◌, Bool, true, false, List, [], ◌∷◌, ◌++◌, ◌||◌, codes, flat_map, encode_utf8, String, string_bytes, if◌then◌else◌}
+use Rattle.std.specs.Prelude.{ℕ, ◌==◌, ◌/◌, ◌%◌, true, false, List, [], ◌∷◌, ◌++◌, ◌||◌, codes, flat_map, encode_utf8, String, string_bytes, if◌then◌else◌}
 use Rattle.std.specs.Char.{is_control}
 use Rattle.std.specs.declared.alloc.Global.{Global}
 use Rattle.std.specs.Fmt.{digit_glyph, signed_decimal}
@@ -48,4 +48,5 @@ item_text item = quoted (string_bytes item)
 abbrev pub value_text : Value → List ℕ
 value_text (values.Scalar scalar) = scalar_text scalar
 value_text (values.Texts items) = 91 ∷ (joined (codes ", ") item_text items.items ++ 93 ∷ [])
-value_text (values.Table fields) = codes "{ " ++ (joined (codes ", ") field_text fields.items ++ codes " }")
+value_text (values.Table fields) =
+    codes "{ " ++ (joined (codes ", ") field_text fields.items ++ codes " }")

@@ -22,6 +22,7 @@ pub struct Span {
 /// An expression that is refused.
 #[derive(Drop)]
 pub struct Expression {
+    /// How the file writes it.
     pub text: String,
     /// The part that is wrong.
     pub span: Option<Span>,
@@ -30,15 +31,19 @@ pub struct Expression {
 /// What is wrong, and where.
 #[derive(Drop)]
 pub struct Finding {
+    /// Whether files are refused for it.
     pub level: Level,
     /// The name of what is wrong.
     pub code: String,
+    /// Where it is, if that is known.
     pub place: Option<Place>,
     /// The column in the first line, from 1.
     pub column: Option<u64>,
     /// The keys that lead to it, with dots between them.
     pub path: Option<String>,
+    /// What is told, on one line.
     pub message: String,
+    /// The expression that is refused, if one is.
     pub expression: Option<Expression>,
     /// What would be right there.
     pub expected: Option<String>,

@@ -25,7 +25,7 @@ pub enum Format<'a> {
     /// The first lines of the findings.
     Concise,
     /// The findings as commands of GitHub's workflows, with paths below the folder in which a
-    /// workflow runs.
+    /// workflow runs: the empty text, where that is not known.
     Github(&'a str),
 }
 

@@ -1,6 +1,6 @@
-//! What the program `rinqebo` prints: the settings of a test or of each test, the rules of a setting,
-//! the leaves of a configuration, and what is wrong with files, as a text, with colours or without,
-//! and in three forms for other programs.
+//! What the program `rinqebo` prints: the settings of a test or of each test, the rules of a
+//! setting, the leaves of a configuration, and what is wrong with files, as a text, with colours or
+//! without, and in three forms for other programs.
 #![tactic(auto)]
 
 mod check_page;

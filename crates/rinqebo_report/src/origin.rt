@@ -16,6 +16,7 @@ pub enum SourceKind {
 /// A source of the configuration.
 #[derive(Drop)]
 pub struct Source {
+    /// What brings it.
     pub kind: SourceKind,
     /// The path of the file. The defaults have none.
     pub path: Option<String>,
@@ -35,6 +36,7 @@ pub struct Lines {
 pub struct Place {
     /// The place of the source among those of the report, from 0.
     pub source: usize,
+    /// The lines, if they are known.
     pub lines: Option<Lines>,
 }
 
@@ -52,9 +54,11 @@ pub enum Part {
 /// What is written in a file.
 #[derive(Drop)]
 pub struct Written {
+    /// Where it stands.
     pub place: Place,
     /// The profile under which it stands.
     pub profile: String,
+    /// What of the profile it is.
     pub part: Part,
 }
 

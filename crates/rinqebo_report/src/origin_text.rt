@@ -22,10 +22,14 @@ fn ends_with_slash(path: &str) -> bool
     path.ends_with('/')
 }
 
-/// A path below a root without the root and the slash behind it, and another path as it is.
+/// A path below a root without the root and the slash behind it, and another path as it is. Nothing
+/// is below an empty root.
 pub(crate) fn below<'a>(root: &str, path: &'a str) -> &'a str
     ensures { result.now ≡ below root.now path.now }
 {
+    if root.is_empty() {
+        return path;
+    }
     match after_prefix(root, path) {
         Some(rest) if ends_with_slash(root) => rest,
         Some(rest) => after_prefix("/", rest).unwrap_or(path),

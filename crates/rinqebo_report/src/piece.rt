@@ -10,7 +10,9 @@ use std::fmt::Write;
 /// Whether a page has colours.
 #[derive(Clone, Copy, PartialEq, Eq)]
 pub enum Colour {
+    /// It has none.
     Plain,
+    /// It has escapes, as terminals know them.
     Coloured,
 }
 

@@ -6,23 +6,29 @@ use crate::value::Value;
 /// For what tests are run.
 #[derive(Clone, Copy)]
 pub enum RunMode {
+    /// To be tested.
     Test,
+    /// To be measured.
     Benchmark,
 }
 
 /// For what a binary is built.
 #[derive(Clone, Copy)]
 pub enum Platform {
+    /// For the machine that builds.
     Host,
+    /// For the machine that is built for.
     Target,
 }
 
 /// What was asked for.
 #[derive(Drop)]
 pub struct Asked {
+    /// The profile.
     pub profile: String,
     /// The profiles that count, the nearest first.
     pub chain: Vec<String>,
+    /// For what tests are run.
     pub mode: RunMode,
     /// The triple of the host.
     pub host: String,
@@ -33,6 +39,7 @@ pub struct Asked {
 /// A setting of a test.
 #[derive(Drop)]
 pub struct SettingRow {
+    /// The keys that lead to it, with dots between them.
     pub key: String,
     /// Its value, if it has one.
     pub value: Option<Value>,
@@ -43,9 +50,13 @@ pub struct SettingRow {
 /// A test and its settings.
 #[derive(Drop)]
 pub struct TestRows {
+    /// The id of its binary.
     pub binary: String,
+    /// Its name within the binary.
     pub name: String,
+    /// For what the binary is built.
     pub platform: Platform,
+    /// What is told of it. The keys are apart from each other.
     pub settings: Vec<SettingRow>,
 }
 
@@ -54,7 +65,9 @@ pub struct TestRows {
 pub struct Entry {
     /// The keys that lead to it, with dots between them.
     pub key: String,
+    /// The value that the origin gives it.
     pub value: Value,
+    /// What writes it.
     pub origin: Origin,
     /// Whether another source's value counts in place of this one.
     pub is_hidden: bool,
@@ -82,7 +95,9 @@ pub enum Verdict {
 pub enum ConditionAnswer {
     /// The rule has no such condition.
     Absent,
+    /// It holds.
     Yes,
+    /// It does not hold.
     No,
     /// It cannot be told, which counts as met.
     Unknown,
@@ -95,16 +110,22 @@ pub enum ConditionAnswer {
 pub struct Condition {
     /// How the rule writes it.
     pub text: String,
+    /// What it says.
     pub answer: ConditionAnswer,
 }
 
 /// A rule, and what comes of it.
 #[derive(Drop)]
 pub struct Rule {
+    /// What comes of it.
     pub verdict: Verdict,
+    /// Where it stands.
     pub origin: Origin,
+    /// What it asks of the host.
     pub host: Condition,
+    /// What it asks of the target.
     pub target: Condition,
+    /// What it asks of the test.
     pub filter: Condition,
     /// What it writes for the setting, where it decides or would.
     pub value: Option<Value>,
@@ -125,6 +146,7 @@ pub enum Content {
     /// The settings of a test.
     Explain {
         asked: Asked,
+        /// The test.
         test: TestRows,
     },
     /// The rules of a setting, in order, and then what counts where none decides.
@@ -156,7 +178,10 @@ pub struct Report {
     pub root: String,
     /// The sources, the lowest first.
     pub sources: Vec<Source>,
+    /// What is wrong with them.
     pub findings: Vec<Finding>,
+    /// The checks that one of them kept from others.
     pub unreached: Vec<Unreached>,
+    /// What the command answers.
     pub content: Content,
 }

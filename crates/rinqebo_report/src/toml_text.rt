@@ -71,7 +71,8 @@ fn add_scalar(out: &mut String, scalar: &Scalar) -> Result<(), AllocError>
 
 /// Writes texts of a list.
 fn add_items(out: &mut String, items: &[String]) -> Result<(), AllocError>
-    ensures { OnOk result (string_bytes out.new ≡ string_bytes out.old ++ joined (codes ", ") item_text items.now) }
+    ensures { OnOk result (string_bytes out.new
+        ≡ string_bytes out.old ++ joined (codes ", ") item_text items.now) }
 {
     let mut separator = "";
     for item in items {

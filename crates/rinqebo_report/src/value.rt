@@ -3,8 +3,11 @@
 /// A value that holds no others.
 #[derive(Drop)]
 pub enum Scalar {
+    /// `true` or `false`.
     Boolean(bool),
+    /// A whole number.
     Integer(i64),
+    /// A text, as it is: pages put it in quotes.
     Text(String),
     /// A length of time, in nanoseconds.
     Duration(u128),
@@ -13,14 +16,18 @@ pub enum Scalar {
 /// A member of a table.
 #[derive(Drop)]
 pub struct Field {
+    /// Its key, which stands on pages as it is.
     pub key: String,
+    /// Its value.
     pub value: Scalar,
 }
 
 /// The value of a setting.
 #[derive(Drop)]
 pub enum Value {
+    /// A value that holds no others.
     Scalar(Scalar),
+    /// A list of texts.
     Texts(Vec<String>),
     /// A table, whose keys are apart from each other.
     Table(Vec<Field>),

@@ -203,15 +203,14 @@ fn read_body<'a>(alloc: Global, sign: Sign, start: &'a str) -> Result<Body<'a>, 
     }
 }
 
-/// What is wrong with a pattern that an engine does not compile.
-fn malformed(sign: Sign, fault: PatternFault) -> FaultKind
-    ensures { result ≡ predicates.malformed sign fault }
+/// What is wrong with a malformed pattern.
+fn malformed(sign: Sign) -> FaultKind
+    ensures { result ≡ predicates.malformed sign }
 {
-    match (sign, fault) {
-        (_, PatternFault::NotBrought) => FaultKind::NotBrought,
-        (Sign::Regex, PatternFault::Malformed) => FaultKind::InvalidRegex,
-        (Sign::Glob, PatternFault::Malformed) => FaultKind::InvalidGlob,
-        (Sign::Equal | Sign::Contains, PatternFault::Malformed) => FaultKind::InvalidString,
+    match sign {
+        Sign::Regex => FaultKind::InvalidRegex,
+        Sign::Glob => FaultKind::InvalidGlob,
+        Sign::Equal | Sign::Contains => FaultKind::InvalidString,
     }
 }
 
@@ -236,7 +235,7 @@ fn matching<'a, E: Matchers>(
     let Body { text, end, behind } = read_body(alloc, sign, pattern)?;
     let matcher = match engine.compile(alloc, field, sign, text.as_str())? {
         Ok(matcher) => matcher,
-        Err(fault) => return Err(Stop::between(malformed(sign, fault), pattern, end)),
+        Err(PatternFault::Malformed) => return Err(Stop::between(malformed(sign), pattern, end)),
     };
     let (close, rest) = closed(behind)?;
     let written = String::from_str(alloc, front(start, rest))?;

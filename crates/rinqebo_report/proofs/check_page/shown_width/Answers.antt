@@ -9,6 +9,9 @@ use Rattle.rinqebo_report.proofs.check_page.shown_width.Goals as goal
 
 pub returns : goal.returns
 returns c =
-    let whole = YieldsList-end (YieldsList-from_take c.args.count (YieldsList-from_chars c.args.text.now c.utf8.text cc) cc) c.loop-c.yielded _ c.loop-c.yielded_by _ _ c.in-None.is c.next.ensures.steps in
-    let written = written_whole shown_char [] (string_bytes c.loop-c.front) c.loop-c.yielded _ whole.0 c.loop-c.invariant in
+    let whole = YieldsList-end
+    (YieldsList-from_take c.args.count (YieldsList-from_chars c.args.text.now c.utf8.text cc) cc)
+    c.loop-c.yielded _ c.loop-c.yielded_by _ _ c.in-None.is c.next.ensures.steps in
+    let written = written_whole shown_char [] (string_bytes c.loop-c.front) c.loop-c.yielded _ whole.0
+    c.loop-c.invariant in
     c.width.ensures ∙ ap (λ t. length (chars t)) (c.as_str.ensures.value ∙ written)

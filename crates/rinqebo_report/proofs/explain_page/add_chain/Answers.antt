@@ -4,4 +4,7 @@ use Rattle.rinqebo_report.proofs.explain_page.add_chain.Goals as goal
 
 pub loop-profile-preserved : goal.loop-profile-preserved
 loop-profile-preserved c =
-    joined_more (codes " < ") string_bytes c.args.chain.now c.loop-profile.profile-index c.profile-item.result c.loop-profile-test.true c.profile-item.is _ _ _ _ c.loop-profile.separator.now c.loop-profile.invariant c.in_ok-push_str.ensures.bytes (rw c.as_str.ensures.value at c.in_ok-push_str-2.ensures.bytes)
+    joined_more (codes " < ") string_bytes c.args.chain.now c.loop-profile.profile-index c.profile-item.result
+    c.loop-profile-test.true c.profile-item.is _ _ _ _ c.loop-profile.separator.now
+    c.loop-profile.invariant c.in_ok-push_str.ensures.bytes
+    (rw c.as_str.ensures.value at c.in_ok-push_str-2.ensures.bytes)

@@ -1,7 +1,7 @@
 -- Members that are put one after another lie in the order of their keys.
 use Rattle.std.proofs.Common.{◌≡◌, rules, ap, ap₂, ◌∙◌}
 use Rattle.serde_json.proofs.Views.{view-Object}
-use Rattle.serde_json.specs.Data.{Members, no_members, object}
+use Rattle.serde_json.specs.Data.{no_members, object}
 use Rattle.serde_json.specs.View.{members_view}
 use Rattle.rinqebo_report.specs.Document.{with_answers, with_asked, with_title}
 use Rattle.rinqebo_report.proofs.json_document.document.Goals as goal

@@ -1,5 +1,5 @@
 -- A document has no float and nests little, so that its text is known and reads back.
-use Rattle.std.proofs.Common.{◌≡◌, ◌≤◌, Some, subst, sym, ap, ◌∙◌}
+use Rattle.std.proofs.Common.{◌≤◌, Some, subst, sym, ap, ◌∙◌}
 use Rattle.serde_json.specs.Data.{Data, depth}
 use Rattle.serde_json.specs.Read.{max_depth}
 use Rattle.serde_json.specs.Written.{has_float, compact_text}

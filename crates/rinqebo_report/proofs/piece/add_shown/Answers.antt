@@ -7,5 +7,6 @@ use Rattle.rinqebo_report.proofs.piece.add_shown.Goals as goal
 
 pub returns : goal.returns
 returns c =
-    let whole = YieldsList-end (YieldsList-from_chars c.args.text.now c.utf8.text cc) c.loop-c.yielded _ c.loop-c.yielded_by _ _ c.in-None.is c.next.ensures.steps in
+    let whole = YieldsList-end (YieldsList-from_chars c.args.text.now c.utf8.text cc) c.loop-c.yielded _
+    c.loop-c.yielded_by _ _ c.in-None.is c.next.ensures.steps in
     written_whole shown_char _ _ c.loop-c.yielded _ whole.0 c.loop-c.invariant

@@ -1,0 +1,4 @@
+pub mod Law
+pub mod Path
+pub mod Place
+pub mod Search
