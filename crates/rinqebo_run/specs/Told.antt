@@ -1,5 +1,5 @@
 -- Values of settings as they are reported.
-use Rattle.std.specs.Prelude.{ℕ, ℤ, pos, min, ◌^◌, ◌-◌, List, [], ◌∷◌, ◌++◌, Bool, true, false, Option, None, Some, option_map, map, codes, string_bytes}
+use Rattle.std.specs.Prelude.{ℕ, ℤ, pos, min, ◌^◌, ◌-◌, ◌==◌, ◌&&◌, not, List, [], ◌∷◌, ◌++◌, Bool, true, false, Option, None, Some, option_map, map, codes, string_bytes}
 use Rattle.nextest_elements.specs.FlakyResult.{flaky_result_text}
 use Rattle.nextest_elements.specs.Junit.{report_skip_policy_text, junit_flaky_fail_status_text}
 use Rattle.nextest_elements.specs.LeakTimeout.{leak_result_text}
@@ -84,10 +84,19 @@ retry_fields backoff count delay jitter max_delay =
     ++ one (codes "delay") (duration delay) ++ one_if_true (codes "jitter") jitter
     ++ one_if (codes "max-delay") duration max_delay
 
+-- a fixed retry policy, by whether it has neither delay nor jitter
+abbrev pub fixed_as : Bool → ℕ → ℕ → Bool → ToldValue
+fixed_as true count delay jitter = scalar (integer (pos count))
+fixed_as false count delay jitter =
+    table (retry_fields (codes "fixed") count delay jitter None)
+
+-- whether a retry policy has neither delay nor jitter
+abbrev pub is_plain : ℕ → Bool → Bool
+is_plain delay jitter = (delay == 0) && not jitter
+
 -- a fixed retry policy: a count where it has neither delay nor jitter
 abbrev pub told_fixed : ℕ → ℕ → Bool → ToldValue
-told_fixed count zero false = scalar (integer (pos count))
-told_fixed count delay jitter = table (retry_fields (codes "fixed") count delay jitter None)
+told_fixed count delay jitter = fixed_as (is_plain delay jitter) count delay jitter
 
 -- a retry policy
 abbrev pub told_retries : RetryPolicy → ToldValue

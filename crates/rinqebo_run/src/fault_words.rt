@@ -23,7 +23,6 @@ pub fn fault_words(kind: FaultKind) -> &'static str {
         FaultKind::InvalidEscapeCharacter => "invalid escape",
         FaultKind::InvalidGlob => "invalid glob",
         FaultKind::InvalidRegex => "invalid regex",
-        FaultKind::NotBrought => "patterns of this form are not answered",
         FaultKind::ExpectedCloseRegex => "expected `/`",
         FaultKind::InvalidPlatformArgument => "expected `host` or `target`",
         FaultKind::InvalidOrOperator => "expected `|`, `+` or `or`",

