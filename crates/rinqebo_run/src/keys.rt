@@ -54,7 +54,7 @@ impl SettingKey {
     /// The keys with a dot between them.
     pub fn text(self, alloc: Global) -> Result<String, AllocError>
         ensures { IfOk result (λ text. string_bytes text
-            ≡ dotted (option_map (λ table. table.now) self.entry.table) self.entry.key.now) }
+            ≡ dotted (option_map (λ table. table.now) self.table) self.key.now) }
     {
         let key = self.key;
         match self.table {
