@@ -27,7 +27,7 @@ key_name s = setting_name s
 -- a key behind its table, with a dot between them
 abbrev pub dotted : Option (List ℕ) → List ℕ → List ℕ
 dotted None key = key
-dotted (Some name) key = name ++ codes "." ++ key
+dotted (Some name) key = name ++ (codes "." ++ key)
 
 -- a setting as files write it
 abbrev pub key_text : Setting → NextestRunMode → List ℕ

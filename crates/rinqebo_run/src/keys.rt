@@ -33,7 +33,7 @@ impl SettingKey {
         match (setting, mode) {
             (Setting::SlowTimeout, NextestRunMode::Benchmark) => SettingKey {
                 table: Some("bench"),
-                key: "slow-timeout",
+                key: setting.name(),
             },
             (Setting::JunitStoreSuccessOutput, _) => in_report("store-success-output"),
             (Setting::JunitStoreFailureOutput, _) => in_report("store-failure-output"),
