@@ -183,11 +183,7 @@ fn refused(
 }
 
 /// What is wrong with the files.
-pub fn check(
-    alloc: Global,
-    session: &Session<'_>,
-    deny_warnings: bool,
-) -> Result<Answer, Failure>
+pub fn check(alloc: Global, session: &Session<'_>, deny_warnings: bool) -> Result<Answer, Failure>
     ensures ok { IfOk result (λ answer. IsCheckStatus session.now answer.status) }
     ensures err { IfErr result IsBeginningFailure }
 {

@@ -47,11 +47,7 @@ fn filters_of(alloc: Global, metadata: &Option<String>) -> Result<NextestFilters
 }
 
 /// The platform of a triple: what the compiler prints for it, or else that of the table.
-fn platform_of(
-    alloc: Global,
-    triple: &str,
-    cfg: &Option<String>,
-) -> Result<Platform, EngineFault> {
+fn platform_of(alloc: Global, triple: &str, cfg: &Option<String>) -> Result<Platform, EngineFault> {
     let platform = match cfg {
         Some(cfg) => Platform::from_rustc_cfg(alloc, triple, cfg.as_str()),
         None => Platform::builtin(alloc, triple),

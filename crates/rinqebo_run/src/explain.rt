@@ -18,9 +18,7 @@ use crate::session::{Config, Session};
 use crate::values::{reported_if_set, value_in_row};
 use crate::wrappers::wrapping_origin;
 use nextest_config::run::{PlainSource, TestRow, resolve};
-use nextest_config::{
-    BuildPlatform, ConfigSource, DefaultConfigWarnings, NextestRunMode, Setting,
-};
+use nextest_config::{BuildPlatform, ConfigSource, DefaultConfigWarnings, NextestRunMode, Setting};
 use nextest_filters::NextestTally;
 use rinqebo_report::{
     Asked, Content, Origin, Part, Place, Platform, Report, RunMode, SettingRow, TestRows, Written,
@@ -82,11 +80,13 @@ fn origins_of(
         Some(PlainSource::Script) => wrapping_origins(alloc, &grounds.wrapping),
         Some(PlainSource::Default) => built_in(alloc),
         Some(PlainSource::Profile) => profile_grounds(alloc, grounds.layers, grounds.chain, key),
-        Some(PlainSource::Override {
-            source,
-            profile,
-            index,
-        }) => {
+        Some(
+            PlainSource::Override {
+                source,
+                profile,
+                index,
+            },
+        ) => {
             let mut origins = Vec::new(alloc);
             let profile = profile.as_str();
             origins.push(override_origin(alloc, grounds.layers, source, profile, *index)?)?;

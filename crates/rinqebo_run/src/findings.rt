@@ -39,11 +39,7 @@ pub fn finding(
 }
 
 /// Warns of a key without effect.
-fn unknown_key(
-    alloc: Global,
-    source: Option<usize>,
-    path: &str,
-) -> Result<Finding, AllocError> {
+fn unknown_key(alloc: Global, source: Option<usize>, path: &str) -> Result<Finding, AllocError> {
     let message = format!(in alloc; "{path} has no effect")?;
     let at = Some(String::from_str(alloc, path)?);
     let mut found = finding(
@@ -65,7 +61,9 @@ fn reserved_profile(
     name: &str,
 ) -> Result<Finding, AllocError> {
     let path = format!(in alloc; "profile.{name}")?;
-    let message = format!(in alloc; "profile.{name}: names that begin `default-` are nextest's own")?;
+    let message = format!(in alloc;
+        "profile.{name}: names that begin `default-` are nextest's own"
+    )?;
     finding(
         alloc,
         Level::Warning,
@@ -79,7 +77,10 @@ fn reserved_profile(
 /// Warns of scripts under the old key.
 fn old_scripts(alloc: Global, source: Option<usize>) -> Result<Finding, AllocError> {
     let path = Some(String::from_str(alloc, "script")?);
-    let message = String::from_str(alloc, "script: this table is the old place of setup scripts")?;
+    let message = String::from_str(
+        alloc,
+        "script: this table is the old place of setup scripts",
+    )?;
     let mut found = finding(
         alloc,
         Level::Warning,
@@ -100,7 +101,9 @@ fn empty_rules(
     count: usize,
 ) -> Result<Finding, AllocError> {
     let path = format!(in alloc; "profile.{profile}.scripts")?;
-    let message = format!(in alloc; "profile.{profile}.scripts: rules that name no script: {count}")?;
+    let message = format!(in alloc;
+        "profile.{profile}.scripts: rules that name no script: {count}"
+    )?;
     finding(
         alloc,
         Level::Warning,

@@ -30,9 +30,7 @@ fn is_seen(above: &[&Tree], value: &Tree) -> bool {
         return true;
     }
     match value.as_table() {
-        Some(members) => members
-            .keys()
-            .any(|key| !is_covered(above, key.as_str())),
+        Some(members) => members.keys().any(|key| !is_covered(above, key.as_str())),
         None => false,
     }
 }

@@ -147,12 +147,7 @@ pub fn profile_table<'t>(tree: &'t Tree, profile: &str) -> Option<&'t Tree> {
 }
 
 /// The rule at a position of a list of a profile.
-pub fn rule_table<'t>(
-    tree: &'t Tree,
-    profile: &str,
-    list: &str,
-    index: usize,
-) -> Option<&'t Tree> {
+pub fn rule_table<'t>(tree: &'t Tree, profile: &str, list: &str, index: usize) -> Option<&'t Tree> {
     profile_table(tree, profile)?
         .get(list)?
         .as_array()?

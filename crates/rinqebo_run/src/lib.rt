@@ -36,8 +36,6 @@ mod wrappers;
 
 pub use environment::Environment;
 pub use files::{GatherFault, Gathered, gather};
-pub use request::{
-    ConfigFile, EngineOptions, FileOptions, Question, Request, TestName, ToolFile,
-};
+pub use request::{ConfigFile, EngineOptions, FileOptions, Question, Request, TestName, ToolFile};
 pub use run::{perform, refuse_gathering, refuse_words};
 pub use words::{ParseStop, parse};

@@ -94,16 +94,8 @@ fn with_output<'a>(
     formats: &'a [&'a str],
 ) -> Result<Command<'a>, AllocError> {
     command
-        .arg(
-            choice(alloc, "format", "F", formats, "How it is written").default_value("text"),
-        )?
-        .arg(choice(
-            alloc,
-            "color",
-            "W",
-            COLOURS,
-            "When colours are used",
-        ))
+        .arg(choice(alloc, "format", "F", formats, "How it is written").default_value("text"))?
+        .arg(choice(alloc, "color", "W", COLOURS, "When colours are used"))
 }
 
 /// The options that say on what tests run.
@@ -142,13 +134,14 @@ fn explain_command<'a>(alloc: Global) -> Result<Command<'a>, AllocError> {
         .arg(word(alloc, "BINARY", "The id of the test's binary").required(true))?
         .arg(word(alloc, "TEST", "The name of the test").required(true))?
         .arg(keys)?
-        .arg(option(alloc, "why", "KEY", "Tells the rules of this setting instead"))?
-        .arg(
-            option(alloc, "profile", "P", "The profile [default: default]").short('P'),
-        )?
-        .arg(
-            choice(alloc, "mode", "M", MODES, "For what the test runs").default_value("test"),
-        )?;
+        .arg(option(
+            alloc,
+            "why",
+            "KEY",
+            "Tells the rules of this setting instead",
+        ))?
+        .arg(option(alloc, "profile", "P", "The profile [default: default]").short('P'))?
+        .arg(choice(alloc, "mode", "M", MODES, "For what the test runs").default_value("test"))?;
     let command = with_files(alloc, command)?;
     let command = with_platforms(alloc, command)?;
     with_output(alloc, command, ANSWER_FORMATS)

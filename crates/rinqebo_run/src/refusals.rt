@@ -290,13 +290,15 @@ fn add_script_errors(
     }
     for error in &errors.wrong_script_types {
         let wrong = format!(in alloc;
-            "script `{}` is named as {} and is a {} script", error.name, error.attempted, error.actual
+            "script `{}` is named as {} and is a {} script",
+            error.name, error.attempted, error.actual
         )?;
         add_script(refused, error.profile_name.as_str(), wrong.as_str(), None)?;
     }
     for error in &errors.list_scripts_using_run_filters {
         let wrong = format!(in alloc;
-            "list wrapper `{}` stands beside a filter that only a running test answers", error.name
+            "list wrapper `{}` stands beside a filter that only a running test answers",
+            error.name
         )?;
         add_script(refused, error.profile_name.as_str(), wrong.as_str(), None)?;
     }
@@ -313,7 +315,11 @@ fn add_kind(refused: &mut Refused<'_>, kind: &ConfigParseErrorKind) -> Result<()
         ConfigParseErrorKind::BuildError(message) => add_no_document(refused, message.as_str()),
         ConfigParseErrorKind::DeserializeError(fault) => add_element(refused, fault),
         ConfigParseErrorKind::InvalidTestGroupsDefined(groups) => {
-            add_groups(refused, groups, "this group is a tool's or the organisation's")
+            add_groups(
+                refused,
+                groups,
+                "this group is a tool's or the organisation's",
+            )
         }
         ConfigParseErrorKind::InvalidTestGroupsDefinedByTool(groups) => {
             add_groups(refused, groups, "this group is not the tool's own")
@@ -331,7 +337,11 @@ fn add_kind(refused: &mut Refused<'_>, kind: &ConfigParseErrorKind) -> Result<()
             add_scripts(refused, ids, "this is a setup script and a wrapper script")
         }
         ConfigParseErrorKind::InvalidConfigScriptsDefined(ids) => {
-            add_scripts(refused, ids, "this script is a tool's or the organisation's")
+            add_scripts(
+                refused,
+                ids,
+                "this script is a tool's or the organisation's",
+            )
         }
         ConfigParseErrorKind::InvalidConfigScriptsDefinedByTool(ids) => {
             add_scripts(refused, ids, "this script is not the tool's own")
@@ -344,10 +354,7 @@ fn add_kind(refused: &mut Refused<'_>, kind: &ConfigParseErrorKind) -> Result<()
 }
 
 /// Adds what a refusal of the rules of a source tells.
-fn add_rule_kind(
-    refused: &mut Refused<'_>,
-    kind: &ConfigParseErrorKind,
-) -> Result<(), AllocError> {
+fn add_rule_kind(refused: &mut Refused<'_>, kind: &ConfigParseErrorKind) -> Result<(), AllocError> {
     match kind {
         ConfigParseErrorKind::InheritanceErrors(errors) => {
             for error in errors {

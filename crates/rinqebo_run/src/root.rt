@@ -1,6 +1,6 @@
 //! The root of a workspace, looked for from a folder upward.
-use nextest_config::{CONFIG_PATH, ReadOutcome, join_paths};
 use crate::layers::tree_of;
+use nextest_config::{CONFIG_PATH, ReadOutcome, join_paths};
 use nextest_explain::FileReader;
 use std::alloc::{AllocError, Global};
 

@@ -10,10 +10,10 @@ use crate::answer::{Answer, Failure};
 use crate::check::check;
 use crate::explain::explain;
 use crate::files::{GatherFault, Gathered};
-use crate::words::ParseStop;
 use crate::request::{Question, Request};
 use crate::session::Session;
 use crate::why::why;
+use crate::words::ParseStop;
 use nextest_explain::refuse_for_memory;
 use rinqebo_report::{Colour, Content, Format, Report, render, render_findings};
 use std::alloc::{AllocError, Global};
@@ -32,11 +32,7 @@ fn answered(report: Result<Report, Failure>) -> Result<Answer, Failure>
 }
 
 /// What a request is answered, over the files that it names.
-fn answer_of(
-    alloc: Global,
-    request: &Request<'_>,
-    gathered: &Gathered,
-) -> Result<Answer, Failure>
+fn answer_of(alloc: Global, request: &Request<'_>, gathered: &Gathered) -> Result<Answer, Failure>
     ensures ok { IfOk result
         (λ answer. IsAnswer request.now gathered.now answer.report answer.status) }
     ensures err { IfErr result (IsFailureOf request.now.question) }
@@ -46,11 +42,7 @@ fn answer_of(
 }
 
 /// What a request is answered in a session.
-fn answer_in(
-    alloc: Global,
-    request: &Request<'_>,
-    session: &Session<'_>,
-) -> Result<Answer, Failure>
+fn answer_in(alloc: Global, request: &Request<'_>, session: &Session<'_>) -> Result<Answer, Failure>
     ensures ok { IfOk result (λ answer.
         AnswersQuestion request.now.question session.now answer.report answer.status) }
     ensures err { IfErr result (IsFailureOf request.now.question) }

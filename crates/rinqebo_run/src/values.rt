@@ -3,6 +3,7 @@ ghost use Rattle.std.specs.Prelude.{◌≡◌, ◌++◌, IfOk, OnOk, map, option
 ghost use Rattle.nextest_config.specs.RowView.{row_value};
 ghost use Rattle.rinqebo_run.specs.SettingValues.{told_value};
 ghost use Rattle.rinqebo_run.specs.Told.{ToldScalar, ToldValue, scalar_view, field_view, value_view, told_count, one, one_if, one_if_true, retry_fields, is_plain, told_fixed, told_retries, told_slow, told_leak, told_threads, told_of};
+
 use nextest_config::run::TestRow;
 use nextest_config::{
     FlakyResult, JunitFlakyFailStatus, LeakTimeout, NextestRunMode, OverrideSettings,
@@ -238,7 +239,12 @@ fn retry_table(
     let mut fields = Vec::new(alloc);
     let backoff = String::from_str(alloc, backoff)?;
     add_field(alloc, &mut fields, "backoff", Scalar::Text(backoff))?;
-    add_field(alloc, &mut fields, "count", Scalar::Integer(i64::from(count)))?;
+    add_field(
+        alloc,
+        &mut fields,
+        "count",
+        Scalar::Integer(i64::from(count)),
+    )?;
     add_field(alloc, &mut fields, "delay", Scalar::Duration(delay))?;
     add_if_true(alloc, &mut fields, "jitter", jitter)?;
     add_duration(alloc, &mut fields, "max-delay", max_delay)?;
@@ -253,12 +259,7 @@ fn is_plain(delay: u128, jitter: bool) -> bool
 }
 
 /// A fixed retry policy: a count where it has neither delay nor jitter.
-fn fixed_value(
-    alloc: Global,
-    count: u32,
-    delay: u128,
-    jitter: bool,
-) -> Result<Value, AllocError>
+fn fixed_value(alloc: Global, count: u32, delay: u128, jitter: bool) -> Result<Value, AllocError>
     ensures { IfOk result (λ value. value_view value ≡ told_fixed count delay jitter) }
 {
     if is_plain(delay, jitter) {

@@ -25,7 +25,12 @@ use target_language::TargetSpecs;
 type Override = CompiledOverride<NextestFilters, TargetSpecs>;
 
 /// What is known of a rule, where a setting is asked for.
-fn facts_of(rule: &Override, setting: Setting, mode: NextestRunMode, answers: Answers) -> RuleFacts {
+fn facts_of(
+    rule: &Override,
+    setting: Setting,
+    mode: NextestRunMode,
+    answers: Answers,
+) -> RuleFacts {
     RuleFacts {
         is_on: answers.is_on(),
         matches: answers.matches(),
@@ -133,9 +138,7 @@ fn reported_rules(
     let mut reported = Vec::new(alloc);
     for ((rule, answers), verdict) in rules.iter().zip(&answers).zip(&verdicts) {
         let value = written_value(rule.settings(), setting, mode);
-        reported.push(reported_rule(
-            alloc, layers, *rule, value, *answers, *verdict,
-        )?)?;
+        reported.push(reported_rule(alloc, layers, *rule, value, *answers, *verdict)?)?;
     }
     Ok(reported)
 }

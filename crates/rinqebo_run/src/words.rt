@@ -76,10 +76,7 @@ fn tool_name(alloc: Global, name: &str) -> Result<ToolName, ParseStop> {
 }
 
 /// The files of tools.
-fn tool_files<'a>(
-    alloc: Global,
-    matches: &ArgMatches<'a>,
-) -> Result<Vec<ToolFile<'a>>, ParseStop> {
+fn tool_files<'a>(alloc: Global, matches: &ArgMatches<'a>) -> Result<Vec<ToolFile<'a>>, ParseStop> {
     let mut tools = Vec::new(alloc);
     for value in matches.get_strs("tool-config-file").unwrap_or(&[]) {
         let Some((tool, path)) = value.split_once(':') else {
