@@ -19,4 +19,4 @@ returns g c =
     subst (λ filters. IfLoaded (readings filters) (features_view session.features) (files_view gathered) c.load.result)
     c.parse_context.ensures
     (subst (λ fs. IfLoaded (readings c.parse_context.result.filters.now) (features_view session.features) fs c.load.result)
-    files c.load.ensures.verdict)
+    files c.load.ensures.loads.verdict)
