@@ -1,8 +1,17 @@
--- Settings of a row, one more.
-use Rattle.std.proofs.Common.{◌≡◌, ◌∙◌, ◌<◌, ◌+◌, ℕ, List, [], ◌∷◌, ◌++◌, ap, sym, length, take, get_or}
+-- Settings of a row, and the rows of a test.
+use Rattle.std.proofs.Common.{◌≡◌, ◌∙◌, ◌<◌, ◌+◌, ℕ, List, [], ◌∷◌, ◌++◌, Option, Some, None, Result, Ok, Err, IfOk, ap, map, refl, subst, sym, length, take, get_or, unwrap_or}
 use Rattle.std.proofs.lemmas.List.{take_more}
-use Rattle.std.specs.List.{AllZip}
+use Rattle.std.specs.List.{AllZip, slice_get}
 use Rattle.nextest_config.proofs.AreRows.{zip_push}
+use Rattle.nextest_config.specs.Headline.{Request, Row, Resolves}
+use Rattle.nextest_config.specs.RunView.{run_view}
+use Rattle.nextest_filters.specs.declared.engine.NextestFilters.{NextestFilters}
+use Rattle.nextest_sources.specs.Warnings.{Warning}
+use Rattle.target_platforms.specs.declared.Platform.{Platform}
+use Rattle.rinqebo_run.specs.Explained.{Asks, AreRowsOf}
+use Rattle.rinqebo_run.specs.Sessions.{readings}
+use Rattle.rinqebo_run.specs.declared.request.TestName.{TestName}
+use Rattle.rinqebo_run.specs.declared.session.Session.{Session}
 
 -- one more of each of two lists
 pub zip_more : {A B : Type 0} (R : A → B → Type 0) (xs : List A) (i : ℕ) (x d : A) → i < length xs
@@ -12,3 +21,34 @@ zip_more R xs i x d below same now new y before is more =
     let taken : take (i + 1) xs ≡ take i xs ++ x ∷ [] = take_more xs i d below
     ∙ ap (λ z. take i xs ++ z ∷ []) (sym same) in
     rw (taken, more) (zip_push R (take i xs) now x y before is)
+
+-- what holds at the view of the first row holds at the first view
+pub first_holds : {X Y T E : Type 0} (view : X → Y) (P : Y → T → Type 0) (r : Result T E) (rows : List X) (first : X)
+    → Some first ≡ slice_get rows 0 → IfOk r (P (view first))
+    → IfOk r (λ told. (row : Y) → slice_get (map view rows) 0 ≡ Some row → P row told)
+first_holds view P (Ok told) [] first is holds row asked = absurd (cc)
+first_holds {Y = Y} view P (Ok told) (x ∷ xs) first is holds row asked =
+    let viewed : view x ≡ row = ap (λ o. unwrap_or o row) asked in
+    let same : first ≡ x = ap (λ o. unwrap_or o first) is in
+    subst (λ y. P y told) (ap view same ∙ viewed) holds
+first_holds view P (Err e) rows first is holds = tt
+
+-- without a first row there is no first view
+pub no_first : {X Y Z : Type 0} (view : X → Y) (rows : List X) (row : Y) → None ≡ slice_get rows 0
+    → slice_get (map view rows) 0 ≡ Some row → Z
+no_first view [] row is asked = absurd (cc)
+no_first view (x ∷ xs) row is asked = absurd (cc)
+
+-- rows that resolve what a session asks for are those of its test
+pub rows_of : (session : Session) (profile : List ℕ) (test : TestName) (filters : NextestFilters)
+    (request : Request Platform) (rows : List Row) (old new : List Warning) (before after : List ℕ)
+    → filters ≡ session.engines.filters → Asks session profile test request
+    → Resolves (readings filters) request (run_view (Ok rows) old new before after)
+    → AreRowsOf session profile test rows
+rows_of session profile test filters request rows old new before after same asks resolves = record {
+  request = request;
+  asks = asks;
+  run = run_view (Ok rows) old new before after;
+  answered = refl;
+  resolves = subst (λ f. Resolves (readings f) request (run_view (Ok rows) old new before after)) same resolves;
+}

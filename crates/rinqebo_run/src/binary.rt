@@ -1,4 +1,6 @@
 //! Binaries by their ids.
+ghost use Rattle.std.specs.Prelude.{◌≡◌};
+
 use crate::request::TestName;
 use nextest_config::{BinaryQuery, TestQuery};
 
@@ -28,7 +30,11 @@ fn target_of(binary: &str) -> Target<'_> {
 }
 
 /// A test, as filters see it. The id of its package is not known.
-pub fn query_of<'a>(test: &TestName<'a>) -> TestQuery<'a> {
+pub fn query_of<'a>(test: &TestName<'a>) -> TestQuery<'a>
+    ensures name { result.test_name.now ≡ test.now.name.now }
+    ensures binary { result.binary_query.binary_id.now ≡ test.now.binary.now }
+    ensures platform { result.binary_query.platform ≡ test.now.platform }
+{
     let target = target_of(test.binary);
     TestQuery {
         binary_query: BinaryQuery {

@@ -182,17 +182,27 @@ fn refused(
     Ok(Answer { report, status: 3 })
 }
 
+/// The answer of a check.
+fn checked(
+    alloc: Global,
+    session: &Session<'_>,
+    deny_warnings: bool,
+) -> Result<Answer, AllocError>
+    ensures { IfOk result (λ answer. IsCheckStatus session.now answer.status) }
+{
+    let mut warnings = DefaultConfigWarnings::new(alloc);
+    match session.load(alloc, &mut warnings) {
+        Ok(_) => accepted(alloc, session, &warnings, deny_warnings),
+        Err(error) => refused(alloc, session, &warnings, &error),
+    }
+}
+
 /// What is wrong with the files.
 pub fn check(alloc: Global, session: &Session<'_>, deny_warnings: bool) -> Result<Answer, Failure>
     ensures ok { IfOk result (λ answer. IsCheckStatus session.now answer.status) }
     ensures err { IfErr result IsBeginningFailure }
 {
-    let mut warnings = DefaultConfigWarnings::new(alloc);
-    let answer = match session.load(alloc, &mut warnings) {
-        Ok(_) => accepted(alloc, session, &warnings, deny_warnings),
-        Err(error) => refused(alloc, session, &warnings, &error),
-    };
-    match answer {
+    match checked(alloc, session, deny_warnings) {
         Ok(answer) => Ok(answer),
         Err(_) => Err(Failure::Memory),
     }

@@ -130,6 +130,24 @@ fn setting_rows(
     Ok(rows)
 }
 
+/// Settings of the first row, if there is one.
+fn first_settings(
+    alloc: Global,
+    grounds: &Grounds<'_>,
+    rows: &[TestRow],
+    settings: &[Setting],
+    mode: NextestRunMode,
+) -> Result<Vec<SettingRow>, AllocError>
+    ensures { IfOk result (λ told. (row : Row)
+        → slice_get (map row_view rows.now) 0 ≡ Some row
+        → AllZip (IsTold row mode) settings.now told.items) }
+{
+    match rows.first() {
+        Some(row) => setting_rows(alloc, grounds, row, settings, mode),
+        None => Ok(Vec::new(alloc)),
+    }
+}
+
 /// For what a binary is built, as it is reported.
 fn reported_platform(platform: BuildPlatform) -> Platform {
     match platform {
@@ -207,15 +225,11 @@ fn test_rows(
         → slice_get (map row_view rows.now) 0 ≡ Some row
         → IsTestTold row test.now settings.now told) }
 {
-    let told = match rows.first() {
-        Some(row) => setting_rows(alloc, grounds, row, settings, test.mode)?,
-        None => Vec::new(alloc),
-    };
     Ok(TestRows {
         binary: String::from_str(alloc, test.binary)?,
         name: String::from_str(alloc, test.name)?,
         platform: reported_platform(test.platform),
-        settings: told,
+        settings: first_settings(alloc, grounds, rows, settings, test.mode)?,
     })
 }
 
