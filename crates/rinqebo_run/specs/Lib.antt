@@ -6,3 +6,5 @@ pub mod Sessions
 pub mod Explained
 pub mod Checked
 pub mod Answered
+pub mod Conditions
+pub mod Reasons

@@ -1,4 +1,8 @@
 //! The conditions of rules, and what they say of a test.
+ghost use Rattle.std.specs.Prelude.{◌≡◌, ◌&&◌, option_map};
+ghost use Rattle.nextest_settings.specs.Platforms.{runs_on};
+ghost use Rattle.rinqebo_run.specs.Conditions.{told_condition, meets, told_host, told_target, told_filter, is_met, is_matched, asked_if};
+
 use crate::request::TestName;
 use crate::session::Config;
 use nextest_config::{
@@ -33,18 +37,24 @@ pub struct Answers {
 
 impl Answers {
     /// Whether the platforms of the rule hold.
-    pub fn is_on(self) -> bool {
+    pub fn is_on(self) -> bool
+        ensures { result ≡ (is_met self.host && is_met self.target) }
+    {
         is_met(self.host) && is_met(self.target)
     }
 
     /// Whether the filter of the rule matches. A rule without one matches.
-    pub fn matches(self) -> bool {
+    pub fn matches(self) -> bool
+        ensures { result ≡ is_matched self.filter }
+    {
         matches!(self.filter, ConditionAnswer::Yes | ConditionAnswer::Absent)
     }
 }
 
 /// Whether a condition does not stand against a rule.
-fn is_met(answer: ConditionAnswer) -> bool {
+fn is_met(answer: ConditionAnswer) -> bool
+    ensures { result ≡ is_met answer }
+{
     !matches!(answer, ConditionAnswer::No)
 }
 
@@ -52,7 +62,9 @@ fn is_met(answer: ConditionAnswer) -> bool {
 fn spec_answer(
     spec: &Option<<TargetSpecs as Specs>::Spec>,
     platform: &Platform,
-) -> ConditionAnswer {
+) -> ConditionAnswer
+    ensures { result ≡ told_condition (meets platform.now) spec.now }
+{
     match spec {
         None => ConditionAnswer::Absent,
         Some(spec) => match <TargetSpecs as Specs>::eval(spec, platform) {
@@ -64,7 +76,9 @@ fn spec_answer(
 }
 
 /// The platform on which binaries run that are built for a platform.
-fn runs_on(platforms: &BuildPlatforms<Platform>, build: BuildPlatform) -> &Platform {
+fn runs_on(platforms: &BuildPlatforms<Platform>, build: BuildPlatform) -> &Platform
+    ensures { result.now ≡ runs_on platforms.now build }
+{
     match (build, &platforms.target) {
         (BuildPlatform::Target, Some(target)) => target,
         (BuildPlatform::Target, None) | (BuildPlatform::Host, _) => &platforms.host,
@@ -72,7 +86,9 @@ fn runs_on(platforms: &BuildPlatforms<Platform>, build: BuildPlatform) -> &Platf
 }
 
 /// What a filter says of a test.
-fn filter_answer(filter: Option<&Filter>, asking: &Asking<'_>) -> ConditionAnswer {
+fn filter_answer(filter: Option<&Filter>, asking: &Asking<'_>) -> ConditionAnswer
+    ensures { result ≡ told_filter asking.now (option_map (λ filter. filter.now) filter.entry) }
+{
     let Some(filter) = filter else {
         return ConditionAnswer::Absent;
     };
@@ -92,7 +108,12 @@ pub fn answers_of(
     specs: &PlatformSpecs<TargetSpecs>,
     filter: Option<&Filter>,
     asking: &Asking<'_>,
-) -> Answers {
+) -> Answers
+    ensures host { result.host ≡ told_host asking.now specs.now.host }
+    ensures target { result.target ≡ told_target asking.now specs.now.target }
+    ensures filter { result.filter ≡ asked_if (is_met result.host && is_met result.target)
+        (told_filter asking.now (option_map (λ filter. filter.now) filter.entry)) }
+{
     let host = spec_answer(&specs.host, &asking.platforms.host);
     let target = spec_answer(
         &specs.target,

@@ -103,6 +103,9 @@ impl<'g> Session<'g> {
             tools: &self.gathered.tools,
             features: &self.features,
         };
-        LoadedConfig::load(alloc, &inputs, &self.parse_context(), warnings)
+        match LoadedConfig::load(alloc, &inputs, &self.parse_context(), warnings) {
+            Ok(config) => Ok(config),
+            Err(error) => Err(error),
+        }
     }
 }

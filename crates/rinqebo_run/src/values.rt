@@ -1,6 +1,8 @@
 //! Values of settings, as they are reported.
 ghost use Rattle.std.specs.Prelude.{◌≡◌, ◌++◌, IfOk, OnOk, map, option_map, string_bytes};
 ghost use Rattle.nextest_config.specs.RowView.{row_value};
+ghost use Rattle.nextest_settings.specs.Settings.{sets, slow_timeout_written};
+ghost use Rattle.nextest_tables.specs.View.{settings_view};
 ghost use Rattle.rinqebo_run.specs.SettingValues.{told_value};
 ghost use Rattle.rinqebo_run.specs.Told.{ToldScalar, ToldValue, scalar_view, field_view, value_view, told_count, one, one_if, one_if_true, retry_fields, is_plain, told_fixed, told_retries, told_slow, told_leak, told_threads, told_of};
 
@@ -66,7 +68,9 @@ pub fn value_in_row(row: &TestRow, setting: Setting) -> Option<SettingValue<'_>>
 }
 
 /// The slow timeout that an override writes: benchmarks have their own.
-fn written_timeout(written: &OverrideSettings, mode: NextestRunMode) -> Option<SlowTimeout> {
+fn written_timeout(written: &OverrideSettings, mode: NextestRunMode) -> Option<SlowTimeout>
+    ensures { result ≡ slow_timeout_written (settings_view written.now) mode }
+{
     match mode {
         NextestRunMode::Test => written.runs.slow_timeout,
         NextestRunMode::Benchmark => match written.outputs.bench {
@@ -76,30 +80,16 @@ fn written_timeout(written: &OverrideSettings, mode: NextestRunMode) -> Option<S
     }
 }
 
-/// What an override writes for a setting of the report.
-fn written_report(written: &OverrideSettings, setting: Setting) -> Option<SettingValue<'_>> {
-    let report = written.outputs.junit?;
-    match setting {
-        Setting::JunitStoreSuccessOutput => {
-            Some(SettingValue::IsStored(report.store_success_output?))
-        }
-        Setting::JunitStoreFailureOutput => {
-            Some(SettingValue::IsStored(report.store_failure_output?))
-        }
-        Setting::JunitReportSkipped => Some(SettingValue::Skipped(report.report_skipped?)),
-        Setting::JunitFlakyFailStatus => {
-            Some(SettingValue::FlakyFailStatus(report.flaky_fail_status?))
-        }
-        _ => None,
-    }
-}
-
 /// What an override writes for a setting, in a mode. None names a wrapper.
 pub fn written_value(
     written: &OverrideSettings,
     setting: Setting,
     mode: NextestRunMode,
-) -> Option<SettingValue<'_>> {
+) -> Option<SettingValue<'_>>
+    ensures { option_map told_value result
+        ≡ option_map (told_of setting) (sets (settings_view written.now) mode setting) }
+{
+    let outputs = &written.outputs;
     match setting {
         Setting::Priority => Some(SettingValue::Priority(written.priority?)),
         Setting::ThreadsRequired => Some(SettingValue::Threads(written.runs.threads_required?)),
@@ -112,13 +102,22 @@ pub fn written_value(
         Setting::FlakyResult => Some(SettingValue::FlakyResult(written.runs.flaky_result?)),
         Setting::SlowTimeout => Some(SettingValue::SlowTimeout(written_timeout(written, mode)?)),
         Setting::LeakTimeout => Some(SettingValue::LeakTimeout(written.runs.leak_timeout?)),
-        Setting::TestGroup => match &written.outputs.test_group {
+        Setting::TestGroup => match &outputs.test_group {
             Some(group) => Some(SettingValue::Group(group)),
             None => None,
         },
-        Setting::SuccessOutput => Some(SettingValue::Output(written.outputs.success_output?)),
-        Setting::FailureOutput => Some(SettingValue::Output(written.outputs.failure_output?)),
-        _ => written_report(written, setting),
+        Setting::SuccessOutput => Some(SettingValue::Output(outputs.success_output?)),
+        Setting::FailureOutput => Some(SettingValue::Output(outputs.failure_output?)),
+        Setting::JunitStoreSuccessOutput => {
+            Some(SettingValue::IsStored(outputs.junit?.store_success_output?))
+        }
+        Setting::JunitStoreFailureOutput => {
+            Some(SettingValue::IsStored(outputs.junit?.store_failure_output?))
+        }
+        Setting::JunitReportSkipped => Some(SettingValue::Skipped(outputs.junit?.report_skipped?)),
+        Setting::JunitFlakyFailStatus => {
+            Some(SettingValue::FlakyFailStatus(outputs.junit?.flaky_fail_status?))
+        }
     }
 }
 

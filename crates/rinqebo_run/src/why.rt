@@ -1,4 +1,11 @@
 //! The rules of a setting, and what comes of each.
+ghost use Rattle.std.specs.Prelude.{◌≡◌, IfOk, map};
+ghost use Rattle.std.specs.List.{zip};
+ghost use Rattle.nextest_rules.specs.View.{override_rule_view};
+ghost use Rattle.nextest_settings.specs.View.{override_ref_view};
+ghost use Rattle.rinqebo_run.specs.Reasons.{answers_told, facts_told, verdicts_here};
+ghost use Rattle.rinqebo_run.specs.declared.conditions.Asking.{Asking};
+
 use crate::answer::Failure;
 use crate::binary::query_of;
 use crate::check::{failure_of_load, failure_of_profile};
@@ -30,7 +37,9 @@ fn facts_of(
     setting: Setting,
     mode: NextestRunMode,
     answers: Answers,
-) -> RuleFacts {
+) -> RuleFacts
+    ensures { result ≡ facts_told setting mode (override_rule_view rule.now) answers }
+{
     RuleFacts {
         is_on: answers.is_on(),
         matches: answers.matches(),
@@ -96,17 +105,45 @@ fn reported_rule(
     })
 }
 
+/// What the conditions of a rule say.
+fn answers_to(rule: &Override, asking: &Asking<'_>) -> Answers
+    ensures { result ≡ answers_told asking.now (override_rule_view rule.now) }
+{
+    answers_of(rule.platforms(), rule.filter(), asking)
+}
+
 /// What the conditions of each rule say.
 fn all_answers(
     alloc: Global,
     rules: &[&Override],
     asking: &Asking<'_>,
-) -> Result<Vec<Answers>, AllocError> {
-    let mut all = Vec::new(alloc);
-    for rule in rules {
-        all.push(answers_of(rule.platforms(), rule.filter(), asking))?;
-    }
-    Ok(all)
+) -> Result<Vec<Answers>, AllocError>
+    ensures { IfOk result (λ all. all.items
+        ≡ map (answers_told asking.now) (map override_ref_view rules.now)) }
+{
+    rules
+        .iter()
+        .map(|rule| answers_to(*rule, asking))
+        .collect(alloc)
+}
+
+/// What is known of each rule.
+fn all_facts(
+    alloc: Global,
+    rules: &[&Override],
+    setting: Setting,
+    mode: NextestRunMode,
+    answers: &[Answers],
+) -> Result<Vec<RuleFacts>, AllocError>
+    ensures { IfOk result (λ facts. facts.items
+        ≡ map (λ p. facts_told setting mode (override_ref_view p.0) p.1)
+        (zip rules.now answers.now)) }
+{
+    rules
+        .iter()
+        .zip(answers)
+        .map(|(rule, answers)| facts_of(*rule, setting, mode, *answers))
+        .collect(alloc)
 }
 
 /// What comes of each rule.
@@ -116,11 +153,13 @@ fn all_verdicts(
     setting: Setting,
     mode: NextestRunMode,
     answers: &[Answers],
-) -> Result<Vec<rule_verdicts::Verdict>, AllocError> {
-    let mut facts = Vec::new(alloc);
-    for (rule, answers) in rules.iter().zip(answers) {
-        facts.push(facts_of(*rule, setting, mode, *answers))?;
-    }
+) -> Result<Vec<rule_verdicts::Verdict>, AllocError>
+    ensures { (asking : Asking)
+        → answers.now ≡ map (answers_told asking) (map override_ref_view rules.now)
+        → IfOk result (λ verdicts. verdicts.items
+        ≡ verdicts_here asking setting mode (map override_ref_view rules.now)) }
+{
+    let facts = all_facts(alloc, rules, setting, mode, answers)?;
     verdicts_of(alloc, &facts)
 }
 

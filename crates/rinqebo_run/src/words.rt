@@ -165,10 +165,7 @@ fn format<'a>(matches: &ArgMatches<'a>, environment: &'a Environment) -> Format<
     match matches.get_str("format") {
         Some("json") => Format::Json,
         Some("concise") => Format::Concise,
-        Some("github") => {
-            let folder = environment.folder.as_str();
-            Format::Github(set(&environment.workflow_folder).unwrap_or(folder))
-        }
+        Some("github") => Format::Github(set(&environment.workflow_folder).unwrap_or("")),
         _ => Format::Text,
     }
 }
