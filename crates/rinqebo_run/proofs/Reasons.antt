@@ -1,6 +1,6 @@
 -- What is told of rules is what comes of them.
-use Rattle.std.proofs.Common.{◌≡◌, ◌∙◌, ◌&&◌, ◌||◌, Bool, true, false, List, [], ◌∷◌, map, Option, None, Some, ap, refl, sym, unwrap_or}
-use Rattle.std.specs.List.{AllZip, zip}
+use Rattle.std.proofs.Common.{◌≡◌, ◌∙◌, ◌&&◌, ◌||◌, Bool, true, false, List, [], ◌∷◌, map, Option, None, Some, Result, Ok, Err, IfOk, ap, refl, sym, unwrap_or}
+use Rattle.std.specs.List.{AllZip}
 use Rattle.nextest_elements.specs.declared.run_mode.NextestRunMode.{NextestRunMode}
 use Rattle.nextest_engines.specs.declared.queries.BuildPlatform.{BuildPlatform}
 use Rattle.nextest_engines.specs.declared.queries.BuildPlatform.TheVariants.{Host, Target}
@@ -13,7 +13,7 @@ use Rattle.rule_verdicts.specs.Verdicts.{facts_of}
 use Rattle.rule_verdicts.specs.VerdictsBy.{verdict_by, decides_by, verdicts_by}
 use Rattle.rule_verdicts.specs.declared.verdict.RuleFacts.{RuleFacts}
 use Rattle.rinqebo_run.specs.Conditions.{told_answer, told_condition, told_filter, is_met, is_matched, asked_if, meets, matches}
-use Rattle.rinqebo_run.specs.Reasons.{Override, answers_told, asked_query, rule_here, writes_setting, facts_told, verdicts_here}
+use Rattle.rinqebo_run.specs.Reasons.{Override, answers_told, asked_query, rule_here, writes_setting, facts_told, all_told, verdicts_here}
 use Rattle.rinqebo_run.specs.declared.conditions.Asking.{Asking}
 
 -- an answer counts as met where what is told of it does not stand against the rule
@@ -104,8 +104,7 @@ told_same asking setting mode rule =
 
 all_same : {X : Type 0} (view : X → Override) (asking : Asking) (setting : Setting) (mode : NextestRunMode)
     (rules : List X)
-    → AllZip GiveSame
-    (map (λ p. facts_told setting mode (view p.0) p.1) (zip rules (map (answers_told asking) (map view rules))))
+    → AllZip GiveSame (all_told view setting mode rules (map (answers_told asking) (map view rules)))
     (map (facts_of (asked_query asking) (writes_setting setting mode)) (map (rule_here asking) (map view rules)))
 all_same view asking setting mode [] = tt
 all_same view asking setting mode (rule ∷ rules) =
@@ -114,9 +113,14 @@ all_same view asking setting mode (rule ∷ rules) =
 -- the verdicts of what is told of rules are those that come of them
 pub told_verdicts : {X : Type 0} (view : X → Override) (asking : Asking) (setting : Setting) (mode : NextestRunMode)
     (rules : List X)
-    → verdicts_by false
-    (map (λ p. facts_told setting mode (view p.0) p.1) (zip rules (map (answers_told asking) (map view rules))))
+    → verdicts_by false (all_told view setting mode rules (map (answers_told asking) (map view rules)))
     ≡ verdicts_here asking setting mode (map view rules)
 told_verdicts view asking setting mode rules =
     same_verdicts false _ _ (all_same view asking setting mode rules)
     ∙ sym (verdicts-facts (asked_query asking) (writes_setting setting mode) (map (rule_here asking) (map view rules)))
+
+-- what is made of a result, by an equation
+pub ok_same : {T E X : Type 0} (f : T → X) (r : Result T E) (a b : X) → a ≡ b → IfOk r (λ t. f t ≡ a)
+    → IfOk r (λ t. f t ≡ b)
+ok_same f (Ok t) a b same is = is ∙ same
+ok_same f (Err e) a b same is = tt

@@ -4,11 +4,16 @@ use Rattle.std.proofs.lemmas.List.{take_more}
 use Rattle.std.specs.List.{AllZip, slice_get}
 use Rattle.nextest_config.proofs.AreRows.{zip_push}
 use Rattle.nextest_config.specs.Headline.{Request, Row, Resolves}
+use Rattle.nextest_config.specs.RowView.{row_view}
 use Rattle.nextest_config.specs.RunView.{run_view}
+use Rattle.nextest_config.specs.declared.run.row.TestRow.{TestRow}
 use Rattle.nextest_filters.specs.declared.engine.NextestFilters.{NextestFilters}
+use Rattle.nextest_settings.specs.declared.setting.Setting.{Setting}
 use Rattle.nextest_sources.specs.Warnings.{Warning}
+use Rattle.rinqebo_report.specs.declared.report.Content.{Content}
+use Rattle.rinqebo_report.specs.declared.report.Report.{Report}
 use Rattle.target_platforms.specs.declared.Platform.{Platform}
-use Rattle.rinqebo_run.specs.Explained.{Asks, AreRowsOf}
+use Rattle.rinqebo_run.specs.Explained.{Asks, AreRowsOf, IfExplained, IsTestTold, Explains}
 use Rattle.rinqebo_run.specs.Sessions.{readings}
 use Rattle.rinqebo_run.specs.declared.request.TestName.{TestName}
 use Rattle.rinqebo_run.specs.declared.session.Session.{Session}
@@ -51,4 +56,20 @@ rows_of session profile test filters request rows old new before after same asks
   run = run_view (Ok rows) old new before after;
   answered = refl;
   resolves = subst (λ f. Resolves (readings f) request (run_view (Ok rows) old new before after)) same resolves;
+}
+
+-- a report explains a test by its rows
+pub explains : (session : Session) (profile : List ℕ) (test : TestName) (settings : List Setting) (report : Report)
+    (content : Content) (rows read : List TestRow) → report.content ≡ content → read ≡ rows
+    → AreRowsOf session profile test (map row_view rows)
+    → IfExplained content (λ told. (row : Row) → slice_get (map row_view read) 0 ≡ Some row
+    → IsTestTold row test settings told)
+    → Explains session profile test settings report
+explains session profile test settings report content rows read same same_rows are told = record {
+  rows = map row_view rows;
+  are_rows = are;
+  told = subst (λ xs. IfExplained report.content (λ told. (row : Row) → slice_get (map row_view xs) 0 ≡ Some row
+  → IsTestTold row test settings told)) same_rows
+  (subst (λ content. IfExplained content (λ told. (row : Row) → slice_get (map row_view read) 0 ≡ Some row
+  → IsTestTold row test settings told)) (sym same) told);
 }

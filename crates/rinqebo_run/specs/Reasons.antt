@@ -1,5 +1,6 @@
 -- What comes of the rules of a setting.
 use Rattle.std.specs.Prelude.{◌&&◌, Bool, List, map}
+use Rattle.std.specs.List.{zip}
 use Rattle.filter_language.specs.declared.filterset.Filterset.{Filterset}
 use Rattle.nextest_elements.specs.declared.run_mode.NextestRunMode.{NextestRunMode}
 use Rattle.nextest_filters.specs.declared.compiling.FieldMatcher.{FieldMatcher}
@@ -56,6 +57,12 @@ facts_told setting mode rule answers = record {
   matches = is_matched answers.filter;
   writes = writes_setting setting mode rule.writes;
 }
+
+-- what is known of rules, by what their conditions say
+abbrev pub all_told : {X : Type 0} → (X → Override) → Setting → NextestRunMode → List X
+    → List Answers → List RuleFacts
+all_told {X} view setting mode rules answers =
+    map (λ (p : X × Answers). facts_told setting mode (view p.0) p.1) (zip rules answers)
 
 -- What comes of overrides, in their order: of the one that decides, those before it and those
 -- behind it.

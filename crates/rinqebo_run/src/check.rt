@@ -59,19 +59,22 @@ fn unreached_of(
     Ok(unreached)
 }
 
-/// A report of findings.
-fn report_of(
+/// A report of a session.
+pub fn report_of(
     alloc: Global,
     session: &Session<'_>,
     findings: Vec<Finding>,
     unreached: Vec<Unreached>,
-) -> Result<Report, AllocError> {
+    content: Content,
+) -> Result<Report, AllocError>
+    ensures { IfOk result (λ report. report.content ≡ content) }
+{
     Ok(Report {
         root: session.gathered.paths.workspace_root.clone()?,
         sources: sources_of(alloc, &session.layers)?,
         findings,
         unreached,
-        content: Content::Check,
+        content,
     })
 }
 
@@ -85,7 +88,7 @@ fn report_of_refusal(
     let mut findings = warning_findings(alloc, &session.layers, warnings)?;
     add_refusal(alloc, session, error, &mut findings)?;
     let unreached = unreached_of(alloc, session, error)?;
-    report_of(alloc, session, findings, unreached)
+    report_of(alloc, session, findings, unreached, Content::Check)
 }
 
 /// Why a run answers nothing whose load refuses.
@@ -121,7 +124,7 @@ pub fn failure_of_profile(
 ) -> Result<Failure, AllocError> {
     let mut findings = warning_findings(alloc, &session.layers, warnings)?;
     findings.push(no_profile(alloc, missing)?)?;
-    let report = report_of(alloc, session, findings, Vec::new(alloc))?;
+    let report = report_of(alloc, session, findings, Vec::new(alloc), Content::Check)?;
     Ok(Failure::NoProfile(report))
 }
 
@@ -161,7 +164,7 @@ fn accepted(
 {
     let findings = warning_findings(alloc, &session.layers, warnings)?;
     let status = status_of(&findings, deny_warnings);
-    let report = report_of(alloc, session, findings, Vec::new(alloc))?;
+    let report = report_of(alloc, session, findings, Vec::new(alloc), Content::Check)?;
     Ok(Answer { report, status })
 }
 

@@ -3,15 +3,15 @@ ghost use Rattle.std.specs.Prelude.{◌≡◌, IfOk, Some, map, slice_get, strin
 ghost use Rattle.std.specs.List.{AllZip};
 ghost use Rattle.nextest_config.specs.Headline.{Row};
 ghost use Rattle.nextest_config.specs.RowView.{row_view};
-ghost use Rattle.rinqebo_run.specs.Explained.{AreRowsOf, IsTold, IsTestTold, Explains};
+ghost use Rattle.rinqebo_run.specs.Explained.{AreRowsOf, IfExplained, IsTold, IsTestTold, Explains};
 
 use crate::answer::Failure;
 use crate::binary::query_of;
-use crate::check::{failure_of_load, failure_of_run};
+use crate::check::{failure_of_load, failure_of_run, report_of};
 use crate::findings::warning_findings;
 use crate::grounds::{built_in, profile_grounds};
 use crate::keys::SettingKey;
-use crate::layers::{Layer, place_of, sources_of};
+use crate::layers::{Layer, place_of};
 use crate::request::{Request, TestName};
 use crate::rules::{chain_of_profile, copied_names};
 use crate::session::{Config, Session};
@@ -242,6 +242,33 @@ pub fn load_again(alloc: Global, session: &Session<'_>) -> Result<Config, Failur
     }
 }
 
+/// The settings of a test, by its rows.
+fn explained(
+    alloc: Global,
+    request: &Request<'_>,
+    session: &Session<'_>,
+    profile: &str,
+    test: &TestName<'_>,
+    settings: &[Setting],
+    rows: &[TestRow],
+) -> Result<Content, Failure>
+    ensures { IfOk result (λ content. IfExplained content (λ told. (row : Row)
+        → slice_get (map row_view rows.now) 0 ≡ Some row
+        → IsTestTold row test.now settings.now told)) }
+{
+    let config = load_again(alloc, session)?;
+    let chain = chain_of_profile(alloc, &config, profile)?;
+    let grounds = Grounds {
+        layers: &session.layers,
+        chain: &chain,
+        wrapping: wrapping_origin(alloc, session, &config, &chain, test)?,
+    };
+    Ok(Content::Explain {
+        asked: asked_of(alloc, request, profile, &chain, test.mode)?,
+        test: test_rows(alloc, &grounds, rows, test, settings)?,
+    })
+}
+
 /// The settings of a test.
 pub fn explain(
     alloc: Global,
@@ -255,23 +282,8 @@ pub fn explain(
 {
     let mut warnings = DefaultConfigWarnings::new(alloc);
     let rows = row_of_test(alloc, session, profile, test, &mut warnings)?;
-    let config = load_again(alloc, session)?;
-    let chain = chain_of_profile(alloc, &config, profile)?;
+    let content = explained(alloc, request, session, profile, test, settings, &rows)?;
     let findings = warning_findings(alloc, &session.layers, &warnings)?;
-    let grounds = Grounds {
-        layers: &session.layers,
-        chain: &chain,
-        wrapping: wrapping_origin(alloc, session, &config, &chain, test)?,
-    };
-    let content = Content::Explain {
-        asked: asked_of(alloc, request, profile, &chain, test.mode)?,
-        test: test_rows(alloc, &grounds, &rows, test, settings)?,
-    };
-    Ok(Report {
-        root: session.gathered.paths.workspace_root.clone()?,
-        sources: sources_of(alloc, &session.layers)?,
-        findings,
-        unreached: Vec::new(alloc),
-        content,
-    })
+    let report = report_of(alloc, session, findings, Vec::new(alloc), content)?;
+    Ok(report)
 }

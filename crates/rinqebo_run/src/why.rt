@@ -1,21 +1,20 @@
 //! The rules of a setting, and what comes of each.
 ghost use Rattle.std.specs.Prelude.{◌≡◌, IfOk, map};
-ghost use Rattle.std.specs.List.{zip};
 ghost use Rattle.nextest_rules.specs.View.{override_rule_view};
 ghost use Rattle.nextest_settings.specs.View.{override_ref_view};
-ghost use Rattle.rinqebo_run.specs.Reasons.{answers_told, facts_told, verdicts_here};
+ghost use Rattle.rinqebo_run.specs.Reasons.{answers_told, facts_told, all_told, verdicts_here};
 ghost use Rattle.rinqebo_run.specs.declared.conditions.Asking.{Asking};
 
 use crate::answer::Failure;
 use crate::binary::query_of;
-use crate::check::{failure_of_load, failure_of_profile};
+use crate::check::{failure_of_load, failure_of_profile, report_of};
 use crate::conditions::{Answers, Asking, answers_of, default_filter};
 use crate::explain::{asked_of, override_origin};
 use crate::fallback::fallback_value;
 use crate::findings::warning_findings;
 use crate::grounds::{built_in, profile_grounds};
 use crate::keys::SettingKey;
-use crate::layers::{Layer, host_text, place_of, rule_at, sources_of, target_text, text_at};
+use crate::layers::{Layer, host_text, place_of, rule_at, target_text, text_at};
 use crate::request::{Request, TestName};
 use crate::rules::{chain_of_profile, missing_profile};
 use crate::session::{Config, Session};
@@ -136,8 +135,7 @@ fn all_facts(
     answers: &[Answers],
 ) -> Result<Vec<RuleFacts>, AllocError>
     ensures { IfOk result (λ facts. facts.items
-        ≡ map (λ p. facts_told setting mode (override_ref_view p.0) p.1)
-        (zip rules.now answers.now)) }
+        ≡ all_told override_ref_view setting mode rules.now answers.now) }
 {
     rules
         .iter()
@@ -245,6 +243,24 @@ fn rules_and_fallback(
     Ok(reported)
 }
 
+/// The rules of a setting, by a configuration.
+fn reasons(
+    alloc: Global,
+    request: &Request<'_>,
+    session: &Session<'_>,
+    config: &Config,
+    profile: &str,
+    test: &TestName<'_>,
+    setting: Setting,
+) -> Result<Content, AllocError> {
+    let chain = chain_of_profile(alloc, config, profile)?;
+    Ok(Content::Why {
+        asked: asked_of(alloc, request, profile, &chain, test.mode)?,
+        key: SettingKey::of(setting, test.mode).text(alloc)?,
+        rules: rules_and_fallback(alloc, session, config, &chain, test, setting)?,
+    })
+}
+
 /// The rules of a setting, and what comes of each.
 pub fn why(
     alloc: Global,
@@ -263,17 +279,8 @@ pub fn why(
         let missing = missing_profile(alloc, &config, profile)?;
         return Err(failure_of_profile(alloc, session, &warnings, &missing)?);
     }
-    let chain = chain_of_profile(alloc, &config, profile)?;
-    let content = Content::Why {
-        asked: asked_of(alloc, request, profile, &chain, test.mode)?,
-        key: SettingKey::of(setting, test.mode).text(alloc)?,
-        rules: rules_and_fallback(alloc, session, &config, &chain, test, setting)?,
-    };
-    Ok(Report {
-        root: session.gathered.paths.workspace_root.clone()?,
-        findings: warning_findings(alloc, &session.layers, &warnings)?,
-        sources: sources_of(alloc, &session.layers)?,
-        unreached: Vec::new(alloc),
-        content,
-    })
+    let content = reasons(alloc, request, session, &config, profile, test, setting)?;
+    let findings = warning_findings(alloc, &session.layers, &warnings)?;
+    let report = report_of(alloc, session, findings, Vec::new(alloc), content)?;
+    Ok(report)
 }
