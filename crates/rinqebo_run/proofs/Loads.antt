@@ -1,30 +1,14 @@
 -- What comes of loads.
-use Rattle.std.proofs.Common.{◌≡◌, ◌⊎◌, inl, inr, ℕ, true, is_some, Option, None, Some, option_map, Result, Ok, Err, IfOk, ap, arith}
+use Rattle.std.proofs.Common.{◌≡◌, ◌⊎◌, inl, inr, ℕ, true, is_some, Option, None, Some, Result, Ok, Err, IfOk, arith}
 use Rattle.nextest_sources.specs.Causes.{LoadCause}
 use Rattle.nextest_sources.specs.Endings.{ending_at, ending_with, no_memory, IsMemory}
 use Rattle.nextest_sources.specs.Errors.{cause_view}
-use Rattle.nextest_sources.specs.Inputs.{load_inputs_view}
-use Rattle.nextest_sources.specs.Sources.{Source, file_view}
+use Rattle.nextest_sources.specs.Sources.{Source}
 use Rattle.nextest_sources.specs.declared.error.ConfigParseError.{ConfigParseError}
 use Rattle.nextest_sources.specs.declared.error.ConfigParseErrorKind.{ConfigParseErrorKind}
-use Rattle.nextest_sources.specs.declared.sources.ConfigFileSelection.{ConfigFileSelection}
 use Rattle.rinqebo_run.specs.Checked.{AreAccepted, IsCheckStatus}
-use Rattle.rinqebo_run.specs.Sessions.{files_view}
 use Rattle.rinqebo_run.specs.declared.answer.Answer.{Answer}
-use Rattle.rinqebo_run.specs.declared.files.Gathered.{Gathered}
 use Rattle.rinqebo_run.specs.declared.session.Session.{Session}
-
--- the files of a load are those that were read
-pub same_files : (gathered : Gathered) (selection : ConfigFileSelection)
-    → option_map (λ file. file_view file.now) selection.config_file ≡ option_map file_view gathered.config_file
-    → selection.organisation_file ≡ None
-    → load_inputs_view gathered.paths.shared selection gathered.tools.items ≡ files_view gathered
-same_files gathered selection named none i = record {
-  shared = file_view gathered.paths.shared;
-  explicit = named i;
-  organisation = ap (option_map (λ file. file_view file.now)) none i;
-  tools = (files_view gathered).tools;
-}
 
 at_cause : (source : Source) (cause : Option LoadCause) → ending_at source cause ≡ no_memory → ⊥
 at_cause source (Some cause) is = cc

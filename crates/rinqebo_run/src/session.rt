@@ -14,7 +14,7 @@ use crate::layers::{Layer, layers_of};
 use crate::request::Request;
 use nextest_config::run::Inputs;
 use nextest_config::{
-    ConfigExperimental, ConfigFileSelection, ConfigParseError, ConfigWarnings, LoadedConfig,
+    ConfigExperimental, ConfigFileSelection, ConfigParseError, DefaultConfigWarnings, LoadedConfig,
     ParseContext,
 };
 use nextest_filters::NextestFilters;
@@ -89,19 +89,20 @@ impl<'g> Session<'g> {
     }
 
     /// Loads the configuration.
-    pub fn load<W: ConfigWarnings>(
+    pub fn load(
         &self,
         alloc: Global,
-        warnings: &mut W,
+        warnings: &mut DefaultConfigWarnings,
     ) -> Result<Config, ConfigParseError>
         ensures { IfLoaded (readings self.now.engines.filters) (features_view self.now.features)
             (files_view self.now.gathered.now) result }
     {
+        let inputs = self.inputs();
         let inputs = ConfigInputs {
-            shared: &self.gathered.paths.shared,
-            selection: self.selection(),
-            tools: &self.gathered.tools,
-            features: &self.features,
+            shared: &inputs.paths.shared,
+            selection: inputs.selection,
+            tools: inputs.tools,
+            features: inputs.features,
         };
         match LoadedConfig::load(alloc, &inputs, &self.parse_context(), warnings) {
             Ok(config) => Ok(config),
