@@ -27,15 +27,20 @@ zip_more R xs i x d below same now new y before is more =
     ∙ ap (λ z. take i xs ++ z ∷ []) (sym same) in
     rw (taken, more) (zip_push R (take i xs) now x y before is)
 
+-- the first view is that of the first row
+at_first : {X Y : Type 0} (view : X → Y) (P : Y → Type 0) (rows : List X) (first : X) (row : Y)
+    → Some first ≡ slice_get rows 0 → slice_get (map view rows) 0 ≡ Some row → P (view first) → P row
+at_first view P [] first row is asked holds = absurd (cc)
+at_first view P (x ∷ xs) first row is asked holds =
+    let viewed : view x ≡ row = ap (λ o. unwrap_or o row) asked in
+    let same : first ≡ x = ap (λ o. unwrap_or o first) is in
+    subst P (ap view same ∙ viewed) holds
+
 -- what holds at the view of the first row holds at the first view
 pub first_holds : {X Y T E : Type 0} (view : X → Y) (P : Y → T → Type 0) (r : Result T E) (rows : List X) (first : X)
     → Some first ≡ slice_get rows 0 → IfOk r (P (view first))
     → IfOk r (λ told. (row : Y) → slice_get (map view rows) 0 ≡ Some row → P row told)
-first_holds view P (Ok told) [] first is holds row asked = absurd (cc)
-first_holds {Y = Y} view P (Ok told) (x ∷ xs) first is holds row asked =
-    let viewed : view x ≡ row = ap (λ o. unwrap_or o row) asked in
-    let same : first ≡ x = ap (λ o. unwrap_or o first) is in
-    subst (λ y. P y told) (ap view same ∙ viewed) holds
+first_holds view P (Ok told) rows first is holds = λ row asked. at_first view (λ y. P y told) rows first row is asked holds
 first_holds view P (Err e) rows first is holds = tt
 
 -- without a first row there is no first view

@@ -1,4 +1,4 @@
-use Rattle.std.proofs.Common.{◌∙◌, ap}
+use Rattle.std.proofs.Common.{◌∙◌, ap, false}
 use Rattle.nextest_settings.specs.View.{override_ref_view}
 use Rattle.rule_verdicts.specs.VerdictsBy.{verdicts_by}
 use Rattle.rinqebo_run.specs.Reasons.{all_told}
