@@ -96,9 +96,9 @@ told_same asking setting mode rule =
     let build = asking.test.now.platform in
     record {
       is_on = sym (specs_told meets platforms build rule.host rule.target)
-      ∙ sym (for_platform (λ b. specs_hold (λ s p. meets p s) platforms b rule.host rule.target) build);
+          ∙ sym (for_platform (λ b. specs_hold (λ s p. meets p s) platforms b rule.host rule.target) build);
       matches = λ on. ap (λ b. is_matched (asked_if b (told_filter asking rule.filter))) on
-      ∙ sym (filter_told (matches asking.default_filter.now asking.query.now) rule.filter);
+          ∙ sym (filter_told (matches asking.default_filter.now asking.query.now) rule.filter);
       writes = refl;
     }
 

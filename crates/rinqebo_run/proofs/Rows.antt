@@ -74,7 +74,7 @@ explains session profile test settings report content rows read same same_rows a
   rows = map row_view rows;
   are_rows = are;
   told = subst (λ xs. IfExplained report.content (λ told. (row : Row) → slice_get (map row_view xs) 0 ≡ Some row
-  → IsTestTold row test settings told)) same_rows
-  (subst (λ content. IfExplained content (λ told. (row : Row) → slice_get (map row_view read) 0 ≡ Some row
-  → IsTestTold row test settings told)) (sym same) told);
+      → IsTestTold row test settings told)) same_rows
+      (subst (λ content. IfExplained content (λ told. (row : Row) → slice_get (map row_view read) 0 ≡ Some row
+      → IsTestTold row test settings told)) (sym same) told);
 }

@@ -186,11 +186,7 @@ fn refused(
 }
 
 /// The answer of a check.
-fn checked(
-    alloc: Global,
-    session: &Session<'_>,
-    deny_warnings: bool,
-) -> Result<Answer, AllocError>
+fn checked(alloc: Global, session: &Session<'_>, deny_warnings: bool) -> Result<Answer, AllocError>
     ensures { IfOk result (λ answer. IsCheckStatus session.now answer.status) }
 {
     let mut warnings = DefaultConfigWarnings::new(alloc);

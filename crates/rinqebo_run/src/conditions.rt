@@ -59,10 +59,7 @@ fn is_met(answer: ConditionAnswer) -> bool
 }
 
 /// What a platform says to a spec.
-fn spec_answer(
-    spec: &Option<<TargetSpecs as Specs>::Spec>,
-    platform: &Platform,
-) -> ConditionAnswer
+fn spec_answer(spec: &Option<<TargetSpecs as Specs>::Spec>, platform: &Platform) -> ConditionAnswer
     ensures { result ≡ told_condition (meets platform.now) spec.now }
 {
     match spec {

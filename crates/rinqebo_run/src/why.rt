@@ -31,12 +31,7 @@ use target_language::TargetSpecs;
 type Override = CompiledOverride<NextestFilters, TargetSpecs>;
 
 /// What is known of a rule, where a setting is asked for.
-fn facts_of(
-    rule: &Override,
-    setting: Setting,
-    mode: NextestRunMode,
-    answers: Answers,
-) -> RuleFacts
+fn facts_of(rule: &Override, setting: Setting, mode: NextestRunMode, answers: Answers) -> RuleFacts
     ensures { result ≡ facts_told setting mode (override_rule_view rule.now) answers }
 {
     RuleFacts {

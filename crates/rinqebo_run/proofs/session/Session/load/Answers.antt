@@ -11,8 +11,8 @@ returns-in-Ok c =
     let files = files_view session.gathered.now in
     let engines = readings c.parse_context.result.filters.now in
     subst (λ filters. IsAccepted (readings filters) (features_view session.features) files) c.parse_context.ensures
-    (subst (λ features. IsAccepted engines (features_view features) files) c.inputs.ensures.features
-    (subst (λ fs. IsAccepted engines (features_view c.inputs.result.features.now) fs) c.inputs.ensures.files
+    (subst (λ features. IsAccepted engines (features_view features) files) c.inputs-inputs.ensures.features
+    (subst (λ fs. IsAccepted engines (features_view c.inputs-inputs.result.features.now) fs) c.inputs-inputs.ensures.files
     c.in-Ok.ensures.loads.verdict))
 
 pub returns-in-Err : goal.returns-in-Err
@@ -24,6 +24,6 @@ returns-in-Err c =
     subst (λ filters. IsMemory error ⊎ (¬ IsAccepted (readings filters) (features_view session.features) files))
     c.parse_context.ensures
     (subst (λ features. IsMemory error ⊎ (¬ IsAccepted engines (features_view features) files))
-    c.inputs.ensures.features
-    (subst (λ fs. IsMemory error ⊎ (¬ IsAccepted engines (features_view c.inputs.result.features.now) fs))
-    c.inputs.ensures.files c.in-Err.ensures.loads.verdict))
+    c.inputs-inputs.ensures.features
+    (subst (λ fs. IsMemory error ⊎ (¬ IsAccepted engines (features_view c.inputs-inputs.result.features.now) fs))
+    c.inputs-inputs.ensures.files c.in-Err.ensures.loads.verdict))
