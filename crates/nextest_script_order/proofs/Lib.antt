@@ -1,24 +1,24 @@
-mod Among
-mod Chunks
-mod Declared
-mod Documents
-mod Filters
-mod Fronts
-mod Gains
-mod GoesOn
-mod Headed
-mod IsOrder
-mod Joined
-mod Keeping
-mod Kept
-mod KeptNodes
-mod Longer
-mod Placing
-mod Sections
-mod Sorted
-mod Stands
-mod Tables
-mod Taken
-mod Texts
-mod Values
-mod Words
+pub mod Among
+pub mod Chunks
+pub mod Declared
+pub mod Documents
+pub mod Filters
+pub mod Fronts
+pub mod Gains
+pub mod GoesOn
+pub mod Headed
+pub mod IsOrder
+pub mod Joined
+pub mod Keeping
+pub mod Kept
+pub mod KeptNodes
+pub mod Longer
+pub mod Placing
+pub mod Sections
+pub mod Sorted
+pub mod Stands
+pub mod Tables
+pub mod Taken
+pub mod Texts
+pub mod Values
+pub mod Words

@@ -1,6 +1,6 @@
 -- The tests of texts say what the grammar of identifiers says.
 use native.Mathlib.Numerals.{unary_clauses}
-use Rattle.std.proofs.Common.{◌≡◌, ◌≢◌, ◌↔◌, ℕ, ◌+◌, ◌<◌, ◌≤◌, Bool, true, false, ◌||◌, ◌&&◌, eqb, IsTrue, Option, Some, None, Result, Ok, Err, IfErr, IfNone, IfSome, Bor, List, [], ◌∷◌, ◌++◌, length, drop, get_or, Contains, codes, refl, sym, ◌∙◌, ap, subst, inl, inr, ⊎_elim, is_some, is_ok, arith, append_assoc}
+use Rattle.std.proofs.Common.{◌≡◌, ◌≢◌, ◌↔◌, ℕ, ◌+◌, ◌<◌, ◌≤◌, Bool, true, false, ◌||◌, ◌&&◌, eqb, IsTrue, Option, Some, None, Result, Ok, Err, IfErr, IfNone, IfSome, Bor, List, [], ◌∷◌, ◌++◌, length, drop, get_or, Contains, codes, refl, sym, ◌∙◌, ap, subst, inl, inr, ⊎_elim, is_some, is_ok, arith, append_assoc, if◌then◌else◌}
 use Rattle.std.proofs.Math.Bool.{or-false}
 use Rattle.std.proofs.lemmas.Bool.{cases_Bool, false≢true, and_parts, and_from, eqb-true, cases_lt, false_from_ne_true}
 use Rattle.std.proofs.lemmas.Bool.Decides.{Decides-eqb}

@@ -34,7 +34,7 @@ impl ToolName {
     /// Makes a tool's name of a text.
     ///
     /// A text with several flaws is refused for one of them.
-    #[tactic(auto, using(crate::proofs::Identifiers::is_part_law))]
+    #[tactic(auto, using(crate::proofs::IdentifierParts::is_part_law))]
     pub fn new(alloc: Global, text: &str) -> Result<Self, InvalidIdentifier>
         ensures text { IfOk result (λ name. tool_name_text name ≡ text.now) }
         ensures ok { OnOk result (IsPart text.now) }
