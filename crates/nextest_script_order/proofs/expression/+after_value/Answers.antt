@@ -27,9 +27,12 @@ after_items-items-preserved t c =
       search rules,
       omega (arith, l.invariant.1),
       λ n h.
-          let (m, room, loop) = l.invariant.2 n h in
-          (m - 1, omega arith, loop ∙ items_more (after_value c.args.depth) m l.rest.now _ _ (omega arith) other
-              (rw start_is at c.in_ok-after.ensures.value) c.in_ok-rest.ensures.value),
+          let (m, room, loop) = l.invariant.2 n h in (
+            m - 1,
+            omega arith,
+            loop ∙ items_more (after_value c.args.depth) m l.rest.now _ _ (omega arith) other
+                (rw start_is at c.in_ok-after.ensures.value) c.in_ok-rest.ensures.value,
+          ),
     )
 
 pub after_members-members-init : goal.after_members-members-init
@@ -55,10 +58,13 @@ after_members-members-preserved t c =
       search rules,
       omega (arith, l.invariant.1),
       λ n h.
-          let (m, room, loop) = l.invariant.2 n h in
-          (m - 1, omega arith, loop ∙ members_more (after_value c.args.depth) m l.rest.now _ _ _ (omega arith) other
-              (rw start_is at c.in_ok-at_value.ensures.value) c.in_ok-after.ensures.value
-              c.in_ok-rest.ensures.value),
+          let (m, room, loop) = l.invariant.2 n h in (
+            m - 1,
+            omega arith,
+            loop ∙ members_more (after_value c.args.depth) m l.rest.now _ _ _ (omega arith) other
+                (rw start_is at c.in_ok-at_value.ensures.value) c.in_ok-after.ensures.value
+                c.in_ok-rest.ensures.value,
+          ),
     )
 
 pub after_value-returns-then-byte-ne123-clause-value : goal.after_value-returns-then-byte-ne123-clause-value
