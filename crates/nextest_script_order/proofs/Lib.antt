@@ -1,3 +1,4 @@
+pub mod Aiming
 pub mod Aims
 pub mod Among
 pub mod ByFronts
@@ -19,6 +20,7 @@ pub mod Sections
 pub mod Seen
 pub mod Sorted
 pub mod Stands
+pub mod Steps
 pub mod Tables
 pub mod Taken
 pub mod Texts

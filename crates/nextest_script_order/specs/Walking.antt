@@ -1,5 +1,5 @@
 -- A step of the walk over a text's expressions.
-use Rattle.std.specs.Prelude.{◌≡◌, ◌<◌, ¬, ℕ, Bool, if◌then◌else◌, List, [], MatchOption}
+use Rattle.std.specs.Prelude.{◌≡◌, ◌<◌, ℕ, Bool, if◌then◌else◌, List, [], MatchOption}
 use Rattle.toml.specs.Parse.{skip_bom}
 use Rattle.toml_parser.specs.Lexical.{skip_blank}
 use Rattle.nextest_script_order.specs.Contents.{HoldsOne, definition_view}

@@ -1,5 +1,5 @@
 //! Expressions of a document: their keys are read, and their values are passed over.
-ghost use Rattle.std.specs.Prelude.{◌≡◌, ℕ, ◌<◌, ◌≤◌, Some, length, IfOk};
+ghost use Rattle.std.specs.Prelude.{◌≡◌, ℕ, ◌<◌, ◌≤◌, true, false, Some, length, IfOk};
 ghost use Rattle.toml.specs.Parse as grammar;
 ghost use Rattle.toml_parser.specs.Reading.{Shortens, key_view};
 ghost use Rattle.nextest_script_order.specs.Expressions as spec;

@@ -71,7 +71,8 @@ fn place_by_fronts(
     let lines = Lines::of(alloc, text)?;
     for count in low..lines.count() {
         if ids.len() < 2 {
-            return append(order, list_of(alloc, ids)?);
+            append(order, list_of(alloc, ids)?)?;
+            return Ok(());
         }
         if let Some(document) = document_of(alloc, lines.front(count + 1))? {
             append(order, take_defined(alloc, &mut ids, &document, path)?)?;

@@ -1,6 +1,6 @@
 //! A walk over the expressions of a text, which puts each id where its first expression ends.
-ghost use Rattle.std.specs.Prelude.{◌≡◌, ◌<◌, ◌++◌, filter, not, IfOk, IfSome, OnOk};
-ghost use Rattle.toml_parser.specs.Reading.{path_view};
+ghost use Rattle.std.specs.Prelude.{◌≡◌, ◌<◌, ◌++◌, ◌∷◌, [], filter, not, IfOk, IfSome, OnOk};
+ghost use Rattle.toml_parser.specs.Reading.{key_view, path_view};
 ghost use Rattle.nextest_script_order.specs.Contents.{definition_view};
 ghost use Rattle.nextest_script_order.specs.Expressions.{aim_at, is_aimed, is_told, parts_under, section_after};
 ghost use Rattle.nextest_script_order.specs.Lines.{line_count};
@@ -146,21 +146,30 @@ fn place_definition(
         ≡ filter (λ id. not (is_aimed aim id)) (set_view ids.old)) }
 {
     let Definition { key, is_header } = definition;
+    let mut parts = parts_of(key)?;
+    if is_header {
+        let is_placed = place_aimed(aim_of(path, &parts), true, ids, order)?;
+        *section = parts;
+        return Ok(is_placed);
+    }
+    let depth = section.len();
+    section.append(&mut parts)?;
+    let is_placed = place_aimed(aim_of(path, section), false, ids, order)?;
+    section.truncate(depth);
+    Ok(is_placed)
+}
+
+/// The parts of a key, the last one among them.
+fn parts_of(key: toml_parser::Key) -> Result<Vec<String>, AllocError>
+    ensures { let view = key_view key in
+        IfOk result (λ parts. path_view parts.items ≡ view.0 ++ view.1 ∷ []) }
+{
     let toml_parser::Key {
         path: mut parts,
         last,
     } = key;
-    if is_header {
-        section.clear();
-    }
-    let depth = section.len();
-    section.append(&mut parts)?;
-    section.push(last)?;
-    let is_placed = place_aimed(aim_of(path, section), is_header, ids, order)?;
-    if !is_header {
-        section.truncate(depth);
-    }
-    Ok(is_placed)
+    parts.push(last)?;
+    Ok(parts)
 }
 
 /// What a key has to do with the ids at a path.
@@ -180,7 +189,7 @@ fn aim_of<'a>(path: &[Key], parts: &'a [String]) -> Aim<'a>
 {
     for (i, key) in path.iter().enumerate() {
         match parts.get(i) {
-            Some(part) if part.as_str() == key.text() => {}
+            Some(part) if key.text() == part.as_str() => {}
             Some(_) => return Aim::Elsewhere,
             None => return Aim::AllIds,
         }
@@ -200,11 +209,11 @@ fn place_aimed(
     order: &mut Vec<String>,
 ) -> Result<bool, AllocError>
     requires { IdsAscend (set_view ids.old) }
-    ensures told { IfOk result (λ placed. placed ≡ is_told (aim_view aim) is_header) }
+    ensures told { IfOk result (λ placed. placed ≡ is_told (aim_view aim.entry) is_header) }
     ensures early { OnOk result (ids_view order.new
-        ≡ ids_view order.old ++ filter (is_aimed (aim_view aim)) (set_view ids.old)) }
+        ≡ ids_view order.old ++ filter (is_aimed (aim_view aim.entry)) (set_view ids.old)) }
     ensures late { OnOk result (set_view ids.new
-        ≡ filter (λ id. not (is_aimed (aim_view aim) id)) (set_view ids.old)) }
+        ≡ filter (λ id. not (is_aimed (aim_view aim.entry) id)) (set_view ids.old)) }
 {
     match aim {
         Aim::Elsewhere => Ok(true),
