@@ -82,7 +82,8 @@ module _ (id : List ℕ) (keys rest : List (String Global)) (there : Bool) (asce
 
   pub aimed_early : (order : List (List ℕ))
       → order ++ cond there (id ∷ []) [] ≡ order ++ filter (λ x. is_among (id ∷ []) x) (map string_bytes keys)
-  aimed_early order = ap (λ t. order ++ t) (taken_early _ _ _ _ took)
+  aimed_early order = ap (λ t. order ++ t)
+      (taken_early (cond there (id ∷ []) []) (map string_bytes rest) (id ∷ []) (map string_bytes keys) took)
 
   pub aimed_late : map string_bytes rest ≡ filter (λ x. not (is_among (id ∷ []) x)) (map string_bytes keys)
-  aimed_late = taken_late _ _ _ _ took
+  aimed_late = taken_late (cond there (id ∷ []) []) (map string_bytes rest) (id ∷ []) (map string_bytes keys) took

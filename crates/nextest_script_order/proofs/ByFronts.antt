@@ -1,5 +1,5 @@
 -- Placing ids by the first lines of a text, one line more each time.
-use Rattle.std.proofs.Common.{◌≡◌, ℕ, zero, suc, ◌+◌, ◌<◌, ◌≤◌, Bool, true, false, not, ◌||◌, List, [], ◌∷◌, ◌++◌, filter, length, Some, None, refl, sym, ap, ◌∙◌, arith, add-one, append_assoc, append-nil}
+use Rattle.std.proofs.Common.{◌≡◌, ℕ, zero, suc, ◌+◌, ◌<◌, ◌≤◌, Bool, true, false, not, ◌||◌, List, [], ◌∷◌, ◌++◌, filter, length, Some, None, refl, sym, ap, ◌∙◌, arith, subst, add-one, append_assoc, append-nil}
 use Rattle.std.proofs.lemmas.Bool.{false≢true}
 use Rattle.std.specs.List.{AllByRecursion}
 use Rattle.nextest_tree.specs.Node.{Node}
@@ -62,7 +62,9 @@ module _ (path : Path) (text : List ℕ) (ids order : List (List ℕ)) where
       let after_middle : middle + 1 ≡ suc middle = add-one middle in
       let after_lines : lines + 1 ≡ suc lines = add-one lines in
       let placed : placed_before path text early (middle + 1) ≡ early =
-      rw after_middle (placed_here path text early middle (rw (← next) at between.later) between.there) in
+      rw after_middle (placed_here path text early middle
+      (subst (λ n. AllByRecursion (λ id. appears_before path text id n ≡ false) early) (sym next) between.later)
+      between.there) in
       let whole = rw (after_lines, placed) at (halves path text document middle is left early late lines
       (omega (arith, room)) early_is late_is) in
       record {
@@ -92,4 +94,7 @@ module _ (path : Path) (text : List ℕ) (ids order : List (List ℕ)) where
       → count ≡ line_count text → ordered ≡ order ++ placed_before path text ids (suc (line_count text))
   by_all count left ordered was is =
       let none = none_left (line_count text) left (rw is at was.later.later) was.later.there in
-      sym (was.same ∙ rw (none, placed_none_of path text (suc (line_count text))) (append-nil ordered))
+      let over : placed_before path text left (suc (line_count text)) ≡ [] =
+      ap (λ ids. placed_before path text ids (suc (line_count text))) none
+      ∙ placed_none_of path text (suc (line_count text)) in
+      sym (was.same ∙ ap (λ t. ordered ++ t) over ∙ append-nil ordered)

@@ -24,7 +24,7 @@ use Rattle.nextest_script_order.proofs.Joined.{both_run}
 use Rattle.nextest_script_order.proofs.Keeping.{all_lines}
 use Rattle.nextest_script_order.proofs.Sections.{filter_same_on, or_parts, stands_is}
 use Rattle.nextest_script_order.proofs.Tables.{node_of}
-use Rattle.nextest_script_order.proofs.Taken.{found, left_all, taken, taken_none}
+use Rattle.nextest_script_order.proofs.Taken.{Above, found, left_all, taken, taken_none}
 use Rattle.nextest_script_order.proofs.Told.{IsKind}
 use Rattle.nextest_script_order.proofs.Walked.{GoesOver, blank_goes, one_goes, run, tree_run}
 
@@ -89,8 +89,9 @@ few_aimed : (aim : Aim) (left : List (List ℕ)) → IdsAscend left → length (
 few_aimed elsewhere left h = rw (taken_none left) (omega arith)
 few_aimed all_ids left h = rw (taken_none left) (omega arith)
 few_aimed (one_id id) left h =
+    let none : Above id [] = search in
     let is : filter (is_aimed (one_id id)) left ≡ found id left =
-    taken id [] search left h ∙ rw (taken_none _) (append-nil (found id left)) in
+    taken id [] none left h ∙ rw (taken_none _) (append-nil (found id left)) in
     rw is (found_few id left)
 
 -- where a key does not tell, no id is aimed at
@@ -174,7 +175,9 @@ module _ (path : Path) (text : List ℕ) (ids order : List (List ℕ)) (low coun
       let e = over.expression in
       let aim = aim_at path (parts_under section key) in
       let gains : (id : List ℕ) → is_seen (below (gained here.doc.1 e.0 e.1) (path ++ id ∷ [])) ≡ is_aimed aim id =
-      λ id. rw (here.is_section, over.is_key) (gain_aimed path section key.0 key.1 e.1 id over.kind told) in
+      λ id. ap (λ s. is_seen (below (gained s e.0 e.1) (path ++ id ∷ []))) here.is_section
+      ∙ ap (λ k. is_seen (below (gained section k e.1) (path ++ id ∷ []))) over.is_key
+      ∙ gain_aimed path section key.0 key.1 e.1 id over.kind told in
       let tells = all_both (λ id. appears_before path text id (suc low) ≡ false)
       (λ id. appears_at path text id (line_count text) ≡ true)
       (λ id. has_id path (node_of (close over.next.0)) id ≡ is_aimed aim id)
@@ -184,7 +187,8 @@ module _ (path : Path) (text : List ℕ) (ids order : List (List ℕ)) (low coun
           doc = over.next;
           front = over.read;
           is_section = (define_gains here.doc over.next e over.defined).section
-              ∙ rw (here.is_section, over.is_key) (section_is section key e.1 over.kind);
+              ∙ ap (λ s. next_section s e.0 e.1) here.is_section
+              ∙ ap (λ k. next_section section k e.1) over.is_key ∙ section_is section key e.1 over.kind;
         },
         aim_placed over.next aim early late over.read tells early_is late_is,
       )

@@ -1,5 +1,6 @@
 -- The walk over a text's expressions, a step at a time.
-use Rattle.std.proofs.Common.{◌≡◌, ℕ, ◌+◌, ◌<◌, ◌≤◌, true, false, not, ◌==◌, List, [], ◌++◌, filter, length, Option, Some, None, refl, sym, ap, ◌∙◌, subst, arith, append-nil}
+use Rattle.std.proofs.Common.{◌≡◌, ℕ, ◌+◌, ◌<◌, ◌≤◌, IsUtf8, true, false, not, ◌==◌, List, [], ◌++◌, filter, length, Option, Some, None, refl, sym, ap, ◌∙◌, subst, arith, append-nil}
+use Rattle.std.proofs.lemmas.Str.{IsUtf8-drop}
 use Rattle.toml.proofs.OnLiterals.{toml_on_literals}
 use Rattle.toml.specs.Tables.{Document}
 use Rattle.toml_parser.specs.Lexical.{skip_blank}
@@ -13,9 +14,10 @@ use Rattle.nextest_script_order.specs.Standing.{IdsAscend}
 use Rattle.nextest_script_order.specs.Walking.{IsStep, read_lines}
 use Rattle.nextest_script_order.specs.declared.expression.Definition.{Definition}
 use Rattle.nextest_script_order.specs.declared.walk.Step.{Step}
+use Rattle.nextest_script_order.proofs.Fronts.{front_boundary}
 use Rattle.nextest_script_order.proofs.Keeping.{all_lines}
 use Rattle.nextest_script_order.proofs.Placed.{IsAt, blank_placed, one_placed, unaimed}
-use Rattle.nextest_script_order.proofs.Sections.{empty_is}
+use Rattle.nextest_script_order.proofs.Sections.{empty_is, rest_is as rest_drop}
 use Rattle.nextest_script_order.proofs.Walked.{after_both, document_run, run, start, step_room, step_shorter}
 
 -- at the start of a text
@@ -32,6 +34,12 @@ start_placed path text ids order later = record {
   same = refl;
 }
 
+-- what follows some lines is text
+pub rest_utf8 : (text : List ℕ) (n : ℕ) → IsUtf8 text → IsUtf8 (after_lines n text)
+rest_utf8 text n utf8 =
+    subst IsUtf8 (rest_drop n text)
+    (IsUtf8-drop text (length (first_lines n text)) utf8 (front_boundary n text utf8))
+
 -- the document that a whole text is
 whole_run : (text : List ℕ) → IsDocument text (line_count text) → (doc : Document) × (run text ≡ Some doc)
 whole_run text whole = document_run text (rw (all_lines text 0 (line_count text) (omega arith)) at whole)
@@ -44,7 +52,7 @@ module _ (text rest : List ℕ) (low : ℕ) (step : Step) (rest_is : rest ≡ af
   pub is_shorter : length step.rest.now < length rest
   is_shorter = rw step_is.rest (step_shorter step.count rest step_is.some step_is.follows)
 
-  room : low ≤ line_count text → low + step.count < line_count text
+  pub room : low ≤ line_count text → low + step.count < line_count text
   room within = step_room text low step.count within
       (subst (λ r. after_lines step.count r ≡ [] → ⊥) rest_is step_is.follows)
 

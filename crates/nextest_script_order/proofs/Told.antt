@@ -109,14 +109,38 @@ module _ (read : List ℕ → Read Data) (after : List ℕ → Option (List ℕ)
 
 atom_told : {behind : List ℕ} → (x y rest : List ℕ) → GoesOn behind x y → after_atom x ≡ Some rest
     → (p : Data × List ℕ) → atom y ≡ Some p → (atom x ≡ Some (p.0, rest)) × GoesOn behind rest p.1
-atom_told x y rest g a p b =
+atom_told {behind} x y rest g a p b =
     let (q, is, rests) = map_some (λ read. read.1) (atom x) rest a in
-    let (same, on) = kept_same _ (atom x) (atom y) q p (atom_keeps.kept x y g) is b in
-    rw (← same, ← rests) (is, on)
+    let (same, on) = kept_same _ (atom x) (atom y) q p (atom_keeps.kept x y g) is b in (
+      is ∙ ap (λ d. Some (d, q.1)) same ∙ ap (λ r. Some (p.0, r)) rests,
+      subst (λ r. GoesOn behind r p.1) rests on,
+    )
+
+-- a value that is made of what was read
+made_told : {behind : List ℕ} → {A : Type 0} (f : A → Data) (o : Read Data) (q : A × List ℕ) (p : Data × List ℕ)
+    (rest : List ℕ) → (f q.0, q.1) ≡ p → o ≡ Some (f q.0, rest) → GoesOn behind rest q.1
+    → (o ≡ Some (p.0, rest)) × GoesOn behind rest p.1
+made_told {behind} f o q p rest made is on = (
+  is ∙ ap (λ v. Some (v.0, rest)) made,
+  subst (λ v. GoesOn behind rest v.1) made on,
+)
 
 atom_tells : Tells atom after_atom
 unfolding atom unquoted word_len
 atom_tells = record { told = atom_told; over = refl }
+
+-- an array and an inline table, of what is read inside
+array_is : (depth : ℕ) (x rest : List ℕ) (inside : Items) → (first x == 91) ≡ true
+    → items (val depth) (length x) no_items (drop 1 x) ≡ Some (inside, rest)
+    → val (suc depth) x ≡ Some (array inside, rest)
+unfolding val
+array_is depth x rest inside bracket is = rw (bracket, is) refl
+
+table_is : (depth : ℕ) (x rest : List ℕ) (inside : Members) → (first x == 91) ≡ false → (first x == 123) ≡ true
+    → members (val depth) (length x) no_nodes (drop 1 x) ≡ Some (inside, rest)
+    → val (suc depth) x ≡ Some (table inside, rest)
+unfolding val
+table_is depth x rest inside other brace is = rw (other, brace, is) refl
 
 value_tells : (depth : ℕ) → Tells (val depth) (after_value depth)
 unfolding val after_value
@@ -133,7 +157,7 @@ value_tells (suc depth) =
                 (items (val depth) (length y) no_items (drop 1 y)) p (rw (← same, bracket) at b) in
                 let (here, on) = items_told (val depth) (after_value depth) inner (length x) (length y) no_items
                 (drop 1 x) (drop 1 y) rest (after_first x y g no_newline) (rw bracket at a) q long_is in
-                rw (bracket, here, ← made) (refl, on)
+                made_told array (val (suc depth) x) q p rest made (array_is depth x rest q.0 bracket here) on
             | inr other ↦ elim (cases_Bool (first x == 123)) [
               | inl brace ↦
                   let no_newline : (first x == 10) ≡ false = grind (arith, nat_tests) in
@@ -141,7 +165,7 @@ value_tells (suc depth) =
                   (members (val depth) (length y) no_nodes (drop 1 y)) p (rw (← same, other, brace) at b) in
                   let (here, on) = members_told (val depth) (after_value depth) inner (length x) (length y) no_nodes
                   (drop 1 x) (drop 1 y) rest (after_first x y g no_newline) (rw (other, brace) at a) q long_is in
-                  rw (other, brace, here, ← made) (refl, on)
+                  made_told table (val (suc depth) x) q p rest made (table_is depth x rest q.0 other brace here) on
               | inr plain ↦ rw (other, plain)
                   (atom_told x y rest g (rw (other, plain) at a) p (rw (← same, other, plain) at b))
             ]
@@ -190,14 +214,21 @@ pair_alone x y rest k l g key_is key_long value_is v long_is no_bracket =
       kind = (v.0, refl);
     }
 
+-- a key, whether a header has it, and what follows
+abbrev Keyed : Type 0
+Keyed = (Key × Bool) × List ℕ
+
+abbrev keyed : Bool → Key → List ℕ → Keyed
+keyed h k r = ((k, h), r)
+
 pair_told : {behind : List ℕ} → (x y rest : List ℕ) (key : Key × Bool) → GoesOn behind x y
-    → option_and_then (λ k. option_map (λ r. ((k.0, false), r)) (after_value 80 k.1)) (key_equals x) ≡ Some (key, rest)
+    → option_and_then (λ k. option_map (keyed false k.0) (after_value 80 k.1)) (key_equals x) ≡ Some (key, rest)
     → (first x == 91) ≡ false → (e : Expression × List ℕ)
     → read_map (λ p. (p.0, key_value p.1)) (keyval (val 80) y) ≡ Some e → IsAlone behind x rest key e
 pair_told {behind} x y rest key g a no_bracket e b =
     let (k, key_is, a2) = bind_some (key_equals x)
-    (λ k. option_map (λ r. ((k.0, false), r)) (after_value 80 k.1)) (key, rest) a in
-    let (r, value_is, made) = map_some (λ r. ((k.0, false), r)) (after_value 80 k.1) (key, rest) a2 in
+    (λ k. option_map (keyed false k.0) (after_value 80 k.1)) (key, rest) a in
+    let (r, value_is, made) = map_some (keyed false k.0) (after_value 80 k.1) (key, rest) a2 in
     let (p, pair_is, made_e) = map_some (λ p. ((p.0.0, key_value p.0.1), p.1)) (keyval (val 80) y) e b in
     let (l, key_long, b2) = bind_some (key_equals y) (λ k. read_map (λ d. (k.0, d)) (val 80 k.1)) p pair_is in
     let (v, long_is, made_p) = map_some (λ w. ((l.0, w.0), w.1)) (val 80 l.1) p b2 in
@@ -206,6 +237,17 @@ pair_told {behind} x y rest key g a no_bracket e b =
     subst (IsAlone behind x rest key) is_e
     (subst (λ t. IsAlone behind x t.1 t.0 ((l.0, key_value v.0), v.1)) made
     (pair_alone x y r k l g key_is key_long value_is v long_is no_bracket))
+
+-- the header of a table in an array, and of a table
+double_is : (x : List ℕ) (k : Key × List ℕ) (r : List ℕ) → (first x == 91) ≡ true → (slice_index x 1 == 91) ≡ true
+    → header_key (drop 2 x) ≡ Some k → after_byte 93 k.1 ≡ Some r → expression x ≡ Some ((k.0, array_table), r)
+unfolding expression
+double_is x k r bracket both key_is byte_is = rw (bracket, both, key_is, byte_is) refl
+
+single_is : (x : List ℕ) (k : Key × List ℕ) → (first x == 91) ≡ true → (slice_index x 1 == 91) ≡ false
+    → header_key (drop 1 x) ≡ Some k → expression x ≡ Some ((k.0, std_table), k.1)
+unfolding expression
+single_is x k bracket single key_is = rw (bracket, single, key_is) refl
 
 key_told : {behind : List ℕ} → (x y rest : List ℕ) (key : Key × Bool) → GoesOn behind x y
     → key_of x ≡ Some (key, rest) → (e : Expression × List ℕ) → expression y ≡ Some e → IsAlone behind x rest key e
@@ -216,15 +258,15 @@ key_told {behind} x y rest key g a e b =
       | inl bracket ↦ elim (cases_Bool (slice_index x 1 == 91)) [
         | inl both ↦
             let (k, key_is, a2) = bind_some (header_key (drop 2 x))
-            (λ k. option_map (λ r. ((k.0, true), r)) (after_byte 93 k.1)) (key, rest) (rw (bracket, both) at a) in
-            let (r, byte_is, made) = map_some (λ r. ((k.0, true), r)) (after_byte 93 k.1) (key, rest) a2 in
+            (λ k. option_map (keyed true k.0) (after_byte 93 k.1)) (key, rest) (rw (bracket, both) at a) in
+            let (r, byte_is, made) = map_some (keyed true k.0) (after_byte 93 k.1) (key, rest) a2 in
             subst (λ t. IsAlone behind x t.1 t.0 e) made
-            (header_alone x y r k.0 array_table g (inr refl) (rw (bracket, both, key_is, byte_is) refl) e b)
+            (header_alone x y r k.0 array_table g (inr refl) (double_is x k r bracket both key_is byte_is) e b)
         | inr single ↦
-            let (k, key_is, made) = map_some (λ k. ((k.0, true), k.1)) (header_key (drop 1 x)) (key, rest)
+            let (k, key_is, made) = map_some (λ k. keyed true k.0 k.1) (header_key (drop 1 x)) (key, rest)
             (rw (bracket, single) at a) in
             subst (λ t. IsAlone behind x t.1 t.0 e) made
-            (header_alone x y k.1 k.0 std_table g (inl refl) (rw (bracket, single, key_is) refl) e b)
+            (header_alone x y k.1 k.0 std_table g (inl refl) (single_is x k bracket single key_is) e b)
       ]
     ]
 

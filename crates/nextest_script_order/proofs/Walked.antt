@@ -1,6 +1,7 @@
 -- How a document goes on over the next lines of its text.
 use Rattle.std.proofs.Common.{◌≡◌, ℕ, zero, suc, ◌+◌, ◌<◌, ◌≤◌, Bool, true, false, cond, ◌==◌, ◌||◌, List, [], ◌∷◌, ◌++◌, length, Option, Some, None, option_map, option_and_then, is_some, refl, sym, ap, ◌∙◌, subst, inl, inr, arith, append_assoc}
 use Rattle.std.proofs.lemmas.Bool.{cases_Bool, false≢true}
+use Rattle.std.proofs.lemmas.Bool.Decides.{nat_tests}
 use Rattle.std.proofs.lemmas.List.{length-append}
 use Rattle.std.proofs.lemmas.Option.{none-some, same_Some}
 use Rattle.toml.proofs.OnLiterals.{toml_on_literals}
@@ -105,6 +106,7 @@ ahead_next text a c d l count doc last front all front_is lines_are rest_is is =
     let front_run : run (a ++ 10 ∷ []) ≡ Some doc = rw (← front_is) front in
     let all_run : run (a ++ 10 ∷ (c ++ 10 ∷ d)) ≡ Some last = rw (← is) all in
     let (k, on) = split_runs _ _ start doc last _ _ (bom_grown _ _ (grown_from a (c ++ 10 ∷ d))) front_run all_run in
+    let some : (suc l == 0) ≡ false = grind (arith, nat_tests) in
     let size : length (c ++ 10 ∷ []) ≡ suc (length c) = omega (arith, length-append c (10 ∷ [])) in
     let turns : suc (length (a ++ 10 ∷ [])) + suc (length c) ≡ suc (length (a ++ 10 ∷ (c ++ 10 ∷ []))) =
     omega (arith, size, length-append a (10 ∷ []), length-append a (10 ∷ (c ++ 10 ∷ []))) in
@@ -113,7 +115,7 @@ ahead_next text a c d l count doc last front all front_is lines_are rest_is is =
     record {
       here = c ++ 10 ∷ [];
       more = c ++ 10 ∷ d;
-      is_here = rw lines_are refl;
+      is_here = rw (some, lines_are) refl;
       goes = rw rest_is (grown_from c d);
       turns = k;
       on = on;

@@ -44,12 +44,15 @@ pub(crate) fn place_by_expressions(
             definition,
             rest: behind,
         } = step;
+        let Some(high) = low.checked_add(count) else {
+            return Ok(low);
+        };
         if let Some(definition) = definition {
             if !place_definition(path, &mut section, definition, ids, order)? {
                 return Ok(low);
             }
         }
-        low += count;
+        low = high;
         rest = behind;
     }
     Ok(low)
