@@ -1,6 +1,6 @@
 -- A path and a key's parts, one after the other, and the id at which a key aims.
-use Rattle.std.proofs.Common.{◌≡◌, ℕ, ◌+◌, ◌<◌, ◌≤◌, Bool, true, false, cond, is_eq, nat_cmp, List, [], ◌∷◌, ◌++◌, length, get_or, drop, filter, not, map, Option, Some, None, String, Global, string_bytes, refl, sym, ap, ◌∙◌, arith, append-nil}
-use Rattle.std.proofs.lemmas.List.{drop_all, drop_more, map_push}
+use Rattle.std.proofs.Common.{◌≡◌, ℕ, ◌+◌, ◌<◌, ◌≤◌, Bool, true, false, cond, nat_cmp, List, [], ◌∷◌, ◌++◌, length, get_or, drop, filter, not, map, String, Global, string_bytes, refl, sym, ap, ◌∙◌, append-nil}
+use Rattle.std.proofs.lemmas.List.{drop_all, drop_more}
 use Rattle.std.proofs.lemmas.Map.Text.{is_eq-slice_cmp}
 use Rattle.std.specs.BTreeMap.{is_at}
 use Rattle.std.specs.Cmp.Lexicographic.{slice_cmp}
@@ -13,7 +13,7 @@ use Rattle.toml.specs.Data.{same_key}
 use Rattle.toml_parser.specs.Reading.{path_view}
 use Rattle.nextest_tree.specs.declared.key.Key.{Key}
 use Rattle.nextest_tree.specs.Key.{key_text}
-use Rattle.nextest_script_order.specs.Expressions.{Aim, elsewhere, one_id, all_ids, aim_at}
+use Rattle.nextest_script_order.specs.Expressions.{elsewhere, one_id, all_ids, aim_at}
 use Rattle.nextest_script_order.specs.Standing.{IdsAscend, is_among, key_path_view}
 use Rattle.nextest_script_order.proofs.Taken.{Taking, left_all, take_one, taken_early, taken_late, taken_none}
 

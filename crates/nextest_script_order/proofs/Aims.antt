@@ -1,15 +1,15 @@
 -- Which id an expression adds at a path, by its key.
-use Rattle.std.proofs.Common.{◌≡◌, ◌⊎◌, ℕ, Bool, true, false, cond, ◌||◌, List, [], ◌∷◌, ◌++◌, refl, sym, ap, ◌∙◌, subst, inl, inr}
-use Rattle.std.proofs.lemmas.Bool.{cases_Bool, false≢true, true≢false}
+use Rattle.std.proofs.Common.{◌≡◌, ℕ, Bool, true, false, cond, ◌||◌, List, [], ◌∷◌, ◌++◌, refl, ap, inl, inr}
+use Rattle.std.proofs.lemmas.Bool.{cases_Bool, false≢true}
 use Rattle.std.proofs.lemmas.Map.Text.{is_eq-slice_cmp}
 use Rattle.std.specs.Str.{bytes_eq}
 use Rattle.toml_parser.specs.Strings.{Key}
 use Rattle.toml.specs.Data.{same_key}
-use Rattle.toml.specs.Tables.{Definition, key_value, std_table, array_table, close_node, new_node}
+use Rattle.toml.specs.Tables.{Definition, key_value, close_node, new_node}
 use Rattle.nextest_documents.specs.Shown.{Path}
-use Rattle.nextest_script_order.specs.Expressions.{Aim, elsewhere, one_id, all_ids, aim_at, is_aimed, is_told, parts_under, section_after}
+use Rattle.nextest_script_order.specs.Expressions.{one_id, all_ids, aim_at, is_aimed, is_told, parts_under}
 use Rattle.nextest_script_order.proofs.Seen.{is_seen}
-use Rattle.nextest_script_order.proofs.Gains.{Standing, missing, seen, stuck, standing, or_then, Gain, below, along, at_last, all_along, gained}
+use Rattle.nextest_script_order.proofs.Gains.{missing, seen, standing, Gain, below, along, at_last, all_along, gained}
 use Rattle.nextest_script_order.proofs.Told.{IsKind}
 
 or_false : (b : Bool) → b ≡ (b || false)

@@ -1,5 +1,5 @@
 -- Placing ids by the first lines of a text, one line more each time.
-use Rattle.std.proofs.Common.{◌≡◌, ℕ, zero, suc, ◌+◌, ◌<◌, ◌≤◌, Bool, true, false, not, ◌||◌, List, [], ◌∷◌, ◌++◌, filter, length, Some, None, refl, sym, ap, ◌∙◌, arith, subst, add-one, append_assoc, append-nil}
+use Rattle.std.proofs.Common.{◌≡◌, ℕ, suc, ◌+◌, ◌<◌, Bool, true, false, not, ◌||◌, List, [], ◌∷◌, ◌++◌, filter, length, Some, None, refl, sym, ap, ◌∙◌, arith, subst, add-one, append_assoc, append-nil}
 use Rattle.std.proofs.lemmas.Bool.{false≢true}
 use Rattle.std.specs.List.{AllByRecursion}
 use Rattle.nextest_tree.specs.Node.{Node}
@@ -9,7 +9,7 @@ use Rattle.nextest_script_order.specs.Lines.{first_lines, line_count}
 use Rattle.nextest_script_order.specs.Order.{appears_at, appears_before, placed_before}
 use Rattle.nextest_script_order.specs.Search.{AppearBetween}
 use Rattle.nextest_script_order.specs.Standing.{has_id, stands_in}
-use Rattle.nextest_script_order.proofs.Filters.{all_both, all_map}
+use Rattle.nextest_script_order.proofs.Filters.{all_map}
 use Rattle.nextest_script_order.proofs.IsOrder.{early_between, halves, late_between, placed_few, placed_here, placed_none_of}
 use Rattle.nextest_script_order.proofs.Sections.{or_parts}
 

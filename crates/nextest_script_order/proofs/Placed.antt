@@ -1,5 +1,5 @@
 -- Placing ids by the expressions of a text.
-use Rattle.std.proofs.Common.{◌≡◌, ℕ, zero, suc, ◌+◌, ◌<◌, Bool, true, false, not, ◌==◌, List, [], ◌∷◌, ◌++◌, filter, length, Some, refl, sym, ap, ◌∙◌, subst, inl, inr, arith, add-one, append_assoc, append-nil}
+use Rattle.std.proofs.Common.{◌≡◌, ℕ, suc, ◌+◌, ◌<◌, Bool, true, false, not, ◌==◌, List, [], ◌∷◌, ◌++◌, filter, length, Some, refl, sym, ap, ◌∙◌, subst, inl, inr, arith, add-one, append_assoc, append-nil}
 use Rattle.std.proofs.lemmas.Bool.{cases_Bool, false≢true, true≢false}
 use Rattle.std.specs.List.{AllByRecursion}
 use Rattle.toml_parser.specs.Lexical.{skip_blank}
@@ -26,7 +26,7 @@ use Rattle.nextest_script_order.proofs.Sections.{filter_same_on, or_parts, stand
 use Rattle.nextest_script_order.proofs.Tables.{node_of}
 use Rattle.nextest_script_order.proofs.Taken.{Above, found, left_all, taken, taken_none}
 use Rattle.nextest_script_order.proofs.Told.{IsKind}
-use Rattle.nextest_script_order.proofs.Walked.{GoesOver, blank_goes, one_goes, run, tree_run}
+use Rattle.nextest_script_order.proofs.Walked.{blank_goes, one_goes, run, tree_run}
 
 -- the document that is read by now, and its section
 pub record IsAt (text : List ℕ) (low : ℕ) (section : List (List ℕ)) : Type 0 where

@@ -1,5 +1,5 @@
 -- Lines behind lines of a text.
-use Rattle.std.proofs.Common.{◌≡◌, ℕ, zero, suc, ◌+◌, ◌-◌, ◌<◌, ◌≤◌, Bool, true, false, not, ◌||◌, ◌==◌, filter, List, [], ◌∷◌, ◌++◌, length, take, drop, Option, Some, None, is_some, option_map, IfSome, BTreeMap, String, Global, refl, sym, ap, ◌∙◌, subst, inl, inr, arith, append_assoc, eqb-true}
+use Rattle.std.proofs.Common.{◌≡◌, ℕ, zero, suc, ◌+◌, ◌<◌, ◌≤◌, Bool, true, false, ◌||◌, ◌==◌, filter, List, [], ◌∷◌, ◌++◌, length, drop, Option, Some, None, is_some, refl, sym, ap, inl, inr, arith, eqb-true}
 use Rattle.std.proofs.lemmas.Bool.{cases_Bool, false≢true}
 use Rattle.std.specs.List.{AllByRecursion}
 use Rattle.toml.proofs.OnLiterals.{toml_on_literals}
@@ -9,7 +9,7 @@ use Rattle.nextest_documents.specs.Text.{tree_of}
 use Rattle.nextest_script_order.specs.Lines.{after_lines, first_lines, line_count, line_ends}
 use Rattle.nextest_script_order.specs.Standing.{has_id, stands_in}
 use Rattle.nextest_script_order.specs.Search.{IsDocument}
-use Rattle.nextest_script_order.proofs.Fronts.{front_is, more_left}
+use Rattle.nextest_script_order.proofs.Fronts.{more_left}
 use Rattle.nextest_script_order.proofs.Keeping.{all_lines}
 
 none_of : (n : ℕ) → first_lines n [] ≡ []

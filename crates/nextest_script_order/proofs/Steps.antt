@@ -1,17 +1,15 @@
 -- The walk over a text's expressions, a step at a time.
-use Rattle.std.proofs.Common.{◌≡◌, ℕ, ◌+◌, ◌<◌, ◌≤◌, IsUtf8, true, false, not, ◌==◌, List, [], ◌++◌, filter, length, Option, Some, None, refl, sym, ap, ◌∙◌, subst, arith, append-nil}
+use Rattle.std.proofs.Common.{◌≡◌, ℕ, ◌+◌, ◌<◌, ◌≤◌, IsUtf8, true, false, not, ◌==◌, List, [], ◌++◌, filter, length, Some, None, refl, sym, ap, ◌∙◌, subst, arith, append-nil}
 use Rattle.std.proofs.lemmas.Str.{IsUtf8-drop}
 use Rattle.toml.proofs.OnLiterals.{toml_on_literals}
 use Rattle.toml.specs.Tables.{Document}
-use Rattle.toml_parser.specs.Lexical.{skip_blank}
 use Rattle.nextest_documents.specs.Shown.{Path}
-use Rattle.nextest_documents.specs.Text.{tree_of}
-use Rattle.nextest_script_order.specs.Contents.{HoldsOne, definition_view}
+use Rattle.nextest_script_order.specs.Contents.{definition_view}
 use Rattle.nextest_script_order.specs.Expressions.{aim_at, is_aimed, is_told, parts_under, section_after}
 use Rattle.nextest_script_order.specs.Lines.{after_lines, first_lines, line_count}
 use Rattle.nextest_script_order.specs.Search.{AppearBetween, IsDocument, IsPlacedUpTo}
 use Rattle.nextest_script_order.specs.Standing.{IdsAscend}
-use Rattle.nextest_script_order.specs.Walking.{IsStep, read_lines}
+use Rattle.nextest_script_order.specs.Walking.{IsStep}
 use Rattle.nextest_script_order.specs.declared.expression.Definition.{Definition}
 use Rattle.nextest_script_order.specs.declared.walk.Step.{Step}
 use Rattle.nextest_script_order.proofs.Fronts.{front_boundary}

@@ -10,7 +10,7 @@ use Rattle.toml.specs.Data.{Data, Items, no_items, Members, array, table, push_i
 use Rattle.toml.specs.Tables.{Nodes, no_nodes, close, Definition, key_value, std_table, array_table, Expression, put}
 use Rattle.toml.specs.Parse.{after_byte, after_element, atom, ends_line, expression, header_key, items, key_equals, keyval, line, members, read_map, val}
 use Rattle.nextest_script_order.specs.Expressions.{after_atom, after_items, after_members, after_value, key_of}
-use Rattle.nextest_script_order.proofs.GoesOn.{GoesOn, first_same, second_same, after_first, skip_grown, skip_ws_grown}
+use Rattle.nextest_script_order.proofs.GoesOn.{GoesOn, first_same, after_first, skip_grown, skip_ws_grown}
 use Rattle.nextest_script_order.proofs.KeptNodes.{map_some}
 use Rattle.nextest_script_order.proofs.Options.{bind_some, kept_same, rest_same}
 use Rattle.nextest_script_order.proofs.Values.{atom_keeps, element_kept, ends_same, expression_kept, key_equals_end, key_equals_kept}

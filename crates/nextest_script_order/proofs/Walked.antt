@@ -1,11 +1,11 @@
 -- How a document goes on over the next lines of its text.
-use Rattle.std.proofs.Common.{◌≡◌, ℕ, zero, suc, ◌+◌, ◌<◌, ◌≤◌, Bool, true, false, cond, ◌==◌, ◌||◌, List, [], ◌∷◌, ◌++◌, length, Option, Some, None, option_map, option_and_then, is_some, refl, sym, ap, ◌∙◌, subst, inl, inr, arith, append_assoc}
+use Rattle.std.proofs.Common.{◌≡◌, ℕ, zero, suc, ◌+◌, ◌<◌, ◌≤◌, Bool, true, false, ◌==◌, ◌||◌, List, [], ◌∷◌, ◌++◌, length, Option, Some, None, option_map, option_and_then, is_some, refl, sym, ap, ◌∙◌, subst, inl, inr, arith, append_assoc}
 use Rattle.std.proofs.lemmas.Bool.{cases_Bool, false≢true}
 use Rattle.std.proofs.lemmas.Bool.Decides.{nat_tests}
 use Rattle.std.proofs.lemmas.List.{length-append}
 use Rattle.std.proofs.lemmas.Option.{none-some, same_Some}
 use Rattle.toml.proofs.OnLiterals.{toml_on_literals}
-use Rattle.toml_parser.specs.Lexical.{Read, skip_blank}
+use Rattle.toml_parser.specs.Lexical.{skip_blank}
 use Rattle.toml_parser.specs.Strings.{Key}
 use Rattle.toml.specs.Tables.{Document, Expression, close, define, no_nodes}
 use Rattle.toml.specs.Parse.{line, lines, parse_document, skip_bom}
@@ -21,7 +21,7 @@ use Rattle.nextest_script_order.proofs.Keeping.{some_line}
 use Rattle.nextest_script_order.proofs.Options.{bind_some}
 use Rattle.nextest_script_order.proofs.Sections.{count_after, ends_lf, lines_join}
 use Rattle.nextest_script_order.proofs.Tables.{node_of}
-use Rattle.nextest_script_order.proofs.Told.{IsKind, IsLine, key_of_end, line_told}
+use Rattle.nextest_script_order.proofs.Told.{IsKind, key_of_end, line_told}
 
 abbrev pub start : Document
 start = (no_nodes, [])

@@ -1,4 +1,4 @@
-use Rattle.std.proofs.Common.{◌∙◌, ap}
+use Rattle.std.proofs.Common.{◌∙◌}
 use Rattle.nextest_script_order.proofs.Fronts.{front_boundary, front_is}
 use Rattle.nextest_script_order.proofs.Sections.{rest_is}
 use Rattle.nextest_script_order.proofs.lines.split_lines.Goals as goal
