@@ -1,6 +1,6 @@
 -- A path and a key's parts, one after the other, and the id at which a key aims.
-use Rattle.std.proofs.Common.{◌≡◌, ℕ, ◌+◌, ◌<◌, ◌≤◌, Bool, true, false, cond, nat_cmp, List, [], ◌∷◌, ◌++◌, length, get_or, drop, filter, not, map, String, Global, string_bytes, refl, sym, ap, ◌∙◌, append-nil}
-use Rattle.std.proofs.lemmas.List.{drop_all, drop_more}
+use Rattle.std.proofs.Common.{◌≡◌, ℕ, ◌+◌, ◌<◌, Bool, true, false, cond, nat_cmp, List, [], ◌∷◌, ◌++◌, length, get_or, drop, filter, not, map, String, Global, string_bytes, refl, sym, ap, ◌∙◌, append-nil}
+use Rattle.std.proofs.lemmas.List.{drop_more}
 use Rattle.std.proofs.lemmas.Map.Text.{is_eq-slice_cmp}
 use Rattle.std.specs.BTreeMap.{is_at}
 use Rattle.std.specs.Cmp.Lexicographic.{slice_cmp}
@@ -13,18 +13,11 @@ use Rattle.toml.specs.Data.{same_key}
 use Rattle.toml_parser.specs.Reading.{path_view}
 use Rattle.nextest_tree.specs.declared.key.Key.{Key}
 use Rattle.nextest_tree.specs.Key.{key_text}
-use Rattle.nextest_script_order.specs.Expressions.{elsewhere, one_id, all_ids, aim_at}
+use Rattle.nextest_script_order.specs.Expressions.{elsewhere, aim_at}
 use Rattle.nextest_script_order.specs.Standing.{IdsAscend, is_among, key_path_view}
 use Rattle.nextest_script_order.proofs.Taken.{Taking, left_all, take_one, taken_early, taken_late, taken_none}
 
 module _ (path : List Key) (parts : List (String Global)) (i : ℕ) where
-  -- no part is left
-  pub aim_over : (d : Key) → i < length path → length parts ≤ i
-      → aim_at (key_path_view (drop i path)) (path_view (drop i parts)) ≡ all_ids
-  aim_over d here over =
-      let none : drop i parts ≡ [] = drop_all i parts over in
-      rw (drop_more path i d here, none) refl
-
   -- a part is the path's key
   pub aim_same : (d : Key) (s : String Global) → i < length path → i < length parts → s ≡ get_or parts i s
       → bytes_eq (key_text (get_or path i d)) (string_bytes s) ≡ true
@@ -45,21 +38,6 @@ module _ (path : List Key) (parts : List (String Global)) (i : ℕ) where
       let key = key_text (get_or path i d) in
       let keys : same_key key (string_bytes s) ≡ false = is_eq-slice_cmp key (string_bytes s) ∙ other in
       rw (drop_more path i d here, drop_more parts i s there, this, keys) refl
-
-  -- the path is over
-  pub aim_id : (s : String Global) → length path ≤ i → i < length parts → s ≡ get_or parts i s
-      → aim_at (key_path_view (drop i path)) (path_view (drop i parts)) ≡ one_id (string_bytes s)
-  aim_id s over there is =
-      let this : get_or parts i s ≡ s = sym is in
-      let none : drop i path ≡ [] = drop_all i path over in
-      rw (none, drop_more parts i s there, this) refl
-
-  pub aim_all : length path ≤ i → length parts ≤ i
-      → aim_at (key_path_view (drop i path)) (path_view (drop i parts)) ≡ all_ids
-  aim_all over none_left =
-      let none : drop i path ≡ [] = drop_all i path over in
-      let no_parts : drop i parts ≡ [] = drop_all i parts none_left in
-      rw (none, no_parts) refl
 
 -- the id of an aim is taken
 pub aimed_taking : (id : List ℕ) (old : List (List ℕ)) → IdsAscend old → Taking (id ∷ []) [] old (id ∷ []) old

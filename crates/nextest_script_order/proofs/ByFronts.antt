@@ -21,10 +21,6 @@ pub record IsPlacedBy (path : Path) (text : List ℕ) (ids order : List (List �
       ≡ ordered ++ placed_before path text left (suc (line_count text))
 
 module _ (path : Path) (text : List ℕ) (ids order : List (List ℕ)) where
-  pub by_none : (count : ℕ) → AppearBetween path text count (line_count text) ids
-      → IsPlacedBy path text ids order count ids order
-  by_none count later = record { later = later; same = refl }
-
   no_document : (id : List ℕ) (n : ℕ) → tree_of (first_lines n text) ≡ None → appears_at path text id n ≡ false
   unfolding stands_in
   no_document id n none = rw none refl

@@ -21,14 +21,6 @@ module _ (path : Path) (text : List ℕ) where
       let next : n + suc k ≡ suc (n + k) = omega arith in
       rw (next, before_more id n k h) refl
 
-  not_before : (id : List ℕ) (n k : ℕ) → appears_before path text id (n + k) ≡ false
-      → appears_before path text id n ≡ false
-  not_before id n k h =
-      elim (cases_Bool (appears_before path text id n)) [
-        | inl yes' ↦ absurd (true≢false (sym (before_more id n k yes') ∙ h))
-        | inr no' ↦ no'
-      ]
-
   pub both_false : (a b : Bool) → (a || b) ≡ false → (a ≡ false) × (b ≡ false)
   both_false true b h = absurd (true≢false h)
   both_false false b h = (refl, h)
