@@ -1,5 +1,5 @@
 -- What the search for the places of ids knows of the first lines of a text.
-use Rattle.std.specs.Prelude.{◌≡◌, ℕ, suc, ◌≤◌, true, false, List, ◌++◌, is_some}
+use Rattle.std.specs.Prelude.{◌≡◌, ℕ, suc, ◌<◌, ◌≤◌, true, false, List, ◌++◌, None, is_some}
 use Rattle.std.specs.List.{AllByRecursion}
 use Rattle.nextest_documents.specs.Shown.{Path}
 use Rattle.nextest_documents.specs.Text.{tree_of}
@@ -11,6 +11,11 @@ pub record AppearBetween (path : Path) (text : List ℕ) (low high : ℕ) (ids :
     : Type 0 where
   pub later : AllByRecursion (λ id. appears_before path text id (suc low) ≡ false) ids
   pub there : AllByRecursion (λ id. appears_at path text id high ≡ true) ids
+
+-- No number of lines between these is a document.
+abbrev pub NoDocumentBetween : List ℕ → ℕ → ℕ → Type 0
+NoDocumentBetween text low high =
+    (n : ℕ) → low < n → n < high → tree_of (first_lines n text) ≡ None
 
 -- The first n lines of a text are a document.
 abbrev pub IsDocument : List ℕ → ℕ → Type 0
