@@ -8,7 +8,7 @@ use Rattle.nextest_inheritance.specs.Faults.{inheritance_faults}
 use Rattle.nextest_inheritance.specs.Names.{default_first, is_default}
 use Rattle.nextest_rules.specs.CompileFaults.{compile_faults, profile_faults}
 use Rattle.nextest_rules.specs.Known.{KnownSets, known_to, sets_of}
-use Rattle.nextest_rules.specs.Rules.{layer_of, layer_profile}
+use Rattle.nextest_rules.specs.Rules.{LayerProfile, layer_of, layer_profile}
 use Rattle.nextest_rules.specs.Steps.{name_steps, if_some, rule_steps, written_parents}
 use Rattle.nextest_sources.specs.Causes.{LoadCause, NameSet, bad_parents, compile_refusals}
 use Rattle.nextest_sources.specs.Inputs.{SourceText}
@@ -73,11 +73,11 @@ module _ {M K P : Type 0} (engines : Readings M K P) where
       ∙ faults_without (default_first ps)
 
   profiles_without : (source : Source) (ps : List (Name × ProfileText))
-      → map (λ p. (p.0, layer_profile engines source p.0 p.1)) (all_without_fields ps)
-      ≡ map (λ p. (p.0, layer_profile engines source p.0 p.1)) ps
+      → (layer_of engines source (all_without_fields ps)).profiles ≡ (layer_of engines source ps).profiles
   profiles_without source [] = refl
   profiles_without source (p ∷ ps) =
-      ap (λ ls. (p.0, layer_profile engines source p.0 p.1) ∷ ls) (profiles_without source ps)
+      let first : Name × LayerProfile M K = (p.0, layer_profile engines source p.0 p.1) in
+      ap (λ ls. first ∷ ls) (profiles_without source ps)
 
   -- and nor do the rules
   pub layer_without : (source : Source) (ps : List (Name × ProfileText))

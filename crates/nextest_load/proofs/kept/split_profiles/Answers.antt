@@ -22,14 +22,14 @@ loop-name-preserved c =
     let sorted = subst (λ es. IsStrictlySortedBy string_cmp (keys_of es)) all
     c.into_iter-name-iterator.ensures.into_iter_gives.5 in
     let rules = c.loop-name.rules.entries in
-    let ruled = c.in_ok-split_profile.ruled in
+    let ruled = c.in_ok-ruled.ruled in
     let key = c.in_ok-clone.field-0 in
     let same = c.in_ok-clone.ensures.cases in
     let rules_grown : c.insert.new.self.entries ≡ rules ++ (key, ruled) ∷ [] =
     c.in_ok-insert.ensures.entries ∙ goes_last done entry rest rules key ruled sorted inv.0.2 same in
     let kept = c.loop-name.kept.entries in
-    let merged = c.in_ok-split_profile.merged in
-    let kept_grown : c.insert-2.new.self.entries ≡ kept ++ (entry.0, merged) ∷ [] =
+    let merged = c.in_ok-ruled.merged in
+    let kept_grown : c.insert-in-loop-name.new.self.entries ≡ kept ++ (entry.0, merged) ∷ [] =
     c.in_ok-insert-2.ensures.entries ∙ goes_last done entry rest kept entry.0 merged sorted inv.0.3 refl in
     let rules_left = all_without_fields (by_name profile_view rest) in
     let kept_left = profiles_of (by_name profile_view rest) in (
@@ -43,12 +43,12 @@ loop-name-preserved c =
       ),
       ap (λ es. by_name profile_view es ++ rules_left) rules_grown
           ∙ seen_more profile_view rules key ruled (without_fields (profile_view entry.1)) rules_left
-          c.in_ok-split_profile.ensures.rules
+          c.in_ok-ruled.ensures.rules
           ∙ ap (λ name. by_name profile_view rules ++ (name, without_fields (profile_view entry.1)) ∷ rules_left) same
           ∙ ap (λ es. by_name profile_view rules ++ all_without_fields (by_name profile_view es)) (sym steps)
           ∙ inv.1,
       ap (λ es. by_name merged_profile_view es ++ kept_left) kept_grown
           ∙ seen_more merged_profile_view kept entry.0 merged (merged_profile (profile_view entry.1)) kept_left
-          c.in_ok-split_profile.ensures.kept
+          c.in_ok-ruled.ensures.kept
           ∙ ap (λ es. by_name merged_profile_view kept ++ profiles_of (by_name profile_view es)) (sym steps) ∙ inv.2,
     )

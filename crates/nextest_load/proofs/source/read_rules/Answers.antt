@@ -38,9 +38,6 @@ returns-clause-ran g c below was =
 pub returns-clause-known : goal.returns-clause-known
 returns-clause-known g c below was = rw (← c.in_ok-table.ensures.value) (c.check_table.ensures.known below was)
 
-pub returns-clause-rules : goal.returns-clause-rules
-returns-clause-rules g c = rw (← c.in_ok-table.ensures.value) c.check_table.ensures.rules
-
 pub returns-clause-kept : goal.returns-clause-kept
 returns-clause-kept g c =
     IfOk-weaker c.check_table.result (λ checked. IfSome checked.kept (IsKeptOf c.in_ok-table.table)) _
