@@ -21,13 +21,15 @@ returns-in_err-tables-clause-ran g c ss so_far kept told =
     let e = c.in_err-tables.field-0.0 in
     let P : Node → Type 0 = λ n. Ran (tree_steps (source_view c.args.repository.now) n) told told (error_view e) in
     ran_exit _ told told _ e c.from_residual-in_err-tables.ensures.1
-    (subst P (c.in_ok-tree.ensures ss so_far) (c.in_err-tables.ensures.ran (subst K (sym (c.in_ok-tree.ensures ss so_far)) kept) told))
+    (subst P (c.in_ok-tree.ensures ss so_far)
+    (c.in_err-tables.ensures.ran (subst K (sym (c.in_ok-tree.ensures ss so_far)) kept) told))
 
 pub returns-clause-ran : goal.returns-clause-ran
 returns-clause-ran g c ss so_far kept told =
     let K : Node → Type 0 = λ n. IfSome c.args.loaded.kept (IsKept n) in
     let P : Node → Type 0 = λ n. Ran (tree_steps (source_view c.args.repository.now) n) told told passed in
-    subst P (c.in_ok-tree.ensures ss so_far) (c.in_ok-tables.ensures.ran (subst K (sym (c.in_ok-tree.ensures ss so_far)) kept) told)
+    subst P (c.in_ok-tree.ensures ss so_far)
+    (c.in_ok-tables.ensures.ran (subst K (sym (c.in_ok-tree.ensures ss so_far)) kept) told)
 
 pub returns-clause-parts : goal.returns-clause-parts
 returns-clause-parts g c ss so_far kept names =
