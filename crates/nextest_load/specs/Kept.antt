@@ -1,5 +1,5 @@
 -- What stays of a table that was read once its rules are taken.
-use Rattle.std.specs.Prelude.{◌≡◌, List, [], map, Option, None, Some, string_bytes}
+use Rattle.std.specs.Prelude.{◌≡◌, List, [], map, None, Some, string_bytes}
 use Rattle.nextest_tables.specs.Complete.{IsMergedTree}
 use Rattle.nextest_tables.specs.FileTexts.{ProfileText, FileText, file_text}
 use Rattle.nextest_tables.specs.Scripts.{AreFileScripts, file_scripts_view}

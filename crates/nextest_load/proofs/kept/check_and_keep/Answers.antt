@@ -7,7 +7,6 @@ use Rattle.nextest_sources.specs.Endings.{Ran, error_view, passed}
 use Rattle.nextest_sources.specs.Sources.{source_view}
 use Rattle.nextest_sources.specs.Steps.{LoadStep}
 use Rattle.nextest_sources.proofs.Runs.{ran_exit}
-use Rattle.nextest_tables.specs.FileTexts.{FileText}
 use Rattle.nextest_tables.specs.View.{file_table_view}
 use Rattle.nextest_load.specs.Kept.{all_without_fields, profiles_alone, without_profiles}
 use Rattle.nextest_load.specs.Merged.{profiles_of}
