@@ -1,0 +1,17 @@
+//! What is asked of the program `rinqebo`: its commands and options, and the request that words are.
+#![tactic(auto)]
+
+mod environment;
+mod features;
+mod hints;
+mod keys;
+mod options;
+mod request;
+mod words;
+
+pub use environment::Environment;
+pub use features::{FEATURES, feature_of};
+pub use hints::{name_hint, text_hint};
+pub use keys::{SettingKey, all_keys, setting_of};
+pub use request::{ConfigFile, EngineOptions, FileOptions, Question, Request, TestName, ToolFile};
+pub use words::{ParseStop, parse};

@@ -1,0 +1,4 @@
+pub mod Statuses
+pub mod Loads
+pub mod Rows
+pub mod Reasons

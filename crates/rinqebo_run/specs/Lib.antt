@@ -1,0 +1,7 @@
+pub mod Statuses
+pub mod Sessions
+pub mod Explained
+pub mod Checked
+pub mod Answered
+pub mod Conditions
+pub mod Reasons

@@ -1,0 +1,280 @@
+//! The rules of a setting, and what comes of each.
+ghost use Rattle.std.specs.Prelude.{◌≡◌, IfOk, map};
+ghost use Rattle.nextest_rules.specs.View.{override_rule_view};
+ghost use Rattle.nextest_settings.specs.View.{override_ref_view};
+ghost use Rattle.rinqebo_run.specs.Reasons.{answers_told, facts_told, all_told, verdicts_here};
+ghost use Rattle.rinqebo_run.specs.declared.conditions.Asking.{Asking};
+
+use crate::answer::Failure;
+use crate::binary::query_of;
+use crate::check::{failure_of_load, failure_of_profile, report_of};
+use crate::conditions::{Answers, Asking, answers_of, default_filter};
+use crate::explain::{asked_of, override_origin};
+use crate::fallback::fallback_value;
+use crate::findings::warning_findings;
+use crate::grounds::{built_in, profile_grounds};
+use crate::rules::{chain_of_profile, missing_profile};
+use crate::session::{Config, Session};
+use nextest_config::{CompiledOverride, DefaultConfigWarnings, NextestRunMode, Setting, Tree};
+use nextest_filters::NextestFilters;
+use nextest_settings::rules_of;
+use rinqebo_files::{Layer, host_text, place_of, rule_at, target_text, text_at};
+use rinqebo_report::{Condition, ConditionAnswer, Content, Origin, Report, Rule, Verdict};
+use rinqebo_request::{Request, SettingKey, TestName};
+use rinqebo_values::{SettingValue, reported_if_set, written_value};
+use rule_verdicts::{RuleFacts, verdicts_of};
+use std::alloc::{AllocError, Global};
+use target_language::TargetSpecs;
+
+/// An override of a configuration.
+type Override = CompiledOverride<NextestFilters, TargetSpecs>;
+
+/// What is known of a rule, where a setting is asked for.
+fn facts_of(rule: &Override, setting: Setting, mode: NextestRunMode, answers: Answers) -> RuleFacts
+    ensures { result ≡ facts_told setting mode (override_rule_view rule.now) answers }
+{
+    RuleFacts {
+        is_on: answers.is_on(),
+        matches: answers.matches(),
+        writes: written_value(rule.settings(), setting, mode).is_some(),
+    }
+}
+
+/// A condition, with its text.
+fn condition(
+    alloc: Global,
+    text: Option<&str>,
+    answer: ConditionAnswer,
+) -> Result<Condition, AllocError> {
+    Ok(Condition {
+        text: String::from_str(alloc, text.unwrap_or(""))?,
+        answer,
+    })
+}
+
+/// A verdict, as it is reported.
+fn reported_verdict(verdict: rule_verdicts::Verdict) -> Verdict {
+    match verdict {
+        rule_verdicts::Verdict::PlatformNo => Verdict::PlatformNo,
+        rule_verdicts::Verdict::FilterNo => Verdict::FilterNo,
+        rule_verdicts::Verdict::SetsNothing => Verdict::SetsNothing,
+        rule_verdicts::Verdict::DecidedBefore => Verdict::DecidedBefore,
+        rule_verdicts::Verdict::Decides => Verdict::Decides,
+    }
+}
+
+/// The table of a rule in its file.
+fn table_of<'l>(layers: &'l [Layer], rule: &Override) -> Option<&'l Tree> {
+    let id = rule.id();
+    let place = place_of(layers, &id.config_source);
+    rule_at(
+        layers,
+        place,
+        id.profile_name.as_str(),
+        "overrides",
+        id.index,
+    )
+}
+
+/// A rule with its verdict.
+fn reported_rule(
+    alloc: Global,
+    layers: &[Layer],
+    rule: &Override,
+    value: Option<SettingValue<'_>>,
+    answers: Answers,
+    verdict: rule_verdicts::Verdict,
+) -> Result<Rule, AllocError> {
+    let id = rule.id();
+    let profile = id.profile_name.as_str();
+    let table = table_of(layers, rule);
+    Ok(Rule {
+        verdict: reported_verdict(verdict),
+        origin: override_origin(alloc, layers, &id.config_source, profile, id.index)?,
+        host: condition(alloc, host_text(table), answers.host)?,
+        target: condition(alloc, target_text(table), answers.target)?,
+        filter: condition(alloc, text_at(table, "filter"), answers.filter)?,
+        value: reported_if_set(alloc, value)?,
+    })
+}
+
+/// What the conditions of a rule say.
+fn answers_to(rule: &Override, asking: &Asking<'_>) -> Answers
+    ensures { result ≡ answers_told asking.now (override_rule_view rule.now) }
+{
+    answers_of(rule.platforms(), rule.filter(), asking)
+}
+
+/// What the conditions of each rule say.
+fn all_answers(
+    alloc: Global,
+    rules: &[&Override],
+    asking: &Asking<'_>,
+) -> Result<Vec<Answers>, AllocError>
+    ensures { IfOk result (λ all. all.items
+        ≡ map (answers_told asking.now) (map override_ref_view rules.now)) }
+{
+    rules
+        .iter()
+        .map(|rule| answers_to(*rule, asking))
+        .collect(alloc)
+}
+
+/// What is known of each rule.
+fn all_facts(
+    alloc: Global,
+    rules: &[&Override],
+    setting: Setting,
+    mode: NextestRunMode,
+    answers: &[Answers],
+) -> Result<Vec<RuleFacts>, AllocError>
+    ensures { IfOk result (λ facts. facts.items
+        ≡ all_told override_ref_view setting mode rules.now answers.now) }
+{
+    rules
+        .iter()
+        .zip(answers)
+        .map(|(rule, answers)| facts_of(*rule, setting, mode, *answers))
+        .collect(alloc)
+}
+
+/// What comes of each rule.
+fn all_verdicts(
+    alloc: Global,
+    rules: &[&Override],
+    setting: Setting,
+    mode: NextestRunMode,
+    answers: &[Answers],
+) -> Result<Vec<rule_verdicts::Verdict>, AllocError>
+    ensures { (asking : Asking)
+        → answers.now ≡ map (answers_told asking) (map override_ref_view rules.now)
+        → IfOk result (λ verdicts. verdicts.items
+        ≡ verdicts_here asking setting mode (map override_ref_view rules.now)) }
+{
+    let facts = all_facts(alloc, rules, setting, mode, answers)?;
+    verdicts_of(alloc, &facts)
+}
+
+/// The rules of a profile, each with its verdict.
+fn reported_rules(
+    alloc: Global,
+    layers: &[Layer],
+    rules: &[&Override],
+    setting: Setting,
+    asking: &Asking<'_>,
+) -> Result<Vec<Rule>, AllocError> {
+    let mode = asking.test.mode;
+    let answers = all_answers(alloc, rules, asking)?;
+    let verdicts = all_verdicts(alloc, rules, setting, mode, &answers)?;
+    let mut reported = Vec::new(alloc);
+    for ((rule, answers), verdict) in rules.iter().zip(&answers).zip(&verdicts) {
+        let value = written_value(rule.settings(), setting, mode);
+        reported.push(reported_rule(alloc, layers, *rule, value, *answers, *verdict)?)?;
+    }
+    Ok(reported)
+}
+
+/// Where a setting comes from where no rule decides it. Several files may write parts of it: the
+/// first is told.
+fn fallback_origin(
+    alloc: Global,
+    layers: &[Layer],
+    chain: &[&str],
+    setting: Setting,
+    key: SettingKey,
+) -> Result<Origin, AllocError> {
+    let origins = match setting {
+        Setting::Priority | Setting::TestGroup | Setting::RunWrapper => built_in(alloc)?,
+        _ => profile_grounds(alloc, layers, chain, key)?,
+    };
+    match origins.into_iter().next() {
+        Some(origin) => Ok(origin),
+        None => Ok(Origin::BuiltIn),
+    }
+}
+
+/// What counts where no rule decides.
+fn fallback_rule(
+    alloc: Global,
+    session: &Session<'_>,
+    config: &Config,
+    chain: &[&str],
+    setting: Setting,
+    mode: NextestRunMode,
+) -> Result<Rule, AllocError> {
+    let key = SettingKey::of(setting, mode);
+    let value = fallback_value(alloc, config, chain, setting, mode)?;
+    Ok(Rule {
+        verdict: Verdict::Fallback,
+        origin: fallback_origin(alloc, &session.layers, chain, setting, key)?,
+        host: condition(alloc, None, ConditionAnswer::Absent)?,
+        target: condition(alloc, None, ConditionAnswer::Absent)?,
+        filter: condition(alloc, None, ConditionAnswer::Absent)?,
+        value: reported_if_set(alloc, value)?,
+    })
+}
+
+/// All rules of a setting, and then what counts where none decides.
+fn rules_and_fallback(
+    alloc: Global,
+    session: &Session<'_>,
+    config: &Config,
+    chain: &[&str],
+    test: &TestName<'_>,
+    setting: Setting,
+) -> Result<Vec<Rule>, AllocError> {
+    let platforms = &session.engines.platforms;
+    let asking = Asking {
+        platforms,
+        test,
+        query: &query_of(test),
+        default_filter: default_filter(alloc, config, chain, platforms)?,
+    };
+    let rules = rules_of(alloc, config.layers(), chain)?;
+    let mut reported = reported_rules(alloc, &session.layers, &rules.overrides, setting, &asking)?;
+    let fallback = fallback_rule(alloc, session, config, chain, setting, test.mode)?;
+    reported.push(fallback)?;
+    Ok(reported)
+}
+
+/// The rules of a setting, by a configuration.
+fn reasons(
+    alloc: Global,
+    request: &Request<'_>,
+    session: &Session<'_>,
+    config: &Config,
+    profile: &str,
+    test: &TestName<'_>,
+    setting: Setting,
+) -> Result<Content, AllocError> {
+    let chain = chain_of_profile(alloc, config, profile)?;
+    Ok(Content::Why {
+        asked: asked_of(alloc, request, profile, &chain, test.mode)?,
+        key: SettingKey::of(setting, test.mode).text(alloc)?,
+        rules: rules_and_fallback(alloc, session, config, &chain, test, setting)?,
+    })
+}
+
+/// The rules of a setting, and what comes of each.
+pub fn why(
+    alloc: Global,
+    request: &Request<'_>,
+    session: &Session<'_>,
+    profile: &str,
+    test: &TestName<'_>,
+    setting: Setting,
+) -> Result<Report, Failure> {
+    let mut warnings = DefaultConfigWarnings::new(alloc);
+    let config = match session.load(alloc, &mut warnings) {
+        Ok(config) => config,
+        Err(error) => return Err(failure_of_load(alloc, session, &warnings, &error)?),
+    };
+    if !config.profiles().contains_key(profile) {
+        let missing = missing_profile(alloc, &config, profile)?;
+        return Err(failure_of_profile(alloc, session, &warnings, &missing)?);
+    }
+    let content = reasons(alloc, request, session, &config, profile, test, setting)?;
+    let findings = warning_findings(alloc, &session.layers, &warnings)?;
+    let report = report_of(alloc, session, findings, Vec::new(alloc), content)?;
+    Ok(report)
+}
