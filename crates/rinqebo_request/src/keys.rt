@@ -1,5 +1,5 @@
 //! The keys of settings, as files write them.
-ghost use Rattle.std.specs.Prelude.{◌≡◌, ◌≢◌, IfOk, MatchOption, Some, codes, map, option_map, string_bytes};
+ghost use Rattle.std.specs.Prelude.{◌≡◌, ◌≢◌, ◌↔◌, IfOk, IsTrue, MatchOption, Some, codes, map, option_map, string_bytes};
 ghost use Rattle.nextest_settings.specs.Settings.{settings};
 ghost use Rattle.nextest_settings.specs.declared.setting.Setting.{Setting};
 ghost use Rattle.rinqebo_request.specs.Keys.{key_table, key_name, dotted, key_text};
@@ -67,6 +67,26 @@ impl SettingKey {
     }
 }
 
+/// The key of a setting, with its table.
+fn text_of(alloc: Global, setting: Setting, mode: NextestRunMode) -> Result<String, AllocError>
+    ensures { IfOk result (λ text. string_bytes text ≡ key_text setting mode) }
+{
+    SettingKey::of(setting, mode).text(alloc)
+}
+
+/// Whether a setting has a key.
+fn has_key(
+    alloc: Global,
+    setting: Setting,
+    mode: NextestRunMode,
+    key: &str,
+) -> Result<bool, AllocError>
+    ensures { IfOk result (λ has. IsTrue has ↔ (key_text setting mode ≡ key.now)) }
+{
+    let text = text_of(alloc, setting, mode)?;
+    Ok(text.as_str() == key)
+}
+
 /// The keys of all settings.
 pub fn all_keys(alloc: Global, mode: NextestRunMode) -> Result<Vec<String>, AllocError>
     ensures { IfOk result (λ keys. map string_bytes keys.items
@@ -74,7 +94,7 @@ pub fn all_keys(alloc: Global, mode: NextestRunMode) -> Result<Vec<String>, Allo
 {
     let mut keys = Vec::new(alloc);
     for setting in Setting::ALL.iter() {
-        keys.push(SettingKey::of(*setting, mode).text(alloc)?)?;
+        keys.push(text_of(alloc, *setting, mode)?)?;
     }
     Ok(keys)
 }
@@ -90,7 +110,7 @@ pub fn setting_of(
         (λ setting. key_text setting mode ≡ key.now)) }
 {
     for setting in Setting::ALL.iter() {
-        if SettingKey::of(*setting, mode).text(alloc)?.as_str() == key {
+        if has_key(alloc, *setting, mode, key)? {
             return Ok(Some(*setting));
         }
     }
