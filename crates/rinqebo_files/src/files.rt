@@ -1,4 +1,7 @@
 //! Reads the files that a request names.
+ghost use Rattle.std.specs.Prelude.{◌≡◌, IfOk, string_bytes};
+ghost use Rattle.std.specs.Option.{ForSome};
+
 use crate::root::root_above;
 use nextest_config::{
     CONFIG_PATH, ConfigPath, ConfigPaths, FileInput, ReadOutcome, ToolConfigFile, join_paths,
@@ -51,7 +54,9 @@ fn root_of<R: FileReader>(
     options: &FileOptions<'_>,
     environment: &Environment,
     files: &R,
-) -> Result<String, GatherFault> {
+) -> Result<String, GatherFault>
+    ensures { IfOk result (λ root. ForSome options.now.root (λ named. string_bytes root ≡ named.now)) }
+{
     if let Some(root) = options.root {
         return Ok(String::from_str(alloc, root)?);
     }
@@ -152,7 +157,10 @@ pub fn gather<R: FileReader>(
     environment: &Environment,
     input: ReadOutcome,
     files: &R,
-) -> Result<Gathered, GatherFault> {
+) -> Result<Gathered, GatherFault>
+    ensures root { IfOk result (λ gathered. ForSome request.now.files.root
+        (λ named. string_bytes gathered.paths.workspace_root ≡ named.now)) }
+{
     let options = &request.files;
     let root = root_of(alloc, options, environment, files)?;
     let shared = shared_file(alloc, root.as_str(), options.config_file, files)?;
