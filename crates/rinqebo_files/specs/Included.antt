@@ -7,4 +7,5 @@ use Rattle.nextest_rules.specs.KnownView.{features_view}
 -- each feature of some is one of others
 abbrev pub IsIncluded : BTreeSet ConfigExperimental → BTreeSet ConfigExperimental → Type 0
 IsIncluded some others =
-    (feature : ConfigExperimental) → IsTrue (features_view some feature) → IsTrue (features_view others feature)
+    (feature : ConfigExperimental) → IsTrue (features_view some feature)
+    → IsTrue (features_view others feature)

@@ -55,7 +55,8 @@ fn root_of<R: FileReader>(
     environment: &Environment,
     files: &R,
 ) -> Result<String, GatherFault>
-    ensures { IfOk result (λ root. ForSome options.now.root (λ named. string_bytes root ≡ named.now)) }
+    ensures { IfOk result (λ root. ForSome options.now.root
+        (λ named. string_bytes root ≡ named.now)) }
 {
     if let Some(root) = options.root {
         return Ok(String::from_str(alloc, root)?);
