@@ -1,4 +1,7 @@
 //! The experimental features of a run.
+ghost use Rattle.std.specs.Prelude.{IfOk, OnOk};
+ghost use Rattle.rinqebo_files.specs.Included.{IsIncluded};
+
 use crate::files::Gathered;
 use crate::layers::tree_of;
 use nextest_config::{ConfigExperimental, ReadOutcome, Tree};
@@ -26,11 +29,30 @@ fn repository_outcome(gathered: &Gathered) -> &ReadOutcome {
     }
 }
 
+/// Adds a feature, where what stands behind `experimental` switches it on.
+#[tactic(auto, using(crate::proofs::Kept::kept))]
+fn add_feature(
+    features: &mut BTreeSet<ConfigExperimental>,
+    written: &Tree,
+    name: &str,
+    feature: ConfigExperimental,
+) -> Result<(), AllocError>
+    ensures { OnOk result (IsIncluded features.old features.new) }
+{
+    if switches_on(written, name) {
+        features.insert(feature)?;
+        return Ok(());
+    }
+    Ok(())
+}
+
 /// Adds the features that a table of a file switches on.
 fn add_features(
     features: &mut BTreeSet<ConfigExperimental>,
     tree: Option<Tree>,
-) -> Result<(), AllocError> {
+) -> Result<(), AllocError>
+    ensures { OnOk result (IsIncluded features.old features.new) }
+{
     let Some(tree) = tree else {
         return Ok(());
     };
@@ -38,9 +60,7 @@ fn add_features(
         return Ok(());
     };
     for (name, feature) in FEATURES.iter() {
-        if switches_on(written, *name) {
-            features.insert(*feature)?;
-        }
+        add_feature(features, written, *name, *feature)?;
     }
     Ok(())
 }
@@ -50,11 +70,10 @@ pub fn features_of(
     alloc: Global,
     named: &BTreeSet<ConfigExperimental>,
     gathered: &Gathered,
-) -> Result<BTreeSet<ConfigExperimental>, AllocError> {
-    let mut features = BTreeSet::new(alloc);
-    for feature in named.iter() {
-        features.insert(*feature)?;
-    }
+) -> Result<BTreeSet<ConfigExperimental>, AllocError>
+    ensures { IfOk result (IsIncluded named.now) }
+{
+    let mut features = named.clone()?;
     add_features(&mut features, tree_of(alloc, repository_outcome(gathered))?)?;
     Ok(features)
 }

@@ -1,4 +1,7 @@
 //! Reads the files that a request names.
+ghost use Rattle.std.specs.Prelude.{◌≡◌, IfOk, string_bytes};
+ghost use Rattle.std.specs.Option.{ForSome};
+
 use crate::root::root_above;
 use nextest_config::{
     CONFIG_PATH, ConfigPath, ConfigPaths, FileInput, ReadOutcome, ToolConfigFile, join_paths,
@@ -11,15 +14,17 @@ use thiserror::Error;
 /// The files that a request names, as they were read.
 #[derive(Drop)]
 pub struct Gathered {
+    /// The workspace's root, and its own file.
     pub paths: ConfigPaths,
-    /// The repository's file that a user named.
+    /// The repository's file that a user named, which counts in place of the workspace's own.
     pub config_file: Option<FileInput>,
+    /// The files of tools, in the order of the words: the first is the highest.
     pub tools: Vec<ToolConfigFile>,
-    /// What the compiler prints for the host.
+    /// What the compiler prints for the host, if it is given.
     pub host_cfg: Option<String>,
-    /// What the compiler prints for the target.
+    /// What the compiler prints for the target, if it is given.
     pub target_cfg: Option<String>,
-    /// What `cargo metadata` prints.
+    /// What `cargo metadata` prints, if it is given.
     pub metadata: Option<String>,
 }
 
@@ -29,9 +34,9 @@ pub enum GatherFault {
     /// No folder upward is the root of a workspace.
     #[error("no workspace here or above: name its folder by `--root`")]
     NoRoot,
-    /// A file that an option names has no text.
-    #[error("cannot read `{0}`")]
-    Unreadable(String),
+    /// The file at a path that an option names has no text: the path, and why.
+    #[error("cannot read `{0}`: {1}")]
+    Unreadable(String, String),
     /// Want of memory.
     #[error("out of memory")]
     Memory,
@@ -49,7 +54,10 @@ fn root_of<R: FileReader>(
     options: &FileOptions<'_>,
     environment: &Environment,
     files: &R,
-) -> Result<String, GatherFault> {
+) -> Result<String, GatherFault>
+    ensures { IfOk result (λ root. ForSome options.now.root
+        (λ named. string_bytes root ≡ named.now)) }
+{
     if let Some(root) = options.root {
         return Ok(String::from_str(alloc, root)?);
     }
@@ -117,6 +125,14 @@ fn tool_files<R: FileReader>(
     Ok(read)
 }
 
+/// The fault of a file that has no text.
+fn unreadable(alloc: Global, path: &str, reason: &str) -> Result<GatherFault, AllocError> {
+    Ok(GatherFault::Unreadable(
+        String::from_str(alloc, path)?,
+        String::from_str(alloc, reason)?,
+    ))
+}
+
 /// The text of the file at the path that an option names, if it is given.
 fn text_at<R: FileReader>(
     alloc: Global,
@@ -126,10 +142,13 @@ fn text_at<R: FileReader>(
     let Some(path) = path else {
         return Ok(None);
     };
-    match files.read(alloc, path)? {
-        ReadOutcome::Text(text) => Ok(Some(text)),
-        _ => Err(GatherFault::Unreadable(String::from_str(alloc, path)?)),
-    }
+    let fault = match files.read(alloc, path)? {
+        ReadOutcome::Text(text) => return Ok(Some(text)),
+        ReadOutcome::NotFound => unreadable(alloc, path, "no such file")?,
+        ReadOutcome::NotADirectory => unreadable(alloc, path, "a part of it is no folder")?,
+        ReadOutcome::Failed(message) => unreadable(alloc, path, message.as_str())?,
+    };
+    Err(fault)
 }
 
 /// Reads the files that a request names. Where it reads standard input, that is what came of it.
@@ -139,7 +158,10 @@ pub fn gather<R: FileReader>(
     environment: &Environment,
     input: ReadOutcome,
     files: &R,
-) -> Result<Gathered, GatherFault> {
+) -> Result<Gathered, GatherFault>
+    ensures root { IfOk result (λ gathered. ForSome request.now.files.root
+        (λ named. string_bytes gathered.paths.workspace_root ≡ named.now)) }
+{
     let options = &request.files;
     let root = root_of(alloc, options, environment, files)?;
     let shared = shared_file(alloc, root.as_str(), options.config_file, files)?;

@@ -1,7 +1,7 @@
 -- The keys of settings, as files write them.
 use Rattle.std.specs.Prelude.{ℕ, List, ◌++◌, Option, None, Some, codes}
 use Rattle.nextest_elements.specs.declared.run_mode.NextestRunMode.{NextestRunMode}
-use Rattle.nextest_elements.specs.declared.run_mode.NextestRunMode.TheVariants.{Test, Benchmark}
+use Rattle.nextest_elements.specs.declared.run_mode.NextestRunMode.TheVariants.{Benchmark}
 use Rattle.nextest_settings.specs.Settings.{setting_name}
 use Rattle.nextest_settings.specs.declared.setting.Setting.{Setting}
 use Rattle.nextest_settings.specs.declared.setting.Setting.TheVariants as at

@@ -1,4 +1,6 @@
 //! Hints: which known name a wrong one most likely means.
+use crate::keys::{SettingKey, all_keys, setting_of};
+use nextest_config::NextestRunMode;
 use rinqebo_report::nearest_name;
 use std::alloc::{AllocError, Global};
 
@@ -26,4 +28,28 @@ pub fn text_hint(
         names.push(known.as_str())?;
     }
     name_hint(alloc, name, &names)
+}
+
+/// The other mode.
+fn other_mode(mode: NextestRunMode) -> NextestRunMode {
+    match mode {
+        NextestRunMode::Test => NextestRunMode::Benchmark,
+        NextestRunMode::Benchmark => NextestRunMode::Test,
+    }
+}
+
+/// The hint that a key of a mode is meant: the one of the setting that has the key in the other mode,
+/// else a near one.
+pub fn key_hint(
+    alloc: Global,
+    key: &str,
+    mode: NextestRunMode,
+) -> Result<Option<String>, AllocError> {
+    match setting_of(alloc, key, other_mode(mode))? {
+        Some(setting) => {
+            let known = SettingKey::of(setting, mode).text(alloc)?;
+            did_you_mean(alloc, Some(known.as_str()))
+        }
+        None => text_hint(alloc, key, &all_keys(alloc, mode)?),
+    }
 }

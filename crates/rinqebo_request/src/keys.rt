@@ -1,6 +1,7 @@
 //! The keys of settings, as files write them.
-ghost use Rattle.std.specs.Prelude.{◌≡◌, IfOk, Some, codes, map, option_map, string_bytes};
+ghost use Rattle.std.specs.Prelude.{◌≡◌, ◌≢◌, ◌↔◌, IfOk, IsTrue, MatchOption, Some, codes, map, option_map, string_bytes};
 ghost use Rattle.nextest_settings.specs.Settings.{settings};
+ghost use Rattle.nextest_settings.specs.declared.setting.Setting.{Setting};
 ghost use Rattle.rinqebo_request.specs.Keys.{key_table, key_name, dotted, key_text};
 
 use nextest_config::{NextestRunMode, Setting};
@@ -9,7 +10,9 @@ use std::alloc::{AllocError, Global};
 /// Where a profile or a rule writes a setting: the table within it, if there is one, and the key.
 #[derive(Clone, Copy)]
 pub struct SettingKey {
+    /// The table, as `junit`. Without it, the key stands in the profile or the rule itself.
     pub table: Option<&'static str>,
+    /// The key in that table.
     pub key: &'static str,
 }
 
@@ -64,11 +67,34 @@ impl SettingKey {
     }
 }
 
+/// The key of a setting, with its table.
+fn text_of(alloc: Global, setting: Setting, mode: NextestRunMode) -> Result<String, AllocError>
+    ensures { IfOk result (λ text. string_bytes text ≡ key_text setting mode) }
+{
+    SettingKey::of(setting, mode).text(alloc)
+}
+
+/// Whether a setting has a key.
+fn has_key(
+    alloc: Global,
+    setting: Setting,
+    mode: NextestRunMode,
+    key: &str,
+) -> Result<bool, AllocError>
+    ensures { IfOk result (λ has. IsTrue has ↔ (key_text setting mode ≡ key.now)) }
+{
+    let text = text_of(alloc, setting, mode)?;
+    Ok(text.as_str() == key)
+}
+
 /// The keys of all settings.
-pub fn all_keys(alloc: Global, mode: NextestRunMode) -> Result<Vec<String>, AllocError> {
+pub fn all_keys(alloc: Global, mode: NextestRunMode) -> Result<Vec<String>, AllocError>
+    ensures { IfOk result (λ keys. map string_bytes keys.items
+        ≡ map (λ setting. key_text setting mode) settings) }
+{
     let mut keys = Vec::new(alloc);
     for setting in Setting::ALL.iter() {
-        keys.push(SettingKey::of(*setting, mode).text(alloc)?)?;
+        keys.push(text_of(alloc, *setting, mode)?)?;
     }
     Ok(keys)
 }
@@ -78,9 +104,13 @@ pub fn setting_of(
     alloc: Global,
     key: &str,
     mode: NextestRunMode,
-) -> Result<Option<Setting>, AllocError> {
+) -> Result<Option<Setting>, AllocError>
+    ensures { IfOk result (λ found. MatchOption found
+        ((setting : Setting) → key_text setting mode ≢ key.now)
+        (λ setting. key_text setting mode ≡ key.now)) }
+{
     for setting in Setting::ALL.iter() {
-        if SettingKey::of(*setting, mode).text(alloc)?.as_str() == key {
+        if has_key(alloc, *setting, mode, key)? {
             return Ok(Some(*setting));
         }
     }

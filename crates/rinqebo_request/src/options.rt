@@ -56,26 +56,26 @@ fn with_files<'a>(alloc: Global, command: Command<'a>) -> Result<Command<'a>, Al
         alloc,
         "tool-config-file",
         "TOOL:PATH",
-        "A file that a tool provides",
+        "A file that a tool provides, once for each: the first is the highest",
     );
     let features = option(
         alloc,
         "experimental",
         "NAME",
-        "Switches an experimental feature on",
+        "Switches setup-scripts or wrapper-scripts on, beside what the repository's file says",
     );
     command
         .arg(option(
             alloc,
             "root",
             "DIR",
-            "The root of the workspace [default: looked for upward]",
+            "The workspace's root [default: looked for from the current folder upward]",
         ))?
         .arg(option(
             alloc,
             "config-file",
             "P",
-            "The repository's file [default: .config/nextest.toml]",
+            "The repository's file [default: .config/nextest.toml below the root]",
         ))?
         .arg(tools.action(ArgAction::Append))?
         .arg(features.action(ArgAction::Append))?
@@ -83,7 +83,7 @@ fn with_files<'a>(alloc: Global, command: Command<'a>) -> Result<Command<'a>, Al
             alloc,
             "metadata",
             "F",
-            "What `cargo metadata --format-version 1` prints",
+            "A file with what `cargo metadata --format-version 1` prints, for deps and rdeps",
         ))
 }
 
@@ -95,30 +95,46 @@ fn with_output<'a>(
 ) -> Result<Command<'a>, AllocError> {
     command
         .arg(choice(alloc, "format", "F", formats, "How it is written").default_value("text"))?
-        .arg(choice(alloc, "color", "W", COLOURS, "When colours are used"))
+        .arg(choice(
+            alloc,
+            "color",
+            "W",
+            COLOURS,
+            "When colours are used [default: CARGO_TERM_COLOR, else auto]",
+        ))
 }
 
 /// The options that say on what tests run.
 fn with_platforms<'a>(alloc: Global, command: Command<'a>) -> Result<Command<'a>, AllocError> {
     command
-        .arg(option(alloc, "host", "T", "The triple of the host"))?
-        .arg(option(alloc, "target", "T", "The triple of the target"))?
+        .arg(option(
+            alloc,
+            "host",
+            "T",
+            "The triple of the host [default: x86_64-unknown-linux-gnu]",
+        ))?
+        .arg(option(
+            alloc,
+            "target",
+            "T",
+            "The triple of the target [default: CARGO_BUILD_TARGET, else the host]",
+        ))?
         .arg(option(
             alloc,
             "host-cfg",
             "F",
-            "What `rustc --print cfg` prints for the host",
+            "A file with what `rustc --print cfg` prints [default: a table of known triples]",
         ))?
         .arg(option(
             alloc,
             "target-cfg",
             "F",
-            "What `rustc --print cfg --target T` prints",
+            "A file with what `rustc --print cfg --target T` prints [default: the table]",
         ))?
         .arg(flag(
             alloc,
             "host-binary",
-            "The test's binary is built for the host",
+            "The test's binary is built for the host, as that of a build script",
         ))
 }
 
@@ -128,7 +144,13 @@ fn explain_command<'a>(alloc: Global) -> Result<Command<'a>, AllocError> {
         .value_name("KEY")
         .num_args(0..)
         .action(ArgAction::Append)
-        .help("Settings [default: all]");
+        .help("Settings, as files spell them [default: all]");
+    let profile = option(
+        alloc,
+        "profile",
+        "P",
+        "The profile [default: NEXTEST_PROFILE, else default]",
+    );
     let command = Command::new(alloc, "explain")
         .about("Tells the settings of a test, and what decides each")
         .arg(word(alloc, "BINARY", "The id of the test's binary").required(true))?
@@ -138,9 +160,9 @@ fn explain_command<'a>(alloc: Global) -> Result<Command<'a>, AllocError> {
             alloc,
             "why",
             "KEY",
-            "Tells the rules of this setting instead",
+            "Tells each rule of this setting with its verdict, instead of settings",
         ))?
-        .arg(option(alloc, "profile", "P", "The profile [default: default]").short('P'))?
+        .arg(profile.short('P'))?
         .arg(choice(alloc, "mode", "M", MODES, "For what the test runs").default_value("test"))?;
     let command = with_files(alloc, command)?;
     let command = with_platforms(alloc, command)?;
@@ -154,15 +176,15 @@ fn check_command<'a>(alloc: Global) -> Result<Command<'a>, AllocError> {
         .arg(word(
             alloc,
             "FILE",
-            "The repository's file, or - for standard input",
+            "The repository's file, or - for standard input [default: as `--config-file` says]",
         ))?
         .arg(option(
             alloc,
             "stdin-path",
             "P",
-            "The path that standard input is shown with",
+            "The path that standard input is shown with [default: -]",
         ))?
-        .arg(flag(alloc, "deny-warnings", "A warning is no success"))?;
+        .arg(flag(alloc, "deny-warnings", "A warning is no success: status 1"))?;
     let command = with_files(alloc, command)?;
     with_output(alloc, command, CHECK_FORMATS)
 }

@@ -8,6 +8,7 @@ use std::collections::BTreeSet;
 pub struct TestName<'a> {
     /// The id of its binary.
     pub binary: &'a str,
+    /// Its name within the binary.
     pub name: &'a str,
     /// What its binary is built for.
     pub platform: BuildPlatform,
@@ -20,14 +21,20 @@ pub struct TestName<'a> {
 pub enum Question<'a> {
     /// The settings of a test.
     Explain {
+        /// The name of the profile.
         profile: &'a str,
+        /// The test that is asked about.
         test: TestName<'a>,
+        /// The settings that are told, in this order.
         settings: Vec<Setting>,
     },
     /// The rules of a setting of a test.
     Why {
+        /// The name of the profile.
         profile: &'a str,
+        /// The test that is asked about.
         test: TestName<'a>,
+        /// The setting whose rules are told.
         setting: Setting,
     },
     /// What is wrong with the files.
@@ -51,7 +58,9 @@ pub enum ConfigFile<'a> {
 /// A file that a tool provides.
 #[derive(Drop)]
 pub struct ToolFile<'a> {
+    /// The name of the tool.
     pub tool: ToolName,
+    /// The path of the file.
     pub path: &'a str,
 }
 
@@ -60,6 +69,7 @@ pub struct ToolFile<'a> {
 pub struct FileOptions<'a> {
     /// The root of the workspace. Without it, it is looked for.
     pub root: Option<&'a str>,
+    /// The repository's file.
     pub config_file: ConfigFile<'a>,
     /// The files of tools, in the order of the words: the first is the highest.
     pub tools: Vec<ToolFile<'a>>,
@@ -70,25 +80,30 @@ pub struct FileOptions<'a> {
 pub struct EngineOptions<'a> {
     /// The triple of the host.
     pub host: &'a str,
-    /// The triple of the target, where there is one.
+    /// The triple of the target. Without it, what is built for the target runs on the host.
     pub target: Option<&'a str>,
-    /// The path of what the compiler prints for the host.
+    /// The path of what the compiler prints for the host. Without it, a table knows the triple.
     pub host_cfg: Option<&'a str>,
-    /// The path of what the compiler prints for the target.
+    /// The path of what the compiler prints for the target. Without it, a table knows the triple.
     pub target_cfg: Option<&'a str>,
-    /// The path of what `cargo metadata` prints.
+    /// The path of what `cargo metadata` prints. Without it, `deps` and `rdeps` are refused.
     pub metadata: Option<&'a str>,
 }
 
 /// What is asked for.
 #[derive(Drop)]
 pub struct Request<'a> {
+    /// What is asked.
     pub question: Question<'a>,
+    /// Which files are read.
     pub files: FileOptions<'a>,
+    /// What the languages of filters and platforms know.
     pub engines: EngineOptions<'a>,
     /// The experimental features that are switched on beside those of the repository's file.
     pub features: BTreeSet<ConfigExperimental>,
+    /// How the answer is written.
     pub format: Format<'a>,
+    /// Whether the answer has colours.
     pub colour: Colour,
 }
 

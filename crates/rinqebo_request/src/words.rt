@@ -1,8 +1,8 @@
 //! Reads the words of the command line.
-use crate::environment::Environment;
-use crate::features::feature_of;
-use crate::hints::{name_hint, text_hint};
-use crate::keys::{all_keys, setting_of};
+use crate::environment::{Environment, set};
+use crate::features::{FEATURES, feature_of};
+use crate::hints::{key_hint, name_hint};
+use crate::keys::setting_of;
 use crate::options::program;
 use crate::request::{
     ConfigFile, EngineOptions, FileOptions, Question, Request, TestName, ToolFile,
@@ -55,21 +55,27 @@ fn stop_of(alloc: Global, error: &clap::Error) -> Result<ParseStop, AllocError> 
     }
 }
 
-/// A variable that is set, and not empty.
-fn set<'a>(variable: &'a Option<String>) -> Option<&'a str> {
-    match variable {
-        Some(value) if !value.is_empty() => Some(value.as_str()),
-        _ => None,
-    }
-}
-
 /// The name of a tool.
 fn tool_name(alloc: Global, name: &str) -> Result<ToolName, ParseStop> {
     match ToolName::new(alloc, name) {
         Ok(tool) => Ok(tool),
         Err(InvalidIdentifier::Memory) => Err(ParseStop::Memory),
-        Err(_) => {
-            let message = format!(in alloc; "`{name}` is no name of a tool")?;
+        Err(fault) => {
+            let message = format!(in alloc; "`{name}` is no name of a tool: {fault}")?;
+            Err(usage(alloc, message.as_str(), None)?)
+        }
+    }
+}
+
+/// The file of a tool, from the value of its option.
+fn tool_file<'a>(alloc: Global, value: &'a str) -> Result<ToolFile<'a>, ParseStop> {
+    match value.split_once(':') {
+        Some((tool, path)) if !path.is_empty() => Ok(ToolFile {
+            tool: tool_name(alloc, tool)?,
+            path,
+        }),
+        _ => {
+            let message = format!(in alloc; "`{value}` is not of the form TOOL:PATH")?;
             Err(usage(alloc, message.as_str(), None)?)
         }
     }
@@ -79,24 +85,25 @@ fn tool_name(alloc: Global, name: &str) -> Result<ToolName, ParseStop> {
 fn tool_files<'a>(alloc: Global, matches: &ArgMatches<'a>) -> Result<Vec<ToolFile<'a>>, ParseStop> {
     let mut tools = Vec::new(alloc);
     for value in matches.get_strs("tool-config-file").unwrap_or(&[]) {
-        let Some((tool, path)) = value.split_once(':') else {
-            let message = format!(in alloc; "`{value}` is not of the form TOOL:PATH")?;
-            return Err(usage(alloc, message.as_str(), None)?);
-        };
-        let tool = tool_name(alloc, tool)?;
         tools
-            .push(ToolFile { tool, path })
+            .push(tool_file(alloc, *value)?)
             .map_err(AllocError::from)?;
     }
     Ok(tools)
 }
 
-/// The experimental features that are switched on.
+/// The experimental features that variables and options switch on.
 fn features(
     alloc: Global,
     matches: &ArgMatches<'_>,
+    environment: &Environment,
 ) -> Result<BTreeSet<ConfigExperimental>, ParseStop> {
     let mut features = BTreeSet::new(alloc);
+    for (_, feature) in FEATURES.iter() {
+        if environment.switches_on(*feature) {
+            features.insert(*feature).map_err(AllocError::from)?;
+        }
+    }
     for name in matches.get_strs("experimental").unwrap_or(&[]) {
         let Some(feature) = feature_of(*name) else {
             let message = format!(in alloc; "unknown experimental feature `{name}`")?;
@@ -129,24 +136,42 @@ fn named_file<'a>(matches: &ArgMatches<'a>) -> ConfigFile<'a> {
     }
 }
 
-/// The repository's file that a check names.
-fn checked_file<'a>(matches: &ArgMatches<'a>) -> ConfigFile<'a> {
-    match matches.get_str("FILE") {
-        Some("-") => ConfigFile::Input(matches.get_str("stdin-path").unwrap_or("-")),
-        Some(path) => ConfigFile::Named(path),
-        None => named_file(matches),
+/// The repository's file that a check names. It is named once, and only standard input is shown
+/// with a path of its own.
+fn checked_file<'a>(alloc: Global, matches: &ArgMatches<'a>) -> Result<ConfigFile<'a>, ParseStop> {
+    let file = matches.get_str("FILE");
+    let shown = matches.get_str("stdin-path");
+    if file.is_some() && matches.contains_id("config-file") {
+        return Err(usage(alloc, "FILE stands in place of `--config-file`", None)?);
+    }
+    match (file, shown) {
+        (Some("-"), shown) => Ok(ConfigFile::Input(shown.unwrap_or("-"))),
+        (_, Some(_)) => {
+            let message = "`--stdin-path` goes with `-`, which stands for standard input";
+            Err(usage(alloc, message, None)?)
+        }
+        (Some(path), None) => Ok(ConfigFile::Named(path)),
+        (None, None) => Ok(named_file(matches)),
     }
 }
 
 /// What the languages of filters and platforms know.
-fn engines<'a>(matches: &ArgMatches<'a>, environment: &'a Environment) -> EngineOptions<'a> {
-    EngineOptions {
+fn engines<'a>(
+    alloc: Global,
+    matches: &ArgMatches<'a>,
+    environment: &'a Environment,
+) -> Result<EngineOptions<'a>, ParseStop> {
+    let target = matches.get_str("target").or(set(&environment.target));
+    if target.is_none() && matches.contains_id("target-cfg") {
+        return Err(usage(alloc, "`--target-cfg` goes with `--target`", None)?);
+    }
+    Ok(EngineOptions {
         host: matches.get_str("host").unwrap_or(HOST),
-        target: matches.get_str("target").or(set(&environment.target)),
+        target,
         host_cfg: matches.get_str("host-cfg"),
         target_cfg: matches.get_str("target-cfg"),
         metadata: matches.get_str("metadata"),
-    }
+    })
 }
 
 /// The languages of a check, which runs no test.
@@ -194,7 +219,7 @@ fn setting(alloc: Global, key: &str, mode: NextestRunMode) -> Result<Setting, Pa
         return Ok(setting);
     }
     let message = format!(in alloc; "unknown setting `{key}`")?;
-    let hint = text_hint(alloc, key, &all_keys(alloc, mode)?)?;
+    let hint = key_hint(alloc, key, mode)?;
     Err(usage(alloc, message.as_str(), hint)?)
 }
 
@@ -282,8 +307,8 @@ fn explain_request<'a>(
     Ok(Request {
         question: explain_question(alloc, matches, environment)?,
         files: files(alloc, matches, named_file(matches))?,
-        engines: engines(matches, environment),
-        features: features(alloc, matches)?,
+        engines: engines(alloc, matches, environment)?,
+        features: features(alloc, matches, environment)?,
         format: format(matches, environment),
         colour: colour(matches, environment),
     })
@@ -299,9 +324,9 @@ fn check_request<'a>(
         question: Question::Check {
             deny_warnings: matches.get_flag("deny-warnings"),
         },
-        files: files(alloc, matches, checked_file(matches))?,
+        files: files(alloc, matches, checked_file(alloc, matches)?)?,
         engines: check_engines(matches),
-        features: features(alloc, matches)?,
+        features: features(alloc, matches, environment)?,
         format: format(matches, environment),
         colour: colour(matches, environment),
     })
