@@ -7,8 +7,8 @@ use Rattle.nextest_elements.specs.TestOutputDisplay.{test_output_display_text}
 use Rattle.nextest_elements.specs.declared.test_group.TestGroup.TheVariants.{Global}
 use Rattle.nextest_scripts.specs.ScriptId.{script_text}
 use Rattle.rinqebo_values.specs.Told.{ToldValue, scalar, texts, boolean, integer, text, told_threads, told_retries, told_slow, told_leak}
-use Rattle.rinqebo_values.specs.declared.values.SettingValue.{SettingValue}
-use Rattle.rinqebo_values.specs.declared.values.SettingValue.TheVariants as held
+use Rattle.rinqebo_values.specs.declared.setting_value.SettingValue.{SettingValue}
+use Rattle.rinqebo_values.specs.declared.setting_value.SettingValue.TheVariants as held
 
 -- a value of a setting, as it is told
 abbrev pub told_value : SettingValue → ToldValue

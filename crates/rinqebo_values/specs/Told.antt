@@ -1,5 +1,5 @@
 -- Values of settings as they are reported.
-use Rattle.std.specs.Prelude.{ℕ, ℤ, pos, min, ◌^◌, ◌-◌, ◌==◌, ◌&&◌, not, List, [], ◌∷◌, ◌++◌, Bool, true, false, Option, None, Some, option_map, map, codes, string_bytes}
+use Rattle.std.specs.Prelude.{ℕ, ℤ, pos, min, ◌^◌, ◌-◌, ◌==◌, ◌&&◌, not, List, [], ◌∷◌, ◌++◌, Bool, true, false, Option, None, Some, map, codes, string_bytes}
 use Rattle.nextest_elements.specs.FlakyResult.{flaky_result_text}
 use Rattle.nextest_elements.specs.Junit.{report_skip_policy_text, junit_flaky_fail_status_text}
 use Rattle.nextest_elements.specs.LeakTimeout.{leak_result_text}
@@ -16,7 +16,6 @@ use Rattle.nextest_elements.specs.declared.threads_required.ThreadsRequired.TheV
 use Rattle.nextest_settings.specs.Settings.{ValueOf}
 use Rattle.nextest_settings.specs.declared.setting.Setting.{Setting}
 use Rattle.nextest_settings.specs.declared.setting.Setting.TheVariants as at
-use Rattle.nextest_tables.specs.Written.{Arguments}
 use Rattle.rinqebo_report.specs.declared.value.Field.{Field}
 use Rattle.rinqebo_report.specs.declared.value.Scalar.{Scalar}
 use Rattle.rinqebo_report.specs.declared.value.Scalar.TheVariants as scalars

@@ -2,6 +2,8 @@
 //! time, texts, or a table.
 #![tactic(auto)]
 
-mod values;
+mod reporting;
+mod setting_value;
 
-pub use values::{SettingValue, reported, reported_if_set, value_in_row, written_value};
+pub use reporting::{reported, reported_if_set};
+pub use setting_value::{SettingValue, value_in_row, written_value};

@@ -1,5 +1,5 @@
 use Rattle.std.proofs.Common.{◌≡◌, ◌++◌, drop, map, string_bytes}
-use Rattle.rinqebo_values.proofs.values.arguments_value.Given as goal
+use Rattle.rinqebo_values.proofs.reporting.arguments_value.Given as goal
 
 -- the copies so far, and the arguments that are left
 abbrev pub invariant-loop-argument : goal.invariant-loop-argument

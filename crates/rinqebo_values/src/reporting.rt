@@ -1,125 +1,14 @@
-//! Values of settings, as they are reported.
+//! How the values of settings are reported.
 ghost use Rattle.std.specs.Prelude.{◌≡◌, ◌++◌, IfOk, OnOk, map, option_map, string_bytes};
-ghost use Rattle.nextest_config.specs.RowView.{row_value};
-ghost use Rattle.nextest_settings.specs.Settings.{sets, slow_timeout_written};
-ghost use Rattle.nextest_tables.specs.View.{settings_view};
 ghost use Rattle.rinqebo_values.specs.SettingValues.{told_value};
-ghost use Rattle.rinqebo_values.specs.Told.{ToldScalar, ToldValue, scalar_view, field_view, value_view, told_count, one, one_if, one_if_true, retry_fields, is_plain, told_fixed, told_retries, told_slow, told_leak, told_threads, told_of};
+ghost use Rattle.rinqebo_values.specs.Told.{ToldScalar, ToldValue, scalar_view, field_view, value_view, told_count, one, one_if, one_if_true, retry_fields, is_plain, told_fixed, told_retries, told_slow, told_leak, told_threads};
 
-use nextest_config::run::TestRow;
+use crate::setting_value::SettingValue;
 use nextest_config::{
-    FlakyResult, JunitFlakyFailStatus, LeakTimeout, NextestRunMode, OverrideSettings,
-    ReportSkipPolicy, RetryPolicy, ScriptId, Setting, SlowTimeout, TestGroup, TestOutputDisplay,
-    TestPriority, ThreadsRequired,
+    LeakTimeout, RetryPolicy, SlowTimeout, TestGroup, TestPriority, ThreadsRequired,
 };
 use rinqebo_report::{Field, Scalar, Value};
 use std::alloc::{AllocError, Global};
-
-/// The value of a setting.
-#[derive(Clone, Copy)]
-pub enum SettingValue<'v> {
-    Priority(TestPriority),
-    Threads(ThreadsRequired),
-    Wrapper(&'v ScriptId),
-    Arguments(&'v [String]),
-    Retries(RetryPolicy),
-    FlakyResult(FlakyResult),
-    SlowTimeout(SlowTimeout),
-    LeakTimeout(LeakTimeout),
-    Group(&'v TestGroup),
-    GlobalGroup,
-    Output(TestOutputDisplay),
-    IsStored(bool),
-    Skipped(ReportSkipPolicy),
-    FlakyFailStatus(JunitFlakyFailStatus),
-}
-
-/// The value that a row has of a setting, if it has one: only a run wrapper may be absent.
-pub fn value_in_row(row: &TestRow, setting: Setting) -> Option<SettingValue<'_>>
-    ensures { option_map told_value result
-        ≡ option_map (told_of setting) (row_value row.now setting) }
-{
-    match setting {
-        Setting::Priority => Some(SettingValue::Priority(row.priority)),
-        Setting::ThreadsRequired => Some(SettingValue::Threads(row.threads_required)),
-        Setting::RunWrapper => match &row.run_wrapper {
-            Some(id) => Some(SettingValue::Wrapper(id)),
-            None => None,
-        },
-        Setting::RunExtraArgs => Some(SettingValue::Arguments(&row.run_extra_args)),
-        Setting::Retries => Some(SettingValue::Retries(row.retries)),
-        Setting::FlakyResult => Some(SettingValue::FlakyResult(row.flaky_result)),
-        Setting::SlowTimeout => Some(SettingValue::SlowTimeout(row.slow_timeout)),
-        Setting::LeakTimeout => Some(SettingValue::LeakTimeout(row.leak_timeout)),
-        Setting::TestGroup => Some(SettingValue::Group(&row.test_group)),
-        Setting::SuccessOutput => Some(SettingValue::Output(row.success_output)),
-        Setting::FailureOutput => Some(SettingValue::Output(row.failure_output)),
-        Setting::JunitStoreSuccessOutput => {
-            Some(SettingValue::IsStored(row.junit_store_success_output))
-        }
-        Setting::JunitStoreFailureOutput => {
-            Some(SettingValue::IsStored(row.junit_store_failure_output))
-        }
-        Setting::JunitReportSkipped => Some(SettingValue::Skipped(row.junit_report_skipped)),
-        Setting::JunitFlakyFailStatus => {
-            Some(SettingValue::FlakyFailStatus(row.junit_flaky_fail_status))
-        }
-    }
-}
-
-/// The slow timeout that an override writes: benchmarks have their own.
-fn written_timeout(written: &OverrideSettings, mode: NextestRunMode) -> Option<SlowTimeout>
-    ensures { result ≡ slow_timeout_written (settings_view written.now) mode }
-{
-    match mode {
-        NextestRunMode::Test => written.runs.slow_timeout,
-        NextestRunMode::Benchmark => match written.outputs.bench {
-            Some(bench) => bench.slow_timeout,
-            None => None,
-        },
-    }
-}
-
-/// What an override writes for a setting, in a mode. None names a wrapper.
-pub fn written_value(
-    written: &OverrideSettings,
-    setting: Setting,
-    mode: NextestRunMode,
-) -> Option<SettingValue<'_>>
-    ensures { option_map told_value result
-        ≡ option_map (told_of setting) (sets (settings_view written.now) mode setting) }
-{
-    let outputs = &written.outputs;
-    match setting {
-        Setting::Priority => Some(SettingValue::Priority(written.priority?)),
-        Setting::ThreadsRequired => Some(SettingValue::Threads(written.runs.threads_required?)),
-        Setting::RunWrapper => None,
-        Setting::RunExtraArgs => match &written.runs.run_extra_args {
-            Some(arguments) => Some(SettingValue::Arguments(arguments)),
-            None => None,
-        },
-        Setting::Retries => Some(SettingValue::Retries(written.runs.retries?)),
-        Setting::FlakyResult => Some(SettingValue::FlakyResult(written.runs.flaky_result?)),
-        Setting::SlowTimeout => Some(SettingValue::SlowTimeout(written_timeout(written, mode)?)),
-        Setting::LeakTimeout => Some(SettingValue::LeakTimeout(written.runs.leak_timeout?)),
-        Setting::TestGroup => match &outputs.test_group {
-            Some(group) => Some(SettingValue::Group(group)),
-            None => None,
-        },
-        Setting::SuccessOutput => Some(SettingValue::Output(outputs.success_output?)),
-        Setting::FailureOutput => Some(SettingValue::Output(outputs.failure_output?)),
-        Setting::JunitStoreSuccessOutput => {
-            Some(SettingValue::IsStored(outputs.junit?.store_success_output?))
-        }
-        Setting::JunitStoreFailureOutput => {
-            Some(SettingValue::IsStored(outputs.junit?.store_failure_output?))
-        }
-        Setting::JunitReportSkipped => Some(SettingValue::Skipped(outputs.junit?.report_skipped?)),
-        Setting::JunitFlakyFailStatus => {
-            Some(SettingValue::FlakyFailStatus(outputs.junit?.flaky_fail_status?))
-        }
-    }
-}
 
 /// A number as one of TOML. Files write no greater one.
 fn count(number: u64) -> Scalar
