@@ -5,7 +5,7 @@ ghost use Rattle.rinqebo_run.specs.Checked.{IsCheckStatus};
 ghost use Rattle.rinqebo_run.specs.Statuses.{IsBeginningFailure};
 
 use crate::answer::{Answer, Failure};
-use crate::findings::{finding, warning_findings};
+use crate::findings::{SourceAt, finding, warning_findings};
 use crate::refusals::{add_refusal, refused_place};
 use crate::session::Session;
 use nextest_config::run::ResolveFault;
@@ -110,7 +110,11 @@ fn no_profile(alloc: Global, missing: &ProfileNotFound) -> Result<Finding, Alloc
     let name = missing.name.as_str();
     let path = Some(format!(in alloc; "profile.{name}")?);
     let message = missing.to_string(alloc)?;
-    let mut found = finding(alloc, Level::Error, "NoProfile", None, path, message)?;
+    let nowhere = SourceAt {
+        layers: &[],
+        position: None,
+    };
+    let mut found = finding(alloc, Level::Error, "NoProfile", nowhere, path, message)?;
     found.help = text_hint(alloc, name, &missing.known)?;
     Ok(found)
 }

@@ -89,6 +89,14 @@ fn add_filter_at(
     add_filter(refused, path, text, kind)
 }
 
+/// The keys at which a rule writes what the platform has to meet which a binary runs on.
+fn target_key(rule: Option<&Tree>) -> &'static str {
+    match text_at(rule, "platform") {
+        Some(_) => "platform",
+        None => "platform.target",
+    }
+}
+
 /// Adds what is wrong with the platforms of a section.
 fn add_platforms(refused: &mut Refused<'_>, section: Section<'_>) -> Result<(), AllocError> {
     let base = section.path;
@@ -97,7 +105,8 @@ fn add_platforms(refused: &mut Refused<'_>, section: Section<'_>) -> Result<(), 
         add_spec(refused, path, text)?;
     }
     if let Some(text) = target_text(section.table) {
-        let path = format!(in refused.alloc; "{base}.platform")?;
+        let key = target_key(section.table);
+        let path = format!(in refused.alloc; "{base}.{key}")?;
         add_spec(refused, path, text)?;
     }
     Ok(())
@@ -123,8 +132,7 @@ pub fn add_refused_texts(
     section: ConfigCompileSection,
 ) -> Result<(), AllocError> {
     let alloc = refused.alloc;
-    let layers = refused.layers;
-    let Some(tree) = tree_in(layers, refused.source) else {
+    let Some(tree) = refused.source.tree() else {
         return Ok(());
     };
     let (list, index) = match section {
@@ -146,9 +154,4 @@ pub fn add_refused_texts(
         table: rule_table(tree, profile, list, index),
     };
     add_rule_texts(refused, section)
-}
-
-/// The tree of the source at a place among layers.
-fn tree_in(layers: &[rinqebo_files::Layer], source: Option<usize>) -> Option<&Tree> {
-    layers.get(source?)?.tree.as_ref()
 }

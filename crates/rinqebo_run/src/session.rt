@@ -31,7 +31,7 @@ pub struct Session<'g> {
     pub engines: Engines,
     pub features: BTreeSet<ConfigExperimental>,
     /// The sources, the lowest first.
-    pub layers: Vec<Layer>,
+    pub layers: Vec<Layer<'g>>,
 }
 
 impl<'g> Session<'g> {
