@@ -112,11 +112,15 @@ fn add_platforms(refused: &mut Refused<'_>, section: Section<'_>) -> Result<(), 
     Ok(())
 }
 
-/// Adds what is wrong with the texts of a rule: of its host, its target, its filter and its default
-/// filter.
-fn add_rule_texts(refused: &mut Refused<'_>, section: Section<'_>) -> Result<(), AllocError> {
+/// Adds what is wrong with the texts of a rule: of its host, its target, its filter, which is of a
+/// kind, and its default filter.
+fn add_rule_texts(
+    refused: &mut Refused<'_>,
+    section: Section<'_>,
+    kind: FiltersetKind,
+) -> Result<(), AllocError> {
     add_platforms(refused, section)?;
-    add_filter_at(refused, section, "filter", FiltersetKind::OverrideFilter)?;
+    add_filter_at(refused, section, "filter", kind)?;
     add_filter_at(
         refused,
         section,
@@ -135,7 +139,7 @@ pub fn add_refused_texts(
     let Some(tree) = refused.source.tree() else {
         return Ok(());
     };
-    let (list, index) = match section {
+    let (list, index, kind) = match section {
         ConfigCompileSection::DefaultFilter => {
             let path = format!(in alloc; "profile.{profile}")?;
             let section = Section {
@@ -145,13 +149,15 @@ pub fn add_refused_texts(
             let kind = FiltersetKind::DefaultFilter;
             return add_filter_at(refused, section, "default-filter", kind);
         }
-        ConfigCompileSection::Override(index) => ("overrides", index),
-        ConfigCompileSection::Script(index) => ("scripts", index),
+        ConfigCompileSection::Override(index) => {
+            ("overrides", index, FiltersetKind::OverrideFilter)
+        }
+        ConfigCompileSection::Script(index) => ("scripts", index, FiltersetKind::DefaultFilter),
     };
     let path = format!(in alloc; "profile.{profile}.{list}.{index}")?;
     let section = Section {
         path: path.as_str(),
         table: rule_table(tree, profile, list, index),
     };
-    add_rule_texts(refused, section)
+    add_rule_texts(refused, section, kind)
 }

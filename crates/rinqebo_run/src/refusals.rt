@@ -1,6 +1,7 @@
 //! Findings of a refused configuration: one for each thing that is wrong.
 use crate::expressions::add_refused_texts;
 use crate::findings::{SourceAt, finding};
+use crate::hints::quoted_hint;
 use crate::session::Session;
 use crate::unknown_names::{add_script_errors, add_unknown_group};
 use nextest_config::{
@@ -135,6 +136,7 @@ fn add_element(refused: &mut Refused<'_>, fault: &ElementFault) -> Result<(), Al
             let wrong = format!(in alloc; "invalid value `{given}`")?;
             let mut found = refused.at(path, wrong.as_str())?;
             found.expected = Some(String::from_str(alloc, *expected)?);
+            found.help = quoted_hint(alloc, given.as_str(), *expected)?;
             refused.add_finding(found)
         }
         cause => {
@@ -270,19 +272,21 @@ fn add_parent(refused: &mut Refused<'_>, error: &InheritsError) -> Result<(), Al
     }
 }
 
-/// What does not compile.
+/// What does not compile: each text that is refused, or else the whole section.
 fn add_compile(refused: &mut Refused<'_>, error: &ConfigCompileError) -> Result<(), AllocError> {
     let alloc = refused.alloc;
     let profile = error.profile_name.as_str();
     let section = error.section;
-    match &error.kind {
-        ConfigCompileErrorKind::Parse { .. } => add_refused_texts(refused, profile, section),
-        kind => {
-            let path = format!(in alloc; "profile.{profile}.{section}")?;
-            let wrong = kind.to_string(alloc)?;
-            refused.add_at(path, wrong.as_str(), None)
-        }
+    let told = refused.findings.len();
+    if let ConfigCompileErrorKind::Parse { .. } = &error.kind {
+        add_refused_texts(refused, profile, section)?;
     }
+    if refused.findings.len() > told {
+        return Ok(());
+    }
+    let path = format!(in alloc; "profile.{profile}.{section}")?;
+    let wrong = error.kind.to_string(alloc)?;
+    refused.add_at(path, wrong.as_str(), None)
 }
 
 /// Adds what the kind of a refusal tells.

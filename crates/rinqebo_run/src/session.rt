@@ -107,4 +107,19 @@ impl<'g> Session<'g> {
             Err(error) => Err(error),
         }
     }
+
+    /// Why the repository's file is refused without the files of tools, if it is.
+    pub fn refusal_alone(&self, alloc: Global) -> Option<ConfigParseError> {
+        let inputs = ConfigInputs {
+            shared: &self.gathered.paths.shared,
+            selection: self.selection(),
+            tools: &[],
+            features: &self.features,
+        };
+        let mut warnings = DefaultConfigWarnings::new(alloc);
+        match LoadedConfig::load(alloc, &inputs, &self.parse_context(), &mut warnings) {
+            Ok(_) => None,
+            Err(error) => Some(error),
+        }
+    }
 }
