@@ -116,7 +116,7 @@ fn add_longer<'t>(alloc: Global, way: &Way<'t>, ways: &mut Vec<Way<'t>>) -> Resu
     }
 }
 
-/// The ways into a tree that a text spells. A key may have dots of its own, so there may be several.
+/// The ways into a tree that a text spells. Keys may have dots of their own, so it may be several.
 fn ways_of<'t>(alloc: Global, tree: &'t Tree, path: &'t str) -> Result<Vec<Way<'t>>, AllocError> {
     let mut whole = Vec::new(alloc);
     let mut begun = Vec::new(alloc);

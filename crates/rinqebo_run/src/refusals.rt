@@ -16,7 +16,7 @@ use rinqebo_request::name_hint;
 use std::alloc::{AllocError, Global};
 use std::collections::BTreeSet;
 
-/// What is refused: the source, and the name of what is wrong. Findings are added behind the others.
+/// What is refused: the source, and the name of what is wrong. Findings go behind the others.
 #[derive(Drop)]
 pub struct Refused<'r> {
     pub alloc: Global,
