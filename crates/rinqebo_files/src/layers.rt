@@ -1,16 +1,20 @@
-//! The sources of a run, with the trees of their texts.
+//! The sources of a run, with their texts and trees.
 use crate::files::Gathered;
 use nextest_config::{
-    ConfigPath, ConfigSource, ConfigSourceKind, DEFAULT_CONFIG, ReadOutcome, ToolName, Tree,
+    ConfigPath, ConfigSource, ConfigSourceKind, DEFAULT_CONFIG, FileInput, ReadOutcome, ToolName,
+    Tree,
 };
 use nextest_documents::{TextFault, tree_from_text};
 use rinqebo_report::{Source, SourceKind};
 use std::alloc::{AllocError, Global};
 
-/// A source, and the tree of its text, if there is one.
+/// A source.
 #[derive(Drop)]
-pub struct Layer {
+pub struct Layer<'t> {
     pub source: Source,
+    /// The text of its file, if there is one. The defaults have none.
+    pub text: Option<&'t str>,
+    /// The tree of its text, if that is a document.
     pub tree: Option<Tree>,
 }
 
@@ -31,46 +35,53 @@ pub fn tree_of(alloc: Global, outcome: &ReadOutcome) -> Result<Option<Tree>, All
     }
 }
 
+/// The text that was read, if one was.
+fn text_of(outcome: &ReadOutcome) -> Option<&str> {
+    match outcome {
+        ReadOutcome::Text(text) => Some(text.as_str()),
+        ReadOutcome::NotFound | ReadOutcome::NotADirectory | ReadOutcome::Failed(_) => None,
+    }
+}
+
 /// The layer of a file.
-fn layer_of(
+fn layer_of<'t>(
     alloc: Global,
     kind: SourceKind,
-    path: &ConfigPath,
-    outcome: &ReadOutcome,
-) -> Result<Layer, AllocError> {
+    file: &'t FileInput,
+) -> Result<Layer<'t>, AllocError> {
     Ok(Layer {
         source: Source {
             kind,
-            path: Some(String::from_str(alloc, path.absolute_path())?),
+            path: Some(String::from_str(alloc, file.path.absolute_path())?),
         },
-        tree: tree_of(alloc, outcome)?,
+        text: text_of(&file.outcome),
+        tree: tree_of(alloc, &file.outcome)?,
     })
 }
 
 /// The layer of the defaults.
-fn default_layer(alloc: Global) -> Result<Layer, AllocError> {
+fn default_layer<'t>(alloc: Global) -> Result<Layer<'t>, AllocError> {
     Ok(Layer {
         source: Source {
             kind: SourceKind::Default,
             path: None,
         },
+        text: None,
         tree: tree_of_text(alloc, DEFAULT_CONFIG)?,
     })
 }
 
 /// The layers of a run, the lowest first: the defaults, the files of tools, and the repository's.
-pub fn layers_of(alloc: Global, gathered: &Gathered) -> Result<Vec<Layer>, AllocError> {
+pub fn layers_of<'t>(alloc: Global, gathered: &'t Gathered) -> Result<Vec<Layer<'t>>, AllocError> {
     let mut layers = Vec::new(alloc);
     layers.push(default_layer(alloc)?)?;
     for file in gathered.tools.iter().rev() {
         let kind = SourceKind::Tool(file.tool.to_string(alloc)?);
-        let input = &file.config_file;
-        layers.push(layer_of(alloc, kind, &input.path, &input.outcome)?)?;
+        layers.push(layer_of(alloc, kind, &file.config_file)?)?;
     }
-    let shared = &gathered.paths.shared;
     let layer = match &gathered.config_file {
-        Some(file) => layer_of(alloc, SourceKind::Explicit, &file.path, &file.outcome)?,
-        None => layer_of(alloc, SourceKind::Discovered, &shared.path, &shared.outcome)?,
+        Some(file) => layer_of(alloc, SourceKind::Explicit, file)?,
+        None => layer_of(alloc, SourceKind::Discovered, &gathered.paths.shared)?,
     };
     layers.push(layer)?;
     Ok(layers)

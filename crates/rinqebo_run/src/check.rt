@@ -5,11 +5,13 @@ ghost use Rattle.rinqebo_run.specs.Checked.{IsCheckStatus};
 ghost use Rattle.rinqebo_run.specs.Statuses.{IsBeginningFailure};
 
 use crate::answer::{Answer, Failure};
-use crate::findings::{finding, warning_findings};
+use crate::findings::{SourceAt, finding, warning_findings};
 use crate::refusals::{add_refusal, refused_place};
 use crate::session::Session;
 use nextest_config::run::ResolveFault;
-use nextest_config::{ConfigParseError, DefaultConfigWarnings, ProfileNotFound};
+use nextest_config::{
+    ConfigParseError, ConfigParseErrorKind, DefaultConfigWarnings, InheritsError, ProfileNotFound,
+};
 use rinqebo_files::sources_of;
 use rinqebo_report::{Content, Finding, Level, Report, Unreached};
 use rinqebo_request::text_hint;
@@ -41,6 +43,33 @@ fn checks_done(kind: u8) -> usize {
     }
 }
 
+/// Whether a refusal tells of a cycle of profiles.
+fn has_cycle(kind: &ConfigParseErrorKind) -> bool {
+    match kind {
+        ConfigParseErrorKind::InheritanceErrors(errors) => errors.iter().any(|error| matches!(
+            error,
+            InheritsError::InheritanceCycle(_)
+        )),
+        _ => false,
+    }
+}
+
+/// Whether all files together are refused, and none by itself: for an element or a cycle that the
+/// repository's file does not have without the files of tools.
+fn is_of_all_files(alloc: Global, session: &Session<'_>, error: &ConfigParseError) -> bool {
+    let last = session.layers.len().saturating_sub(1);
+    let is_last = refused_place(&session.layers, error) == Some(last);
+    let is_element = error.kind().number() == 4;
+    if !is_last || !(is_element || has_cycle(error.kind())) {
+        return false;
+    }
+    match session.refusal_alone(alloc) {
+        Some(alone) if is_element => alone.kind().number() != 4,
+        Some(alone) => !has_cycle(alone.kind()),
+        None => true,
+    }
+}
+
 /// The checks of the refused source that were not reached.
 fn unreached_of(
     alloc: Global,
@@ -51,6 +80,9 @@ fn unreached_of(
     let Some(source) = refused_place(&session.layers, error) else {
         return Ok(unreached);
     };
+    if is_of_all_files(alloc, session, error) {
+        return Ok(unreached);
+    }
     let mut checks = Vec::new(alloc);
     for check in CHECKS.iter().skip(checks_done(error.kind().number())) {
         checks.push(String::from_str(alloc, *check)?)?;
@@ -110,7 +142,11 @@ fn no_profile(alloc: Global, missing: &ProfileNotFound) -> Result<Finding, Alloc
     let name = missing.name.as_str();
     let path = Some(format!(in alloc; "profile.{name}")?);
     let message = missing.to_string(alloc)?;
-    let mut found = finding(alloc, Level::Error, "NoProfile", None, path, message)?;
+    let nowhere = SourceAt {
+        layers: &[],
+        position: None,
+    };
+    let mut found = finding(alloc, Level::Error, "NoProfile", nowhere, path, message)?;
     found.help = text_hint(alloc, name, &missing.known)?;
     Ok(found)
 }

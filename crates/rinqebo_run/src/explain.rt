@@ -9,20 +9,50 @@ use crate::answer::Failure;
 use crate::binary::query_of;
 use crate::check::{failure_of_load, failure_of_run, report_of};
 use crate::findings::warning_findings;
-use crate::grounds::{built_in, profile_grounds};
+use crate::grounds::{built_in, profile_grounds, setting_path};
 use crate::rules::{chain_of_profile, copied_names};
 use crate::session::{Config, Session};
 use crate::wrappers::wrapping_origin;
+use config_places::Step;
 use nextest_config::run::{PlainSource, TestRow, resolve};
 use nextest_config::{BuildPlatform, ConfigSource, DefaultConfigWarnings, NextestRunMode, Setting};
 use nextest_filters::NextestTally;
-use rinqebo_files::{Layer, place_of};
+use rinqebo_files::{Layer, path_place, place_of};
 use rinqebo_report::{
     Asked, Content, Origin, Part, Place, Platform, Report, RunMode, SettingRow, TestRows, Written,
 };
 use rinqebo_request::{Request, SettingKey, TestName};
 use rinqebo_values::{reported_if_set, value_in_row};
 use std::alloc::{AllocError, Global};
+
+/// The path of an override.
+fn override_path(profile: &str, index: usize) -> [Step<'_>; 4] {
+    [
+        Step::Key("profile"),
+        Step::Key(profile),
+        Step::Key("overrides"),
+        Step::Position(index),
+    ]
+}
+
+/// Where an override stands, or what stands at a path within it.
+fn origin_in_override(
+    alloc: Global,
+    layers: &[Layer],
+    source: &ConfigSource,
+    profile: &str,
+    index: usize,
+    path: &[Step],
+) -> Result<Origin, AllocError> {
+    let Some(place) = place_of(layers, source) else {
+        return Ok(Origin::BuiltIn);
+    };
+    Ok(Origin::Written(Written {
+        place: path_place(alloc, layers, place, path)?,
+        profile: String::from_str(alloc, profile)?,
+        part: Part::Override(index),
+    }))
+}
 
 /// Where an override stands.
 pub fn override_origin(
@@ -32,38 +62,59 @@ pub fn override_origin(
     profile: &str,
     index: usize,
 ) -> Result<Origin, AllocError> {
-    let Some(place) = place_of(layers, source) else {
-        return Ok(Origin::BuiltIn);
-    };
-    Ok(Origin::Written(Written {
-        place: Place {
-            source: place,
-            lines: None,
-        },
-        profile: String::from_str(alloc, profile)?,
-        part: Part::Override(index),
-    }))
+    let path = override_path(profile, index);
+    origin_in_override(alloc, layers, source, profile, index, &path)
 }
 
 /// What a row's settings are told with: the layers, the chain of the profile, and where the script
 /// rule stands that wraps the run of the test.
 #[derive(Drop)]
 struct Grounds<'g> {
-    layers: &'g [Layer],
+    layers: &'g [Layer<'g>],
     chain: &'g [&'g str],
     wrapping: Option<Origin>,
 }
 
+/// Where a script rule names the run wrapper.
+fn wrapper_place(alloc: Global, layers: &[Layer], rule: &Written) -> Result<Place, AllocError> {
+    let Part::Script(index) = rule.part else {
+        return Ok(rule.place);
+    };
+    let path = [
+        Step::Key("profile"),
+        Step::Key(rule.profile.as_str()),
+        Step::Key("scripts"),
+        Step::Position(index),
+        Step::Key("run-wrapper"),
+    ];
+    path_place(alloc, layers, rule.place.source, &path)
+}
+
 /// Where the run wrapper comes from.
-fn wrapping_origins(alloc: Global, wrapping: &Option<Origin>) -> Result<Vec<Origin>, AllocError> {
+fn wrapping_origins(alloc: Global, grounds: &Grounds<'_>) -> Result<Vec<Origin>, AllocError> {
     let mut origins = Vec::new(alloc);
-    if let Some(Origin::Written(written)) = wrapping {
+    if let Some(Origin::Written(rule)) = &grounds.wrapping {
         origins.push(Origin::Written(Written {
-            place: written.place,
-            profile: written.profile.clone()?,
-            part: written.part,
+            place: wrapper_place(alloc, grounds.layers, rule)?,
+            profile: rule.profile.clone()?,
+            part: rule.part,
         }))?;
     }
+    Ok(origins)
+}
+
+/// Where an override writes a setting.
+fn override_origins(
+    alloc: Global,
+    layers: &[Layer],
+    source: &ConfigSource,
+    profile: &str,
+    index: usize,
+    key: SettingKey,
+) -> Result<Vec<Origin>, AllocError> {
+    let path = setting_path(alloc, &override_path(profile, index), key)?;
+    let mut origins = Vec::new(alloc);
+    origins.push(origin_in_override(alloc, layers, source, profile, index, &path)?)?;
     Ok(origins)
 }
 
@@ -76,7 +127,7 @@ fn origins_of(
 ) -> Result<Vec<Origin>, AllocError> {
     match source {
         None => Ok(Vec::new(alloc)),
-        Some(PlainSource::Script) => wrapping_origins(alloc, &grounds.wrapping),
+        Some(PlainSource::Script) => wrapping_origins(alloc, grounds),
         Some(PlainSource::Default) => built_in(alloc),
         Some(PlainSource::Profile) => profile_grounds(alloc, grounds.layers, grounds.chain, key),
         Some(
@@ -86,10 +137,8 @@ fn origins_of(
                 index,
             },
         ) => {
-            let mut origins = Vec::new(alloc);
             let profile = profile.as_str();
-            origins.push(override_origin(alloc, grounds.layers, source, profile, *index)?)?;
-            Ok(origins)
+            override_origins(alloc, grounds.layers, source, profile, *index, key)
         }
     }
 }

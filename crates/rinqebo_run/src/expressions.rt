@@ -89,6 +89,14 @@ fn add_filter_at(
     add_filter(refused, path, text, kind)
 }
 
+/// The keys at which a rule writes what the platform has to meet which a binary runs on.
+fn target_key(rule: Option<&Tree>) -> &'static str {
+    match text_at(rule, "platform") {
+        Some(_) => "platform",
+        None => "platform.target",
+    }
+}
+
 /// Adds what is wrong with the platforms of a section.
 fn add_platforms(refused: &mut Refused<'_>, section: Section<'_>) -> Result<(), AllocError> {
     let base = section.path;
@@ -97,17 +105,22 @@ fn add_platforms(refused: &mut Refused<'_>, section: Section<'_>) -> Result<(), 
         add_spec(refused, path, text)?;
     }
     if let Some(text) = target_text(section.table) {
-        let path = format!(in refused.alloc; "{base}.platform")?;
+        let key = target_key(section.table);
+        let path = format!(in refused.alloc; "{base}.{key}")?;
         add_spec(refused, path, text)?;
     }
     Ok(())
 }
 
-/// Adds what is wrong with the texts of a rule: of its host, its target, its filter and its default
-/// filter.
-fn add_rule_texts(refused: &mut Refused<'_>, section: Section<'_>) -> Result<(), AllocError> {
+/// Adds what is wrong with the texts of a rule: of its host, its target, its filter, which is of a
+/// kind, and its default filter.
+fn add_rule_texts(
+    refused: &mut Refused<'_>,
+    section: Section<'_>,
+    kind: FiltersetKind,
+) -> Result<(), AllocError> {
     add_platforms(refused, section)?;
-    add_filter_at(refused, section, "filter", FiltersetKind::OverrideFilter)?;
+    add_filter_at(refused, section, "filter", kind)?;
     add_filter_at(
         refused,
         section,
@@ -123,11 +136,10 @@ pub fn add_refused_texts(
     section: ConfigCompileSection,
 ) -> Result<(), AllocError> {
     let alloc = refused.alloc;
-    let layers = refused.layers;
-    let Some(tree) = tree_in(layers, refused.source) else {
+    let Some(tree) = refused.source.tree() else {
         return Ok(());
     };
-    let (list, index) = match section {
+    let (list, index, kind) = match section {
         ConfigCompileSection::DefaultFilter => {
             let path = format!(in alloc; "profile.{profile}")?;
             let section = Section {
@@ -137,18 +149,15 @@ pub fn add_refused_texts(
             let kind = FiltersetKind::DefaultFilter;
             return add_filter_at(refused, section, "default-filter", kind);
         }
-        ConfigCompileSection::Override(index) => ("overrides", index),
-        ConfigCompileSection::Script(index) => ("scripts", index),
+        ConfigCompileSection::Override(index) => {
+            ("overrides", index, FiltersetKind::OverrideFilter)
+        }
+        ConfigCompileSection::Script(index) => ("scripts", index, FiltersetKind::DefaultFilter),
     };
     let path = format!(in alloc; "profile.{profile}.{list}.{index}")?;
     let section = Section {
         path: path.as_str(),
         table: rule_table(tree, profile, list, index),
     };
-    add_rule_texts(refused, section)
-}
-
-/// The tree of the source at a place among layers.
-fn tree_in(layers: &[rinqebo_files::Layer], source: Option<usize>) -> Option<&Tree> {
-    layers.get(source?)?.tree.as_ref()
+    add_rule_texts(refused, section, kind)
 }

@@ -4,9 +4,8 @@ use nextest_filters::{Ban, FaultKind};
 /// Why a set may not stand in a filter.
 fn ban_words(ban: Ban) -> &'static str {
     match ban {
-        Ban::DefaultInDefaultFilter => "`default()` may not stand in a default filter",
-        Ban::GroupInDefaultFilter => "`group(..)` may not stand in a default filter",
-        Ban::GroupInOverrideFilter => "`group(..)` may not stand in the filter of a rule",
+        Ban::DefaultInDefaultFilter => "`default()` may not stand here",
+        Ban::GroupInDefaultFilter | Ban::GroupInOverrideFilter => "`group(..)` may not stand here",
     }
 }
 

@@ -1,18 +1,35 @@
 //! Findings: how they are made, and those of warnings.
 use crate::hints::key_hint;
-use nextest_config::{ConfigSource, ConfigWarning, DefaultConfigWarnings};
-use rinqebo_files::{Layer, place_of};
+use nextest_config::{ConfigSource, ConfigWarning, DefaultConfigWarnings, Tree};
+use rinqebo_files::{Layer, place_of, spelled_place};
 use rinqebo_report::{Finding, Level, Place};
 use std::alloc::{AllocError, Global};
 
-/// A place in the source at a position, whose lines are not known.
-fn place_in(source: Option<usize>) -> Option<Place> {
-    match source {
-        Some(source) => Some(Place {
-            source,
-            lines: None,
-        }),
-        None => None,
+/// A source of a run, by its position among the layers, if it is known.
+#[derive(Clone, Copy)]
+pub struct SourceAt<'l> {
+    pub layers: &'l [Layer<'l>],
+    pub position: Option<usize>,
+}
+
+impl<'l> SourceAt<'l> {
+    /// The tree of the source, if its text is a document.
+    pub fn tree(self) -> Option<&'l Tree> {
+        self.layers.get(self.position?)?.tree.as_ref()
+    }
+
+    /// The place of the source, or of a path in it.
+    fn place(self, alloc: Global, path: Option<&str>) -> Result<Option<Place>, AllocError> {
+        let Some(source) = self.position else {
+            return Ok(None);
+        };
+        match path {
+            Some(path) => Ok(Some(spelled_place(alloc, self.layers, source, path)?)),
+            None => Ok(Some(Place {
+                source,
+                lines: None,
+            })),
+        }
     }
 }
 
@@ -21,14 +38,14 @@ pub fn finding(
     alloc: Global,
     level: Level,
     code: &str,
-    source: Option<usize>,
+    source: SourceAt<'_>,
     path: Option<String>,
     message: String,
 ) -> Result<Finding, AllocError> {
     Ok(Finding {
         level,
         code: String::from_str(alloc, code)?,
-        place: place_in(source),
+        place: source.place(alloc, path.as_deref())?,
         column: None,
         path,
         message,
@@ -39,7 +56,7 @@ pub fn finding(
 }
 
 /// Warns of a key without effect.
-fn unknown_key(alloc: Global, source: Option<usize>, path: &str) -> Result<Finding, AllocError> {
+fn unknown_key(alloc: Global, source: SourceAt<'_>, path: &str) -> Result<Finding, AllocError> {
     let message = format!(in alloc; "{path} has no effect")?;
     let at = Some(String::from_str(alloc, path)?);
     let mut found = finding(
@@ -57,7 +74,7 @@ fn unknown_key(alloc: Global, source: Option<usize>, path: &str) -> Result<Findi
 /// Warns of a profile whose name is reserved.
 fn reserved_profile(
     alloc: Global,
-    source: Option<usize>,
+    source: SourceAt<'_>,
     name: &str,
 ) -> Result<Finding, AllocError> {
     let path = format!(in alloc; "profile.{name}")?;
@@ -75,7 +92,7 @@ fn reserved_profile(
 }
 
 /// Warns of scripts under the old key.
-fn old_scripts(alloc: Global, source: Option<usize>) -> Result<Finding, AllocError> {
+fn old_scripts(alloc: Global, source: SourceAt<'_>) -> Result<Finding, AllocError> {
     let path = Some(String::from_str(alloc, "script")?);
     let message = String::from_str(
         alloc,
@@ -96,7 +113,7 @@ fn old_scripts(alloc: Global, source: Option<usize>) -> Result<Finding, AllocErr
 /// Warns of script rules that name no script.
 fn empty_rules(
     alloc: Global,
-    source: Option<usize>,
+    source: SourceAt<'_>,
     profile: &str,
     count: usize,
 ) -> Result<Finding, AllocError> {
@@ -131,7 +148,10 @@ fn add_warning(
     warning: &ConfigWarning,
     findings: &mut Vec<Finding>,
 ) -> Result<(), AllocError> {
-    let source = place_of(layers, source_of(warning));
+    let source = SourceAt {
+        layers,
+        position: place_of(layers, source_of(warning)),
+    };
     match warning {
         ConfigWarning::UnknownConfigKeys { paths, .. } => {
             for path in paths {

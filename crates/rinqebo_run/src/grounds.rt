@@ -1,7 +1,8 @@
 //! Where values of profiles are written.
+use config_places::Step;
 use nextest_config::Tree;
-use rinqebo_files::{Layer, profile_table};
-use rinqebo_report::{Origin, Part, Place, Written};
+use rinqebo_files::{Layer, path_place, profile_table};
+use rinqebo_report::{Origin, Part, Written};
 use rinqebo_request::SettingKey;
 use std::alloc::{AllocError, Global};
 
@@ -35,16 +36,38 @@ fn is_seen(above: &[&Tree], value: &Tree) -> bool {
     }
 }
 
-/// What a profile writes in the layer at a place. The lowest layer is the default table.
-fn origin_at(alloc: Global, place: usize, profile: &str) -> Result<Origin, AllocError> {
+/// The path of a setting in the table of a profile or of a rule, from that table's path on.
+pub fn setting_path<'s>(
+    alloc: Global,
+    table: &[Step<'s>],
+    key: SettingKey,
+) -> Result<Vec<Step<'s>>, AllocError> {
+    let mut path = Vec::new(alloc);
+    for step in table {
+        path.push(*step)?;
+    }
+    if let Some(name) = key.table {
+        path.push(Step::Key(name))?;
+    }
+    path.push(Step::Key(key.key))?;
+    Ok(path)
+}
+
+/// What a profile writes at a key in the layer at a place. The lowest layer is the default table.
+fn origin_at(
+    alloc: Global,
+    layers: &[Layer],
+    place: usize,
+    profile: &str,
+    key: SettingKey,
+) -> Result<Origin, AllocError> {
     if place == 0 {
         return Ok(Origin::DefaultTable);
     }
+    let table = [Step::Key("profile"), Step::Key(profile)];
+    let path = setting_path(alloc, &table, key)?;
     Ok(Origin::Written(Written {
-        place: Place {
-            source: place,
-            lines: None,
-        },
+        place: path_place(alloc, layers, place, &path)?,
         profile: String::from_str(alloc, profile)?,
         part: Part::Fields,
     }))
@@ -65,7 +88,7 @@ fn grounds_in(
             continue;
         };
         if is_seen(&above, value) {
-            origins.push(origin_at(alloc, place, profile)?)?;
+            origins.push(origin_at(alloc, layers, place, profile, key)?)?;
         }
         if value.as_table().is_none() {
             break;
@@ -99,12 +122,19 @@ pub fn built_in(alloc: Global) -> Result<Vec<Origin>, AllocError> {
 }
 
 /// Whether a profile of a chain has a report written.
-fn has_report(alloc: Global, layers: &[Layer], chain: &[&str]) -> Result<bool, AllocError> {
+fn has_report(layers: &[Layer], chain: &[&str]) -> bool {
     let path = SettingKey {
         table: Some("junit"),
         key: "path",
     };
-    Ok(!nearest_grounds(alloc, layers, chain, path)?.is_empty())
+    for profile in chain {
+        for layer in layers {
+            if written_in(layer, *profile, path).is_some() {
+                return true;
+            }
+        }
+    }
+    false
 }
 
 /// Where the value of a setting comes from, where no rule decides it: what the nearest profile
@@ -115,7 +145,7 @@ pub fn profile_grounds(
     chain: &[&str],
     key: SettingKey,
 ) -> Result<Vec<Origin>, AllocError> {
-    if key.is_of_report() && !has_report(alloc, layers, chain)? {
+    if key.is_of_report() && !has_report(layers, chain) {
         return built_in(alloc);
     }
     let origins = nearest_grounds(alloc, layers, chain, key)?;

@@ -72,6 +72,17 @@ pub fn known_hint(
     name_hint(alloc, name, &names)
 }
 
+/// The hint that one of the names is meant which a text has between backquotes, if one is near.
+pub fn quoted_hint(alloc: Global, name: &str, text: &str) -> Result<Option<String>, AllocError> {
+    let mut names = Vec::new(alloc);
+    for (place, part) in text.split('`').enumerate() {
+        if place % 2 == 1 {
+            names.push(part)?;
+        }
+    }
+    name_hint(alloc, name, &names)
+}
+
 /// The keys of the table that holds the key at a path, as far as they are known, and that key.
 fn table_keys<'a>(parts: &[&'a str]) -> Option<(&'a str, &'static [&'static str])> {
     match parts {

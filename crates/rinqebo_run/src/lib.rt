@@ -20,6 +20,7 @@ mod refusals;
 mod rules;
 mod run;
 mod session;
+mod unknown_names;
 mod why;
 mod wrappers;
 

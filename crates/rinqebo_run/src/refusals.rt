@@ -1,74 +1,72 @@
 //! Findings of a refused configuration: one for each thing that is wrong.
 use crate::expressions::add_refused_texts;
-use crate::findings::finding;
-use crate::hints::known_hint;
+use crate::findings::{SourceAt, finding};
+use crate::hints::quoted_hint;
 use crate::session::Session;
+use crate::unknown_names::{add_script_errors, add_unknown_group};
 use nextest_config::{
     ConfigCompileError, ConfigCompileErrorKind, ConfigExperimental, ConfigParseError,
-    ConfigParseErrorKind, CustomTestGroup, ElementCause, ElementFault, InheritsError,
-    ProfileScriptErrors, ReadOutcome, ScriptId, Tree, UnknownTestGroupError,
+    ConfigParseErrorKind, CustomTestGroup, ElementCause, ElementFault, InheritsError, ReadOutcome,
+    ScriptId, Tree,
 };
 use nextest_filters::NextestFilters;
-use rinqebo_files::{Layer, place_at, profile_table, text_at};
-use rinqebo_report::{Finding, Level};
+use rinqebo_files::{Layer, highest_place, place_at};
+use rinqebo_report::{Finding, Level, Lines, Place};
 use rinqebo_request::name_hint;
 use std::alloc::{AllocError, Global};
 use std::collections::BTreeSet;
-use std::fmt::Display;
 
-/// What is refused: the source, and the name of what is wrong. Findings are added behind the others.
+/// What is refused: the source, and the name of what is wrong. Findings go behind the others.
 #[derive(Drop)]
 pub struct Refused<'r> {
     pub alloc: Global,
     pub filters: &'r NextestFilters,
-    pub layers: &'r [Layer],
-    /// The place of the source among the layers.
-    pub source: Option<usize>,
+    pub source: SourceAt<'r>,
     pub code: &'static str,
     pub findings: &'r mut Vec<Finding>,
 }
 
 impl Refused<'_> {
-    /// The tree of the source.
-    pub fn tree(&self) -> Option<&Tree> {
-        self.layers.get(self.source?)?.tree.as_ref()
-    }
-
     /// Adds a finding with more than a message.
     pub fn add_finding(&mut self, found: Finding) -> Result<(), AllocError> {
         self.findings.push(found)?;
         Ok(())
     }
 
-    /// A finding at a path, told as the path and what is wrong there.
+    /// A finding at a path, told as the path and what is wrong there. A source that does not write
+    /// the path is refused for what it makes of those below it: the highest one counts that does.
     pub fn at(&self, path: String, wrong: &str) -> Result<Finding, AllocError> {
-        let message = format!(in self.alloc; "{path}: {wrong}")?;
+        let alloc = self.alloc;
+        let message = format!(in alloc; "{path}: {wrong}")?;
+        let mut found = self.finding(Some(path.clone()?), message)?;
+        if let Some(Place { lines: None, .. }) = found.place {
+            if let Some(place) = highest_place(alloc, self.source.layers, path.as_str())? {
+                found.place = Some(place);
+            }
+        }
+        Ok(found)
+    }
+
+    /// A finding with a message alone.
+    fn finding(&self, path: Option<String>, message: String) -> Result<Finding, AllocError> {
         finding(
             self.alloc,
             Level::Error,
             self.code,
             self.source,
-            Some(path),
+            path,
             message,
         )
     }
 
     /// Adds what is wrong with the whole source.
     fn add_whole(&mut self, wrong: &str) -> Result<(), AllocError> {
-        let message = String::from_str(self.alloc, wrong)?;
-        let found = finding(
-            self.alloc,
-            Level::Error,
-            self.code,
-            self.source,
-            None,
-            message,
-        )?;
+        let found = self.finding(None, String::from_str(self.alloc, wrong)?)?;
         self.add_finding(found)
     }
 
     /// Adds what is wrong at a path, and what to do.
-    fn add_at(
+    pub fn add_at(
         &mut self,
         path: String,
         wrong: &str,
@@ -90,21 +88,43 @@ fn add_outcome(refused: &mut Refused<'_>, outcome: &ReadOutcome) -> Result<(), A
     }
 }
 
-/// The text is no document: the first line of the reader's message, which has the place, and the
-/// last one, which says why.
+/// The line and the column that the first line of the reader's message names.
+fn told_spot(first: &str) -> Option<(u64, u64)> {
+    let (_, spot) = first.split_once(" at line ")?;
+    let (line, column) = spot.split_once(", column ")?;
+    Some((line.parse::<u64>().ok()?, column.parse::<u64>().ok()?))
+}
+
+/// A text on one line.
+fn on_one_line(alloc: Global, text: &str) -> Result<String, AllocError> {
+    let mut joined = String::new(alloc);
+    for line in text.lines() {
+        if !joined.is_empty() {
+            joined.push(' ')?;
+        }
+        joined.push_str(line)?;
+    }
+    Ok(joined)
+}
+
+/// The text is no document: the first line of the reader's message has the place, and the others
+/// say why.
 fn add_no_document(refused: &mut Refused<'_>, message: &str) -> Result<(), AllocError> {
     let alloc = refused.alloc;
-    let mut lines = message.lines().filter(|line| !line.is_empty());
-    let Some(first) = lines.next() else {
-        return refused.add_whole("no document");
+    let (first, reason) = message.split_once('\n').unwrap_or((message, ""));
+    let Some((line, column)) = told_spot(first) else {
+        let found = refused.finding(None, on_one_line(alloc, message)?)?;
+        return refused.add_finding(found);
     };
-    match lines.last() {
-        Some(last) => {
-            let text = format!(in alloc; "{first}: {last}")?;
-            refused.add_whole(text.as_str())
-        }
-        None => refused.add_whole(first),
+    let mut found = refused.finding(None, on_one_line(alloc, reason)?)?;
+    if let Some(place) = &mut found.place {
+        place.lines = Some(Lines {
+            first: line,
+            last: line,
+        });
+        found.column = Some(column);
     }
+    refused.add_finding(found)
 }
 
 /// A value that may not stand where it does.
@@ -116,6 +136,7 @@ fn add_element(refused: &mut Refused<'_>, fault: &ElementFault) -> Result<(), Al
             let wrong = format!(in alloc; "invalid value `{given}`")?;
             let mut found = refused.at(path, wrong.as_str())?;
             found.expected = Some(String::from_str(alloc, *expected)?);
+            found.help = quoted_hint(alloc, given.as_str(), *expected)?;
             refused.add_finding(found)
         }
         cause => {
@@ -126,28 +147,37 @@ fn add_element(refused: &mut Refused<'_>, fault: &ElementFault) -> Result<(), Al
     }
 }
 
-/// Names that a source may not define, in the tables before the names.
-fn add_names<N: Display + Ord>(
-    refused: &mut Refused<'_>,
-    table: &str,
-    names: &BTreeSet<N>,
-    wrong: &str,
-) -> Result<(), AllocError> {
-    let alloc = refused.alloc;
-    for name in names.iter() {
-        let path = format!(in alloc; "{table}.{name}")?;
-        refused.add_at(path, wrong, None)?;
-    }
-    Ok(())
-}
-
 /// Groups that a source may not define.
 fn add_groups(
     refused: &mut Refused<'_>,
     groups: &BTreeSet<CustomTestGroup>,
     wrong: &str,
 ) -> Result<(), AllocError> {
-    add_names(refused, "test-groups", groups, wrong)
+    for group in groups.iter() {
+        let path = format!(in refused.alloc; "test-groups.{group}")?;
+        refused.add_at(path, wrong, None)?;
+    }
+    Ok(())
+}
+
+/// Whether scripts of a kind have one of a name.
+fn has_script(tree: &Tree, kind: &str, name: &str) -> bool {
+    let Some(scripts) = tree.get("scripts") else {
+        return false;
+    };
+    match scripts.get(kind) {
+        Some(scripts) => scripts.get(name).is_some(),
+        None => false,
+    }
+}
+
+/// The table of a file that has a script of a name: the old one where no other has.
+fn script_table(tree: Option<&Tree>, name: &str) -> &'static str {
+    match tree {
+        Some(tree) if has_script(tree, "setup", name) => "scripts.setup",
+        Some(tree) if has_script(tree, "wrapper", name) => "scripts.wrapper",
+        _ => "script",
+    }
 }
 
 /// Scripts that a source may not define.
@@ -156,7 +186,22 @@ fn add_scripts(
     scripts: &BTreeSet<ScriptId>,
     wrong: &str,
 ) -> Result<(), AllocError> {
-    add_names(refused, "scripts", scripts, wrong)
+    let alloc = refused.alloc;
+    for script in scripts.iter() {
+        let name = script.to_string(alloc)?;
+        let table = script_table(refused.source.tree(), name.as_str());
+        let path = format!(in alloc; "{table}.{name}")?;
+        refused.add_at(path, wrong, None)?;
+    }
+    Ok(())
+}
+
+/// The table that has the scripts of a file: the old one where it is alone.
+fn scripts_key(tree: Option<&Tree>) -> &'static str {
+    match tree {
+        Some(tree) if tree.get("scripts").is_none() => "script",
+        _ => "scripts",
+    }
 }
 
 /// Features that are not switched on.
@@ -166,7 +211,7 @@ fn add_features(
 ) -> Result<(), AllocError> {
     let alloc = refused.alloc;
     for feature in features {
-        let path = String::from_str(alloc, "experimental")?;
+        let path = String::from_str(alloc, scripts_key(refused.source.tree()))?;
         let wrong = format!(in alloc; "the feature `{feature}` is not switched on")?;
         let help = format!(in alloc;
             "write `experimental = [\"{feature}\"]`, or pass `--experimental {feature}`"
@@ -196,6 +241,11 @@ fn profile_names<'l>(alloc: Global, layers: &'l [Layer]) -> Result<Vec<&'l str>,
     Ok(names)
 }
 
+/// The first profile of the first of some cycles.
+fn first_of(cycles: &[Vec<String>]) -> Option<&String> {
+    cycles.first()?.first()
+}
+
 /// What is wrong with a parent.
 fn add_parent(refused: &mut Refused<'_>, error: &InheritsError) -> Result<(), AllocError> {
     let alloc = refused.alloc;
@@ -208,113 +258,61 @@ fn add_parent(refused: &mut Refused<'_>, error: &InheritsError) -> Result<(), Al
         }
         InheritsError::UnknownInheritance(profile, parent) => {
             let path = format!(in alloc; "profile.{profile}.inherits")?;
-            let names = profile_names(alloc, refused.layers)?;
+            let names = profile_names(alloc, refused.source.layers)?;
             let help = name_hint(alloc, parent.as_str(), &names)?;
             refused.add_at(path, wrong.as_str(), help)
         }
-        InheritsError::InheritanceCycle(_) => refused.add_whole(wrong.as_str()),
+        InheritsError::InheritanceCycle(cycles) => match first_of(cycles) {
+            Some(profile) => {
+                let path = format!(in alloc; "profile.{profile}.inherits")?;
+                refused.add_at(path, wrong.as_str(), None)
+            }
+            None => refused.add_whole(wrong.as_str()),
+        },
     }
 }
 
-/// What does not compile.
+/// What does not compile: each text that is refused, or else the whole section.
 fn add_compile(refused: &mut Refused<'_>, error: &ConfigCompileError) -> Result<(), AllocError> {
     let alloc = refused.alloc;
     let profile = error.profile_name.as_str();
     let section = error.section;
-    match &error.kind {
-        ConfigCompileErrorKind::Parse { .. } => add_refused_texts(refused, profile, section),
-        kind => {
-            let path = format!(in alloc; "profile.{profile}.{section}")?;
-            let wrong = kind.to_string(alloc)?;
-            refused.add_at(path, wrong.as_str(), None)
-        }
+    let told = refused.findings.len();
+    if let ConfigCompileErrorKind::Parse { .. } = &error.kind {
+        add_refused_texts(refused, profile, section)?;
     }
-}
-
-/// The first rule of a list of a profile that has a text at a key, by its position.
-fn rule_with(
-    tree: Option<&Tree>,
-    profile: &str,
-    list: &str,
-    key: &str,
-    text: &str,
-) -> Option<usize> {
-    profile_table(tree?, profile)?
-        .get(list)?
-        .as_array()?
-        .iter()
-        .position(|rule| text_at(Some(rule), key) == Some(text))
-}
-
-/// A group that is not known.
-fn add_unknown_group(
-    refused: &mut Refused<'_>,
-    error: &UnknownTestGroupError,
-    known: &BTreeSet<String>,
-) -> Result<(), AllocError> {
-    let alloc = refused.alloc;
-    let profile = error.profile_name.as_str();
-    let name = error.name.as_str();
-    let wrong = format!(in alloc; "unknown group `{name}`")?;
-    let path = match rule_with(refused.tree(), profile, "overrides", "test-group", name) {
-        Some(index) => format!(in alloc; "profile.{profile}.overrides.{index}.test-group")?,
-        None => format!(in alloc; "profile.{profile}.overrides")?,
-    };
-    let help = known_hint(alloc, name, known)?;
-    refused.add_at(path, wrong.as_str(), help)
-}
-
-/// What is wrong with a script that a rule of a profile names.
-fn add_script(
-    refused: &mut Refused<'_>,
-    profile: &str,
-    wrong: &str,
-    help: Option<String>,
-) -> Result<(), AllocError> {
-    let alloc = refused.alloc;
-    let path = format!(in alloc; "profile.{profile}.scripts")?;
-    refused.add_at(path, wrong, help)
-}
-
-/// What is wrong with the scripts that rules name.
-fn add_script_errors(
-    refused: &mut Refused<'_>,
-    errors: &ProfileScriptErrors,
-    known: &BTreeSet<String>,
-) -> Result<(), AllocError> {
-    let alloc = refused.alloc;
-    for error in &errors.unknown_scripts {
-        let name = error.name.to_string(alloc)?;
-        let wrong = format!(in alloc; "unknown script `{name}`")?;
-        let help = known_hint(alloc, name.as_str(), known)?;
-        add_script(refused, error.profile_name.as_str(), wrong.as_str(), help)?;
+    if refused.findings.len() > told {
+        return Ok(());
     }
-    for error in &errors.wrong_script_types {
-        let wrong = format!(in alloc;
-            "script `{}` is named as {} and is a {} script",
-            error.name, error.attempted, error.actual
-        )?;
-        add_script(refused, error.profile_name.as_str(), wrong.as_str(), None)?;
-    }
-    for error in &errors.list_scripts_using_run_filters {
-        let wrong = format!(in alloc;
-            "list wrapper `{}` stands beside a filter that only a running test answers",
-            error.name
-        )?;
-        add_script(refused, error.profile_name.as_str(), wrong.as_str(), None)?;
-    }
-    Ok(())
+    let path = format!(in alloc; "profile.{profile}.{section}")?;
+    let wrong = error.kind.to_string(alloc)?;
+    refused.add_at(path, wrong.as_str(), None)
 }
 
 /// Adds what the kind of a refusal tells.
 fn add_kind(refused: &mut Refused<'_>, kind: &ConfigParseErrorKind) -> Result<(), AllocError> {
     match kind {
-        ConfigParseErrorKind::DuplicateToolConfigFile { .. } => {
-            refused.add_whole("this tool provides another file before")
+        ConfigParseErrorKind::DuplicateToolConfigFile { tool, first } => {
+            let wrong = format!(in refused.alloc; "the tool `{tool}` provides `{first}`, too")?;
+            refused.add_whole(wrong.as_str())
         }
         ConfigParseErrorKind::ReadError(outcome) => add_outcome(refused, outcome),
         ConfigParseErrorKind::BuildError(message) => add_no_document(refused, message.as_str()),
         ConfigParseErrorKind::DeserializeError(fault) => add_element(refused, fault),
+        ConfigParseErrorKind::BothScriptAndScriptsDefined => {
+            let path = String::from_str(refused.alloc, "scripts")?;
+            refused.add_at(path, "there is the old table `script` beside it", None)
+        }
+        ConfigParseErrorKind::ExperimentalFeaturesNotEnabled { missing_features } => {
+            add_features(refused, missing_features)
+        }
+        kind => add_name_kind(refused, kind),
+    }
+}
+
+/// Adds what a refusal of the names that a source defines tells.
+fn add_name_kind(refused: &mut Refused<'_>, kind: &ConfigParseErrorKind) -> Result<(), AllocError> {
+    match kind {
         ConfigParseErrorKind::InvalidTestGroupsDefined(groups) => {
             add_groups(
                 refused,
@@ -327,12 +325,6 @@ fn add_kind(refused: &mut Refused<'_>, kind: &ConfigParseErrorKind) -> Result<()
         }
         ConfigParseErrorKind::InvalidTestGroupsDefinedByOrganisation(groups) => {
             add_groups(refused, groups, "this group is not the organisation's own")
-        }
-        ConfigParseErrorKind::BothScriptAndScriptsDefined => {
-            refused.add_whole("scripts stand under `script` and under `scripts`")
-        }
-        ConfigParseErrorKind::ExperimentalFeaturesNotEnabled { missing_features } => {
-            add_features(refused, missing_features)
         }
         ConfigParseErrorKind::DuplicateConfigScriptNames(ids) => {
             add_scripts(refused, ids, "this is a setup script and a wrapper script")
@@ -399,8 +391,10 @@ pub fn add_refusal(
     let mut refused = Refused {
         alloc,
         filters: &session.engines.filters,
-        layers: &session.layers,
-        source: refused_place(&session.layers, error),
+        source: SourceAt {
+            layers: &session.layers,
+            position: refused_place(&session.layers, error),
+        },
         code: error.kind().name(),
         findings,
     };

@@ -31,7 +31,7 @@ pub struct Session<'g> {
     pub engines: Engines,
     pub features: BTreeSet<ConfigExperimental>,
     /// The sources, the lowest first.
-    pub layers: Vec<Layer>,
+    pub layers: Vec<Layer<'g>>,
 }
 
 impl<'g> Session<'g> {
@@ -105,6 +105,21 @@ impl<'g> Session<'g> {
         match LoadedConfig::load(alloc, &inputs, &self.parse_context(), warnings) {
             Ok(config) => Ok(config),
             Err(error) => Err(error),
+        }
+    }
+
+    /// Why the repository's file is refused without the files of tools, if it is.
+    pub fn refusal_alone(&self, alloc: Global) -> Option<ConfigParseError> {
+        let inputs = ConfigInputs {
+            shared: &self.gathered.paths.shared,
+            selection: self.selection(),
+            tools: &[],
+            features: &self.features,
+        };
+        let mut warnings = DefaultConfigWarnings::new(alloc);
+        match LoadedConfig::load(alloc, &inputs, &self.parse_context(), &mut warnings) {
+            Ok(_) => None,
+            Err(error) => Some(error),
         }
     }
 }
