@@ -1,7 +1,8 @@
 //! The conditions of rules, and what they say of a test.
-ghost use Rattle.std.specs.Prelude.{◌≡◌, ◌&&◌, option_map};
+ghost use Rattle.std.specs.Prelude.{◌≡◌, ◌&&◌, IfOk, option_map};
+ghost use Rattle.nextest_inheritance.specs.View.{borrowed_view};
 ghost use Rattle.nextest_settings.specs.Platforms.{runs_on};
-ghost use Rattle.rinqebo_run.specs.Conditions.{told_condition, meets, told_host, told_target, told_filter, is_met, is_matched, asked_if};
+ghost use Rattle.rinqebo_run.specs.Conditions.{told_condition, is_met_by, told_host, told_target, told_filter, is_met, is_matched, asked_if, default_filter_here};
 
 use crate::session::Config;
 use nextest_config::{
@@ -60,7 +61,7 @@ fn is_met(answer: ConditionAnswer) -> bool
 
 /// What a platform says to a spec.
 fn spec_answer(spec: &Option<<TargetSpecs as Specs>::Spec>, platform: &Platform) -> ConditionAnswer
-    ensures { result ≡ told_condition (meets platform.now) spec.now }
+    ensures { result ≡ told_condition (λ s. is_met_by s platform.now) spec.now }
 {
     match spec {
         None => ConditionAnswer::Absent,
@@ -134,7 +135,10 @@ pub fn default_filter<'c>(
     config: &'c Config,
     chain: &[&'c str],
     platforms: &BuildPlatforms<Platform>,
-) -> Result<&'c Filter, AllocError> {
+) -> Result<&'c Filter, AllocError>
+    ensures { IfOk result (λ filter. filter.now
+        ≡ default_filter_here platforms.now config.now.config (borrowed_view chain.now)) }
+{
     let layers = config.layers();
     let rules = rules_of(alloc, layers, chain)?;
     let evaluated = evaluate_overrides(alloc, &rules.overrides, platforms)?;
