@@ -137,10 +137,11 @@ fn all_facts(
     ensures { IfOk result (λ facts. facts.items
         ≡ map (facts_told asking.now setting) (map override_ref_view rules.now)) }
 {
-    rules
-        .iter()
-        .map(|rule| facts_of(*rule, setting, asking))
-        .collect(alloc)
+    let mut facts = Vec::new(alloc);
+    for rule in rules {
+        facts.push(facts_of(*rule, setting, asking))?;
+    }
+    Ok(facts)
 }
 
 /// What comes of each rule.
@@ -157,6 +158,26 @@ fn all_verdicts(
     verdicts_of(alloc, &facts)
 }
 
+/// Rules with their verdicts.
+fn rules_with_verdicts(
+    alloc: Global,
+    layers: &[Layer],
+    rules: &[&Override],
+    verdicts: &[rule_verdicts::Verdict],
+    setting: Setting,
+    asking: &Asking<'_>,
+) -> Result<Vec<Rule>, AllocError>
+    ensures { verdicts.now ≡ verdicts_here asking.now setting (map override_ref_view rules.now)
+        → IfOk result (λ told.
+        AreOverridesToldHere asking.now setting (map override_ref_view rules.now) told.items) }
+{
+    let mut reported = Vec::new(alloc);
+    for (rule, verdict) in rules.iter().zip(verdicts) {
+        reported.push(reported_rule(alloc, layers, *rule, setting, asking, *verdict)?)?;
+    }
+    Ok(reported)
+}
+
 /// The rules of a profile, each with its verdict.
 fn reported_rules(
     alloc: Global,
@@ -169,11 +190,7 @@ fn reported_rules(
         AreOverridesToldHere asking.now setting (map override_ref_view rules.now) told.items) }
 {
     let verdicts = all_verdicts(alloc, rules, setting, asking)?;
-    let mut reported = Vec::new(alloc);
-    for (rule, verdict) in rules.iter().zip(&verdicts) {
-        reported.push(reported_rule(alloc, layers, *rule, setting, asking, *verdict)?)?;
-    }
-    Ok(reported)
+    rules_with_verdicts(alloc, layers, rules, &verdicts, setting, asking)
 }
 
 /// Where a setting comes from where no rule decides it. Several files may write parts of it: the
@@ -234,11 +251,13 @@ fn rules_and_fallback(
         test.now setting (profile_of configured name names) rules.items) }
 {
     let platforms = &session.engines.platforms;
+    let query = query_of(test);
+    let default_filter = default_filter(alloc, config, chain, platforms)?;
     let asking = Asking {
         platforms,
         test,
-        query: &query_of(test),
-        default_filter: default_filter(alloc, config, chain, platforms)?,
+        query: &query,
+        default_filter,
     };
     let rules = rules_of(alloc, config.layers(), chain)?;
     let mut reported = reported_rules(alloc, &session.layers, &rules.overrides, setting, &asking)?;
@@ -266,11 +285,10 @@ fn reasons(
         profile.now test.now setting rules)) }
 {
     let chain = chain_of_profile(alloc, config, profile)?;
-    Ok(Content::Why {
-        asked: asked_of(alloc, request, profile, &chain, test.mode)?,
-        key: SettingKey::of(setting, test.mode).text(alloc)?,
-        rules: rules_and_fallback(alloc, session, config, &chain, test, setting)?,
-    })
+    let asked = asked_of(alloc, request, profile, &chain, test.mode)?;
+    let key = SettingKey::of(setting, test.mode).text(alloc)?;
+    let rules = rules_and_fallback(alloc, session, config, &chain, test, setting)?;
+    Ok(Content::Why { asked, key, rules })
 }
 
 /// The rules of a setting, and what comes of each.
