@@ -236,11 +236,11 @@ fn fallback_rule(
 }
 
 /// All rules of a setting, and then what counts where none decides.
-fn rules_and_fallback(
+fn rules_and_fallback<'c>(
     alloc: Global,
     session: &Session<'_>,
-    config: &Config,
-    chain: &[&str],
+    config: &'c Config,
+    chain: &[&'c str],
     test: &TestName<'_>,
     setting: Setting,
 ) -> Result<Vec<Rule>, AllocError>

@@ -58,11 +58,11 @@ fn wrapping_in(
 }
 
 /// Where the script rule stands that wraps the run of a test.
-pub fn wrapping_origin(
+pub fn wrapping_origin<'c>(
     alloc: Global,
     session: &Session<'_>,
-    config: &Config,
-    chain: &[&str],
+    config: &'c Config,
+    chain: &[&'c str],
     test: &TestName<'_>,
 ) -> Result<Option<Origin>, AllocError> {
     let platforms = &session.engines.platforms;

@@ -17,3 +17,9 @@ chain_of-requires c =
     there c.profiles.ensures.closed.chains in
     let written = parents_same c.profiles.result.now.entries ∙ ap parents_written c.profiles.ensures.profiles in
     rw (written, keys_same config.profiles) one
+
+pub returns-then-has_profile : goal.returns-then-has_profile
+returns-then-has_profile c = λ there.
+    let written = parents_same c.profiles.result.now.entries ∙ ap parents_written c.profiles.ensures.profiles in
+    subst (λ ps. IfOk c.chain_of.result (λ chain. IsChain (parents_in ps) c.args.profile.now (borrowed_view chain.items)))
+    written c.chain_of.ensures
