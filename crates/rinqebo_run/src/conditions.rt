@@ -21,10 +21,10 @@ pub type Filter = <NextestFilters as Filters>::Expr;
 
 /// What rules are held against: a test, on the platforms of a build, and the default filter.
 #[derive(Clone, Copy)]
-pub struct Asking<'a> {
+pub struct Asking<'a, 't> {
     pub platforms: &'a BuildPlatforms<Platform>,
-    pub test: &'a TestName<'a>,
-    pub query: &'a TestQuery<'a>,
+    pub test: &'a TestName<'t>,
+    pub query: &'a TestQuery<'t>,
     pub default_filter: &'a Filter,
 }
 
@@ -84,7 +84,7 @@ fn runs_on(platforms: &BuildPlatforms<Platform>, build: BuildPlatform) -> &Platf
 }
 
 /// What a filter says of a test.
-fn filter_answer(filter: Option<&Filter>, asking: &Asking<'_>) -> ConditionAnswer
+fn filter_answer(filter: Option<&Filter>, asking: &Asking<'_, '_>) -> ConditionAnswer
     ensures { result ≡ told_filter asking.now (option_map (λ filter. filter.now) filter.entry) }
 {
     let Some(filter) = filter else {
@@ -105,7 +105,7 @@ fn filter_answer(filter: Option<&Filter>, asking: &Asking<'_>) -> ConditionAnswe
 pub fn answers_of(
     specs: &PlatformSpecs<TargetSpecs>,
     filter: Option<&Filter>,
-    asking: &Asking<'_>,
+    asking: &Asking<'_, '_>,
 ) -> Answers
     ensures host { result.host ≡ told_host asking.now specs.now.host }
     ensures target { result.target ≡ told_target asking.now specs.now.target }

@@ -81,7 +81,7 @@ fn table_of<'l>(layers: &'l [Layer], rule: &Override) -> Option<&'l Tree> {
 }
 
 /// What the conditions of a rule say.
-fn answers_to(rule: &Override, asking: &Asking<'_>) -> Answers
+fn answers_to(rule: &Override, asking: &Asking<'_, '_>) -> Answers
     ensures { result ≡ answers_told asking.now (override_rule_view rule.now) }
 {
     answers_of(rule.platforms(), rule.filter(), asking)
@@ -93,7 +93,7 @@ fn reported_rule(
     layers: &[Layer],
     rule: &Override,
     setting: Setting,
-    asking: &Asking<'_>,
+    asking: &Asking<'_, '_>,
     verdict: rule_verdicts::Verdict,
 ) -> Result<Rule, AllocError>
     ensures { let view = override_rule_view rule.now in
@@ -116,7 +116,7 @@ fn reported_rule(
 }
 
 /// What is known of a rule, where a setting is asked for.
-fn facts_of(rule: &Override, setting: Setting, asking: &Asking<'_>) -> RuleFacts
+fn facts_of(rule: &Override, setting: Setting, asking: &Asking<'_, '_>) -> RuleFacts
     ensures { result ≡ facts_told asking.now setting (override_rule_view rule.now) }
 {
     let answers = answers_to(rule, asking);
@@ -132,7 +132,7 @@ fn all_facts(
     alloc: Global,
     rules: &[&Override],
     setting: Setting,
-    asking: &Asking<'_>,
+    asking: &Asking<'_, '_>,
 ) -> Result<Vec<RuleFacts>, AllocError>
     ensures { IfOk result (λ facts. facts.items
         ≡ map (facts_told asking.now setting) (map override_ref_view rules.now)) }
@@ -149,7 +149,7 @@ fn all_verdicts(
     alloc: Global,
     rules: &[&Override],
     setting: Setting,
-    asking: &Asking<'_>,
+    asking: &Asking<'_, '_>,
 ) -> Result<Vec<rule_verdicts::Verdict>, AllocError>
     ensures { IfOk result (λ verdicts. verdicts.items
         ≡ verdicts_here asking.now setting (map override_ref_view rules.now)) }
@@ -165,7 +165,7 @@ fn rules_with_verdicts(
     rules: &[&Override],
     verdicts: &[rule_verdicts::Verdict],
     setting: Setting,
-    asking: &Asking<'_>,
+    asking: &Asking<'_, '_>,
 ) -> Result<Vec<Rule>, AllocError>
     ensures { verdicts.now ≡ verdicts_here asking.now setting (map override_ref_view rules.now)
         → IfOk result (λ told.
@@ -184,7 +184,7 @@ fn reported_rules(
     layers: &[Layer],
     rules: &[&Override],
     setting: Setting,
-    asking: &Asking<'_>,
+    asking: &Asking<'_, '_>,
 ) -> Result<Vec<Rule>, AllocError>
     ensures { IfOk result (λ told.
         AreOverridesToldHere asking.now setting (map override_ref_view rules.now) told.items) }
@@ -238,10 +238,10 @@ fn fallback_rule(
 /// All rules of a setting, and then what counts where none decides.
 fn rules_and_fallback<'c>(
     alloc: Global,
-    session: &Session<'_>,
+    session: &'c Session<'_>,
     config: &'c Config,
     chain: &[&'c str],
-    test: &TestName<'_>,
+    test: &'c TestName<'_>,
     setting: Setting,
 ) -> Result<Vec<Rule>, AllocError>
     ensures { (configured : Configured (Filterset FieldMatcher) TargetSpec) (name : Name)
@@ -267,13 +267,13 @@ fn rules_and_fallback<'c>(
 }
 
 /// The rules of a setting, by a configuration.
-fn reasons(
+fn reasons<'c>(
     alloc: Global,
     request: &Request<'_>,
-    session: &Session<'_>,
-    config: &Config,
-    profile: &str,
-    test: &TestName<'_>,
+    session: &'c Session<'_>,
+    config: &'c Config,
+    profile: &'c str,
+    test: &'c TestName<'_>,
     setting: Setting,
 ) -> Result<Content, AllocError>
     ensures { (configured : Configured (Filterset FieldMatcher) TargetSpec)
