@@ -2,3 +2,6 @@ pub mod Statuses
 pub mod Loads
 pub mod Rows
 pub mod Reasons
+pub mod Pairs
+pub mod Meant
+pub mod Gathering

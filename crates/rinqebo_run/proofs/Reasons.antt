@@ -1,7 +1,6 @@
 -- What is told of rules is what comes of them.
 use Rattle.std.proofs.Common.{◌≡◌, ◌∙◌, ◌&&◌, ◌||◌, Bool, true, false, List, [], ◌∷◌, map, Option, None, Some, Result, Ok, Err, IfOk, ap, refl, sym, unwrap_or}
 use Rattle.std.specs.List.{AllZip}
-use Rattle.nextest_elements.specs.declared.run_mode.NextestRunMode.{NextestRunMode}
 use Rattle.nextest_engines.specs.declared.queries.BuildPlatform.{BuildPlatform}
 use Rattle.nextest_engines.specs.declared.queries.BuildPlatform.TheVariants.{Host, Target}
 use Rattle.nextest_engines.specs.declared.queries.BuildPlatforms.{BuildPlatforms}
@@ -12,8 +11,8 @@ use Rattle.rule_verdicts.proofs.VerdictsOf.{verdicts-facts}
 use Rattle.rule_verdicts.specs.Verdicts.{facts_of}
 use Rattle.rule_verdicts.specs.VerdictsBy.{verdict_by, decides_by, verdicts_by}
 use Rattle.rule_verdicts.specs.declared.verdict.RuleFacts.{RuleFacts}
-use Rattle.rinqebo_run.specs.Conditions.{told_answer, told_condition, told_filter, is_met, is_matched, asked_if, meets, matches}
-use Rattle.rinqebo_run.specs.Reasons.{Override, answers_told, asked_query, rule_here, writes_setting, facts_told, all_told, verdicts_here}
+use Rattle.rinqebo_run.specs.Conditions.{told_answer, told_condition, told_filter, is_met_by, is_met, is_matched, asked_if}
+use Rattle.rinqebo_run.specs.Reasons.{Override, asked_query, rule_here, writes_setting, facts_told, verdicts_here}
 use Rattle.rinqebo_run.specs.declared.conditions.Asking.{Asking}
 
 -- an answer counts as met where what is told of it does not stand against the rule
@@ -23,10 +22,10 @@ met_told (Some true) = refl
 met_told (Some false) = refl
 
 -- a spec holds where what is told of it does not stand against the rule
-spec_told : {X P : Type 0} (meets : P → X → Option Bool) (spec : Option X) (platform : P)
-    → spec_holds (λ s p. meets p s) spec platform ≡ is_met (told_condition (meets platform) spec)
+spec_told : {K P : Type 0} (meets : K → P → Option Bool) (spec : Option K) (platform : P)
+    → spec_holds meets spec platform ≡ is_met (told_condition (λ s. meets s platform) spec)
 spec_told meets None platform = refl
-spec_told meets (Some spec) platform = met_told (meets platform spec)
+spec_told meets (Some spec) platform = met_told (meets spec platform)
 
 matched_told : (holds : Bool) → holds ≡ is_matched (told_answer (Some holds))
 matched_told true = refl
@@ -39,15 +38,14 @@ filter_told matches None = refl
 filter_told matches (Some m) = matched_told (matches m)
 
 -- the specs of a rule hold where what is told of them does not stand against it
-specs_told : {X P : Type 0} (meets : P → X → Option Bool) (platforms : BuildPlatforms P) (build : BuildPlatform)
-    (host target : Option X)
-    → specs_hold (λ s p. meets p s) platforms build host target
-    ≡ (is_met (told_condition (meets platforms.host) host)
-    && is_met (told_condition (meets (runs_on platforms build)) target))
+specs_told : {K P : Type 0} (meets : K → P → Option Bool) (platforms : BuildPlatforms P) (build : BuildPlatform)
+    (host target : Option K)
+    → specs_hold meets platforms build host target
+    ≡ (is_met (told_condition (λ s. meets s platforms.host) host)
+    && is_met (told_condition (λ s. meets s (runs_on platforms build)) target))
 specs_told meets platforms build host target =
-    ap (λ b. b && spec_holds (λ s p. meets p s) target (runs_on platforms build))
-    (spec_told meets host platforms.host)
-    ∙ ap (λ b. is_met (told_condition (meets platforms.host) host) && b)
+    ap (λ b. b && spec_holds meets target (runs_on platforms build)) (spec_told meets host platforms.host)
+    ∙ ap (λ b. is_met (told_condition (λ s. meets s platforms.host) host) && b)
     (spec_told meets target (runs_on platforms build))
 
 -- the answer for a platform, of answers for each
@@ -87,37 +85,35 @@ same_verdicts d (f ∷ fs) (g ∷ gs) all =
     ∙ ap (λ vs. verdict_by g.is_on g.matches g.writes d ∷ vs)
     (same_verdicts (d || decides_by f) fs gs all.1 ∙ ap (λ b. verdicts_by (d || b) gs) decides)
 
--- what is told of a rule gives it the verdict that comes of it
-told_same : (asking : Asking) (setting : Setting) (mode : NextestRunMode) (rule : Override)
-    → GiveSame (facts_told setting mode rule (answers_told asking rule))
-    (facts_of (asked_query asking) (writes_setting setting mode) (rule_here asking rule))
-told_same asking setting mode rule =
-    let platforms = asking.platforms.now in
-    let build = asking.test.now.platform in
-    record {
-      is_on = sym (specs_told meets platforms build rule.host rule.target)
-          ∙ sym (for_platform (λ b. specs_hold (λ s p. meets p s) platforms b rule.host rule.target) build);
-      matches = λ on. ap (λ b. is_matched (asked_if b (told_filter asking rule.filter))) on
-          ∙ sym (filter_told (matches asking.default_filter.now asking.query.now) rule.filter);
-      writes = refl;
-    }
+module _ (asking : Asking) (setting : Setting) where
+  -- what is told of a rule gives it the verdict that comes of it
+  told_same : (rule : Override)
+      → GiveSame (facts_told asking setting rule)
+      (facts_of (asked_query asking) (writes_setting setting asking.test.now.mode) (rule_here asking rule))
+  told_same rule =
+      let platforms = asking.platforms.now in
+      let build = asking.test.now.platform in
+      record {
+        is_on = sym (specs_told is_met_by platforms build rule.host rule.target)
+            ∙ sym (for_platform (λ b. specs_hold is_met_by platforms b rule.host rule.target) build);
+        matches = λ on. ap (λ b. is_matched (asked_if b (told_filter asking rule.filter))) on
+            ∙ sym (filter_told (asked_query asking).matches rule.filter);
+        writes = refl;
+      }
 
-all_same : {X : Type 0} (view : X → Override) (asking : Asking) (setting : Setting) (mode : NextestRunMode)
-    (rules : List X)
-    → AllZip GiveSame (all_told view setting mode rules (map (answers_told asking) (map view rules)))
-    (map (facts_of (asked_query asking) (writes_setting setting mode)) (map (rule_here asking) (map view rules)))
-all_same view asking setting mode [] = tt
-all_same view asking setting mode (rule ∷ rules) =
-    (told_same asking setting mode (view rule), all_same view asking setting mode rules)
+  all_same : (rules : List Override)
+      → AllZip GiveSame (map (facts_told asking setting) rules)
+      (map (facts_of (asked_query asking) (writes_setting setting asking.test.now.mode)) (map (rule_here asking) rules))
+  all_same [] = tt
+  all_same (rule ∷ rules) = (told_same rule, all_same rules)
 
--- the verdicts of what is told of rules are those that come of them
-pub told_verdicts : {X : Type 0} (view : X → Override) (asking : Asking) (setting : Setting) (mode : NextestRunMode)
-    (rules : List X)
-    → verdicts_by false (all_told view setting mode rules (map (answers_told asking) (map view rules)))
-    ≡ verdicts_here asking setting mode (map view rules)
-told_verdicts view asking setting mode rules =
-    same_verdicts false _ _ (all_same view asking setting mode rules)
-    ∙ sym (verdicts-facts (asked_query asking) (writes_setting setting mode) (map (rule_here asking) (map view rules)))
+  -- the verdicts of what is told of rules are those that come of them
+  pub told_verdicts : (rules : List Override)
+      → verdicts_by false (map (facts_told asking setting) rules) ≡ verdicts_here asking setting rules
+  told_verdicts rules =
+      same_verdicts false _ _ (all_same rules)
+      ∙ sym (verdicts-facts (asked_query asking) (writes_setting setting asking.test.now.mode)
+      (map (rule_here asking) rules))
 
 -- what is made of a result, by an equation
 pub ok_same : {T E X : Type 0} (f : T → X) (r : Result T E) (a b : X) → a ≡ b → IfOk r (λ t. f t ≡ a)

@@ -5,3 +5,4 @@ pub mod Checked
 pub mod Answered
 pub mod Conditions
 pub mod Reasons
+pub mod TellsReasons

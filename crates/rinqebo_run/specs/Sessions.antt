@@ -1,18 +1,27 @@
 -- What a run knows: the files that were read, and what the engines make of texts.
-use Rattle.std.specs.Prelude.{◌⊎◌, None, option_map, map, Result, MatchResult}
+use Rattle.std.specs.Prelude.{◌≡◌, ◌⊎◌, None, option_map, map, Result, MatchResult}
+use Rattle.filter_language.specs.Filtersets.{marks_view}
 use Rattle.filter_language.specs.Leaves.{leaves}
+use Rattle.filter_language.specs.declared.filterset.Filterset.{Filterset}
 use Rattle.nextest_engines.specs.Readings.{Readings}
 use Rattle.nextest_filters.specs.Engine.{Filter, read_filter, everything, filter_holds, filter_holds_binary}
 use Rattle.nextest_filters.specs.declared.engine.NextestFilters.{NextestFilters}
+use Rattle.nextest_filters.specs.Compiling.{names_of}
+use Rattle.nextest_filters.specs.declared.compiling.FieldMatcher.{FieldMatcher}
 use Rattle.nextest_load.specs.Accepted.{IsAccepted}
+use Rattle.nextest_load.specs.Config.{config_of}
+use Rattle.nextest_load.specs.Load.{Loaded}
+use Rattle.nextest_load.specs.Meaning.{config_meaning}
+use Rattle.nextest_load.specs.Scripts.{AreScriptsOf}
 use Rattle.nextest_rules.specs.Definitions.{Features}
 use Rattle.nextest_sources.specs.Endings.{IsMemory}
-use Rattle.nextest_sources.specs.Inputs.{LoadInputs}
+use Rattle.nextest_sources.specs.Inputs.{LoadInputs, sources_in}
 use Rattle.nextest_sources.specs.Sources.{file_view, tool_file_view}
 use Rattle.nextest_sources.specs.declared.error.ConfigParseError.{ConfigParseError}
-use Rattle.target_language.specs.Expressions.{Spec}
+use Rattle.target_language.specs.Expressions.{Spec, spec_view}
 use Rattle.target_language.specs.Messages.{spec_read}
 use Rattle.target_language.specs.Values.{spec_value}
+use Rattle.target_language.specs.declared.expression.TargetSpec.{TargetSpec}
 use Rattle.target_platforms.specs.Platforms.{platform_view}
 use Rattle.target_platforms.specs.declared.Platform.{Platform}
 use Rattle.rinqebo_files.specs.declared.files.Gathered.{Gathered}
@@ -45,3 +54,10 @@ abbrev pub IfLoaded : {T : Type 0} → Readings Filter Spec Platform → Feature
 IfLoaded engines features files r =
     MatchResult r (λ _. IsAccepted engines features files)
     (λ e. IsMemory e ⊎ (¬ IsAccepted engines features files))
+
+-- What was loaded of files is what they mean, and its scripts are those that they define.
+pub record IsLoadedFrom (engines : Readings Filter Spec Platform) (files : LoadInputs)
+    (loaded : Loaded (Filterset FieldMatcher) TargetSpec) : Type 0 where
+  pub means : config_meaning (marks_view names_of) spec_view loaded.config
+      ≡ config_of engines (sources_in files)
+  pub scripts : AreScriptsOf (sources_in files) loaded.scripts

@@ -1,7 +1,8 @@
 //! The conditions of rules, and what they say of a test.
-ghost use Rattle.std.specs.Prelude.{◌≡◌, ◌&&◌, option_map};
+ghost use Rattle.std.specs.Prelude.{◌≡◌, ◌&&◌, IfOk, option_map};
+ghost use Rattle.nextest_inheritance.specs.View.{borrowed_view};
 ghost use Rattle.nextest_settings.specs.Platforms.{runs_on};
-ghost use Rattle.rinqebo_run.specs.Conditions.{told_condition, meets, told_host, told_target, told_filter, is_met, is_matched, asked_if};
+ghost use Rattle.rinqebo_run.specs.Conditions.{told_condition, is_met_by, told_host, told_target, told_filter, is_met, is_matched, asked_if, default_filter_here};
 
 use crate::session::Config;
 use nextest_config::{
@@ -20,10 +21,10 @@ pub type Filter = <NextestFilters as Filters>::Expr;
 
 /// What rules are held against: a test, on the platforms of a build, and the default filter.
 #[derive(Clone, Copy)]
-pub struct Asking<'a> {
+pub struct Asking<'a, 't> {
     pub platforms: &'a BuildPlatforms<Platform>,
-    pub test: &'a TestName<'a>,
-    pub query: &'a TestQuery<'a>,
+    pub test: &'a TestName<'t>,
+    pub query: &'a TestQuery<'t>,
     pub default_filter: &'a Filter,
 }
 
@@ -60,7 +61,7 @@ fn is_met(answer: ConditionAnswer) -> bool
 
 /// What a platform says to a spec.
 fn spec_answer(spec: &Option<<TargetSpecs as Specs>::Spec>, platform: &Platform) -> ConditionAnswer
-    ensures { result ≡ told_condition (meets platform.now) spec.now }
+    ensures { result ≡ told_condition (λ s. is_met_by s platform.now) spec.now }
 {
     match spec {
         None => ConditionAnswer::Absent,
@@ -83,7 +84,7 @@ fn runs_on(platforms: &BuildPlatforms<Platform>, build: BuildPlatform) -> &Platf
 }
 
 /// What a filter says of a test.
-fn filter_answer(filter: Option<&Filter>, asking: &Asking<'_>) -> ConditionAnswer
+fn filter_answer(filter: Option<&Filter>, asking: &Asking<'_, '_>) -> ConditionAnswer
     ensures { result ≡ told_filter asking.now (option_map (λ filter. filter.now) filter.entry) }
 {
     let Some(filter) = filter else {
@@ -104,7 +105,7 @@ fn filter_answer(filter: Option<&Filter>, asking: &Asking<'_>) -> ConditionAnswe
 pub fn answers_of(
     specs: &PlatformSpecs<TargetSpecs>,
     filter: Option<&Filter>,
-    asking: &Asking<'_>,
+    asking: &Asking<'_, '_>,
 ) -> Answers
     ensures host { result.host ≡ told_host asking.now specs.now.host }
     ensures target { result.target ≡ told_target asking.now specs.now.target }
@@ -134,7 +135,10 @@ pub fn default_filter<'c>(
     config: &'c Config,
     chain: &[&'c str],
     platforms: &BuildPlatforms<Platform>,
-) -> Result<&'c Filter, AllocError> {
+) -> Result<&'c Filter, AllocError>
+    ensures { IfOk result (λ filter. filter.now
+        ≡ default_filter_here platforms.now config.now.config (borrowed_view chain.now)) }
+{
     let layers = config.layers();
     let rules = rules_of(alloc, layers, chain)?;
     let evaluated = evaluate_overrides(alloc, &rules.overrides, platforms)?;

@@ -3,7 +3,7 @@ ghost use Rattle.std.specs.Prelude.{◌≡◌, IfOk, IfErr, None, option_map};
 ghost use Rattle.nextest_rules.specs.KnownView.{features_view};
 ghost use Rattle.nextest_sources.specs.Inputs.{load_inputs_view};
 ghost use Rattle.nextest_sources.specs.Sources.{file_view};
-ghost use Rattle.rinqebo_run.specs.Sessions.{files_view, readings, IfLoaded};
+ghost use Rattle.rinqebo_run.specs.Sessions.{files_view, readings, IfLoaded, IsLoadedFrom};
 ghost use Rattle.rinqebo_run.specs.Statuses.{IsBeginningFailure};
 
 use crate::answer::Failure;
@@ -92,8 +92,10 @@ impl<'g> Session<'g> {
         alloc: Global,
         warnings: &mut DefaultConfigWarnings,
     ) -> Result<Config, ConfigParseError>
-        ensures { IfLoaded (readings self.now.engines.filters) (features_view self.now.features)
-            (files_view self.now.gathered.now) result }
+        ensures verdict { IfLoaded (readings self.now.engines.filters)
+            (features_view self.now.features) (files_view self.now.gathered.now) result }
+        ensures means { IfOk result (IsLoadedFrom (readings self.now.engines.filters)
+            (files_view self.now.gathered.now)) }
     {
         let inputs = self.inputs();
         let inputs = ConfigInputs {

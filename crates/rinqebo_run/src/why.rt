@@ -1,9 +1,20 @@
 //! The rules of a setting, and what comes of each.
-ghost use Rattle.std.specs.Prelude.{◌≡◌, IfOk, map};
+ghost use Rattle.std.specs.Prelude.{◌≡◌, IfOk, List, map};
+ghost use Rattle.filter_language.specs.declared.filterset.Filterset.{Filterset};
+ghost use Rattle.nextest_filters.specs.declared.compiling.FieldMatcher.{FieldMatcher};
+ghost use Rattle.nextest_inheritance.specs.Parents.{with_default};
+ghost use Rattle.nextest_inheritance.specs.View.{borrowed_view};
 ghost use Rattle.nextest_rules.specs.View.{override_rule_view};
+ghost use Rattle.nextest_settings.specs.Profile.{Configured, profile_of};
 ghost use Rattle.nextest_settings.specs.View.{override_ref_view};
-ghost use Rattle.rinqebo_run.specs.Reasons.{answers_told, facts_told, all_told, verdicts_here};
-ghost use Rattle.rinqebo_run.specs.declared.conditions.Asking.{Asking};
+ghost use Rattle.nextest_tables.specs.FileTexts.{names_in, IsIn};
+ghost use Rattle.nextest_tables.specs.Written.{Name};
+ghost use Rattle.rinqebo_report.specs.declared.report.Verdict.TheVariants as told;
+ghost use Rattle.rinqebo_request.specs.Keys.{key_text};
+ghost use Rattle.rinqebo_run.specs.Conditions.{is_met_by, filter_matches};
+ghost use Rattle.rinqebo_run.specs.Reasons.{told_verdict, answers_told, IsRuleTold, facts_told, verdicts_here, AreOverridesToldHere};
+ghost use Rattle.rinqebo_run.specs.TellsReasons.{AreReasons, AreReasonsIn, IfWhy, TellsReasons};
+ghost use Rattle.target_language.specs.declared.expression.TargetSpec.{TargetSpec};
 
 use crate::answer::Failure;
 use crate::binary::query_of;
@@ -13,7 +24,7 @@ use crate::explain::{asked_of, override_origin};
 use crate::fallback::fallback_value;
 use crate::findings::warning_findings;
 use crate::grounds::{built_in, profile_grounds};
-use crate::rules::{chain_of_profile, missing_profile};
+use crate::rules::{chain_of_profile, has_profile, missing_profile};
 use crate::session::{Config, Session};
 use nextest_config::{CompiledOverride, DefaultConfigWarnings, NextestRunMode, Setting, Tree};
 use nextest_filters::NextestFilters;
@@ -29,23 +40,14 @@ use target_language::TargetSpecs;
 /// An override of a configuration.
 type Override = CompiledOverride<NextestFilters, TargetSpecs>;
 
-/// What is known of a rule, where a setting is asked for.
-fn facts_of(rule: &Override, setting: Setting, mode: NextestRunMode, answers: Answers) -> RuleFacts
-    ensures { result ≡ facts_told setting mode (override_rule_view rule.now) answers }
-{
-    RuleFacts {
-        is_on: answers.is_on(),
-        matches: answers.matches(),
-        writes: written_value(rule.settings(), setting, mode).is_some(),
-    }
-}
-
 /// A condition, with its text.
 fn condition(
     alloc: Global,
     text: Option<&str>,
     answer: ConditionAnswer,
-) -> Result<Condition, AllocError> {
+) -> Result<Condition, AllocError>
+    ensures { IfOk result (λ condition. condition.answer ≡ answer) }
+{
     Ok(Condition {
         text: String::from_str(alloc, text.unwrap_or(""))?,
         answer,
@@ -53,7 +55,9 @@ fn condition(
 }
 
 /// A verdict, as it is reported.
-fn reported_verdict(verdict: rule_verdicts::Verdict) -> Verdict {
+fn reported_verdict(verdict: rule_verdicts::Verdict) -> Verdict
+    ensures { result ≡ told_verdict verdict }
+{
     match verdict {
         rule_verdicts::Verdict::PlatformNo => Verdict::PlatformNo,
         rule_verdicts::Verdict::FilterNo => Verdict::FilterNo,
@@ -76,18 +80,31 @@ fn table_of<'l>(layers: &'l [Layer], rule: &Override) -> Option<&'l Tree> {
     )
 }
 
+/// What the conditions of a rule say.
+fn answers_to(rule: &Override, asking: &Asking<'_, '_>) -> Answers
+    ensures { result ≡ answers_told asking.now (override_rule_view rule.now) }
+{
+    answers_of(rule.platforms(), rule.filter(), asking)
+}
+
 /// A rule with its verdict.
 fn reported_rule(
     alloc: Global,
     layers: &[Layer],
     rule: &Override,
-    value: Option<SettingValue<'_>>,
-    answers: Answers,
+    setting: Setting,
+    asking: &Asking<'_, '_>,
     verdict: rule_verdicts::Verdict,
-) -> Result<Rule, AllocError> {
+) -> Result<Rule, AllocError>
+    ensures { let view = override_rule_view rule.now in
+        IfOk result (IsRuleTold setting asking.now.test.now.mode view.writes.settings
+        (answers_told asking.now view) verdict) }
+{
     let id = rule.id();
     let profile = id.profile_name.as_str();
     let table = table_of(layers, rule);
+    let answers = answers_to(rule, asking);
+    let value = written_value(rule.settings(), setting, asking.test.mode);
     Ok(Rule {
         verdict: reported_verdict(verdict),
         origin: override_origin(alloc, layers, &id.config_source, profile, id.index)?,
@@ -98,26 +115,16 @@ fn reported_rule(
     })
 }
 
-/// What the conditions of a rule say.
-fn answers_to(rule: &Override, asking: &Asking<'_>) -> Answers
-    ensures { result ≡ answers_told asking.now (override_rule_view rule.now) }
+/// What is known of a rule, where a setting is asked for.
+fn facts_of(rule: &Override, setting: Setting, asking: &Asking<'_, '_>) -> RuleFacts
+    ensures { result ≡ facts_told asking.now setting (override_rule_view rule.now) }
 {
-    answers_of(rule.platforms(), rule.filter(), asking)
-}
-
-/// What the conditions of each rule say.
-fn all_answers(
-    alloc: Global,
-    rules: &[&Override],
-    asking: &Asking<'_>,
-) -> Result<Vec<Answers>, AllocError>
-    ensures { IfOk result (λ all. all.items
-        ≡ map (answers_told asking.now) (map override_ref_view rules.now)) }
-{
-    rules
-        .iter()
-        .map(|rule| answers_to(*rule, asking))
-        .collect(alloc)
+    let answers = answers_to(rule, asking);
+    RuleFacts {
+        is_on: answers.is_on(),
+        matches: answers.matches(),
+        writes: written_value(rule.settings(), setting, asking.test.mode).is_some(),
+    }
 }
 
 /// What is known of each rule.
@@ -125,17 +132,16 @@ fn all_facts(
     alloc: Global,
     rules: &[&Override],
     setting: Setting,
-    mode: NextestRunMode,
-    answers: &[Answers],
+    asking: &Asking<'_, '_>,
 ) -> Result<Vec<RuleFacts>, AllocError>
     ensures { IfOk result (λ facts. facts.items
-        ≡ all_told override_ref_view setting mode rules.now answers.now) }
+        ≡ map (facts_told asking.now setting) (map override_ref_view rules.now)) }
 {
-    rules
-        .iter()
-        .zip(answers)
-        .map(|(rule, answers)| facts_of(*rule, setting, mode, *answers))
-        .collect(alloc)
+    let mut facts = Vec::new(alloc);
+    for rule in rules {
+        facts.push(facts_of(*rule, setting, asking))?;
+    }
+    Ok(facts)
 }
 
 /// What comes of each rule.
@@ -143,16 +149,33 @@ fn all_verdicts(
     alloc: Global,
     rules: &[&Override],
     setting: Setting,
-    mode: NextestRunMode,
-    answers: &[Answers],
+    asking: &Asking<'_, '_>,
 ) -> Result<Vec<rule_verdicts::Verdict>, AllocError>
-    ensures { (asking : Asking)
-        → answers.now ≡ map (answers_told asking) (map override_ref_view rules.now)
-        → IfOk result (λ verdicts. verdicts.items
-        ≡ verdicts_here asking setting mode (map override_ref_view rules.now)) }
+    ensures { IfOk result (λ verdicts. verdicts.items
+        ≡ verdicts_here asking.now setting (map override_ref_view rules.now)) }
 {
-    let facts = all_facts(alloc, rules, setting, mode, answers)?;
+    let facts = all_facts(alloc, rules, setting, asking)?;
     verdicts_of(alloc, &facts)
+}
+
+/// Rules with their verdicts.
+fn rules_with_verdicts(
+    alloc: Global,
+    layers: &[Layer],
+    rules: &[&Override],
+    verdicts: &[rule_verdicts::Verdict],
+    setting: Setting,
+    asking: &Asking<'_, '_>,
+) -> Result<Vec<Rule>, AllocError>
+    ensures { verdicts.now ≡ verdicts_here asking.now setting (map override_ref_view rules.now)
+        → IfOk result (λ told.
+        AreOverridesToldHere asking.now setting (map override_ref_view rules.now) told.items) }
+{
+    let mut reported = Vec::new(alloc);
+    for (rule, verdict) in rules.iter().zip(verdicts) {
+        reported.push(reported_rule(alloc, layers, *rule, setting, asking, *verdict)?)?;
+    }
+    Ok(reported)
 }
 
 /// The rules of a profile, each with its verdict.
@@ -161,17 +184,13 @@ fn reported_rules(
     layers: &[Layer],
     rules: &[&Override],
     setting: Setting,
-    asking: &Asking<'_>,
-) -> Result<Vec<Rule>, AllocError> {
-    let mode = asking.test.mode;
-    let answers = all_answers(alloc, rules, asking)?;
-    let verdicts = all_verdicts(alloc, rules, setting, mode, &answers)?;
-    let mut reported = Vec::new(alloc);
-    for ((rule, answers), verdict) in rules.iter().zip(&answers).zip(&verdicts) {
-        let value = written_value(rule.settings(), setting, mode);
-        reported.push(reported_rule(alloc, layers, *rule, value, *answers, *verdict)?)?;
-    }
-    Ok(reported)
+    asking: &Asking<'_, '_>,
+) -> Result<Vec<Rule>, AllocError>
+    ensures { IfOk result (λ told.
+        AreOverridesToldHere asking.now setting (map override_ref_view rules.now) told.items) }
+{
+    let verdicts = all_verdicts(alloc, rules, setting, asking)?;
+    rules_with_verdicts(alloc, layers, rules, &verdicts, setting, asking)
 }
 
 /// Where a setting comes from where no rule decides it. Several files may write parts of it: the
@@ -201,7 +220,9 @@ fn fallback_rule(
     chain: &[&str],
     setting: Setting,
     mode: NextestRunMode,
-) -> Result<Rule, AllocError> {
+) -> Result<Rule, AllocError>
+    ensures { IfOk result (λ rule. rule.verdict ≡ told.Fallback) }
+{
     let key = SettingKey::of(setting, mode);
     let value = fallback_value(alloc, config, chain, setting, mode)?;
     Ok(Rule {
@@ -215,20 +236,28 @@ fn fallback_rule(
 }
 
 /// All rules of a setting, and then what counts where none decides.
-fn rules_and_fallback(
+fn rules_and_fallback<'c>(
     alloc: Global,
-    session: &Session<'_>,
-    config: &Config,
-    chain: &[&str],
-    test: &TestName<'_>,
+    session: &'c Session<'_>,
+    config: &'c Config,
+    chain: &[&'c str],
+    test: &'c TestName<'_>,
     setting: Setting,
-) -> Result<Vec<Rule>, AllocError> {
+) -> Result<Vec<Rule>, AllocError>
+    ensures { (configured : Configured (Filterset FieldMatcher) TargetSpec) (name : Name)
+        (names : List Name) → configured.config ≡ config.now.config
+        → borrowed_view chain.now ≡ with_default names
+        → IfOk result (λ rules. AreReasons is_met_by filter_matches session.now.engines.platforms
+        test.now setting (profile_of configured name names) rules.items) }
+{
     let platforms = &session.engines.platforms;
+    let query = query_of(test);
+    let default_filter = default_filter(alloc, config, chain, platforms)?;
     let asking = Asking {
         platforms,
         test,
-        query: &query_of(test),
-        default_filter: default_filter(alloc, config, chain, platforms)?,
+        query: &query,
+        default_filter,
     };
     let rules = rules_of(alloc, config.layers(), chain)?;
     let mut reported = reported_rules(alloc, &session.layers, &rules.overrides, setting, &asking)?;
@@ -238,21 +267,28 @@ fn rules_and_fallback(
 }
 
 /// The rules of a setting, by a configuration.
-fn reasons(
+fn reasons<'c>(
     alloc: Global,
     request: &Request<'_>,
-    session: &Session<'_>,
-    config: &Config,
-    profile: &str,
-    test: &TestName<'_>,
+    session: &'c Session<'_>,
+    config: &'c Config,
+    profile: &'c str,
+    test: &'c TestName<'_>,
     setting: Setting,
-) -> Result<Content, AllocError> {
+) -> Result<Content, AllocError>
+    ensures { (configured : Configured (Filterset FieldMatcher) TargetSpec)
+        → configured.config ≡ config.now.config
+        → IsIn (names_in config.now.config.profiles) profile.now
+        → IfOk result (λ content. IfWhy content (λ key rules.
+        (key ≡ key_text setting test.now.mode)
+        × AreReasonsIn is_met_by filter_matches session.now.engines.platforms configured
+        profile.now test.now setting rules)) }
+{
     let chain = chain_of_profile(alloc, config, profile)?;
-    Ok(Content::Why {
-        asked: asked_of(alloc, request, profile, &chain, test.mode)?,
-        key: SettingKey::of(setting, test.mode).text(alloc)?,
-        rules: rules_and_fallback(alloc, session, config, &chain, test, setting)?,
-    })
+    let asked = asked_of(alloc, request, profile, &chain, test.mode)?;
+    let key = SettingKey::of(setting, test.mode).text(alloc)?;
+    let rules = rules_and_fallback(alloc, session, config, &chain, test, setting)?;
+    Ok(Content::Why { asked, key, rules })
 }
 
 /// The rules of a setting, and what comes of each.
@@ -263,13 +299,15 @@ pub fn why(
     profile: &str,
     test: &TestName<'_>,
     setting: Setting,
-) -> Result<Report, Failure> {
+) -> Result<Report, Failure>
+    ensures { IfOk result (TellsReasons session.now profile.now test.now setting) }
+{
     let mut warnings = DefaultConfigWarnings::new(alloc);
     let config = match session.load(alloc, &mut warnings) {
         Ok(config) => config,
         Err(error) => return Err(failure_of_load(alloc, session, &warnings, &error)?),
     };
-    if !config.profiles().contains_key(profile) {
+    if !has_profile(&config, profile) {
         let missing = missing_profile(alloc, &config, profile)?;
         return Err(failure_of_profile(alloc, session, &warnings, &missing)?);
     }

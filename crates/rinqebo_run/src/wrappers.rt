@@ -14,13 +14,13 @@ use target_language::TargetSpecs;
 type ScriptRule = CompiledProfileScripts<NextestFilters, TargetSpecs>;
 
 /// Whether a script rule names a run wrapper and holds.
-fn wraps(rule: &ScriptRule, asking: &Asking<'_>) -> bool {
+fn wraps(rule: &ScriptRule, asking: &Asking<'_, '_>) -> bool {
     let answers = answers_of(rule.platforms(), rule.filter(), asking);
     rule.run_wrapper().is_some() && answers.is_on() && answers.matches()
 }
 
 /// The position of the first script rule that names a run wrapper and holds.
-fn first_wrapping(rules: &[ScriptRule], asking: &Asking<'_>) -> Option<usize> {
+fn first_wrapping(rules: &[ScriptRule], asking: &Asking<'_, '_>) -> Option<usize> {
     for (index, rule) in rules.iter().enumerate() {
         if wraps(rule, asking) {
             return Some(index);
@@ -36,7 +36,7 @@ fn wrapping_in(
     session: &Session<'_>,
     config: &Config,
     profile: &str,
-    asking: &Asking<'_>,
+    asking: &Asking<'_, '_>,
 ) -> Result<Option<Origin>, AllocError> {
     for layer in config.layers() {
         let Some(rules) = layer.profiles.get(profile) else {
@@ -58,19 +58,21 @@ fn wrapping_in(
 }
 
 /// Where the script rule stands that wraps the run of a test.
-pub fn wrapping_origin(
+pub fn wrapping_origin<'c>(
     alloc: Global,
-    session: &Session<'_>,
-    config: &Config,
-    chain: &[&str],
-    test: &TestName<'_>,
+    session: &'c Session<'_>,
+    config: &'c Config,
+    chain: &[&'c str],
+    test: &'c TestName<'_>,
 ) -> Result<Option<Origin>, AllocError> {
     let platforms = &session.engines.platforms;
+    let query = query_of(test);
+    let default_filter = default_filter(alloc, config, chain, platforms)?;
     let asking = Asking {
         platforms,
         test,
-        query: &query_of(test),
-        default_filter: default_filter(alloc, config, chain, platforms)?,
+        query: &query,
+        default_filter,
     };
     for profile in chain {
         if let Some(origin) = wrapping_in(alloc, session, config, *profile, &asking)? {
