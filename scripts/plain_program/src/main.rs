@@ -7,7 +7,6 @@ mod settings;
 mod tables;
 mod values;
 
-use clap::{Parser, Subcommand};
 use config::{load, Loaded, CONFIG_PATH};
 use filter::{BuildPlatform, Test};
 use platform::Platforms;
@@ -17,43 +16,39 @@ use std::path::{Path, PathBuf};
 use std::process::ExitCode;
 use std::{env, fs};
 
-#[derive(Parser)]
-#[command(name = "plain_program")]
+const USAGE: &str = "usage: plain_program explain BINARY TEST [KEY].. [-P PROFILE] [--root DIR] [--host T] [--target T] \
+    [--host-binary]\n       plain_program check [--root DIR] [--deny-warnings]";
+
+/// The words behind the command.
+#[derive(Default)]
 struct Words {
-    #[command(subcommand)]
-    command: Command,
+    alone: Vec<String>,
+    profile: Option<String>,
+    root: Option<PathBuf>,
+    host: Option<String>,
+    target: Option<String>,
+    host_binary: bool,
+    deny_warnings: bool,
 }
 
-#[derive(Subcommand)]
-enum Command {
-    /// Tells the settings of a test, and what decides each
-    Explain {
-        /// The id of the test's binary
-        binary: String,
-        /// The name of the test
-        test: String,
-        /// Settings [default: all]
-        keys: Vec<String>,
-        #[arg(short = 'P', long, default_value = "default")]
-        profile: String,
-        #[arg(long)]
-        root: Option<PathBuf>,
-        #[arg(long, default_value = "x86_64-unknown-linux-gnu")]
-        host: String,
-        #[arg(long)]
-        target: Option<String>,
-        /// The test's binary is built for the host
-        #[arg(long)]
-        host_binary: bool,
-    },
-    /// Tells what is wrong with the file
-    Check {
-        #[arg(long)]
-        root: Option<PathBuf>,
-        /// A warning is no success
-        #[arg(long)]
-        deny_warnings: bool,
-    },
+impl Words {
+    fn read(mut words: impl Iterator<Item = String>) -> Result<Words, String> {
+        let mut read = Words::default();
+        while let Some(word) = words.next() {
+            let mut value = || words.next().ok_or_else(|| USAGE.to_owned());
+            match word.as_str() {
+                "-P" | "--profile" => read.profile = Some(value()?),
+                "--root" => read.root = Some(PathBuf::from(value()?)),
+                "--host" => read.host = Some(value()?),
+                "--target" => read.target = Some(value()?),
+                "--host-binary" => read.host_binary = true,
+                "--deny-warnings" => read.deny_warnings = true,
+                option if option.starts_with('-') => return Err(USAGE.to_owned()),
+                _ => read.alone.push(word),
+            }
+        }
+        Ok(read)
+    }
 }
 
 /// Whether a folder's `Cargo.toml` has a table `workspace`.
@@ -136,37 +131,46 @@ fn write_settings(query: &Query, test: &Test, settings: &[Setting], triple: &str
     out.flush()
 }
 
-fn run(command: Command) -> Result<u8, String> {
-    let (binary, name, keys, profile, root, host, target, host_binary) = match command {
-        Command::Check { root, deny_warnings } => {
-            let loaded = load_below(&root_of(root)?)?;
-            return check(&loaded, deny_warnings).map_err(|error| error.to_string());
-        }
-        Command::Explain { binary, test, keys, profile, root, host, target, host_binary } => {
-            (binary, test, keys, profile, root, host, target, host_binary)
-        }
+fn explain(words: Words) -> Result<u8, String> {
+    let [binary, name, keys @ ..] = &words.alone[..] else {
+        return Err(USAGE.to_owned());
     };
-    let settings = asked(&keys)?;
-    let platforms = Platforms::new(&host, target.as_deref())?;
-    let loaded = load_below(&root_of(root)?)?;
+    let settings = asked(keys)?;
+    let host = words.host.as_deref().unwrap_or("x86_64-unknown-linux-gnu");
+    let platforms = Platforms::new(host, words.target.as_deref())?;
+    let loaded = load_below(&root_of(words.root)?)?;
     write_findings(&loaded, &mut io::stderr().lock()).map_err(|error| error.to_string())?;
     let Some(config) = loaded.config.as_ref().filter(|_| loaded.errors.is_empty()) else {
         return Ok(3);
     };
-    let Some(chain) = config.chain(&profile) else {
+    let profile = words.profile.as_deref().unwrap_or("default");
+    let Some(chain) = config.chain(profile) else {
         eprintln!("error: profile `{profile}` not found");
         return Ok(4);
     };
     let query = Query { config, chain: &chain, platforms: &platforms };
-    let built_for = if host_binary { BuildPlatform::Host } else { BuildPlatform::Target };
-    let triple = target.as_deref().filter(|_| !host_binary).unwrap_or(&host);
-    let test = Test::new(&binary, &name, built_for);
+    let built_for = if words.host_binary { BuildPlatform::Host } else { BuildPlatform::Target };
+    let triple = words.target.as_deref().filter(|_| !words.host_binary).unwrap_or(host);
+    let test = Test::new(binary, name, built_for);
     write_settings(&query, &test, &settings, triple).map_err(|error| error.to_string())?;
     Ok(0)
 }
 
+fn run() -> Result<u8, String> {
+    let mut words = env::args().skip(1);
+    match words.next().as_deref() {
+        Some("explain") => explain(Words::read(words)?),
+        Some("check") => {
+            let words = Words::read(words)?;
+            let loaded = load_below(&root_of(words.root)?)?;
+            check(&loaded, words.deny_warnings).map_err(|error| error.to_string())
+        }
+        _ => Err(USAGE.to_owned()),
+    }
+}
+
 fn main() -> ExitCode {
-    match run(Words::parse().command) {
+    match run() {
         Ok(status) => ExitCode::from(status),
         Err(message) => {
             eprintln!("error: {message}");
