@@ -44,7 +44,6 @@ fn read(text: &str) -> Result<(File, BTreeSet<String>), toml::de::Error> {
     let file = serde_ignored::deserialize(&mut reader, |path| {
         unknown.insert(path.to_string().replace(".?", ""));
     })?;
-    reader.end()?;
     Ok((file, unknown))
 }
 
