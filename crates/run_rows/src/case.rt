@@ -1,7 +1,7 @@
 //! The cases: files in memory, the environment, and the command lines that run over them.
 use nextest_config::ReadOutcome;
 use nextest_explain::FileReader;
-use rinqebo_request::Environment;
+use rinqebo_request::{Environment, RunVariables};
 use std::alloc::{AllocError, Global};
 use thiserror::Error;
 
@@ -79,6 +79,9 @@ fn environment_in(alloc: Global, folder: &str) -> Result<Environment, AllocError
         colour: None,
         no_colour: None,
         workflow_folder: None,
+        setup_scripts: None,
+        wrapper_scripts: None,
+        run: RunVariables::default(),
         is_terminal: false,
     })
 }
@@ -150,6 +153,9 @@ impl<'a> Case<'a> {
             "CARGO_TERM_COLOR" => self.environment.colour = value,
             "NO_COLOR" => self.environment.no_colour = value,
             "GITHUB_WORKSPACE" => self.environment.workflow_folder = value,
+            "NEXTEST_EXPERIMENTAL_SETUP_SCRIPTS" => self.environment.setup_scripts = value,
+            "NEXTEST_EXPERIMENTAL_WRAPPER_SCRIPTS" => self.environment.wrapper_scripts = value,
+            "NEXTEST_RETRIES" => self.environment.run.retries = value,
             _ => return Err(CaseError::Line(line)),
         }
         Ok(())
