@@ -11,7 +11,7 @@ use Rattle.nextest_script_order.proofs.Sections.{empty_is, some_of}
 use Rattle.config_places.specs.declared.step.Step.{Step}
 use Rattle.config_places.specs.declared.step.Step.TheVariants.{Key, Position}
 use Rattle.config_places.specs.Path.{has_path}
-use Rattle.config_places.specs.Place.{HasNoPlace, IsPlace, is_there_by}
+use Rattle.config_places.specs.Place.{HasNoPlace, IsPlaceOfPath, is_there_by}
 use Rattle.config_places.specs.Search.{ComesBetween, IsFoundBetween, IsLongest}
 use Rattle.config_places.proofs.Keeping.{in_empty, there_later}
 
@@ -45,7 +45,7 @@ module _ (path : List Step) (text : List ℕ) where
 
   -- the two numbers are those of the place where no document is between them
   pub place_is : (low high : ℕ) → ComesBetween path text low high → NoDocumentBetween text low high
-      → IsPlace path text (record { first = low + 1; last = high })
+      → IsPlaceOfPath path text (record { first = low + 1; last = high })
   place_is low high between none =
       let (document, is) = some_of (tree_of (first_lines low text)) between.front in
       let lacks = sym (told low document is) ∙ between.missing in

@@ -18,7 +18,7 @@ is_there_by path text n = text_has path (first_lines n text)
 
 -- A path's place ends with the least number of lines by which the path is there, and begins with
 -- the line after the most lines before that end that are a document.
-pub record IsPlace (path : List Step) (text : List ℕ) (place : Lines) : Type 0 where
+pub record IsPlaceOfPath (path : List Step) (text : List ℕ) (place : Lines) : Type 0 where
   pub there : is_there_by path text place.last ≡ true
   pub least : (n : ℕ) → n < place.last → is_there_by path text n ≡ false
   pub shorter : ℕ

@@ -1,6 +1,6 @@
 //! The place of a path in a text.
 ghost use Rattle.std.specs.Prelude.{IfOk, MatchOption};
-ghost use Rattle.config_places.specs.Place.{HasNoPlace, IsPlace};
+ghost use Rattle.config_places.specs.Place.{HasNoPlace, IsPlaceOfPath};
 ghost use Rattle.config_places.specs.Search.{ComesBetween};
 
 use crate::fronts::{Fronts, document_between, longest_document};
@@ -26,7 +26,7 @@ pub struct Lines {
 /// its number of lines can be halved, and more where a value goes over many lines.
 pub fn place_of(alloc: Global, text: &str, path: &[Step]) -> Result<Option<Lines>, AllocError>
     ensures { IfOk result (λ place.
-        MatchOption place (HasNoPlace path.now text.now) (IsPlace path.now text.now)) }
+        MatchOption place (HasNoPlace path.now text.now) (IsPlaceOfPath path.now text.now)) }
 {
     if path.is_empty() {
         return Ok(None);
@@ -51,7 +51,7 @@ fn place_between(
     high: usize,
 ) -> Result<Lines, AllocError>
     requires { ComesBetween path.now fronts.now low high }
-    ensures { IfOk result (λ place. IsPlace path.now fronts.now place) }
+    ensures { IfOk result (λ place. IsPlaceOfPath path.now fronts.now place) }
 {
     let mut low = low;
     let mut high = high;

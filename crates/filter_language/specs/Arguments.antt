@@ -54,7 +54,8 @@ pub data Turn : Type 0 where
   Over : List ℕ → List ℕ → Turn
 
 -- A text up to its next escape, and that escape, behind what was read before.
-abbrev pub escaped_turn : List ℕ → List ℕ → List ℕ → Option (ℕ × List ℕ) → Result Turn Misreading
+abbrev pub escaped_turn : List ℕ → List ℕ → List ℕ → Option (ℕ × List ℕ)
+    → Result Turn Misreading
 escaped_turn read end behind (Some found) = Ok (Onward (read ++ encode_utf8 found.0) found.1)
 escaped_turn read end behind None =
     Err (wrong_between InvalidEscapeCharacter end (behind_first (chars behind) behind))

@@ -54,8 +54,8 @@ objection_to start p NoPackageGraph = wrong_between NoPackageGraph p.inside p.cl
 objection_to start p kind = wrong_between kind start p.rest
 
 -- The predicate that a text begins with, if a word stands there.
-abbrev pub asked_in : {L : Type 0} → Compiler L → Bool → FiltersetKind → Shape → List ℕ → List ℕ
-    → Option (Word × List ℕ) → Result (MarkRead L) Misreading
+abbrev pub asked_in : {L : Type 0} → Compiler L → Bool → FiltersetKind → Shape → List ℕ
+    → List ℕ → Option (Word × List ℕ) → Result (MarkRead L) Misreading
 asked_in compiler knows_packages kind shape place text None =
     Err (wrong_between ExpectedExpr place [])
 asked_in compiler knows_packages kind shape place text (Some found) =
@@ -110,8 +110,8 @@ joined_in shape place Or rest = Ok (Some (plain (operator_mark Or) rest (joined_
 joined_in shape place Minus rest =
     Ok (Some (plain (operator_mark Minus) rest (joined_shape shape)))
 
-abbrev pub joined_or_ended : {L : Type 0} → Shape → List ℕ → List ℕ → Option (Operator × List ℕ)
-    → Result (Option (MarkRead L)) Misreading
+abbrev pub joined_or_ended : {L : Type 0} → Shape → List ℕ → List ℕ
+    → Option (Operator × List ℕ) → Result (Option (MarkRead L)) Misreading
 joined_or_ended shape place text (Some found) = joined_in shape place found.0 found.1
 joined_or_ended shape place text None = ended_in place shape.outer text
 
@@ -141,8 +141,8 @@ behind_mark more before (Ok None) = Ok before
 behind_mark more before (Err m) = Err m
 
 -- The marks from a place on, so many at most, behind those before it.
-abbrev pub marks_within : {L : Type 0} → Compiler L → Bool → FiltersetKind → ℕ → Objected L → Shape
-    → List ℕ → Result (Objected L) Misreading
+abbrev pub marks_within : {L : Type 0} → Compiler L → Bool → FiltersetKind → ℕ → Objected L
+    → Shape → List ℕ → Result (Objected L) Misreading
 marks_within compiler knows_packages kind zero before shape place = Ok before
 marks_within compiler knows_packages kind (suc n) before shape place =
     behind_mark (marks_within compiler knows_packages kind n) before

@@ -63,8 +63,8 @@ platform_named name =
     else (if bytes_eq name (codes "target") then Some Target else None)
 
 -- The set of what is built for a platform, behind its `(`.
-abbrev pub of_platform : {L : Type 0} → List ℕ → List ℕ → List ℕ × List ℕ → Option BuildPlatform
-    → Result (PredicateRead L) Misreading
+abbrev pub of_platform : {L : Type 0} → List ℕ → List ℕ → List ℕ × List ℕ
+    → Option BuildPlatform → Result (PredicateRead L) Misreading
 of_platform inside end found (Some p) = Ok (asking (OfPlatform p) inside found)
 of_platform inside end found None = Err (wrong_between InvalidPlatformArgument inside end)
 
@@ -123,8 +123,8 @@ before_rest text rest =
     then take (length text - length rest) text else text
 
 -- The set of what a pattern matches, of a text that begins with its word, behind its `(`.
-abbrev pub signed_in : {L : Type 0} → Compiler L → Field → List ℕ → List ℕ → Sign × Bool × List ℕ
-    → Result (PredicateRead L) Misreading
+abbrev pub signed_in : {L : Type 0} → Compiler L → Field → List ℕ → List ℕ
+    → Sign × Bool × List ℕ → Result (PredicateRead L) Misreading
 signed_in compiler field start inside signed = body_behind signed.0 signed.2
     >>= (λ body. meaning_of signed.0 signed.2 body.end (compiler field signed.0 body.bytes)
     >>= (λ meaning. closed_in body.behind

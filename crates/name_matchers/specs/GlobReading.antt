@@ -40,8 +40,9 @@ IsMatched step re =
     → MatchesKind (RowTakes (step row)) (cat re tail))
 
 module _ (inside : Bool) (levels : ℕ) where
-  -- A row that the text writes is some piece, always the same, in front of a row that the rest writes
-  -- from its place on. The pattern matches what the piece takes; there is none for an empty piece.
+  -- A row that the text writes is some piece, always the same, in front of a row that the rest
+  -- writes from its place on. The pattern matches what the piece takes; there is none for an
+  -- empty piece.
   abbrev pub ReadsPiece : Place → List ℕ → Option Hir → Place → List ℕ → Type 0
   ReadsPiece place text pattern next rest =
       (step : Row → Row)

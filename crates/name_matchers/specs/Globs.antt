@@ -103,8 +103,9 @@ abbrev mutual
       (inner : List ℕ) × (mid : List ℕ) × (text ≡ 91 ∷ inner) × WritesClass inner this mid
       × WritesRow inside levels Elsewhere mid row rest
   WritesRow inside levels place text (group branches row) rest =
-      (inner : List ℕ) × (mid : List ℕ) × (below : ℕ) × (text ≡ 123 ∷ inner) × (levels ≡ below + 1)
-      × WritesBranches below inner branches mid × WritesRow inside levels Elsewhere mid row rest
+      (inner : List ℕ) × (mid : List ℕ) × (below : ℕ) × (text ≡ 123 ∷ inner)
+      × (levels ≡ below + 1) × WritesBranches below inner branches mid
+      × WritesRow inside levels Elsewhere mid row rest
 
   -- The text behind an opening brace writes the branches, a closing brace and the rest.
   pub WritesBranches : ℕ → List ℕ → Branches → List ℕ → Type 0

@@ -18,9 +18,9 @@ use thiserror::Error;
 /// Why a text gives no glob.
 #[derive(Clone, Copy, Debug, PartialEq, Eq, Error)]
 pub enum GlobFault {
-    /// A backslash stands at the end, a bracket or brace is not closed or closes nothing, the end of
-    /// a range comes before its start, a class has a byte beyond ASCII, or groups nest more than 250
-    /// deep.
+    /// A backslash stands at the end, a bracket or brace is not closed or closes nothing, the end
+    /// of a range comes before its start, a class has a byte beyond ASCII, or groups nest more than
+    /// 250 deep.
     #[error("invalid glob")]
     Malformed,
     /// Memory ran out, or the automaton takes more than 10 MiB or 4096 states.
@@ -62,12 +62,13 @@ impl GlobMatcher {
     ///
     /// # Errors
     ///
-    /// [`GlobFault::Malformed`] where the text writes none, and [`GlobFault::Memory`] where memory ran
-    /// out or the pattern is too large.
+    /// [`GlobFault::Malformed`] where the text writes none, and [`GlobFault::Memory`] where memory
+    /// ran out or the pattern is too large.
     pub fn parse(alloc: Global, text: &str) -> Result<GlobMatcher, GlobFault>
         ensures text { IfOk result (λ glob. glob ≡ text.now) }
         ensures written { OnOk result (IsGlob text.now) }
-        ensures refused { IfErr result (λ fault. (fault ≡ GlobFault.Memory) ⊎ (IsGlob text.now → ⊥)) }
+        ensures refused { IfErr result
+            (λ fault. (fault ≡ GlobFault.Memory) ⊎ (IsGlob text.now → ⊥)) }
     {
         let (patterns, _len) = read_row(alloc, text.as_bytes(), false, MOST_LEVELS)?;
         let machine = Machine::compile(alloc, &whole_pattern(alloc, patterns)?, 1)?;

@@ -42,12 +42,13 @@ impl NameMatcher {
     ///
     /// # Errors
     ///
-    /// [`GlobFault::Malformed`] where the text writes no glob, and [`GlobFault::Memory`] where memory
-    /// ran out or the pattern is too large.
+    /// [`GlobFault::Malformed`] where the text writes no glob, and [`GlobFault::Memory`] where
+    /// memory ran out or the pattern is too large.
     pub fn glob(alloc: Global, text: &str) -> Result<NameMatcher, GlobFault>
         ensures asks { IfOk result (λ matcher. question_of matcher ≡ asked.glob text.now) }
         ensures written { OnOk result (IsGlob text.now) }
-        ensures refused { IfErr result (λ fault. (fault ≡ GlobFault.Memory) ⊎ (IsGlob text.now → ⊥)) }
+        ensures refused { IfErr result
+            (λ fault. (fault ≡ GlobFault.Memory) ⊎ (IsGlob text.now → ⊥)) }
     {
         Ok(NameMatcher::Glob(GlobMatcher::parse(alloc, text)?))
     }

@@ -1,5 +1,5 @@
 -- Sources that are loaded one above another.
-use Rattle.std.proofs.Common.{◌≡◌, List, [], ◌∷◌, ◌++◌, map, None, Some, Result, Ok, Err, IsErrAnd, option_map, refl, sym, ap, subst, ◌∙◌, append-nil}
+use Rattle.std.proofs.Common.{◌≡◌, List, [], ◌∷◌, ◌++◌, map, None, Some, Result, Ok, Err, IsErrAnd, IfSome, option_map, refl, sym, ap, subst, ◌∙◌, append-nil}
 use Rattle.std.specs.List.{flat_map}
 use Rattle.std.proofs.lemmas.List.{map-append}
 use Rattle.nextest_documents.specs.Merge.{over, merged}
@@ -20,6 +20,7 @@ use Rattle.nextest_sources.proofs.Runs.{ran_check, ran_first, ran_memory, ran_ne
 use Rattle.nextest_tables.specs.Defaults.{defaults}
 use Rattle.nextest_tree.specs.Node.{Node}
 use Rattle.nextest_tree.specs.View.{tree_view}
+use Rattle.nextest_load.specs.Kept.{IsKept}
 use Rattle.nextest_load.specs.Loading.{HasLoaded, source_layer, tree_so_far}
 use Rattle.nextest_load.specs.ScriptNames.{AreScriptNames}
 use Rattle.nextest_load.specs.Steps.{source_steps, one_input_steps}
@@ -100,15 +101,17 @@ module _ {F S E T N Q M K P : Type 0} (meaning : E → M) (spec_meaning : N → 
       (rules : LayerRules F S E T N Q) → texts ≡ s ∷ [] → HasLoaded meaning spec_meaning engines below old
       → known_view new.known ≡ sets_of (known_to (map own_file below) (own_file s))
       → option_map tree_view new.merged ≡ tree_so_far (below ++ s ∷ [])
+      → IfSome new.kept (IsKept (merged_tree (below ++ s ∷ [])))
       → new.layers.items ≡ old.layers.items ++ rules ∷ []
       → layer_meaning meaning spec_meaning (layer_view rules) ≡ source_layer engines s
       → AreScriptNames (below ++ s ∷ []) new.names
       → HasLoaded meaning spec_meaning engines (below ++ texts) new
-  loaded_more below texts s old new rules one was known merged layers layer names =
+  loaded_more below texts s old new rules one was known merged kept layers layer names =
       let seen = λ (l : LayerRules F S E T N Q). layer_meaning meaning spec_meaning (layer_view l) in
       let all : HasLoaded meaning spec_meaning engines (below ++ s ∷ []) new = record {
         known = known ∙ ap (λ fs. sets_of (known_names fs)) (sym (map-append own_file below (s ∷ [])));
         merged = merged;
+        kept = kept;
         layers = ap (map seen) layers ∙ map-append seen old.layers.items (rules ∷ [])
             ∙ (λ j. was.layers j ++ layer j ∷ []) ∙ sym (map-append (source_layer engines) below (s ∷ []));
         names = names;

@@ -11,6 +11,7 @@ mod Defining
 pub mod MergedScripts
 mod Merging
 mod Wholes
+mod Parting
 mod Tools
 mod Accepting
 mod SortedTrees

@@ -12,6 +12,7 @@ pub mod ConfigView
 pub mod ScriptNames
 pub mod Loading
 pub mod Merged
+pub mod Kept
 pub mod Parts
 pub mod Laws
 pub mod Agreement

@@ -1,5 +1,5 @@
 -- What contracts see of a load that goes on: a source with its text, and what was loaded so far.
-use Rattle.std.specs.Prelude.{◌≡◌, List, [], ◌∷◌, map, Option, Some, None, option_map}
+use Rattle.std.specs.Prelude.{◌≡◌, List, [], ◌∷◌, map, Option, Some, None, IfSome, option_map}
 use Rattle.nextest_engines.specs.Readings.{Readings}
 use Rattle.nextest_rules.specs.Known.{known_names, sets_of}
 use Rattle.nextest_rules.specs.KnownView.{known_view}
@@ -10,6 +10,7 @@ use Rattle.nextest_sources.specs.Inputs.{SourceText}
 use Rattle.nextest_sources.specs.Sources.{source_view}
 use Rattle.nextest_tree.specs.Node.{Node}
 use Rattle.nextest_tree.specs.View.{tree_view}
+use Rattle.nextest_load.specs.Kept.{IsKept}
 use Rattle.nextest_load.specs.ScriptNames.{AreScriptNames}
 use Rattle.nextest_load.specs.Trees.{own_file, merged_tree}
 use Rattle.nextest_load.specs.declared.load.LoadedLayers.{LoadedLayers}
@@ -35,6 +36,8 @@ pub record HasLoaded {F S E T N Q M K P : Type 0} (meaning : E → M) (spec_mean
     : Type 0 where
   pub known : known_view loaded.known ≡ sets_of (known_names (map own_file ss))
   pub merged : option_map tree_view loaded.merged ≡ tree_so_far ss
+  -- what is kept of their tree, if it is
+  pub kept : IfSome loaded.kept (IsKept (merged_tree ss))
   pub layers : map (λ l. layer_meaning meaning spec_meaning (layer_view l)) loaded.layers.items
       ≡ map (source_layer engines) ss
   pub names : AreScriptNames ss loaded.names

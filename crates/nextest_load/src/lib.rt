@@ -1,6 +1,7 @@
 //! Loads a configuration: its sources over the defaults, and what they are merged to.
 #![tactic(auto)]
 
+mod kept;
 pub mod laws;
 mod load;
 mod loaded_config;

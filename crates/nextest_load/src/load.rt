@@ -1,7 +1,8 @@
 //! The load, from top to bottom: every source over the defaults, then all of them merged.
-ghost use Rattle.std.specs.Prelude.{◌≡◌, ◌++◌, ◌∷◌, List, [], IfOk, OnOk, map, option_map, reverse};
+ghost use Rattle.std.specs.Prelude.{◌≡◌, ◌++◌, ◌∷◌, List, [], IfOk, IfSome, OnOk, map, option_map, reverse};
 ghost use Rattle.std.specs.List.{flat_map};
 ghost use Rattle.nextest_engines.specs.Readings.{readings_view};
+ghost use Rattle.nextest_load.specs.Kept.{IsKept};
 ghost use Rattle.nextest_load.specs.Load.{IsLoad};
 ghost use Rattle.nextest_load.specs.Loading.{HasLoaded, tree_so_far};
 ghost use Rattle.nextest_load.specs.Meaning.{loaded_meaning};
@@ -21,8 +22,9 @@ ghost use Rattle.nextest_sources.specs.Sources.{source_view};
 ghost use Rattle.nextest_sources.specs.Warnings.{Warning};
 ghost use Rattle.nextest_tree.specs.View.{tree_view};
 
+use crate::kept::KeptTable;
 use crate::loaded_config::LoadedConfig;
-use crate::merged::{MergedTables, read_merged};
+use crate::merged::{MergedTables, keep_merged};
 use crate::scripts::ScriptNames;
 use crate::source::{LoadedSource, SourceFile, SourceTrees, read_source};
 use nextest_documents::lay_over;
@@ -98,6 +100,8 @@ pub(crate) struct LoadedLayers<F: Filters, S: Specs> {
     pub(crate) known: KnownNames,
     /// The tree of all of them over the defaults, if there is one.
     pub(crate) merged: Option<Tree>,
+    /// What a configuration keeps of this tree, where it is that of one source.
+    pub(crate) kept: Option<KeptTable>,
     /// Their rules, the lowest first.
     pub(crate) layers: Vec<LayerRules<F, S>>,
     /// The ids of their scripts, in order.
@@ -131,12 +135,14 @@ impl<F: Filters, S: Specs> LoadedLayers<F, S> {
     fn new(alloc: Global) -> Self
         ensures known { known_view result.known ≡ sets_of (known_names []) }
         ensures merged { result.merged ≡ None }
+        ensures kept { result.kept ≡ None }
         ensures layers { result.layers.items ≡ [] }
         ensures names { AreScriptNames [] result.names }
     {
         LoadedLayers {
             known: KnownNames::new(alloc),
             merged: None,
+            kept: None,
             layers: Vec::new(alloc),
             names: ScriptNames::new(alloc),
         }
@@ -149,6 +155,10 @@ impl<F: Filters, S: Specs> LoadedLayers<F, S> {
             → option_map tree_view self.old.merged ≡ tree_so_far ss
             → tree_view loaded.trees.tree ≡ tree_in s → tree_view loaded.trees.own ≡ own_tree s
             → OnOk result (option_map tree_view self.new.merged ≡ tree_so_far (ss ++ s ∷ [])) }
+        ensures kept { (ss : List SourceText) (s : SourceText)
+            → option_map tree_view self.old.merged ≡ tree_so_far ss
+            → IfSome loaded.kept (IsKept (own_tree s))
+            → OnOk result (IfSome self.new.kept (IsKept (merged_tree (ss ++ s ∷ [])))) }
         ensures layers { OnOk result
             (self.new.layers.items ≡ self.old.layers.items ++ loaded.rules ∷ []) }
         ensures names { (ss : List SourceText) (s : SourceText)
@@ -162,7 +172,9 @@ impl<F: Filters, S: Specs> LoadedLayers<F, S> {
             trees,
             names,
             rules,
+            kept,
         } = loaded;
+        self.kept = kept_of(&self.merged, kept);
         self.merged = Some(lay_source(alloc, self.merged.take(), trees)?);
         self.layers.push(rules)?;
         self.names.append(names)?;
@@ -194,10 +206,24 @@ impl<F: Filters, S: Specs> LoadedLayers<F, S> {
         let file = SourceFile {
             source: &input.source,
             text,
+            is_lowest: self.merged.is_none(),
         };
         let loaded = read_source(alloc, pcx, features, &mut self.known, &file, warnings)?;
         self.add(alloc, loaded)?;
         Ok(())
+    }
+}
+
+/// What stays kept of a source over those below it: nothing, if there is one below.
+fn kept_of(below: &Option<Tree>, kept: Option<KeptTable>) -> Option<KeptTable>
+    ensures { (ss : List SourceText) (s : SourceText)
+        → option_map tree_view below.now ≡ tree_so_far ss
+        → IfSome kept (IsKept (own_tree s))
+        → IfSome result (IsKept (merged_tree (ss ++ s ∷ []))) }
+{
+    match below {
+        Some(_) => None,
+        None => kept,
     }
 }
 
@@ -221,21 +247,22 @@ fn merge<F: Filters, S: Specs>(
     loaded: LoadedLayers<F, S>,
 ) -> Result<ConfigParts<F, S>, ConfigParseError>
     ensures ran { (ss : List SourceText) → option_map tree_view loaded.merged ≡ tree_so_far ss
-        → (before : List Warning)
+        → IfSome loaded.kept (IsKept (merged_tree ss)) → (before : List Warning)
         → Ran (merged_steps (source_view repository.now) ss) before before (ending result) }
     ensures parts { (ss : List SourceText) → option_map tree_view loaded.merged ≡ tree_so_far ss
-        → AreScriptNames ss loaded.names
+        → IfSome loaded.kept (IsKept (merged_tree ss)) → AreScriptNames ss loaded.names
         → IfOk result (λ parts. AreTablesOf ss parts.tables) }
     ensures layers { IfOk result (λ parts. parts.layers.items ≡ reverse loaded.layers.items) }
 {
     let LoadedLayers {
         merged,
+        kept,
         mut layers,
         names,
         ..
     } = loaded;
     let tree = whole_tree(alloc, merged)?;
-    let tables = read_merged(alloc, repository, names, &tree)?;
+    let tables = keep_merged(alloc, repository, names, &tree, kept)?;
     layers.reverse();
     Ok(ConfigParts { tables, layers })
 }

@@ -1,29 +1,30 @@
 //! The merged tree: what a configuration keeps of all sources together.
-ghost use Rattle.std.specs.Prelude.{◌≡◌, List, IfOk};
+ghost use Rattle.std.specs.Prelude.{◌≡◌, List, IfOk, IfSome};
 ghost use Rattle.nextest_inheritance.specs.Faults.{inheritance_faults};
 ghost use Rattle.nextest_inheritance.specs.View.{parents_view};
 ghost use Rattle.nextest_load.specs.Closed.{HasDefaults};
 ghost use Rattle.nextest_load.specs.Config.{merged_profile};
 ghost use Rattle.nextest_load.specs.ConfigView.{merged_profile_view, scripts_view};
+ghost use Rattle.nextest_load.specs.Kept.{IsKept, IsKeptOf};
 ghost use Rattle.nextest_load.specs.Merged.{parent_in, profiles_of, tables_view, tables_of};
 ghost use Rattle.nextest_load.specs.ScriptNames.{AreScriptNames};
 ghost use Rattle.nextest_load.specs.Scripts.{AreScriptsOf};
 ghost use Rattle.nextest_load.specs.Steps.{no_profiles, tree_steps};
 ghost use Rattle.nextest_load.specs.Trees.{merged_tree};
-ghost use Rattle.nextest_rules.specs.Steps.{if_some, parent_cause};
+ghost use Rattle.nextest_rules.specs.Steps.{if_some};
 ghost use Rattle.nextest_sources.specs.Causes.{bad_parents};
 ghost use Rattle.nextest_sources.specs.Endings.{Found, Ran, ending};
 ghost use Rattle.nextest_sources.specs.InputFaults.{fault_at_source};
 ghost use Rattle.nextest_sources.specs.Inputs.{SourceText};
 ghost use Rattle.nextest_sources.specs.Sources.{source_view};
 ghost use Rattle.nextest_sources.specs.Warnings.{Warning};
-ghost use Rattle.nextest_tables.specs.Complete.{HasCompleteDefault, IsMergedTree};
+ghost use Rattle.nextest_tables.specs.Complete.{IsMergedTree};
 ghost use Rattle.nextest_tables.specs.FileTexts.{file_text};
-ghost use Rattle.nextest_tables.specs.Scripts.{AreFileScripts, file_scripts_view};
-ghost use Rattle.nextest_tables.specs.View.{by_name, file_table_view, profile_view};
+ghost use Rattle.nextest_tables.specs.View.{by_name, profile_view};
 ghost use Rattle.nextest_tree.specs.Node.{Node};
 ghost use Rattle.nextest_tree.specs.View.{tree_view};
 
+use crate::kept::{KeptTable, take_profiles};
 use crate::loaded_config::{MergedProfile, ScriptConfig};
 use crate::scripts::{ScriptNames, script_config};
 use crate::source::read_elements;
@@ -100,31 +101,40 @@ fn check_parents(
     Err(ConfigParseError::at(repository, ConfigParseErrorKind::InheritanceErrors(errors)))
 }
 
-/// What a configuration keeps of the table of the merged tree, whose parents are checked.
+/// What a configuration keeps of a table.
+fn keep(alloc: Global, table: FileTable) -> Result<KeptTable, AllocError>
+    ensures { IfOk result (IsKeptOf table) }
+{
+    let (rest, profiles) = take_profiles(alloc, table);
+    let profiles = merged_profiles(alloc, profiles)?;
+    Ok(KeptTable { rest, profiles })
+}
+
+/// What a configuration makes of what was kept of the merged tree, whose parents are checked.
 fn merged_tables(
     alloc: Global,
     repository: &ConfigSource,
     names: ScriptNames,
-    table: FileTable,
+    kept: KeptTable,
 ) -> Result<MergedTables, ConfigParseError>
-    ensures found { Found (fault_at_source (source_view repository.now)
-        (parent_cause no_profiles (file_table_view table).profiles))
-        (ending result) }
-    ensures means { IfOk result (λ tables. tables_view tables ≡ tables_of (file_table_view table)) }
-    ensures scripts { (ss : List SourceText) → AreScriptNames ss names
-        → AreFileScripts (merged_tree ss) (file_scripts_view table)
+    ensures ran { (n : Node) → IsKept n kept → (before : List Warning)
+        → Ran (tree_steps (source_view repository.now) n) before before (ending result) }
+    ensures means { (n : Node) → IsKept n kept
+        → IfOk result (λ tables. tables_view tables ≡ tables_of (file_text n)) }
+    ensures scripts { (ss : List SourceText) → IsKept (merged_tree ss) kept
+        → AreScriptNames ss names
         → IfOk result (λ tables. AreScriptsOf ss (scripts_view tables.scripts)) }
-    ensures defaults { HasCompleteDefault (file_table_view table)
+    ensures defaults { (n : Node) (files : List Node) → IsKept n kept → IsMergedTree files n
         → IfOk result (λ tables. HasDefaults (tables_view tables).profiles) }
 {
+    let KeptTable { rest, profiles } = kept;
     let FileTable {
         store_dir,
         test_groups,
         script,
         scripts,
-        profiles,
-    } = table;
-    let profiles = merged_profiles(alloc, profiles)?;
+        ..
+    } = rest;
     check_parents(alloc, repository, &profiles)?;
     let scripts = script_config(alloc, names, script, scripts)?;
     Ok(MergedTables {
@@ -136,7 +146,7 @@ fn merged_tables(
 }
 
 /// What a configuration keeps of the merged tree. Its faults are told at the repository's source.
-pub(crate) fn read_merged(
+fn read_merged(
     alloc: Global,
     repository: &ConfigSource,
     names: ScriptNames,
@@ -154,5 +164,33 @@ pub(crate) fn read_merged(
         → IfOk result (λ tables. HasDefaults (tables_view tables).profiles) }
 {
     let (table, _) = read_elements(alloc, repository, tree)?;
-    merged_tables(alloc, repository, names, table)
+    let kept = keep(alloc, table)?;
+    merged_tables(alloc, repository, names, kept)
+}
+
+/// What a configuration keeps of the merged tree. What was kept of it before, when the one source
+/// was read, is not read again.
+pub(crate) fn keep_merged(
+    alloc: Global,
+    repository: &ConfigSource,
+    names: ScriptNames,
+    tree: &Tree,
+    kept: Option<KeptTable>,
+) -> Result<MergedTables, ConfigParseError>
+    ensures ran { IfSome kept (IsKept (tree_view tree.now)) → (before : List Warning)
+        → Ran (tree_steps (source_view repository.now) (tree_view tree.now)) before before
+        (ending result) }
+    ensures means { IfSome kept (IsKept (tree_view tree.now)) → IfOk result
+        (λ tables. tables_view tables ≡ tables_of (file_text (tree_view tree.now))) }
+    ensures scripts { (ss : List SourceText) → IfSome kept (IsKept (tree_view tree.now))
+        → AreScriptNames ss names → tree_view tree.now ≡ merged_tree ss
+        → IfOk result (λ tables. AreScriptsOf ss (scripts_view tables.scripts)) }
+    ensures defaults { (files : List Node) → IfSome kept (IsKept (tree_view tree.now))
+        → IsMergedTree files (tree_view tree.now)
+        → IfOk result (λ tables. HasDefaults (tables_view tables).profiles) }
+{
+    match kept {
+        Some(kept) => merged_tables(alloc, repository, names, kept),
+        None => read_merged(alloc, repository, names, tree),
+    }
 }

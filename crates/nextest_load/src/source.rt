@@ -1,8 +1,9 @@
 //! One source: its text over the defaults, what it defines, and its rules.
-ghost use Rattle.std.specs.Prelude.{◌≡◌, ℕ, List, [], IfOk, OnOk, Some, map};
+ghost use Rattle.std.specs.Prelude.{◌≡◌, ℕ, List, [], IfOk, IfSome, OnOk, Some, None, map};
 ghost use Rattle.std.specs.BTreeSet.{contains_text};
 ghost use Rattle.nextest_engines.specs.Readings.{readings_view};
 ghost use Rattle.nextest_documents.specs.Text.{tree_of};
+ghost use Rattle.nextest_load.specs.Kept.{IsKept};
 ghost use Rattle.nextest_load.specs.Loading.{source_text_view, source_layer};
 ghost use Rattle.nextest_load.specs.Scripts.{setup_path, old_setup_path, wrapper_path};
 ghost use Rattle.nextest_load.specs.Steps.{document_cause, element_cause, in_byte_order, own_steps, file_steps, source_steps};
@@ -29,11 +30,12 @@ ghost use Rattle.nextest_tree.specs.Node.{Node};
 ghost use Rattle.nextest_tree.specs.Schema.{is_one_of, unknown};
 ghost use Rattle.nextest_tree.specs.View.{tree_view};
 
+use crate::kept::{CheckedTable, KeptTable, check_table};
 use crate::scripts::ScriptNames;
 use nextest_documents::{TextFault, lay_over, tree_from_text};
 use nextest_elements::ConfigExperimental;
 use nextest_engines::{Filters, ParseContext, Specs};
-use nextest_rules::{KnownNames, LayerRules, check_definitions, check_rules};
+use nextest_rules::{KnownNames, LayerRules, check_definitions};
 use nextest_sources::{ConfigParseError, ConfigParseErrorKind, ConfigSource, ConfigWarnings};
 use nextest_tables::{FileTable, default_tree, read_file};
 use nextest_tree::{Tree, Walk};
@@ -45,6 +47,8 @@ use std::collections::BTreeSet;
 pub(crate) struct SourceFile<'a> {
     pub(crate) source: &'a ConfigSource,
     pub(crate) text: &'a str,
+    /// Whether no source below it gave text.
+    pub(crate) is_lowest: bool,
 }
 
 /// The tree of a source, alone and over the defaults.
@@ -142,48 +146,57 @@ fn read_own<W: ConfigWarnings>(
 ) -> Result<FileTable, ConfigParseError>
     ensures ran { Ran (own_steps (source_view source.now) (tree_view own.now))
         (W.warnings warnings.old) (W.warnings warnings.new) (ending result) }
+    ensures sound { IfOk result (λ _. element_cause (tree_view own.now) ≡ None) }
     ensures value { IfOk result (λ table. file_table_view table ≡ file_text (tree_view own.now)) }
+    ensures scripts { IfOk result
+        (λ table. AreFileScripts (tree_view own.now) (file_scripts_view table)) }
+    ensures complete { (files : List Node) → IsMergedTree files (tree_view own.now)
+        → IfOk result (λ table. HasCompleteDefault (file_table_view table)) }
 {
     let (table, unknown) = read_elements(alloc, source, own)?;
     warn_of_unknown(alloc, source, &unknown, warnings)?;
     Ok(table)
 }
 
-/// The rules of a file over those below it, or its first fault. Its names go to those that are
-/// known.
+/// The rules of a file over those below it, or its first fault, and what a configuration keeps of
+/// it, if it is the lowest. Its names go to those that are known.
 fn read_rules<F: Filters, S: Specs, W: ConfigWarnings>(
     alloc: Global,
     pcx: &ParseContext<'_, F, S>,
     features: &BTreeSet<ConfigExperimental>,
     known: &mut KnownNames,
-    source: &ConfigSource,
+    file: &SourceFile<'_>,
     own: &Tree,
     warnings: &mut W,
-) -> Result<LayerRules<F, S>, ConfigParseError>
+) -> Result<CheckedTable<F, S>, ConfigParseError>
     ensures ran { let engines = readings_view F.Filters S.Specs pcx.now in
         (below : List FileText) → known_view known.old ≡ sets_of (known_names below)
-        → Ran (file_steps engines (features_view features.now) below (source_view source.now)
-        (tree_view own.now))
+        → Ran (file_steps engines (features_view features.now) below
+        (source_view file.now.source.now) (tree_view own.now))
         (W.warnings warnings.old) (W.warnings warnings.new) (ending result) }
     ensures rules { let engines = readings_view F.Filters S.Specs pcx.now in
         IfOk result
-        (λ rules. layer_meaning F.meaning S.spec_meaning (layer_view rules)
-        ≡ layer_of engines (source_view source.now) (file_text (tree_view own.now)).profiles) }
+        (λ checked. layer_meaning F.meaning S.spec_meaning (layer_view checked.rules)
+        ≡ layer_of engines (source_view file.now.source.now)
+        (file_text (tree_view own.now)).profiles) }
     ensures known { (below : List FileText) → known_view known.old ≡ sets_of (known_names below)
         → OnOk result
         (known_view known.new ≡ sets_of (known_to below (file_text (tree_view own.now)))) }
+    ensures kept { IfOk result (λ checked. IfSome checked.kept (IsKept (tree_view own.now))) }
 {
-    let table = read_own(alloc, source, own, warnings)?;
-    check_definitions(alloc, features, source, &table, warnings)?;
-    check_rules(alloc, pcx, source, known, table, warnings)
+    let table = read_own(alloc, file.source, own, warnings)?;
+    check_definitions(alloc, features, file.source, &table, warnings)?;
+    check_table(alloc, pcx, known, file, table, warnings)
 }
 
-/// A source that was loaded: its trees, the ids of its scripts, and its rules.
+/// A source that was loaded: its trees, the ids of its scripts, its rules, and what a configuration
+/// keeps of it, if it is the lowest.
 #[derive(Drop)]
 pub(crate) struct LoadedSource<F: Filters, S: Specs> {
     pub(crate) trees: SourceTrees,
     pub(crate) names: ScriptNames,
     pub(crate) rules: LayerRules<F, S>,
+    pub(crate) kept: Option<KeptTable>,
 }
 
 /// Reads a source over those below it. Its names go to those that are known.
@@ -216,21 +229,17 @@ pub(crate) fn read_source<F: Filters, S: Specs, W: ConfigWarnings>(
         → known_view known.old ≡ sets_of (known_names (map own_file below))
         → OnOk result (known_view known.new
         ≡ sets_of (known_to (map own_file below) (own_file (source_text_view file.now)))) }
+    ensures kept { IfOk result
+        (λ l. IfSome l.kept (IsKept (own_tree (source_text_view file.now)))) }
 {
     let trees = read_trees(alloc, file)?;
-    let rules = read_rules(
-        alloc,
-        pcx,
-        features,
-        known,
-        file.source,
-        &trees.own,
-        warnings,
-    )?;
+    let checked = read_rules(alloc, pcx, features, known, file, &trees.own, warnings)?;
     let names = ScriptNames::of_text(alloc, file.text, &trees.tree)?;
+    let CheckedTable { rules, kept } = checked;
     Ok(LoadedSource {
         trees,
         names,
         rules,
+        kept,
     })
 }

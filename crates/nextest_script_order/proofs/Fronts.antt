@@ -1,7 +1,8 @@
 -- The first lines of a text, as a front of its bytes.
-use Rattle.std.proofs.Common.{◌≡◌, ℕ, zero, suc, ◌+◌, ◌-◌, ◌<◌, ◌≤◌, false, ◌==◌, List, [], ◌∷◌, length, get_or, take, IsUtf8, refl, ap, ◌∙◌, inl, inr, ◌⊎◌, arith, add-one, eqb-true}
+use Rattle.std.proofs.Common.{◌≡◌, ℕ, zero, suc, ◌+◌, ◌-◌, ◌<◌, ◌≤◌, false, ◌==◌, List, [], ◌∷◌, length, get_or, take, drop, IsUtf8, refl, ap, ◌∙◌, inl, inr, ◌⊎◌, arith, add-one, eqb-true}
 use Rattle.std.proofs.lemmas.Bool.{cases_Bool}
 use Rattle.std.proofs.lemmas.Bool.Decides.{nat_tests}
+use Rattle.std.proofs.lemmas.List.{drop_all, drop_more}
 use Rattle.std.proofs.lemmas.Str.{IsCharBoundary-start, IsCharBoundary-end, IsCharBoundary-after_ascii}
 use Rattle.std.specs.Str.{IsCharBoundary}
 use Rattle.nextest_script_order.specs.Lines.{first_lines, line_ends}
@@ -89,3 +90,22 @@ end_of text ends (suc k) e within some =
     let less : suc k - 1 ≡ k = omega arith in
     let room : k < length (line_ends 0 text) = rw (← e) (omega arith) in
     rw (less, e) (end_at text 0 k room ∙ omega arith)
+
+-- the lines that are left, a byte at a time
+pub line_over : (left i : ℕ) (text : List ℕ) → i < length text → ¬ (left ≡ 0) → get_or text i 0 ≡ 10
+    → length (first_lines left (drop i text)) ≡ 1 + length (first_lines (left - 1) (drop (i + 1) text))
+line_over zero i text h some lf = absurd (some refl)
+line_over (suc n) i text h some lf =
+    let less : suc n - 1 ≡ n = omega arith in
+    rw (drop_more text i 0 h, lf, less) (omega arith)
+
+pub line_goes : (left i : ℕ) (text : List ℕ) → i < length text → ¬ (left ≡ 0) → (get_or text i 0 == 10) ≡ false
+    → length (first_lines left (drop i text)) ≡ 1 + length (first_lines left (drop (i + 1) text))
+line_goes zero i text h some other = absurd (some refl)
+line_goes (suc n) i text h some other = rw (drop_more text i 0 h, other) (omega arith)
+
+pub lines_over : (left i : ℕ) (text : List ℕ) → length text ≤ i → length (first_lines left (drop i text)) ≡ 0
+lines_over zero i text h = refl
+lines_over (suc n) i text h =
+    let none : drop i text ≡ [] = drop_all i text h in
+    rw none refl

@@ -1,6 +1,6 @@
 -- The order of some ids, from the orders of two halves.
 use Rattle.std.proofs.Common.{◌≡◌, ℕ, zero, suc, ◌+◌, ◌-◌, ◌<◌, ◌≤◌, Bool, true, false, not, cond, ◌&&◌, ◌||◌, List, [], ◌∷◌, ◌++◌, length, filter, Some, refl, sym, ap, ◌∙◌, inl, inr, arith, add-one, add-zero, append_assoc, append-nil}
-use Rattle.std.proofs.lemmas.Bool.{cases_Bool, cases_lt, true≢false, false≢true}
+use Rattle.std.proofs.lemmas.Bool.{cases_Bool, true≢false, false≢true}
 use Rattle.std.specs.List.{AllByRecursion}
 use Rattle.nextest_tree.specs.Node.{Node}
 use Rattle.nextest_documents.specs.Shown.{Path}
@@ -8,7 +8,7 @@ use Rattle.nextest_documents.specs.Text.{tree_of}
 use Rattle.nextest_script_order.specs.Lines.{first_lines}
 use Rattle.nextest_script_order.specs.Standing.{has_id, stands_in}
 use Rattle.nextest_script_order.specs.Order.{appears_at, appears_before, is_place, placed_before}
-use Rattle.nextest_script_order.specs.Search.{AppearBetween, NoDocumentBetween}
+use Rattle.nextest_script_order.specs.Search.{AppearBetween}
 use Rattle.nextest_script_order.proofs.Filters.{all_both, all_kept, all_map, all_pass, filter_both, filter_none, filter_same, filter_whole, not_true}
 use Rattle.nextest_script_order.proofs.Keeping.{appears_later}
 
@@ -20,14 +20,6 @@ module _ (path : Path) (text : List ℕ) where
   before_more id n (suc k) h =
       let next : n + suc k ≡ suc (n + k) = omega arith in
       rw (next, before_more id n k h) refl
-
-  not_before : (id : List ℕ) (n k : ℕ) → appears_before path text id (n + k) ≡ false
-      → appears_before path text id n ≡ false
-  not_before id n k h =
-      elim (cases_Bool (appears_before path text id n)) [
-        | inl yes' ↦ absurd (true≢false (sym (before_more id n k yes') ∙ h))
-        | inr no' ↦ no'
-      ]
 
   pub both_false : (a b : Bool) → (a || b) ≡ false → (a ≡ false) × (b ≡ false)
   both_false true b h = absurd (true≢false h)
@@ -53,7 +45,7 @@ module _ (path : Path) (text : List ℕ) where
       ) refl
 
   -- all of them are placed at once
-  placed_here : (ids : List (List ℕ)) (n : ℕ)
+  pub placed_here : (ids : List (List ℕ)) (n : ℕ)
       → AllByRecursion (λ id. appears_before path text id n ≡ false) ids
       → AllByRecursion (λ id. appears_at path text id n ≡ true) ids
       → placed_before path text ids (suc n) ≡ ids
@@ -63,9 +55,9 @@ module _ (path : Path) (text : List ℕ) where
       (all_both _ _ _ (λ id a b. place_from (appears_before path text id n) (appears_at path text id n) a
       b) ids fresh there))
 
-  placed_nothing : (n : ℕ) → placed_before path text [] n ≡ []
-  placed_nothing zero = refl
-  placed_nothing (suc n) = rw (placed_nothing n) refl
+  pub placed_none_of : (n : ℕ) → placed_before path text [] n ≡ []
+  placed_none_of zero = refl
+  placed_none_of (suc n) = rw (placed_none_of n) refl
 
   one_more : (a b : Bool) (id : List ℕ)
       → cond a (id ∷ []) [] ++ cond (not a && b) (id ∷ []) [] ≡ cond (a || b) (id ∷ []) []
@@ -88,38 +80,9 @@ module _ (path : Path) (text : List ℕ) where
 
   pub placed_few : (ids : List (List ℕ)) (low high : ℕ) → length ids < 2
       → AppearBetween path text low high ids → placed_before path text ids (high + 1) ≡ ids
-  placed_few [] low high few h = placed_nothing (high + 1)
+  placed_few [] low high few h = placed_none_of (high + 1)
   placed_few (id ∷ []) low high few h = rw (add-one, placed_one id (suc high), h.there.0, or_true) refl
   placed_few (id ∷ x ∷ ids) low high few h = absurd (omega arith)
-
-  -- no document between
-  no_more : (id : List ℕ) (low high k : ℕ) → NoDocumentBetween text low high → suc low + k ≤ high
-      → appears_before path text id (suc low) ≡ false → appears_before path text id (suc low + k) ≡ false
-  unfolding stands_in
-  no_more id low high zero none h fresh = rw add-zero fresh
-  no_more id low high (suc k) none h fresh =
-      let next : suc low + suc k ≡ suc (suc low + k) = omega arith in
-      let at = none (suc low + k) (omega arith) (omega arith) in
-      rw (next, no_more id low high k none (omega arith) fresh, at) refl
-
-  none_up_to : (id : List ℕ) (low high : ℕ) → low ≤ high → NoDocumentBetween text low high
-      → appears_before path text id (suc low) ≡ false → appears_before path text id high ≡ false
-  none_up_to id low high h none fresh =
-      elim (cases_lt low high) [
-        | inl above ↦
-            let at : suc low + (high - suc low) ≡ high = omega arith in
-            rw at at (no_more id low high (high - suc low) none (omega arith) fresh)
-        | inr same ↦
-            let at : low + 1 ≡ suc low = omega arith in
-            let is : high ≡ low = omega arith in
-            rw is (not_before id low 1 (rw at fresh))
-      ]
-
-  pub placed_tied : (ids : List (List ℕ)) (low high : ℕ) → low ≤ high → NoDocumentBetween text low high
-      → AppearBetween path text low high ids → placed_before path text ids (high + 1) ≡ ids
-  placed_tied ids low high h none between =
-      rw add-one (placed_here ids high
-      (all_map _ _ (λ id f. none_up_to id low high h none f) ids between.later) between.there)
 
   inside : (a b c : Bool) → ((a || b) ≡ true → c ≡ true) → (c && (not a && b)) ≡ (not a && b)
   inside true b true f = refl
@@ -188,7 +151,7 @@ module _ (path : Path) (text : List ℕ) where
           ]
         ]
 
-    pub halves : (ids early late : List (List ℕ)) (high : ℕ) → middle < high
+    pub halves : (ids early late : List (List ℕ)) (high : ℕ) → middle ≤ high
         → early ≡ filter (has_id path document) ids → late ≡ filter (λ id. not (has_id path document id)) ids
         → placed_before path text ids (high + 1) ≡ placed_before path text early (middle + 1)
         ++ placed_before path text late (high + 1)

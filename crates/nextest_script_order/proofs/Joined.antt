@@ -77,23 +77,6 @@ module _ (j : List ℕ) (path : List (List ℕ)) where
             (rw more at a) (rw more at b)
       ]
 
-  -- the same, where the text begins with a header
-  pub both_run_headed : (n m : ℕ) (small large s l : Document) (x : List ℕ)
-      → ((e : Expression × List ℕ) → line (skip_blank x) ≡ Some e → (one two : List (List ℕ)) → Agree one two e.0)
-      → lines n small x ≡ Some s → lines m large x ≡ Some l → SameGain j path small large s l
-  unfolding lines
-  both_run_headed zero m small large s l x agree a b = absurd (none-some s a)
-  both_run_headed (suc n) zero small large s l x agree a b = absurd (none-some l b)
-  both_run_headed (suc n) (suc m) small large s l x agree a b =
-      elim (cases_Bool (length (skip_blank x) == 0)) [
-        | inl over ↦
-            let is_s : small ≡ s = same_Some small s (rw over at a) in
-            let is_l : large ≡ l = same_Some large l (rw over at b) in
-            (missing, rw (← is_s) (or_missing _), rw (← is_l) (or_missing _))
-        | inr more ↦ both_after n m small large s l (line (skip_blank x)) (λ e is. agree e is small.1 large.1)
-            (λ c d z i u v. both_run n m c d s l z i u v) (rw more at a) (rw more at b)
-      ]
-
 -- white space, newlines and comments, up to where the text goes on
 skip_joined : {behind : List ℕ} → (comments : Bool) (x y : List ℕ) → GoesOn behind x y → (inside : Bool)
     → ((skip_from comments inside x ≡ []) × (skip_from comments inside y ≡ skip_from comments false behind))
@@ -136,44 +119,6 @@ same_blank : (n : ℕ) (doc : Document) (x y : List ℕ) → skip_blank x ≡ sk
     → lines (suc n) doc x ≡ lines (suc n) doc y
 unfolding lines
 same_blank n doc x y e = rw e refl
-
--- the first part of what is read over a document is read over it alone
-abbrev Runs : ℕ → Document → List ℕ → Type 0
-Runs n doc x = (t : Document) × (lines n doc x ≡ Some t)
-
-front_defined : (n : ℕ) (e : Expression × List ℕ) (small large s l : Document) (o p : Option Document)
-    (h : Document → Option Document)
-    → ((a b : Document) → lines n a e.1 ≡ Some s → h b ≡ Some l → Runs n b e.1)
-    → option_and_then (λ next. lines n next e.1) o ≡ Some s → option_and_then h p ≡ Some l
-    → (t : Document) × (option_and_then (λ next. lines n next e.1) p ≡ Some t)
-front_defined n e small large s l None p h rec x y = absurd (none-some s x)
-front_defined n e small large s l (Some a) None h rec x y = absurd (none-some l y)
-front_defined n e small large s l (Some a) (Some b) h rec x y = rec a b x y
-
-front_after : {behind : List ℕ} → (n m : ℕ) (small large s l : Document) (r q : Read Expression) → Kept behind r q
-    → ((a b : Document) (v w : List ℕ) → GoesOn behind v w → lines n a v ≡ Some s → lines m b w ≡ Some l → Runs n b v)
-    → after_line n small r ≡ Some s → after_line m large q ≡ Some l → (t : Document) × (after_line n large r ≡ Some t)
-front_after n m small large s l None q k rec x y = absurd (none-some s x)
-front_after n m small large s l (Some e) q k rec x y =
-    let (w, g, same) = k in
-    front_defined n e small large s l (define small e.0) (define large e.0) (λ next. lines m next w)
-    (λ a b u v. rec a b e.1 w g u v) x (rw same at y)
-
-pub front_runs : {behind : List ℕ} → (n m : ℕ) (small large s l : Document) (x y : List ℕ) → GoesOn behind x y
-    → lines n small x ≡ Some s → lines m large y ≡ Some l → Runs n large x
-unfolding lines
-front_runs zero m small large s l x y g a b = absurd (none-some s a)
-front_runs (suc n) zero small large s l x y g a b = absurd (none-some l b)
-front_runs (suc n) (suc m) small large s l x y g a b =
-    elim (skip_joined true x y g false) [
-      | inl over ↦ (large, rw over.0 refl)
-      | inr rest ↦
-          let some = not_over (skip_blank x) (skip_blank y) rest in
-          let some_long = not_over_long (skip_blank x) (skip_blank y) rest in
-          rw some (front_after n m small large s l (line (skip_blank x)) (line (skip_blank y))
-          (line_kept _ _ rest) (λ c d v w h i k. front_runs n m c d s l v w h i k) (rw some at a)
-          (rw some_long at b))
-    ]
 
 -- a document read on over more text
 defined_on : (mid last : Document) (f h : Document → Option Document) (o : Option Document)

@@ -79,7 +79,7 @@ none_of : (n : ℕ) → first_lines n [] ≡ []
 none_of zero = refl
 none_of (suc n) = refl
 
-some_line : (c : ℕ) (cs : List ℕ) (start : ℕ) → 0 < length (line_ends start (c ∷ cs))
+pub some_line : (c : ℕ) (cs : List ℕ) (start : ℕ) → 0 < length (line_ends start (c ∷ cs))
 some_line c [] start = elim (cases_Bool (c == 10)) [ inl lf ↦ rw lf (omega arith) | inr other ↦ rw other (omega arith) ]
 some_line c (d ∷ cs) start =
     elim (cases_Bool (c == 10)) [

@@ -39,7 +39,7 @@ kept_after : (behind : List ℕ) → {A B : Type 0} (o : Option A) (f h : A → 
 kept_after behind None f h then = tt
 kept_after behind (Some v) f h then = then v
 
-byte_kept : {behind : List ℕ} → (byte : ℕ) (x y : List ℕ) → (byte == 10) ≡ false → GoesOn behind x y
+pub byte_kept : {behind : List ℕ} → (byte : ℕ) (x y : List ℕ) → (byte == 10) ≡ false → GoesOn behind x y
     → KeptRest behind (after_byte byte x) (after_byte byte y)
 byte_kept byte x y other g =
     rw (← first_same x y g) (elim (cases_Bool (first x == byte)) [
@@ -49,7 +49,7 @@ byte_kept byte x y other g =
       | inr none ↦ rw none tt
     ])
 
-element_kept : {behind : List ℕ} → (closing : ℕ) (x y : List ℕ) → (0 == closing) ≡ false → GoesOn behind x y
+pub element_kept : {behind : List ℕ} → (closing : ℕ) (x y : List ℕ) → (0 == closing) ≡ false → GoesOn behind x y
     → KeptRest behind (after_element closing x) (after_element closing y)
 unfolding after_element
 element_kept closing x y some g =
@@ -68,14 +68,14 @@ element_kept closing x y some g =
           ])
     ]
 
-key_equals_kept : {behind : List ℕ} → (x y : List ℕ) → GoesOn behind x y → Kept behind (key_equals x) (key_equals y)
+pub key_equals_kept : {behind : List ℕ} → (x y : List ℕ) → GoesOn behind x y → Kept behind (key_equals x) (key_equals y)
 unfolding key_equals
 key_equals_kept x y g =
     kept_bind (key x) (key y) (λ k. option_map (λ rest. (k.0, skip_ws rest)) (after_byte 61 k.1))
     (λ k. option_map (λ rest. (k.0, skip_ws rest)) (after_byte 61 k.1)) (key_kept 80 [] x y g)
     (λ k v w h. rest_map_ws _ k (after_byte 61 v) (after_byte 61 w) (byte_kept 61 v w refl h))
 
-key_equals_end : key_equals [] ≡ None
+pub key_equals_end : key_equals [] ≡ None
 unfolding key_equals key_after simple_key
 key_equals_end = refl
 
@@ -146,7 +146,7 @@ members_kept v k (suc n) (suc m) found x y room g =
           ])
     ]
 
-atom_keeps : Keeps atom
+pub atom_keeps : Keeps atom
 unfolding atom unquoted word_len
 atom_keeps = record {
   kept = λ x y g. rw (← first_same x y g) (elim (cases_Bool (starts_string x)) [
@@ -182,7 +182,7 @@ val_keeps (suc depth) =
       over = atom_keeps.over;
     }
 
-header_kept : {behind : List ℕ} → (x y : List ℕ) → GoesOn behind x y → Kept behind (header_key x) (header_key y)
+pub header_kept : {behind : List ℕ} → (x y : List ℕ) → GoesOn behind x y → Kept behind (header_key x) (header_key y)
 unfolding header_key
 header_kept x y g =
     kept_bind (key (skip_ws x)) (key (skip_ws y)) (λ k. option_map (λ rest. (k.0, rest)) (after_byte 93 k.1))
@@ -216,7 +216,7 @@ expression_kept x y g =
           ])
     ])
 
-ends_same : {behind : List ℕ} → (x y : List ℕ) → GoesOn behind x y → ends_line x ≡ ends_line y
+pub ends_same : {behind : List ℕ} → (x y : List ℕ) → GoesOn behind x y → ends_line x ≡ ends_line y
 ends_same x y here = grind (arith, nat_tests)
 ends_same x y (next c xs ys g) =
     let a : (suc (length xs) == 0) ≡ false = grind (arith, nat_tests) in

@@ -1,12 +1,10 @@
--- What the search for the places of ids knows of two numbers of lines.
+-- What the search for the places of ids knows of the first lines of a text.
 use Rattle.std.specs.Prelude.{◌≡◌, ℕ, suc, ◌<◌, ◌≤◌, true, false, List, ◌++◌, None, is_some}
 use Rattle.std.specs.List.{AllByRecursion}
-use Rattle.nextest_tree.specs.Node.{Node}
 use Rattle.nextest_documents.specs.Shown.{Path}
 use Rattle.nextest_documents.specs.Text.{tree_of}
 use Rattle.nextest_script_order.specs.Lines.{first_lines, line_count}
 use Rattle.nextest_script_order.specs.Order.{appears_at, appears_before, placed_before}
-use Rattle.nextest_script_order.specs.Standing.{has_id}
 
 -- Each of the ids appears for the first time after `low` lines, and at `high` lines it is there.
 pub record AppearBetween (path : Path) (text : List ℕ) (low high : ℕ) (ids : List (List ℕ))
@@ -22,15 +20,6 @@ NoDocumentBetween text low high =
 -- The first n lines of a text are a document.
 abbrev pub IsDocument : List ℕ → ℕ → Type 0
 IsDocument text n = is_some (tree_of (first_lines n text)) ≡ true
-
--- A number of lines between these is a document; and of the ids that come after `low` lines and are
--- there at `high` lines, those are there by then that this node has.
-pub record TellsBetween (text : List ℕ) (low high n : ℕ) (document : Node) : Type 0 where
-  pub above : low < n
-  pub below : n < high
-  pub is : IsDocument text n
-  pub tells : (path : Path) (id : List ℕ) → appears_at path text id low ≡ false
-      → appears_at path text id high ≡ true → has_id path document id ≡ appears_at path text id n
 
 -- Ids are to follow an order. Those that appear by `low` lines follow it by now in what is ordered,
 -- and those that are left appear later: their order behind it is that of all ids behind the order.

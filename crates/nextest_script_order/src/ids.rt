@@ -74,43 +74,6 @@ fn table_along<'a>(document: &'a toml::Table, path: &[Key]) -> Option<&'a toml::
     Some(table)
 }
 
-/// Whether a document defines an id.
-fn defines(document: &toml::Table, path: &[Key], id: &str) -> bool
-    ensures { let n = Node.table (from_members (table_view document.now)) in
-        result ≡ has_id (key_path_view path.now) n id.now }
-{
-    match table_along(document, path) {
-        Some(table) => table.contains_key(id),
-        None => false,
-    }
-}
-
-/// The ids that a document defines, and those that it does not, each as they stood.
-pub(crate) fn split(
-    alloc: Global,
-    ids: Vec<String>,
-    document: &toml::Table,
-    path: &[Key],
-) -> Result<(Vec<String>, Vec<String>), AllocError>
-    ensures early { let n = Node.table (from_members (table_view document.now)) in
-        IfOk result (λ halves.
-        ids_view halves.0 ≡ filter (has_id (key_path_view path.now) n) (ids_view ids)) }
-    ensures late { let n = Node.table (from_members (table_view document.now)) in
-        IfOk result (λ halves. ids_view halves.1
-        ≡ filter (λ id. not (has_id (key_path_view path.now) n id)) (ids_view ids)) }
-{
-    let mut early = Vec::new(alloc);
-    let mut late = Vec::new(alloc);
-    for id in ids {
-        if defines(document, path, id.as_str()) {
-            early.push(id)?;
-        } else {
-            late.push(id)?;
-        }
-    }
-    Ok((early, late))
-}
-
 /// The ids of a list that ascends, as a set.
 pub(crate) fn set_of(alloc: Global, ids: Vec<String>) -> Result<BTreeSet<String>, AllocError>
     requires { IdsAscend (ids_view ids) }

@@ -2,13 +2,15 @@
 //! define it end.
 //!
 //! A table of a document is kept by its keys, so its own order is lost. It is found again from the
-//! text: by which first lines of it are a document, and which ids these define.
+//! text: each expression is read on its own lines, and its key tells which id it defines.
 #![tactic(auto)]
 
+mod expression;
 mod ids;
 mod law;
 mod lines;
 mod order;
+mod walk;
 
 pub use law::law_longer_documents_keep;
 pub use order::ids_in_order;

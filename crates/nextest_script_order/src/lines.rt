@@ -1,5 +1,5 @@
 //! The lines of a text.
-ghost use Rattle.std.specs.Prelude.{◌≡◌, ◌==◌, ◌<◌, ◌≤◌, ◌-◌, List, ℕ, IfOk, length, slice_index};
+ghost use Rattle.std.specs.Prelude.{◌≡◌, ◌≤◌, List, ℕ, IfOk, length};
 ghost use Rattle.nextest_script_order.specs.Lines.{after_lines, first_lines, line_count, line_ends};
 
 use std::alloc::{AllocError, Global};
@@ -43,41 +43,6 @@ impl<'a> Lines<'a> {
     {
         front_of(self.text, &self.ends, count)
     }
-
-    /// The lines after the first `low`, up to line `high`, as they stand.
-    pub(crate) fn between(&self, low: usize, high: usize) -> &'a str
-        requires order { low ≤ high }
-        requires within { high ≤ line_count self.now }
-        ensures { result.now ≡ first_lines (high - low) (after_lines low self.now) }
-    {
-        lines_of(self.text, &self.ends, low, high)
-    }
-
-    /// Whether the line after the first `count` begins like a header.
-    pub(crate) fn is_header(&self, count: usize) -> bool
-        requires { count < line_count self.now }
-    {
-        is_header(self.between(count, self.count()))
-    }
-}
-
-/// Whether a text begins like a header.
-pub(crate) fn is_header(text: &str) -> bool
-    ensures { result ≡ (slice_index text.now 0 == 91) }
-{
-    text.starts_with('[')
-}
-
-/// The lines after the first `low`, up to line `high`, of a text whose lines end there.
-fn lines_of<'a>(text: &'a str, ends: &[usize], low: usize, high: usize) -> &'a str
-    requires ends { ends.now ≡ line_ends 0 text.now }
-    requires order { low ≤ high }
-    requires within { high ≤ length ends.now }
-    ensures { result.now ≡ first_lines (high - low) (after_lines low text.now) }
-{
-    let start = front_of(text, ends, low).len();
-    let end = front_of(text, ends, high).len();
-    &text[start..end]
 }
 
 /// The first `count` lines of a text whose lines end there.
@@ -104,4 +69,29 @@ fn ends_of(alloc: Global, text: &str) -> Result<Vec<usize>, AllocError>
         }
     }
     Ok(ends)
+}
+
+/// The first `count` lines of a text, and what follows them.
+pub(crate) fn split_lines(text: &str, count: usize) -> (&str, &str)
+    ensures front { result.0.now ≡ first_lines count text.now }
+    ensures rest { result.1.now ≡ after_lines count text.now }
+{
+    text.split_at(end_of(text, count))
+}
+
+/// Where the first `count` lines of a text end.
+fn end_of(text: &str, count: usize) -> usize
+    ensures { result ≡ length (first_lines count text.now) }
+{
+    let bytes = text.as_bytes();
+    let mut left = count;
+    for (i, byte) in bytes.iter().enumerate() {
+        if left == 0 {
+            return i;
+        }
+        if *byte == b'\n' {
+            left -= 1;
+        }
+    }
+    bytes.len()
 }

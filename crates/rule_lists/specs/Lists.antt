@@ -39,8 +39,8 @@ is_wanted met tests before r =
 
 -- the numbers of the rules that are evaluated, counted on from n: they have a filter, and pass a
 -- test for which no rule before them was found
-abbrev pub asked_from : {R : Type 0} → (R → Bool) → (R → Bool) → List (R → Bool) → ℕ → List R
-    → List R → List ℕ
+abbrev pub asked_from : {R : Type 0} → (R → Bool) → (R → Bool) → List (R → Bool) → ℕ
+    → List R → List R → List ℕ
 asked_from asks met tests n before [] = []
 asked_from asks met tests n before (r ∷ rest) =
     (if asks r && is_wanted met tests before r then n ∷ [] else [])

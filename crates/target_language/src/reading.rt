@@ -109,10 +109,12 @@ fn with_leaf(
     parts: Vec<Expression>,
 ) -> Result<Vec<Expression>, Stop>
     ensures ok { IfOk result
-        (λ more. with_leaf_of (before_view before.entry) (map expression_view parts.items) ≡ Ok (map expression_view more.items)) }
+        (λ more. with_leaf_of (before_view before.entry) (map expression_view parts.items)
+        ≡ Ok (map expression_view more.items)) }
     ensures err { IfErr result
         (λ stop. IfFault stop
-        (λ fault. with_leaf_of (before_view before.entry) (map expression_view parts.items) ≡ Err fault)) }
+        (λ fault. with_leaf_of (before_view before.entry) (map expression_view parts.items)
+        ≡ Err fault)) }
 {
     match before {
         Before::Key(key) => {
@@ -248,10 +250,12 @@ fn count_parts(before: Before<'_>, parts: &[Expression]) -> usize
 /// A `)` behind what it may follow.
 fn close(alloc: Global, reader: Reader<'_>, place: Place) -> Result<Reader<'_>, Stop>
     ensures ok { IfOk result
-        (λ next. (let r = reading_view reader.entry in closed r.before r.parts r.levels place) ≡ Ok (reading_view next)) }
+        (λ next. (let r = reading_view reader.entry in closed r.before r.parts r.levels place)
+        ≡ Ok (reading_view next)) }
     ensures err { IfErr result
         (λ stop. IfFault stop
-        (λ fault. (let r = reading_view reader.entry in closed r.before r.parts r.levels place) ≡ Err fault)) }
+        (λ fault. (let r = reading_view reader.entry in closed r.before r.parts r.levels place)
+        ≡ Err fault)) }
 {
     let Reader {
         before,
@@ -327,7 +331,8 @@ fn step<'t>(
     place: Place,
 ) -> Result<Reader<'t>, Stop>
     ensures ok { IfOk result
-        (λ next. step_of (reading_view reader.entry) (mark_view mark.entry) place ≡ Ok (reading_view next)) }
+        (λ next. step_of (reading_view reader.entry) (mark_view mark.entry) place
+        ≡ Ok (reading_view next)) }
     ensures err { IfErr result
         (λ stop. IfFault stop
         (λ fault. step_of (reading_view reader.entry) (mark_view mark.entry) place ≡ Err fault)) }

@@ -22,22 +22,24 @@ pub record Row : Type 0 where
   pub names : List ℕ
 
 -- a row of these columns
-abbrev pub row : (triple arch vendor os env abi endian pointer_width panic families atomics features names : List ℕ) → Row
-row triple arch vendor os env abi endian pointer_width panic families atomics features names = record {
-  triple = triple;
-  arch = arch;
-  vendor = vendor;
-  os = os;
-  env = env;
-  abi = abi;
-  endian = endian;
-  pointer_width = pointer_width;
-  panic = panic;
-  families = families;
-  atomics = atomics;
-  features = features;
-  names = names;
-}
+abbrev pub row : (triple arch vendor os env abi endian pointer_width : List ℕ)
+    → (panic families atomics features names : List ℕ) → Row
+row triple arch vendor os env abi endian pointer_width panic families atomics features names =
+    record {
+      triple = triple;
+      arch = arch;
+      vendor = vendor;
+      os = os;
+      env = env;
+      abi = abi;
+      endian = endian;
+      pointer_width = pointer_width;
+      panic = panic;
+      families = families;
+      atomics = atomics;
+      features = features;
+      names = names;
+    }
 
 -- what a row says
 abbrev pub row_view : TargetRow → Row

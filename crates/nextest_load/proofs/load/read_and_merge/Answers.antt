@@ -72,7 +72,8 @@ returns-clause-ran g c =
     (ran_next (input_steps engines features [] all) (merged_steps at (flat_map source_texts_of all)) told new
     new (ending c.merge.result)
     c.in_ok-loaded.ensures.ran
-    (c.merge.ensures.ran (flat_map source_texts_of all) c.in_ok-loaded.ensures.loaded.merged new)))
+    (c.merge.ensures.ran (flat_map source_texts_of all) c.in_ok-loaded.ensures.loaded.merged
+    c.in_ok-loaded.ensures.loaded.kept new)))
 
 pub returns-clause-parts : goal.returns-clause-parts
 returns-clause-parts g c =
@@ -87,5 +88,6 @@ returns-clause-parts g c =
     subst P is
     (parts_are g.F.Filters.meaning g.S.Specs.spec_meaning engines ss c.in_ok-loaded.loaded c.merge.result
     c.in_ok-loaded.ensures.loaded
-    (c.merge.ensures.parts ss c.in_ok-loaded.ensures.loaded.merged c.in_ok-loaded.ensures.loaded.names)
+    (c.merge.ensures.parts ss c.in_ok-loaded.ensures.loaded.merged c.in_ok-loaded.ensures.loaded.kept
+    c.in_ok-loaded.ensures.loaded.names)
     c.merge.ensures.layers)

@@ -1,10 +1,12 @@
-use Rattle.std.proofs.Common.{◌≡◌, [], ◌∷◌, ◌+◌, ◌++◌, drop, take, map, option_map, append-nil, sym, ap, ◌∙◌}
+use Rattle.std.proofs.Common.{◌≡◌, [], ◌∷◌, ◌+◌, ◌++◌, drop, take, map, option_map, append-nil, IfSome, sym, ap, subst, ◌∙◌}
 use Rattle.std.proofs.Math.ListN.{drop_of_length-le}
 use Rattle.std.proofs.lemmas.List.{drop_more, take_more, take-append-drop}
 use Rattle.nextest_engines.specs.Readings.{readings_view}
 use Rattle.nextest_rules.specs.KnownView.{features_view}
 use Rattle.nextest_sources.proofs.Runs.{ran_exit}
 use Rattle.nextest_tree.specs.View.{tree_view}
+use Rattle.nextest_load.specs.Kept.{IsKept}
+use Rattle.nextest_load.specs.Trees.{merged_tree}
 use Rattle.nextest_load.proofs.Inputs.{sources_before, runs_start, runs_stop, runs_next, runs_end, runs_loaded}
 use Rattle.nextest_load.proofs.load.read_layers.Goals as goal
 
@@ -15,6 +17,7 @@ loop-input-init g c =
       known = c.new-loaded.ensures.known;
       merged =
           ap (option_map tree_view) c.new-loaded.ensures.merged;
+      kept = subst (λ kept. IfSome kept (IsKept (merged_tree []))) (sym c.new-loaded.ensures.kept) tt;
       layers =
           ap (map _) c.new-loaded.ensures.layers;
       names = c.new-loaded.ensures.names;

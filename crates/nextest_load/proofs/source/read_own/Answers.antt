@@ -7,6 +7,7 @@ use Rattle.nextest_tables.specs.Tables.{a_file}
 use Rattle.nextest_tree.specs.Schema.{unknown}
 use Rattle.nextest_tree.specs.View.{tree_view}
 use Rattle.nextest_load.specs.Steps.{element_cause, unknown_steps}
+use Rattle.nextest_load.proofs.Parting.{no_cause_found}
 use Rattle.nextest_load.proofs.source.read_own.Goals as goal
 
 pub returns-in_err-table-clause-ran : goal.returns-in_err-table-clause-ran
@@ -38,3 +39,8 @@ returns-clause-ran g c =
     ran_next (check source (element_cause tree) ∷ []) (unknown_steps source tree) told told _ passed
     (ran_check source (element_cause tree) told told passed refl c.in_ok-table.ensures.found)
     (c.in_ok-warn_of_unknown.ensures (unknown a_file [] tree) c.in_ok-table.ensures.unknown)
+
+pub returns-clause-sound : goal.returns-clause-sound
+returns-clause-sound g c =
+    no_cause_found (source_view c.args.source.now) (element_cause (tree_view c.args.own.now))
+    c.in_ok-table.ensures.found

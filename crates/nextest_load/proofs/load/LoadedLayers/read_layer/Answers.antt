@@ -56,6 +56,7 @@ returns-clause-loaded g c below was =
     _ c.in_ok-loaded.loaded.rules one was
     (ap known_view c.in_ok-add.ensures.known ∙ c.in_ok-loaded.ensures.known below was.known)
     (c.in_ok-add.ensures.merged below s was.merged c.in_ok-loaded.ensures.tree c.in_ok-loaded.ensures.own)
+    (c.in_ok-add.ensures.kept below s was.merged c.in_ok-loaded.ensures.kept)
     c.in_ok-add.ensures.layers c.in_ok-loaded.ensures.rules
     (c.in_ok-add.ensures.names below s was.names c.in_ok-loaded.ensures.setup c.in_ok-loaded.ensures.old_setup
     c.in_ok-loaded.ensures.wrapper)
