@@ -172,47 +172,11 @@ fn table_of_profiles(alloc: Global, profiles: BTreeMap<String, ProfileTable>) ->
     }
 }
 
-/// The rules of a table over those below it, or its first fault, and what a configuration keeps of
-/// it. Its names go to those that are known.
-///
-/// Groups and scripts are known before the rules are checked, so the rules need profiles alone.
-fn check_and_keep<F: Filters, S: Specs, W: ConfigWarnings>(
-    alloc: Global,
-    pcx: &ParseContext<'_, F, S>,
-    known: &mut KnownNames,
-    file: &SourceFile<'_>,
-    table: FileTable,
-    warnings: &mut W,
-) -> Result<CheckedTable<F, S>, ConfigParseError>
-    ensures ran { let engines = readings_view F.Filters S.Specs pcx.now in
-        (below : List FileText) → known_view known.old ≡ sets_of (known_names below)
-        → Ran (rule_steps engines (profiles_in below)
-        (sets_of (known_to below (file_table_view table))) (source_view file.now.source.now)
-        (file_table_view table))
-        (W.warnings warnings.old) (W.warnings warnings.new) (ending result) }
-    ensures rules { let engines = readings_view F.Filters S.Specs pcx.now in
-        IfOk result
-        (λ checked. layer_meaning F.meaning S.spec_meaning (layer_view checked.rules)
-        ≡ layer_of engines (source_view file.now.source.now) (file_table_view table).profiles) }
-    ensures known { (below : List FileText) → known_view known.old ≡ sets_of (known_names below)
-        → OnOk result (known_view known.new ≡ sets_of (known_to below (file_table_view table))) }
-    ensures kept { IfOk result (λ checked. IfSome checked.kept (IsKeptOf table)) }
-{
-    let (rest, profiles) = take_profiles(alloc, table);
-    let (ruled, profiles) = split_profiles(alloc, profiles)?;
-    known.add(&rest)?;
-    let ruled = table_of_profiles(alloc, ruled);
-    let rules = check_rules(alloc, pcx, file.source, known, ruled, warnings)?;
-    Ok(CheckedTable {
-        rules,
-        kept: Some(KeptTable { rest, profiles }),
-    })
-}
-
 /// The rules of a table over those below it, or its first fault. Its names go to those that are
 /// known.
 ///
-/// Of the lowest source, which may stay the only one, what a configuration keeps is kept.
+/// Of the lowest source, which may stay the only one, what a configuration keeps is kept. Its
+/// groups and scripts are known before its rules are checked, so that the rules need profiles alone.
 pub(crate) fn check_table<F: Filters, S: Specs, W: ConfigWarnings>(
     alloc: Global,
     pcx: &ParseContext<'_, F, S>,
@@ -235,9 +199,17 @@ pub(crate) fn check_table<F: Filters, S: Specs, W: ConfigWarnings>(
         → OnOk result (known_view known.new ≡ sets_of (known_to below (file_table_view table))) }
     ensures kept { IfOk result (λ checked. IfSome checked.kept (IsKeptOf table)) }
 {
-    if file.is_lowest {
-        return check_and_keep(alloc, pcx, known, file, table, warnings);
+    if !file.is_lowest {
+        let rules = check_rules(alloc, pcx, file.source, known, table, warnings)?;
+        return Ok(CheckedTable { rules, kept: None });
     }
-    let rules = check_rules(alloc, pcx, file.source, known, table, warnings)?;
-    Ok(CheckedTable { rules, kept: None })
+    let (rest, profiles) = take_profiles(alloc, table);
+    let (ruled, profiles) = split_profiles(alloc, profiles)?;
+    known.add(&rest)?;
+    let ruled = table_of_profiles(alloc, ruled);
+    let rules_alone = check_rules(alloc, pcx, file.source, known, ruled, warnings)?;
+    Ok(CheckedTable {
+        rules: rules_alone,
+        kept: Some(KeptTable { rest, profiles }),
+    })
 }

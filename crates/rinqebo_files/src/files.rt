@@ -1,0 +1,179 @@
+//! Reads the files that a request names.
+ghost use Rattle.std.specs.Prelude.{◌≡◌, IfOk, string_bytes};
+ghost use Rattle.std.specs.Option.{ForSome};
+
+use crate::root::root_above;
+use nextest_config::{
+    CONFIG_PATH, ConfigPath, ConfigPaths, FileInput, ReadOutcome, ToolConfigFile, join_paths,
+};
+use nextest_explain::FileReader;
+use rinqebo_request::{ConfigFile, Environment, FileOptions, Request, ToolFile};
+use std::alloc::{AllocError, Global};
+use thiserror::Error;
+
+/// The files that a request names, as they were read.
+#[derive(Drop)]
+pub struct Gathered {
+    /// The workspace's root, and its own file.
+    pub paths: ConfigPaths,
+    /// The repository's file that a user named, which counts in place of the workspace's own.
+    pub config_file: Option<FileInput>,
+    /// The files of tools, in the order of the words: the first is the highest.
+    pub tools: Vec<ToolConfigFile>,
+    /// What the compiler prints for the host, if it is given.
+    pub host_cfg: Option<String>,
+    /// What the compiler prints for the target, if it is given.
+    pub target_cfg: Option<String>,
+    /// What `cargo metadata` prints, if it is given.
+    pub metadata: Option<String>,
+}
+
+/// Why the files of a request were not read.
+#[derive(Debug, Drop, Error)]
+pub enum GatherFault {
+    /// No folder upward is the root of a workspace.
+    #[error("no workspace here or above: name its folder by `--root`")]
+    NoRoot,
+    /// The file at a path that an option names has no text: the path, and why.
+    #[error("cannot read `{0}`: {1}")]
+    Unreadable(String, String),
+    /// Want of memory.
+    #[error("out of memory")]
+    Memory,
+}
+
+impl From<AllocError> for GatherFault {
+    fn from(_error: AllocError) -> GatherFault {
+        GatherFault::Memory
+    }
+}
+
+/// The root of the workspace.
+fn root_of<R: FileReader>(
+    alloc: Global,
+    options: &FileOptions<'_>,
+    environment: &Environment,
+    files: &R,
+) -> Result<String, GatherFault>
+    ensures { IfOk result (λ root. ForSome options.now.root
+        (λ named. string_bytes root ≡ named.now)) }
+{
+    if let Some(root) = options.root {
+        return Ok(String::from_str(alloc, root)?);
+    }
+    match root_above(alloc, environment.folder.as_str(), files)? {
+        Some(root) => Ok(String::from_str(alloc, root)?),
+        None => Err(GatherFault::NoRoot),
+    }
+}
+
+/// The file at a path.
+fn read_at<R: FileReader>(alloc: Global, path: &str, files: &R) -> Result<FileInput, AllocError> {
+    Ok(FileInput {
+        path: ConfigPath::new(alloc, path)?,
+        outcome: files.read(alloc, path)?,
+    })
+}
+
+/// The workspace's own file. It is not looked for where another one is named.
+fn shared_file<R: FileReader>(
+    alloc: Global,
+    root: &str,
+    config_file: ConfigFile<'_>,
+    files: &R,
+) -> Result<FileInput, AllocError> {
+    let path = join_paths(alloc, root, CONFIG_PATH)?;
+    match config_file {
+        ConfigFile::Discovered => read_at(alloc, path.as_str(), files),
+        ConfigFile::Named(_) | ConfigFile::Input(_) => Ok(FileInput {
+            path: ConfigPath::new(alloc, path.as_str())?,
+            outcome: ReadOutcome::NotFound,
+        }),
+    }
+}
+
+/// The repository's file that a user named.
+fn named_file<R: FileReader>(
+    alloc: Global,
+    config_file: ConfigFile<'_>,
+    input: ReadOutcome,
+    files: &R,
+) -> Result<Option<FileInput>, AllocError> {
+    match config_file {
+        ConfigFile::Discovered => Ok(None),
+        ConfigFile::Named(path) => Ok(Some(read_at(alloc, path, files)?)),
+        ConfigFile::Input(path) => Ok(Some(FileInput {
+            path: ConfigPath::new(alloc, path)?,
+            outcome: input,
+        })),
+    }
+}
+
+/// The files of tools, in the order of their options.
+fn tool_files<R: FileReader>(
+    alloc: Global,
+    tools: &[ToolFile<'_>],
+    files: &R,
+) -> Result<Vec<ToolConfigFile>, AllocError> {
+    let mut read = Vec::new(alloc);
+    for named in tools {
+        read.push(ToolConfigFile {
+            tool: named.tool.clone()?,
+            config_file: read_at(alloc, named.path, files)?,
+        })?;
+    }
+    Ok(read)
+}
+
+/// The fault of a file that has no text.
+fn unreadable(alloc: Global, path: &str, reason: &str) -> Result<GatherFault, AllocError> {
+    Ok(GatherFault::Unreadable(
+        String::from_str(alloc, path)?,
+        String::from_str(alloc, reason)?,
+    ))
+}
+
+/// The text of the file at the path that an option names, if it is given.
+fn text_at<R: FileReader>(
+    alloc: Global,
+    path: Option<&str>,
+    files: &R,
+) -> Result<Option<String>, GatherFault> {
+    let Some(path) = path else {
+        return Ok(None);
+    };
+    let fault = match files.read(alloc, path)? {
+        ReadOutcome::Text(text) => return Ok(Some(text)),
+        ReadOutcome::NotFound => unreadable(alloc, path, "no such file")?,
+        ReadOutcome::NotADirectory => unreadable(alloc, path, "a part of it is no folder")?,
+        ReadOutcome::Failed(message) => unreadable(alloc, path, message.as_str())?,
+    };
+    Err(fault)
+}
+
+/// Reads the files that a request names. Where it reads standard input, that is what came of it.
+pub fn gather<R: FileReader>(
+    alloc: Global,
+    request: &Request<'_>,
+    environment: &Environment,
+    input: ReadOutcome,
+    files: &R,
+) -> Result<Gathered, GatherFault>
+    ensures root { IfOk result (λ gathered. ForSome request.now.files.root
+        (λ named. string_bytes gathered.paths.workspace_root ≡ named.now)) }
+{
+    let options = &request.files;
+    let root = root_of(alloc, options, environment, files)?;
+    let shared = shared_file(alloc, root.as_str(), options.config_file, files)?;
+    Ok(Gathered {
+        paths: ConfigPaths {
+            workspace_root: root,
+            shared,
+        },
+        config_file: named_file(alloc, options.config_file, input, files)?,
+        tools: tool_files(alloc, &options.tools, files)?,
+        host_cfg: text_at(alloc, request.engines.host_cfg, files)?,
+        target_cfg: text_at(alloc, request.engines.target_cfg, files)?,
+        metadata: text_at(alloc, request.engines.metadata, files)?,
+    })
+}

@@ -1,0 +1,2 @@
+mod KeyLists
+mod FeatureNames

@@ -1,0 +1,55 @@
+//! Hints: which known name a wrong one most likely means.
+use crate::keys::{SettingKey, all_keys, setting_of};
+use nextest_config::NextestRunMode;
+use rinqebo_report::nearest_name;
+use std::alloc::{AllocError, Global};
+
+/// The hint that a name is meant.
+fn did_you_mean(alloc: Global, name: Option<&str>) -> Result<Option<String>, AllocError> {
+    match name {
+        Some(name) => Ok(Some(format!(in alloc; "did you mean `{name}`?")?)),
+        None => Ok(None),
+    }
+}
+
+/// The hint that one of some known names is meant, if one is near.
+pub fn name_hint(alloc: Global, name: &str, known: &[&str]) -> Result<Option<String>, AllocError> {
+    did_you_mean(alloc, nearest_name(alloc, name, known)?)
+}
+
+/// The hint that one of some known texts is meant, if one is near.
+pub fn text_hint(
+    alloc: Global,
+    name: &str,
+    known: &[String],
+) -> Result<Option<String>, AllocError> {
+    let mut names = Vec::new(alloc);
+    for known in known {
+        names.push(known.as_str())?;
+    }
+    name_hint(alloc, name, &names)
+}
+
+/// The other mode.
+fn other_mode(mode: NextestRunMode) -> NextestRunMode {
+    match mode {
+        NextestRunMode::Test => NextestRunMode::Benchmark,
+        NextestRunMode::Benchmark => NextestRunMode::Test,
+    }
+}
+
+/// The hint that a key of a mode is meant: the one of the setting that has the key in the other mode,
+/// else a near one.
+pub fn key_hint(
+    alloc: Global,
+    key: &str,
+    mode: NextestRunMode,
+) -> Result<Option<String>, AllocError> {
+    match setting_of(alloc, key, other_mode(mode))? {
+        Some(setting) => {
+            let known = SettingKey::of(setting, mode).text(alloc)?;
+            did_you_mean(alloc, Some(known.as_str()))
+        }
+        None => text_hint(alloc, key, &all_keys(alloc, mode)?),
+    }
+}

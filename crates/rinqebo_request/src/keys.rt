@@ -1,0 +1,118 @@
+//! The keys of settings, as files write them.
+ghost use Rattle.std.specs.Prelude.{◌≡◌, ◌≢◌, ◌↔◌, IfOk, IsTrue, MatchOption, Some, codes, map, option_map, string_bytes};
+ghost use Rattle.nextest_settings.specs.Settings.{settings};
+ghost use Rattle.nextest_settings.specs.declared.setting.Setting.{Setting};
+ghost use Rattle.rinqebo_request.specs.Keys.{key_table, key_name, dotted, key_text};
+
+use nextest_config::{NextestRunMode, Setting};
+use std::alloc::{AllocError, Global};
+
+/// Where a profile or a rule writes a setting: the table within it, if there is one, and the key.
+#[derive(Clone, Copy)]
+pub struct SettingKey {
+    /// The table, as `junit`. Without it, the key stands in the profile or the rule itself.
+    pub table: Option<&'static str>,
+    /// The key in that table.
+    pub key: &'static str,
+}
+
+/// A key of the report's table.
+fn in_report(key: &'static str) -> SettingKey
+    ensures table { option_map (λ table. table.now) result.table ≡ Some (codes "junit") }
+    ensures key { result.key.now ≡ key.entry.now }
+{
+    SettingKey {
+        table: Some("junit"),
+        key,
+    }
+}
+
+impl SettingKey {
+    /// Where a setting is written. Benchmarks have a slow timeout of their own.
+    pub fn of(setting: Setting, mode: NextestRunMode) -> SettingKey
+        ensures table { option_map (λ table. table.now) result.table ≡ key_table setting mode }
+        ensures key { result.key.now ≡ key_name setting }
+    {
+        match (setting, mode) {
+            (Setting::SlowTimeout, NextestRunMode::Benchmark) => SettingKey {
+                table: Some("bench"),
+                key: setting.name(),
+            },
+            (Setting::JunitStoreSuccessOutput, _) => in_report("store-success-output"),
+            (Setting::JunitStoreFailureOutput, _) => in_report("store-failure-output"),
+            (Setting::JunitReportSkipped, _) => in_report("report-skipped"),
+            (Setting::JunitFlakyFailStatus, _) => in_report("flaky-fail-status"),
+            _ => SettingKey {
+                table: None,
+                key: setting.name(),
+            },
+        }
+    }
+
+    /// Whether it stands in the report's table.
+    pub fn is_of_report(self) -> bool {
+        self.table == Some("junit")
+    }
+
+    /// The keys with a dot between them.
+    pub fn text(self, alloc: Global) -> Result<String, AllocError>
+        ensures { IfOk result (λ text. string_bytes text
+            ≡ dotted (option_map (λ table. table.now) self.table) self.key.now) }
+    {
+        let key = self.key;
+        match self.table {
+            Some(table) => format!(in alloc; "{table}.{key}"),
+            None => String::from_str(alloc, key),
+        }
+    }
+}
+
+/// The key of a setting, with its table.
+fn text_of(alloc: Global, setting: Setting, mode: NextestRunMode) -> Result<String, AllocError>
+    ensures { IfOk result (λ text. string_bytes text ≡ key_text setting mode) }
+{
+    SettingKey::of(setting, mode).text(alloc)
+}
+
+/// Whether a setting has a key.
+fn has_key(
+    alloc: Global,
+    setting: Setting,
+    mode: NextestRunMode,
+    key: &str,
+) -> Result<bool, AllocError>
+    ensures { IfOk result (λ has. IsTrue has ↔ (key_text setting mode ≡ key.now)) }
+{
+    let text = text_of(alloc, setting, mode)?;
+    Ok(text.as_str() == key)
+}
+
+/// The keys of all settings.
+pub fn all_keys(alloc: Global, mode: NextestRunMode) -> Result<Vec<String>, AllocError>
+    ensures { IfOk result (λ keys. map string_bytes keys.items
+        ≡ map (λ setting. key_text setting mode) settings) }
+{
+    let mut keys = Vec::new(alloc);
+    for setting in Setting::ALL.iter() {
+        keys.push(text_of(alloc, *setting, mode)?)?;
+    }
+    Ok(keys)
+}
+
+/// The setting of a key.
+pub fn setting_of(
+    alloc: Global,
+    key: &str,
+    mode: NextestRunMode,
+) -> Result<Option<Setting>, AllocError>
+    ensures { IfOk result (λ found. MatchOption found
+        ((setting : Setting) → key_text setting mode ≢ key.now)
+        (λ setting. key_text setting mode ≡ key.now)) }
+{
+    for setting in Setting::ALL.iter() {
+        if has_key(alloc, *setting, mode, key)? {
+            return Ok(Some(*setting));
+        }
+    }
+    Ok(None)
+}

@@ -1,0 +1,19 @@
+//! What is asked of the program `rinqebo`: its commands and options, and the request that words are.
+#![tactic(auto)]
+
+mod environment;
+mod features;
+mod hints;
+mod keys;
+mod notes;
+mod options;
+mod request;
+mod words;
+
+pub use environment::{Environment, RunVariables};
+pub use features::{FEATURES, feature_name, feature_of, law_all_features};
+pub use hints::{name_hint, text_hint};
+pub use keys::{SettingKey, all_keys, setting_of};
+pub use notes::notes_of;
+pub use request::{ConfigFile, EngineOptions, FileOptions, Question, Request, TestName, ToolFile};
+pub use words::{ParseStop, parse};

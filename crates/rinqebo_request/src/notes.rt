@@ -1,0 +1,54 @@
+//! Notes on variables that stand above all files.
+use crate::environment::{Environment, set};
+use crate::request::{Question, Request};
+use nextest_config::Setting;
+use std::alloc::{AllocError, Global};
+
+/// Whether a question asks for a setting of a test.
+fn asks_for(question: &Question<'_>, setting: Setting) -> bool {
+    match question {
+        Question::Explain { settings, .. } => settings.iter().any(|asked| *asked == setting),
+        Question::Why { setting: asked, .. } => *asked == setting,
+        Question::Check { .. } => false,
+    }
+}
+
+/// Notes on the variables which a run of nextest puts above all files: a line for each that is set,
+/// where the request asks for its setting.
+pub fn notes_of(
+    alloc: Global,
+    request: &Request<'_>,
+    environment: &Environment,
+) -> Result<String, AllocError> {
+    let run = &environment.run;
+    let variables = [
+        ("NEXTEST_RETRIES", &run.retries, Setting::Retries),
+        (
+            "NEXTEST_FLAKY_RESULT",
+            &run.flaky_result,
+            Setting::FlakyResult,
+        ),
+        (
+            "NEXTEST_SUCCESS_OUTPUT",
+            &run.success_output,
+            Setting::SuccessOutput,
+        ),
+        (
+            "NEXTEST_FAILURE_OUTPUT",
+            &run.failure_output,
+            Setting::FailureOutput,
+        ),
+    ];
+    let mut notes = String::new(alloc);
+    for (name, variable, setting) in variables.iter() {
+        if set(*variable).is_some() && asks_for(&request.question, *setting) {
+            let key = setting.name();
+            notes.push_str("note: ")?;
+            notes.push_str(*name)?;
+            notes.push_str(" is set: a run of nextest takes `")?;
+            notes.push_str(key)?;
+            notes.push_str("` from it, whatever the files say\n")?;
+        }
+    }
+    Ok(notes)
+}

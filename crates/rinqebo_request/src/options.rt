@@ -1,0 +1,200 @@
+//! The commands and their options, as the command line has them.
+use clap::{Arg, ArgAction, Command};
+use std::alloc::{AllocError, Global};
+
+/// The formats of what a test gets.
+const ANSWER_FORMATS: &[&str] = &["text", "json"];
+
+/// The formats of findings.
+const CHECK_FORMATS: &[&str] = &["text", "json", "concise", "github"];
+
+/// When colours are used.
+const COLOURS: &[&str] = &["auto", "always", "never"];
+
+/// For what tests are run.
+const MODES: &[&str] = &["test", "benchmark"];
+
+/// An option with a value.
+fn option<'a>(alloc: Global, name: &'a str, value: &'a str, help: &'a str) -> Arg<'a> {
+    Arg::new(alloc, name)
+        .long(name)
+        .value_name(value)
+        .action(ArgAction::Set)
+        .help(help)
+}
+
+/// An option whose value is one of some words.
+fn choice<'a>(
+    alloc: Global,
+    name: &'a str,
+    value: &'a str,
+    words: &'a [&'a str],
+    help: &'a str,
+) -> Arg<'a> {
+    option(alloc, name, value, help).value_parser(words)
+}
+
+/// A flag.
+fn flag<'a>(alloc: Global, name: &'a str, help: &'a str) -> Arg<'a> {
+    Arg::new(alloc, name)
+        .long(name)
+        .action(ArgAction::SetTrue)
+        .help(help)
+}
+
+/// A word without an option.
+fn word<'a>(alloc: Global, name: &'a str, help: &'a str) -> Arg<'a> {
+    Arg::new(alloc, name)
+        .value_name(name)
+        .action(ArgAction::Set)
+        .help(help)
+}
+
+/// The options that say which files are read.
+fn with_files<'a>(alloc: Global, command: Command<'a>) -> Result<Command<'a>, AllocError> {
+    let tools = option(
+        alloc,
+        "tool-config-file",
+        "TOOL:PATH",
+        "A file that a tool provides, once for each: the first is the highest",
+    );
+    let features = option(
+        alloc,
+        "experimental",
+        "NAME",
+        "Switches setup-scripts or wrapper-scripts on, beside what the repository's file says",
+    );
+    command
+        .arg(option(
+            alloc,
+            "root",
+            "DIR",
+            "The workspace's root [default: looked for from the current folder upward]",
+        ))?
+        .arg(option(
+            alloc,
+            "config-file",
+            "P",
+            "The repository's file [default: .config/nextest.toml below the root]",
+        ))?
+        .arg(tools.action(ArgAction::Append))?
+        .arg(features.action(ArgAction::Append))?
+        .arg(option(
+            alloc,
+            "metadata",
+            "F",
+            "A file with what `cargo metadata --format-version 1` prints, for deps and rdeps",
+        ))
+}
+
+/// The options that say how an answer is written.
+fn with_output<'a>(
+    alloc: Global,
+    command: Command<'a>,
+    formats: &'a [&'a str],
+) -> Result<Command<'a>, AllocError> {
+    command
+        .arg(choice(alloc, "format", "F", formats, "How it is written").default_value("text"))?
+        .arg(choice(
+            alloc,
+            "color",
+            "W",
+            COLOURS,
+            "When colours are used [default: CARGO_TERM_COLOR, else auto]",
+        ))
+}
+
+/// The options that say on what tests run.
+fn with_platforms<'a>(alloc: Global, command: Command<'a>) -> Result<Command<'a>, AllocError> {
+    command
+        .arg(option(
+            alloc,
+            "host",
+            "T",
+            "The triple of the host [default: x86_64-unknown-linux-gnu]",
+        ))?
+        .arg(option(
+            alloc,
+            "target",
+            "T",
+            "The triple of the target [default: CARGO_BUILD_TARGET, else the host]",
+        ))?
+        .arg(option(
+            alloc,
+            "host-cfg",
+            "F",
+            "A file with what `rustc --print cfg` prints [default: a table of known triples]",
+        ))?
+        .arg(option(
+            alloc,
+            "target-cfg",
+            "F",
+            "A file with what `rustc --print cfg --target T` prints [default: the table]",
+        ))?
+        .arg(flag(
+            alloc,
+            "host-binary",
+            "The test's binary is built for the host, as that of a build script",
+        ))
+}
+
+/// The command that explains the settings of a test.
+fn explain_command<'a>(alloc: Global) -> Result<Command<'a>, AllocError> {
+    let keys = Arg::new(alloc, "KEY")
+        .value_name("KEY")
+        .num_args(0..)
+        .action(ArgAction::Append)
+        .help("Settings, as files spell them [default: all]");
+    let profile = option(
+        alloc,
+        "profile",
+        "P",
+        "The profile [default: NEXTEST_PROFILE, else default]",
+    );
+    let command = Command::new(alloc, "explain")
+        .about("Tells the settings of a test, and what decides each")
+        .arg(word(alloc, "BINARY", "The id of the test's binary").required(true))?
+        .arg(word(alloc, "TEST", "The name of the test").required(true))?
+        .arg(keys)?
+        .arg(option(
+            alloc,
+            "why",
+            "KEY",
+            "Tells each rule of this setting with its verdict, instead of settings",
+        ))?
+        .arg(profile.short('P'))?
+        .arg(choice(alloc, "mode", "M", MODES, "For what the test runs").default_value("test"))?;
+    let command = with_files(alloc, command)?;
+    let command = with_platforms(alloc, command)?;
+    with_output(alloc, command, ANSWER_FORMATS)
+}
+
+/// The command that checks files.
+fn check_command<'a>(alloc: Global) -> Result<Command<'a>, AllocError> {
+    let command = Command::new(alloc, "check")
+        .about("Tells what is wrong with the files")
+        .arg(word(
+            alloc,
+            "FILE",
+            "The repository's file, or - for standard input [default: as `--config-file` says]",
+        ))?
+        .arg(option(
+            alloc,
+            "stdin-path",
+            "P",
+            "The path that standard input is shown with [default: -]",
+        ))?
+        .arg(flag(alloc, "deny-warnings", "A warning is no success: status 1"))?;
+    let command = with_files(alloc, command)?;
+    with_output(alloc, command, CHECK_FORMATS)
+}
+
+/// The program's commands.
+pub fn program<'a>(alloc: Global) -> Result<Command<'a>, AllocError> {
+    Command::new(alloc, "rinqebo")
+        .bin_name("rinqebo")?
+        .about("Tells what a configuration of nextest gives to tests")
+        .subcommand_required(true)
+        .subcommand(explain_command(alloc)?)?
+        .subcommand(check_command(alloc)?)
+}

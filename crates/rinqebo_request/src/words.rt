@@ -1,0 +1,346 @@
+//! Reads the words of the command line.
+use crate::environment::{Environment, set};
+use crate::features::{FEATURES, feature_of};
+use crate::hints::{key_hint, name_hint};
+use crate::keys::setting_of;
+use crate::options::program;
+use crate::request::{
+    ConfigFile, EngineOptions, FileOptions, Question, Request, TestName, ToolFile,
+};
+use clap::ArgMatches;
+use clap::error::ErrorKind;
+use nextest_config::{
+    BuildPlatform, ConfigExperimental, InvalidIdentifier, NextestRunMode, Setting, ToolName,
+};
+use rinqebo_report::{Colour, Format};
+use std::alloc::{AllocError, Global};
+use std::collections::BTreeSet;
+
+/// The triple of the host where none is named.
+const HOST: &str = "x86_64-unknown-linux-gnu";
+
+/// Why words are no request.
+#[derive(Debug, Drop)]
+pub enum ParseStop {
+    /// They ask for help, which is this text.
+    Help(String),
+    /// They are not as the commands want them. The text says why.
+    Usage(String),
+    /// Want of memory.
+    Memory,
+}
+
+impl From<AllocError> for ParseStop {
+    fn from(_error: AllocError) -> ParseStop {
+        ParseStop::Memory
+    }
+}
+
+/// A fault of usage, with a hint if there is one.
+fn usage(alloc: Global, message: &str, hint: Option<String>) -> Result<ParseStop, AllocError> {
+    match hint {
+        Some(hint) => Ok(ParseStop::Usage(format!(in alloc; "error: {message}\n  {hint}\n")?)),
+        None => Ok(ParseStop::Usage(format!(in alloc; "error: {message}\n")?)),
+    }
+}
+
+/// Why the command line was not read.
+fn stop_of(alloc: Global, error: &clap::Error) -> Result<ParseStop, AllocError> {
+    match error.kind() {
+        ErrorKind::OutOfMemory => Ok(ParseStop::Memory),
+        ErrorKind::DisplayHelp | ErrorKind::DisplayVersion => {
+            Ok(ParseStop::Help(error.to_string(alloc)?))
+        }
+        _ => Ok(ParseStop::Usage(error.to_string(alloc)?)),
+    }
+}
+
+/// The name of a tool.
+fn tool_name(alloc: Global, name: &str) -> Result<ToolName, ParseStop> {
+    match ToolName::new(alloc, name) {
+        Ok(tool) => Ok(tool),
+        Err(InvalidIdentifier::Memory) => Err(ParseStop::Memory),
+        Err(fault) => {
+            let message = format!(in alloc; "`{name}` is no name of a tool: {fault}")?;
+            Err(usage(alloc, message.as_str(), None)?)
+        }
+    }
+}
+
+/// The file of a tool, from the value of its option.
+fn tool_file<'a>(alloc: Global, value: &'a str) -> Result<ToolFile<'a>, ParseStop> {
+    match value.split_once(':') {
+        Some((tool, path)) if !path.is_empty() => Ok(ToolFile {
+            tool: tool_name(alloc, tool)?,
+            path,
+        }),
+        _ => {
+            let message = format!(in alloc; "`{value}` is not of the form TOOL:PATH")?;
+            Err(usage(alloc, message.as_str(), None)?)
+        }
+    }
+}
+
+/// The files of tools.
+fn tool_files<'a>(alloc: Global, matches: &ArgMatches<'a>) -> Result<Vec<ToolFile<'a>>, ParseStop> {
+    let mut tools = Vec::new(alloc);
+    for value in matches.get_strs("tool-config-file").unwrap_or(&[]) {
+        tools
+            .push(tool_file(alloc, *value)?)
+            .map_err(AllocError::from)?;
+    }
+    Ok(tools)
+}
+
+/// The experimental features that variables and options switch on.
+fn features(
+    alloc: Global,
+    matches: &ArgMatches<'_>,
+    environment: &Environment,
+) -> Result<BTreeSet<ConfigExperimental>, ParseStop> {
+    let mut features = BTreeSet::new(alloc);
+    for feature in FEATURES.iter() {
+        if environment.switches_on(*feature) {
+            features.insert(*feature).map_err(AllocError::from)?;
+        }
+    }
+    for name in matches.get_strs("experimental").unwrap_or(&[]) {
+        let Some(feature) = feature_of(*name) else {
+            let message = format!(in alloc; "unknown experimental feature `{name}`")?;
+            let hint = name_hint(alloc, *name, &["setup-scripts", "wrapper-scripts"])?;
+            return Err(usage(alloc, message.as_str(), hint)?);
+        };
+        features.insert(feature).map_err(AllocError::from)?;
+    }
+    Ok(features)
+}
+
+/// The files that are read, beside the repository's.
+fn files<'a>(
+    alloc: Global,
+    matches: &ArgMatches<'a>,
+    config_file: ConfigFile<'a>,
+) -> Result<FileOptions<'a>, ParseStop> {
+    Ok(FileOptions {
+        root: matches.get_str("root"),
+        config_file,
+        tools: tool_files(alloc, matches)?,
+    })
+}
+
+/// The repository's file that an option names.
+fn named_file<'a>(matches: &ArgMatches<'a>) -> ConfigFile<'a> {
+    match matches.get_str("config-file") {
+        Some(path) => ConfigFile::Named(path),
+        None => ConfigFile::Discovered,
+    }
+}
+
+/// The repository's file that a check names. It is named once, and only standard input is shown
+/// with a path of its own.
+fn checked_file<'a>(alloc: Global, matches: &ArgMatches<'a>) -> Result<ConfigFile<'a>, ParseStop> {
+    let file = matches.get_str("FILE");
+    let shown = matches.get_str("stdin-path");
+    if file.is_some() && matches.contains_id("config-file") {
+        return Err(usage(alloc, "FILE stands in place of `--config-file`", None)?);
+    }
+    match (file, shown) {
+        (Some("-"), shown) => Ok(ConfigFile::Input(shown.unwrap_or("-"))),
+        (_, Some(_)) => {
+            let message = "`--stdin-path` goes with `-`, which stands for standard input";
+            Err(usage(alloc, message, None)?)
+        }
+        (Some(path), None) => Ok(ConfigFile::Named(path)),
+        (None, None) => Ok(named_file(matches)),
+    }
+}
+
+/// What the languages of filters and platforms know.
+fn engines<'a>(
+    alloc: Global,
+    matches: &ArgMatches<'a>,
+    environment: &'a Environment,
+) -> Result<EngineOptions<'a>, ParseStop> {
+    let target = matches.get_str("target").or(set(&environment.target));
+    if target.is_none() && matches.contains_id("target-cfg") {
+        return Err(usage(alloc, "`--target-cfg` goes with `--target`", None)?);
+    }
+    Ok(EngineOptions {
+        host: matches.get_str("host").unwrap_or(HOST),
+        target,
+        host_cfg: matches.get_str("host-cfg"),
+        target_cfg: matches.get_str("target-cfg"),
+        metadata: matches.get_str("metadata"),
+    })
+}
+
+/// The languages of a check, which runs no test.
+fn check_engines<'a>(matches: &ArgMatches<'a>) -> EngineOptions<'a> {
+    EngineOptions {
+        host: HOST,
+        target: None,
+        host_cfg: None,
+        target_cfg: None,
+        metadata: matches.get_str("metadata"),
+    }
+}
+
+/// How an answer is written.
+fn format<'a>(matches: &ArgMatches<'a>, environment: &'a Environment) -> Format<'a> {
+    match matches.get_str("format") {
+        Some("json") => Format::Json,
+        Some("concise") => Format::Concise,
+        Some("github") => Format::Github(set(&environment.workflow_folder).unwrap_or("")),
+        _ => Format::Text,
+    }
+}
+
+/// Whether an answer has colours.
+fn colour(matches: &ArgMatches<'_>, environment: &Environment) -> Colour {
+    let when = matches
+        .get_str("color")
+        .or(set(&environment.colour))
+        .unwrap_or("auto");
+    let is_coloured = match when {
+        "always" => true,
+        "never" => false,
+        _ => environment.is_terminal && set(&environment.no_colour).is_none(),
+    };
+    if is_coloured {
+        Colour::Coloured
+    } else {
+        Colour::Plain
+    }
+}
+
+/// The setting of a key.
+fn setting(alloc: Global, key: &str, mode: NextestRunMode) -> Result<Setting, ParseStop> {
+    if let Some(setting) = setting_of(alloc, key, mode)? {
+        return Ok(setting);
+    }
+    let message = format!(in alloc; "unknown setting `{key}`")?;
+    let hint = key_hint(alloc, key, mode)?;
+    Err(usage(alloc, message.as_str(), hint)?)
+}
+
+/// The settings that are asked for: all, where none is named.
+fn settings(
+    alloc: Global,
+    matches: &ArgMatches<'_>,
+    mode: NextestRunMode,
+) -> Result<Vec<Setting>, ParseStop> {
+    let mut settings = Vec::new(alloc);
+    for key in matches.get_strs("KEY").unwrap_or(&[]) {
+        settings
+            .push(setting(alloc, *key, mode)?)
+            .map_err(AllocError::from)?;
+    }
+    if settings.is_empty() {
+        for setting in Setting::ALL.iter() {
+            settings.push(*setting).map_err(AllocError::from)?;
+        }
+    }
+    Ok(settings)
+}
+
+/// The mode that is asked for.
+fn mode(matches: &ArgMatches<'_>) -> NextestRunMode {
+    match matches.get_str("mode") {
+        Some("benchmark") => NextestRunMode::Benchmark,
+        _ => NextestRunMode::Test,
+    }
+}
+
+/// The test that is asked about.
+fn test_name<'a>(matches: &ArgMatches<'a>) -> TestName<'a> {
+    let platform = if matches.get_flag("host-binary") {
+        BuildPlatform::Host
+    } else {
+        BuildPlatform::Target
+    };
+    TestName {
+        binary: matches.get_str("BINARY").unwrap_or(""),
+        name: matches.get_str("TEST").unwrap_or(""),
+        platform,
+        mode: mode(matches),
+    }
+}
+
+/// What is asked about a test.
+fn explain_question<'a>(
+    alloc: Global,
+    matches: &ArgMatches<'a>,
+    environment: &'a Environment,
+) -> Result<Question<'a>, ParseStop> {
+    let test = test_name(matches);
+    let profile = matches
+        .get_str("profile")
+        .or(set(&environment.profile))
+        .unwrap_or("default");
+    let Some(key) = matches.get_str("why") else {
+        return Ok(Question::Explain {
+            profile,
+            test,
+            settings: settings(alloc, matches, test.mode)?,
+        });
+    };
+    if matches.contains_id("KEY") {
+        return Err(usage(alloc, "`--why` stands in place of settings", None)?);
+    }
+    Ok(Question::Why {
+        profile,
+        test,
+        setting: setting(alloc, key, test.mode)?,
+    })
+}
+
+/// The request of the command `explain`.
+fn explain_request<'a>(
+    alloc: Global,
+    matches: &ArgMatches<'a>,
+    environment: &'a Environment,
+) -> Result<Request<'a>, ParseStop> {
+    Ok(Request {
+        question: explain_question(alloc, matches, environment)?,
+        files: files(alloc, matches, named_file(matches))?,
+        engines: engines(alloc, matches, environment)?,
+        features: features(alloc, matches, environment)?,
+        format: format(matches, environment),
+        colour: colour(matches, environment),
+    })
+}
+
+/// The request of the command `check`.
+fn check_request<'a>(
+    alloc: Global,
+    matches: &ArgMatches<'a>,
+    environment: &'a Environment,
+) -> Result<Request<'a>, ParseStop> {
+    Ok(Request {
+        question: Question::Check {
+            deny_warnings: matches.get_flag("deny-warnings"),
+        },
+        files: files(alloc, matches, checked_file(alloc, matches)?)?,
+        engines: check_engines(matches),
+        features: features(alloc, matches, environment)?,
+        format: format(matches, environment),
+        colour: colour(matches, environment),
+    })
+}
+
+/// Reads the words, with the program's name, and what the environment says in their place.
+pub fn parse<'a>(
+    alloc: Global,
+    words: &'a [String],
+    environment: &'a Environment,
+) -> Result<Request<'a>, ParseStop> {
+    let matches = match program(alloc)?.try_get_matches_from(words) {
+        Ok(matches) => matches,
+        Err(error) => return Err(stop_of(alloc, &error)?),
+    };
+    match matches.subcommand() {
+        Some(("explain", matches)) => explain_request(alloc, matches, environment),
+        Some((_, matches)) => check_request(alloc, matches, environment),
+        None => Err(usage(alloc, "no command", None)?),
+    }
+}

@@ -1,0 +1,121 @@
+-- The rules of a setting and the fallback, put together.
+use Rattle.std.proofs.Common.{◌≡◌, ◌∙◌, ℕ, List, [], ◌∷◌, ◌++◌, map, ap, subst, sym, string_bytes, Result, Ok, Err, IfOk, refl}
+use Rattle.std.specs.declared.alloc.Global.{Global}
+use Rattle.filter_language.specs.Filtersets.{marks_view}
+use Rattle.filter_language.specs.declared.filterset.Filterset.{Filterset}
+use Rattle.nextest_engines.specs.Engines.{Test, test_view}
+use Rattle.nextest_engines.specs.declared.queries.BuildPlatform.{BuildPlatform}
+use Rattle.nextest_engines.specs.declared.queries.BuildPlatforms.{BuildPlatforms}
+use Rattle.nextest_engines.specs.declared.queries.TestQuery.{TestQuery}
+use Rattle.nextest_filters.specs.Compiling.{names_of}
+use Rattle.nextest_filters.specs.Engine.{Filter}
+use Rattle.nextest_filters.specs.declared.compiling.FieldMatcher.{FieldMatcher}
+use Rattle.nextest_inheritance.specs.Parents.{with_default}
+use Rattle.nextest_load.specs.Load.{Loaded}
+use Rattle.nextest_profiles.specs.Profiles.{IsProfileOf}
+use Rattle.nextest_settings.specs.Chains.{overrides_of, script_rules_of}
+use Rattle.nextest_settings.specs.Profile.{Configured, profile_of}
+use Rattle.nextest_settings.specs.declared.setting.Setting.{Setting}
+use Rattle.nextest_sources.specs.Inputs.{sources_in}
+use Rattle.nextest_tables.specs.FileTexts.{names_in, IsIn}
+use Rattle.nextest_tables.specs.Written.{Name}
+use Rattle.rinqebo_report.specs.declared.report.Content.{Content}
+use Rattle.rinqebo_report.specs.declared.report.Content.TheVariants as contents
+use Rattle.rinqebo_report.specs.declared.report.Report.{Report}
+use Rattle.rinqebo_report.specs.declared.report.Rule.{Rule}
+use Rattle.rinqebo_report.specs.declared.report.Verdict.TheVariants as told
+use Rattle.rinqebo_request.specs.Keys.{key_text}
+use Rattle.rinqebo_request.specs.declared.request.TestName.{TestName}
+use Rattle.target_language.specs.Expressions.{spec_view}
+use Rattle.target_language.specs.declared.expression.TargetSpec.{TargetSpec}
+use Rattle.target_platforms.specs.declared.Platform.{Platform}
+use Rattle.rinqebo_run.proofs.Meant.{reasons_of_texts}
+use Rattle.rinqebo_run.specs.Checked.{AreAccepted}
+use Rattle.rinqebo_run.specs.Conditions.{is_met_by, filter_matches, default_filter_here}
+use Rattle.rinqebo_run.specs.Reasons.{AreRulesTold}
+use Rattle.rinqebo_run.specs.RuleViews.{Rule as ReadRule}
+use Rattle.rinqebo_run.specs.Sessions.{files_view, readings, IsLoadedFrom}
+use Rattle.rinqebo_run.specs.SettingRules.{rules_for}
+use Rattle.rinqebo_run.specs.TellsReasons.{AreReasons, AreReasonsIn, configured_by, IfWhy, TellsReasons}
+use Rattle.rinqebo_run.specs.declared.session.Session.{Session}
+
+-- what is told of the rules of a chain for a setting, and then of the fallback
+pub reasons_here : (platforms : BuildPlatforms Platform) (test : TestName) (query : TestQuery) (s : Setting)
+    (default : Filterset FieldMatcher) (c : Configured (Filterset FieldMatcher) TargetSpec) (name : Name)
+    (names : List Name) (read : List ReadRule) (before : List Rule) (fallback : Rule) (rules : List Rule)
+    → default ≡ default_filter_here platforms c.config (with_default names)
+    → read ≡ rules_for s test.mode (overrides_of c.config.layers (with_default names))
+    (script_rules_of c.config.layers (with_default names))
+    → (test_view query).name ≡ test.name.now → (test_view query).binary.binary_id ≡ test.binary.now
+    → (test_view query).binary.platform ≡ test.platform
+    → AreRulesTold is_met_by platforms
+    (record { platform = test.platform; matches = λ f. filter_matches f (test_view query) default }) read before
+    → fallback.verdict ≡ told.Fallback → rules ≡ before ++ fallback ∷ []
+    → AreReasons is_met_by filter_matches platforms test s (profile_of c name names) rules
+reasons_here platforms test query s default c name names read before fallback rules same gathered named binary on
+    here last are =
+    let asked = test_view query in
+    let Told : BuildPlatform → Filterset FieldMatcher → List ReadRule → Type 0 =
+    λ p d rs. AreRulesTold is_met_by platforms
+    (record { platform = p; matches = λ f. filter_matches f asked d }) rs before in
+    record {
+      asked = asked;
+      name = named;
+      binary = binary;
+      platform = on;
+      before = before;
+      fallback = fallback;
+      are = are;
+      rules_told = subst (Told asked.binary.platform (default_filter_here platforms c.config (with_default names)))
+          gathered (subst (λ d. Told asked.binary.platform d read) same
+          (subst (λ p. Told p default read) (sym on) here));
+      fallback_told = last;
+    }
+
+-- a fact of a key and of rules follows from another one
+pub why_moved : (content : Content) (P Q : List ℕ → List Rule → Type 0)
+    → ((key : List ℕ) (rules : List Rule) → P key rules → Q key rules) → IfWhy content P → IfWhy content Q
+why_moved (contents.Explain asked test) P Q moved is = absurd is
+why_moved (contents.Why asked key rules) P Q moved is = moved (string_bytes key) rules.items is
+why_moved (contents.List asked tests unused) P Q moved is = absurd is
+why_moved (contents.ShowConfig asked entries) P Q moved is = absurd is
+why_moved contents.Check P Q moved is = absurd is
+
+-- a report tells the rules of a setting by what was loaded
+pub tells : (session : Session) (profile : Name) (test : TestName) (s : Setting) (report : Report) (content : Content)
+    (loaded : Loaded (Filterset FieldMatcher) TargetSpec)
+    → AreAccepted session
+    → IsLoadedFrom (readings session.engines.filters) (files_view session.gathered.now) loaded
+    → IsIn (names_in loaded.config.profiles) profile → report.content ≡ content
+    → IfWhy content (λ key rules. (key ≡ key_text s test.mode)
+    × AreReasonsIn is_met_by filter_matches session.engines.platforms (record {
+      root = string_bytes session.gathered.now.paths.workspace_root;
+      config = loaded.config;
+      scripts = loaded.scripts;
+    }) profile test s rules)
+    → TellsReasons session profile test s report
+tells session profile test s report content loaded accepted from there same is =
+    let engines = readings session.engines.filters in
+    let read : Configured (Filterset FieldMatcher) TargetSpec = record {
+      root = string_bytes session.gathered.now.paths.workspace_root;
+      config = loaded.config;
+      scripts = loaded.scripts;
+    } in
+    record {
+      acceptance = accepted;
+      scripts = loaded.scripts;
+      are_scripts = from.scripts;
+      known = subst (λ config. IsIn (names_in config.profiles) profile) from.means there;
+      told = why_moved report.content
+          (λ key rules. (key ≡ key_text s test.mode) × AreReasonsIn is_met_by filter_matches session.engines.platforms
+          read profile test s rules)
+          (λ key rules. (key ≡ key_text s test.mode) × AreReasonsIn engines.meets engines.matches_test
+          session.engines.platforms (configured_by session loaded.scripts) profile test s rules)
+          (λ key rules h. (
+            h.0,
+            reasons_of_texts (marks_view names_of) spec_view engines.meets session.engines.platforms
+                engines.matches_test test s read profile rules _ from.means h.1,
+          ))
+          (subst (λ content. IfWhy content (λ key rules. (key ≡ key_text s test.mode)
+          × AreReasonsIn is_met_by filter_matches session.engines.platforms read profile test s rules)) (sym same) is);
+    }

@@ -1,0 +1,238 @@
+-- What is told of rules as they were read is told of what they mean.
+use Rattle.std.proofs.Common.{◌≡◌, ◌∙◌, ◌&&◌, Bool, true, false, if◌then◌else◌, List, [], ◌∷◌, map, Option, None, Some, is_some, option_map, ap, refl, sym, subst}
+use Rattle.std.specs.List.{AllZip, zip}
+use Rattle.nextest_elements.specs.declared.run_mode.NextestRunMode.{NextestRunMode}
+use Rattle.nextest_engines.specs.Engines.{Test}
+use Rattle.nextest_engines.specs.declared.queries.BuildPlatform.{BuildPlatform}
+use Rattle.nextest_engines.specs.declared.queries.BuildPlatform.TheVariants.{Host, Target}
+use Rattle.nextest_engines.specs.declared.queries.BuildPlatforms.{BuildPlatforms}
+use Rattle.nextest_inheritance.specs.Parents.{parents_in, with_default, IsChain}
+use Rattle.nextest_load.specs.Config.{ConfigModel, config_parents}
+use Rattle.nextest_load.specs.Meaning.{config_meaning}
+use Rattle.nextest_profiles.proofs.MeaningOfTexts.{overrides_meaning, script_rules_meaning, profile_means}
+use Rattle.nextest_profiles.specs.Meaning.{with_config, configured_meaning}
+use Rattle.nextest_rules.specs.Meaning.{rule_meaning, override_meaning, script_rule_meaning}
+use Rattle.nextest_rules.specs.Rules.{Compiled, OverrideUse}
+use Rattle.nextest_settings.specs.Deciding.{QueryContext, filter_holds}
+use Rattle.nextest_settings.specs.Platforms.{spec_holds, specs_hold, runs_on, rule_on, by_platform}
+use Rattle.nextest_settings.specs.Profile.{Configured, EarlyModel, profile_of, profile_on}
+use Rattle.nextest_settings.specs.declared.setting.Setting.{Setting}
+use Rattle.nextest_tables.specs.FileTexts.{ScriptUse}
+use Rattle.nextest_tables.specs.Written.{Name}
+use Rattle.rinqebo_report.specs.declared.report.Rule.{Rule}
+use Rattle.rinqebo_request.specs.declared.request.TestName.{TestName}
+use Rattle.rule_verdicts.proofs.VerdictsOf.{verdicts-facts}
+use Rattle.rule_verdicts.specs.Verdicts.{facts_of, verdicts_of}
+use Rattle.rule_verdicts.specs.VerdictsBy.{verdicts_by}
+use Rattle.rule_verdicts.specs.declared.verdict.Verdict.{Verdict}
+use Rattle.rinqebo_run.specs.Conditions.{told_condition, is_met, asked_if}
+use Rattle.rinqebo_run.specs.Reasons.{answers_by, IsRuleTold, AreRulesTold, answers_told, verdicts_here, AreRulesToldHere}
+use Rattle.rinqebo_run.specs.RuleViews.{Rule as ReadRule, setting_rule_view}
+use Rattle.rinqebo_run.specs.SettingRules.{RuleFor, for_setting, override_writes, wrapper_written, is_of_scripts, rules_for}
+use Rattle.rinqebo_run.specs.TellsReasons.{AreReasons, AreReasonsIn}
+use Rattle.rinqebo_run.specs.declared.chain_rules.SettingRule.{SettingRule}
+use Rattle.rinqebo_run.specs.declared.conditions.Asking.{Asking}
+
+-- what is told of pairs is told of them with the first of each turned into something else
+pub zip_moved : {A B V Y : Type 0} (h : A → B) (R : A × V → Y → Type 0) (S : B × V → Y → Type 0)
+    → ((x : A) (v : V) (y : Y) → R (x, v) y → S (h x, v) y) → (xs : List A) (vs : List V) (ys : List Y)
+    → AllZip R (zip xs vs) ys → AllZip S (zip (map h xs) vs) ys
+zip_moved h R S moved [] vs [] all = tt
+zip_moved h R S moved [] vs (y ∷ ys) all = absurd all
+zip_moved h R S moved (x ∷ xs) [] [] all = tt
+zip_moved h R S moved (x ∷ xs) [] (y ∷ ys) all = absurd all
+zip_moved h R S moved (x ∷ xs) (v ∷ vs) [] all = absurd all
+zip_moved h R S moved (x ∷ xs) (v ∷ vs) (y ∷ ys) all = (moved x v y all.0, zip_moved h R S moved xs vs ys all.1)
+
+-- a rule as code holds it is told with a verdict, for what is asked
+abbrev pub IsToldHere : Asking → SettingRule × Verdict → Rule → Type 0
+IsToldHere asking p =
+    IsRuleTold (setting_rule_view p.0).writes (answers_told asking (setting_rule_view p.0)) p.1
+
+-- the rules that are told are those that code holds
+pub told_here : (asking : Asking) (rules : List SettingRule) (verdicts : List Verdict) (told : List Rule)
+    → verdicts ≡ verdicts_here asking (map setting_rule_view rules)
+    → AllZip (IsToldHere asking) (zip rules verdicts) told
+    → AreRulesToldHere asking (map setting_rule_view rules) told
+told_here asking rules verdicts told same all =
+    let R : ReadRule × Verdict → Rule → Type 0 = λ p. IsRuleTold p.0.writes (answers_told asking p.0) p.1 in
+    subst (λ vs. AllZip R (zip (map setting_rule_view rules) vs) told) same
+    (zip_moved setting_rule_view (IsToldHere asking) R (λ r v rule is. is) rules verdicts told all)
+
+-- what is made of one of two lists
+map_if : {X Y : Type 0} (h : X → Y) (b : Bool) (xs ys : List X)
+    → map h (if b then xs else ys) ≡ (if b then map h xs else map h ys)
+map_if h true xs ys = refl
+map_if h false xs ys = refl
+
+module _ {E N M K P : Type 0} (f : E → M) (g : N → K) (meets : K → P → Option Bool)
+    (platforms : BuildPlatforms P) where
+  -- whether a spec that was read is met
+  abbrev pub read_meets : N → P → Option Bool
+  read_meets spec platform = meets (g spec) platform
+
+  spec_meant : (platform : P) (o : Option N)
+      → spec_holds read_meets o platform ≡ spec_holds meets (option_map g o) platform
+  spec_meant platform None = refl
+  spec_meant platform (Some spec) = refl
+
+  specs_meant : (build : BuildPlatform) (host target : Option N)
+      → specs_hold read_meets platforms build host target
+      ≡ specs_hold meets platforms build (option_map g host) (option_map g target)
+  specs_meant build host target =
+      λ i. spec_meant platforms.host host i && spec_meant (runs_on platforms build) target i
+
+  condition_meant : (platform : P) (o : Option N)
+      → told_condition (λ spec. read_meets spec platform) o
+      ≡ told_condition (λ spec. meets spec platform) (option_map g o)
+  condition_meant platform None = refl
+  condition_meant platform (Some spec) = refl
+
+  module _ (query : QueryContext M) where
+    -- what is judged, by filters that were read
+    abbrev pub read_query : QueryContext E
+    read_query = record { platform = query.platform; matches = λ e. query.matches (f e) }
+
+    filter_meant : (o : Option E)
+        → filter_holds (λ e. query.matches (f e)) o ≡ filter_holds query.matches (option_map f o)
+    filter_meant None = refl
+    filter_meant (Some e) = refl
+
+    told_meant : (o : Option E)
+        → told_condition (λ e. Some (query.matches (f e))) o
+        ≡ told_condition (λ m. Some (query.matches m)) (option_map f o)
+    told_meant None = refl
+    told_meant (Some e) = refl
+
+    -- what the conditions of a rule say
+    answers_meant : {W : Type 0} (r : Compiled E N W)
+        → answers_by read_meets platforms read_query r
+        ≡ answers_by meets platforms query (rule_meaning f g (λ w. w) r)
+    answers_meant r =
+        let host = condition_meant platforms.host r.host in
+        let target = condition_meant (runs_on platforms query.platform) r.target in
+        λ i. record {
+          host = host i;
+          target = target i;
+          filter = asked_if (is_met (host i) && is_met (target i)) (told_meant r.filter i);
+        }
+
+    facts_meant : (r : RuleFor E N)
+        → facts_of read_query is_some (rule_on read_meets platforms r)
+        ≡ facts_of query is_some (rule_on meets platforms (rule_meaning f g (λ w. w) r))
+    facts_meant r = λ i. record {
+      is_on = by_platform (specs_meant Host r.host r.target i) (specs_meant Target r.host r.target i) query.platform;
+      matches = filter_meant r.filter i;
+      writes = is_some r.writes;
+    }
+
+    all_facts_meant : (rs : List (RuleFor E N))
+        → map (facts_of read_query is_some) (map (rule_on read_meets platforms) rs)
+        ≡ map (facts_of query is_some) (map (rule_on meets platforms) (map (rule_meaning f g (λ w. w)) rs))
+    all_facts_meant [] = refl
+    all_facts_meant (r ∷ rs) = λ i. facts_meant r i ∷ all_facts_meant rs i
+
+    -- what comes of rules
+    verdicts_meant : (rs : List (RuleFor E N))
+        → verdicts_of read_query is_some (map (rule_on read_meets platforms) rs)
+        ≡ verdicts_of query is_some (map (rule_on meets platforms) (map (rule_meaning f g (λ w. w)) rs))
+    verdicts_meant rs =
+        verdicts-facts read_query is_some (map (rule_on read_meets platforms) rs)
+        ∙ ap (verdicts_by false) (all_facts_meant rs)
+        ∙ sym (verdicts-facts query is_some (map (rule_on meets platforms) (map (rule_meaning f g (λ w. w)) rs)))
+
+    -- what is told of rules for a setting
+    rules_meant : (rs : List (RuleFor E N)) (rules : List Rule)
+        → AreRulesTold read_meets platforms read_query rs rules
+        → AreRulesTold meets platforms query (map (rule_meaning f g (λ w. w)) rs) rules
+    rules_meant rs rules all =
+        let R : RuleFor E N × Verdict → Rule → Type 0 =
+        λ p. IsRuleTold p.0.writes (answers_by read_meets platforms read_query p.0) p.1 in
+        let S : RuleFor M K × Verdict → Rule → Type 0 =
+        λ p. IsRuleTold p.0.writes (answers_by meets platforms query p.0) p.1 in
+        subst (λ vs. AllZip S (zip (map (rule_meaning f g (λ w. w)) rs) vs) rules) (verdicts_meant rs)
+        (zip_moved (rule_meaning f g (λ w. w)) R S
+        (λ r v rule is. subst (λ answers. IsRuleTold r.writes answers v rule) (answers_meant r) is)
+        rs (verdicts_of read_query is_some (map (rule_on read_meets platforms) rs)) rules all)
+
+  module _ (s : Setting) (mode : NextestRunMode) where
+    -- overrides for a setting
+    overrides_for : (rs : List (Compiled E N (OverrideUse E)))
+        → map (rule_meaning f g (λ w. w)) (map (for_setting (override_writes s mode)) rs)
+        ≡ map (for_setting (override_writes s mode)) (map (override_meaning f g) rs)
+    overrides_for [] = refl
+    overrides_for (r ∷ rs) =
+        λ i. for_setting (override_writes s mode) (override_meaning f g r) ∷ overrides_for rs i
+
+    -- script rules for a run wrapper
+    scripts_for : (rs : List (Compiled E N ScriptUse))
+        → map (rule_meaning f g (λ w. w)) (map (for_setting wrapper_written) rs)
+        ≡ map (for_setting wrapper_written) (map (script_rule_meaning f g) rs)
+    scripts_for [] = refl
+    scripts_for (r ∷ rs) = λ i. for_setting wrapper_written (script_rule_meaning f g r) ∷ scripts_for rs i
+
+    -- the rules of a profile for a setting
+    rules_meaning : (overrides : List (Compiled E N (OverrideUse E))) (scripts : List (Compiled E N ScriptUse))
+        → map (rule_meaning f g (λ w. w)) (rules_for s mode overrides scripts)
+        ≡ rules_for s mode (map (override_meaning f g) overrides) (map (script_rule_meaning f g) scripts)
+    rules_meaning overrides scripts =
+        map_if (rule_meaning f g (λ w. w)) (is_of_scripts s) (map (for_setting wrapper_written) scripts)
+        (map (for_setting (override_writes s mode)) overrides)
+        ∙ (λ i. if is_of_scripts s then scripts_for scripts i else overrides_for overrides i)
+
+  module _ (matches : M → Test → M → Bool) (test : TestName) (s : Setting) (c : Configured E N) (name : Name)
+      (rules : List Rule) where
+    -- whether a filter that was read matches a test
+    abbrev pub read_matches : E → Test → E → Bool
+    read_matches e asked default = matches (f e) asked (f default)
+
+    -- what is told of the rules of a chain
+    reasons_meant : (chain : List Name)
+        → AreReasons read_meets read_matches platforms test s (profile_of c name chain) rules
+        → AreReasons meets matches platforms test s (profile_of (configured_meaning f g c) name chain) rules
+    reasons_meant chain is =
+        let profile = profile_of c name chain in
+        let written = rules_for s test.mode profile.overrides profile.script_rules in
+        let meant = profile_of (configured_meaning f g c) name chain in
+        let default = (profile_on read_meets platforms profile).default_filter.filter in
+        let query : M → QueryContext M =
+        λ d. record { platform = is.asked.binary.platform; matches = λ m. matches m is.asked d } in
+        record {
+          asked = is.asked;
+          name = is.name;
+          binary = is.binary;
+          platform = is.platform;
+          before = is.before;
+          fallback = is.fallback;
+          are = is.are;
+          rules_told =
+              subst (λ rs. AreRulesTold meets platforms
+              (query (profile_on meets platforms meant).default_filter.filter) rs is.before)
+              (rules_meaning s test.mode profile.overrides profile.script_rules
+              ∙ (λ i. rules_for s test.mode (overrides_meaning f g c.config.layers (with_default chain) i)
+              (script_rules_meaning f g c.config.layers (with_default chain) i)))
+              (subst (λ d. AreRulesTold meets platforms (query d) (map (rule_meaning f g (λ w. w)) written) is.before)
+              (ap (λ p. p.default_filter.filter) (profile_means f g meets platforms c name chain))
+              (rules_meant (query (f default)) written is.before is.rules_told));
+          fallback_told = is.fallback_told;
+        }
+
+    -- what is told of the rules of a profile, by what texts mean
+    pub reasons_of_texts : (texts : ConfigModel M K) → config_meaning f g c.config ≡ texts
+        → AreReasonsIn read_meets read_matches platforms c name test s rules
+        → AreReasonsIn meets matches platforms (with_config c texts) name test s rules
+    reasons_of_texts texts same is =
+        let chain = is.is_profile.chain in
+        record {
+          profile = profile_of (with_config c texts) name chain;
+          is_profile = record {
+            chain = chain;
+            is_chain = subst (λ config. IsChain (parents_in (config_parents config)) name chain) same
+                is.is_profile.is_chain;
+            is_profile = refl;
+          };
+          reasons = subst (λ config. AreReasons meets matches platforms test s
+              (profile_of (with_config c config) name chain) rules) same
+              (reasons_meant chain (subst (λ p. AreReasons read_meets read_matches platforms test s p rules)
+              is.is_profile.is_profile is.reasons));
+        }

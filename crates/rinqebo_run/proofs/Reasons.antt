@@ -1,0 +1,120 @@
+-- What is told of rules is what comes of them.
+use Rattle.std.proofs.Common.{◌≡◌, ◌∙◌, ◌&&◌, ◌||◌, Bool, true, false, List, [], ◌∷◌, map, Option, None, Some, Result, Ok, Err, IfOk, ap, is_some, refl, sym, unwrap_or}
+use Rattle.std.specs.List.{AllZip}
+use Rattle.nextest_engines.specs.declared.queries.BuildPlatform.{BuildPlatform}
+use Rattle.nextest_engines.specs.declared.queries.BuildPlatform.TheVariants.{Host, Target}
+use Rattle.nextest_engines.specs.declared.queries.BuildPlatforms.{BuildPlatforms}
+use Rattle.nextest_settings.specs.Deciding.{filter_holds}
+use Rattle.nextest_settings.specs.Platforms.{spec_holds, specs_hold, by_platform, runs_on}
+use Rattle.rule_verdicts.proofs.VerdictsOf.{verdicts-facts}
+use Rattle.rule_verdicts.specs.Verdicts.{facts_of}
+use Rattle.rule_verdicts.specs.VerdictsBy.{verdict_by, decides_by, verdicts_by}
+use Rattle.rule_verdicts.specs.declared.verdict.RuleFacts.{RuleFacts}
+use Rattle.rinqebo_run.specs.Conditions.{told_answer, told_condition, told_filter, is_met_by, is_met, is_matched, asked_if}
+use Rattle.rinqebo_run.specs.Reasons.{asked_query, rule_here, facts_told, verdicts_here}
+use Rattle.rinqebo_run.specs.RuleViews.{Rule}
+use Rattle.rinqebo_run.specs.declared.conditions.Asking.{Asking}
+
+-- an answer counts as met where what is told of it does not stand against the rule
+met_told : (answer : Option Bool) → unwrap_or answer true ≡ is_met (told_answer answer)
+met_told None = refl
+met_told (Some true) = refl
+met_told (Some false) = refl
+
+-- a spec holds where what is told of it does not stand against the rule
+spec_told : {K P : Type 0} (meets : K → P → Option Bool) (spec : Option K) (platform : P)
+    → spec_holds meets spec platform ≡ is_met (told_condition (λ s. meets s platform) spec)
+spec_told meets None platform = refl
+spec_told meets (Some spec) platform = met_told (meets spec platform)
+
+matched_told : (holds : Bool) → holds ≡ is_matched (told_answer (Some holds))
+matched_told true = refl
+matched_told false = refl
+
+-- a filter holds where what is told of it matches
+filter_told : {M : Type 0} (matches : M → Bool) (filter : Option M)
+    → filter_holds matches filter ≡ is_matched (told_condition (λ m. Some (matches m)) filter)
+filter_told matches None = refl
+filter_told matches (Some m) = matched_told (matches m)
+
+-- the specs of a rule hold where what is told of them does not stand against it
+specs_told : {K P : Type 0} (meets : K → P → Option Bool) (platforms : BuildPlatforms P) (build : BuildPlatform)
+    (host target : Option K)
+    → specs_hold meets platforms build host target
+    ≡ (is_met (told_condition (λ s. meets s platforms.host) host)
+    && is_met (told_condition (λ s. meets s (runs_on platforms build)) target))
+specs_told meets platforms build host target =
+    ap (λ b. b && spec_holds meets target (runs_on platforms build)) (spec_told meets host platforms.host)
+    ∙ ap (λ b. is_met (told_condition (λ s. meets s platforms.host) host) && b)
+    (spec_told meets target (runs_on platforms build))
+
+-- the answer for a platform, of answers for each
+for_platform : (f : BuildPlatform → Bool) (build : BuildPlatform) → by_platform (f Host) (f Target) build ≡ f build
+for_platform f Host = refl
+for_platform f Target = refl
+
+-- Facts that give a rule the same verdict: its filter counts where its platforms hold.
+record GiveSame (a b : RuleFacts) : Type 0 where
+  is_on : a.is_on ≡ b.is_on
+  matches : a.is_on ≡ true → a.matches ≡ b.matches
+  writes : a.writes ≡ b.writes
+
+same_verdict : (on other ma mb wa wb d : Bool) → on ≡ other → (on ≡ true → ma ≡ mb) → wa ≡ wb
+    → verdict_by on ma wa d ≡ verdict_by other mb wb d
+same_verdict false other ma mb wa wb d same holds writes = ap (λ o. verdict_by o mb wb d) same
+same_verdict true other ma mb wa wb d same holds writes =
+    ap (λ m. verdict_by true m wa d) (holds refl) ∙ ap (λ w. verdict_by true mb w d) writes
+    ∙ ap (λ o. verdict_by o mb wb d) same
+
+same_deciding : (on other ma mb wa wb : Bool) → on ≡ other → (on ≡ true → ma ≡ mb) → wa ≡ wb
+    → ((on && ma) && wa) ≡ ((other && mb) && wb)
+same_deciding false other ma mb wa wb same holds writes = ap (λ o. (o && mb) && wb) same
+same_deciding true other ma mb wa wb same holds writes =
+    ap (λ m. (true && m) && wa) (holds refl) ∙ ap (λ w. (true && mb) && w) writes ∙ ap (λ o. (o && mb) && wb) same
+
+-- such facts give rules the same verdicts
+same_verdicts : (d : Bool) (fs gs : List RuleFacts) → AllZip GiveSame fs gs → verdicts_by d fs ≡ verdicts_by d gs
+same_verdicts d [] [] all = refl
+same_verdicts d [] (g ∷ gs) all = absurd all
+same_verdicts d (f ∷ fs) [] all = absurd all
+same_verdicts d (f ∷ fs) (g ∷ gs) all =
+    let same = all.0 in
+    let verdict = same_verdict f.is_on g.is_on f.matches g.matches f.writes g.writes d same.is_on same.matches same.writes in
+    let decides = same_deciding f.is_on g.is_on f.matches g.matches f.writes g.writes same.is_on same.matches same.writes in
+    ap (λ v. v ∷ verdicts_by (d || decides_by f) fs) verdict
+    ∙ ap (λ vs. verdict_by g.is_on g.matches g.writes d ∷ vs)
+    (same_verdicts (d || decides_by f) fs gs all.1 ∙ ap (λ b. verdicts_by (d || b) gs) decides)
+
+module _ (asking : Asking) where
+  -- what is told of a rule gives it the verdict that comes of it
+  told_same : (rule : Rule)
+      → GiveSame (facts_told asking rule) (facts_of (asked_query asking) is_some (rule_here asking rule))
+  told_same rule =
+      let platforms = asking.platforms.now in
+      let build = asking.test.now.platform in
+      record {
+        is_on = sym (specs_told is_met_by platforms build rule.host rule.target)
+            ∙ sym (for_platform (λ b. specs_hold is_met_by platforms b rule.host rule.target) build);
+        matches = λ on. ap (λ b. is_matched (asked_if b (told_filter asking rule.filter))) on
+            ∙ sym (filter_told (asked_query asking).matches rule.filter);
+        writes = refl;
+      }
+
+  all_same : (rules : List Rule)
+      → AllZip GiveSame (map (facts_told asking) rules)
+      (map (facts_of (asked_query asking) is_some) (map (rule_here asking) rules))
+  all_same [] = tt
+  all_same (rule ∷ rules) = (told_same rule, all_same rules)
+
+  -- the verdicts of what is told of rules are those that come of them
+  pub told_verdicts : (rules : List Rule)
+      → verdicts_by false (map (facts_told asking) rules) ≡ verdicts_here asking rules
+  told_verdicts rules =
+      same_verdicts false _ _ (all_same rules)
+      ∙ sym (verdicts-facts (asked_query asking) is_some (map (rule_here asking) rules))
+
+-- what is made of a result, by an equation
+pub ok_same : {T E X : Type 0} (f : T → X) (r : Result T E) (a b : X) → a ≡ b → IfOk r (λ t. f t ≡ a)
+    → IfOk r (λ t. f t ≡ b)
+ok_same f (Ok t) a b same is = is ∙ same
+ok_same f (Err e) a b same is = tt

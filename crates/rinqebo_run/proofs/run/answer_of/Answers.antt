@@ -1,0 +1,7 @@
+use Rattle.rinqebo_run.proofs.Statuses.{is_answered}
+use Rattle.rinqebo_run.proofs.run.answer_of.Goals as goal
+
+pub returns-clause-ok : goal.returns-clause-ok
+returns-clause-ok c =
+    is_answered c.args.request.now c.args.gathered.now c.in_ok-session.session c.answer_in.result
+    c.in_ok-session.ensures.begun c.answer_in.ensures.ok

@@ -1,0 +1,13 @@
+use Rattle.rinqebo_run.proofs.Statuses.{told_same, told_page, tells, failed_silent}
+use Rattle.rinqebo_run.proofs.run.perform.Goals as goal
+
+pub returns-in-Ok-clause-page : goal.returns-in-Ok-clause-page
+returns-in-Ok-clause-page g c answered =
+    let q = c.args.request.now.question in
+    tells c.args.request.now c.args.gathered.now c.in-Ok.answer.report _ _ _ _ c.in-Ok.ensures.ok
+    (told_same q _ _ c.tell_answer.ensures.status answered)
+    (told_page q _ c.tell_answer.ensures.page answered)
+
+pub returns-in-Err-clause-page : goal.returns-in-Err-clause-page
+returns-in-Err-clause-page g c answered =
+    failed_silent c.args.request.now.question c.in-Err.failure _ c.in-Err.ensures.err c.refuse.ensures answered

@@ -1,0 +1,9 @@
+use Rattle.std.proofs.Common.{refl}
+use Rattle.rinqebo_run.proofs.session.Session.new.Goals as goal
+
+pub returns-clause-begun : goal.returns-clause-begun
+returns-clause-begun c = record {
+  read = refl;
+  features = c.in_ok-features_of.ensures;
+  platforms = c.in_ok-new.ensures;
+}

@@ -1,0 +1,25 @@
+use Rattle.std.proofs.Common.{◌≡◌, ◌∙◌, ap, map, sym}
+use Rattle.nextest_inheritance.specs.Parents.{with_default}
+use Rattle.nextest_inheritance.specs.View.{borrowed_view}
+use Rattle.nextest_settings.specs.Chains.{overrides_of, script_rules_of}
+use Rattle.rinqebo_run.specs.Conditions.{default_filter_here}
+use Rattle.rinqebo_run.specs.RuleViews.{setting_rule_view}
+use Rattle.rinqebo_run.specs.SettingRules.{rules_for}
+use Rattle.rinqebo_run.proofs.Gathering.{reasons_here}
+use Rattle.rinqebo_run.proofs.why.rules_and_fallback.Goals as goal
+
+pub returns : goal.returns
+returns c = λ configured name names same_config same_names.
+    let platforms = c.args.session.now.engines.platforms in
+    let mode = c.args.test.now.mode in
+    let layers = ap (λ g. g.layers) (sym same_config) in
+    let default = c.in_ok-default_filter.ensures
+    ∙ ap (λ g. default_filter_here platforms g (borrowed_view c.args.chain.now)) (sym same_config)
+    ∙ ap (default_filter_here platforms configured.config) same_names in
+    let gathered = ap (map setting_rule_view) c.deref-2.ensures.value ∙ c.in_ok-rules.ensures
+    ∙ (λ i. rules_for c.args.setting mode (overrides_of (layers i) (same_names i))
+    (script_rules_of (layers i) (same_names i))) in
+    reasons_here platforms c.args.test.now c.query_of-query.result c.args.setting _ configured name names _
+    c.in_ok-reported.reported.items c.in_ok-fallback.fallback _ default gathered c.query_of-query.ensures.name
+    c.query_of-query.ensures.binary c.query_of-query.ensures.platform c.in_ok-reported.ensures c.in_ok-fallback.ensures
+    c.in_ok-push.ensures.items

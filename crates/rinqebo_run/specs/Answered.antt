@@ -1,0 +1,38 @@
+-- What a request is answered.
+use Rattle.std.specs.Prelude.{◌≡◌, ◌⊎◌, ℕ, List, Option}
+use Rattle.std.specs.Io.KnownBytes.{Appends}
+use Rattle.rinqebo_report.specs.Rendered.{rendered}
+use Rattle.rinqebo_report.specs.declared.report.Report.{Report}
+use Rattle.rinqebo_run.specs.Checked.{IsCheckStatus}
+use Rattle.rinqebo_run.specs.Explained.{Explains}
+use Rattle.rinqebo_run.specs.SessionOf.{IsSessionOf}
+use Rattle.rinqebo_run.specs.TellsReasons.{TellsReasons}
+use Rattle.rinqebo_files.specs.declared.files.Gathered.{Gathered}
+use Rattle.rinqebo_request.specs.declared.request.Question.{Question}
+use Rattle.rinqebo_request.specs.declared.request.Question.TheVariants as questions
+use Rattle.rinqebo_request.specs.declared.request.Request.{Request}
+use Rattle.rinqebo_run.specs.declared.session.Session.{Session}
+
+-- A report and a status answer a question of a session.
+abbrev pub AnswersQuestion : Question → Session → Report → ℕ → Type 0
+AnswersQuestion (questions.Explain profile test settings) session report status =
+    (status ≡ 0) × Explains session profile.now test settings.items report
+AnswersQuestion (questions.Why profile test setting) session report status =
+    (status ≡ 0) × TellsReasons session profile.now test setting report
+AnswersQuestion (questions.Check deny_warnings) session report status =
+    IsCheckStatus session status
+
+-- A report and a status answer a request over the files that were read.
+pub record IsAnswer (request : Request) (gathered : Gathered) (report : Report) (status : ℕ)
+    : Type 0 where
+  pub session : Session
+  pub begun : IsSessionOf request gathered session
+  pub answers : AnswersQuestion request.question session report status
+
+-- A writer was given the page of an answer: known bytes grew by exactly the report, in the format and
+-- the colours that are asked for.
+pub record Tells (request : Request) (gathered : Gathered) (status : ℕ)
+    (old new : Option (List ℕ)) : Type 0 where
+  pub report : Report
+  pub is_answer : IsAnswer request gathered report status
+  pub page : Appends old new (rendered report request.format request.colour)

@@ -1,0 +1,12 @@
+pub mod Statuses
+pub mod Sessions
+pub mod Explained
+pub mod Checked
+pub mod Answered
+pub mod Engines
+pub mod SessionOf
+pub mod Conditions
+pub mod SettingRules
+pub mod RuleViews
+pub mod Reasons
+pub mod TellsReasons

@@ -1,0 +1,63 @@
+-- What a run knows: the files that were read, and what the engines make of texts.
+use Rattle.std.specs.Prelude.{◌≡◌, ◌⊎◌, None, option_map, map, Result, MatchResult}
+use Rattle.filter_language.specs.Filtersets.{marks_view}
+use Rattle.filter_language.specs.Leaves.{leaves}
+use Rattle.filter_language.specs.declared.filterset.Filterset.{Filterset}
+use Rattle.nextest_engines.specs.Readings.{Readings}
+use Rattle.nextest_filters.specs.Engine.{Filter, read_filter, everything, filter_holds, filter_holds_binary}
+use Rattle.nextest_filters.specs.declared.engine.NextestFilters.{NextestFilters}
+use Rattle.nextest_filters.specs.Compiling.{names_of}
+use Rattle.nextest_filters.specs.declared.compiling.FieldMatcher.{FieldMatcher}
+use Rattle.nextest_load.specs.Accepted.{IsAccepted}
+use Rattle.nextest_load.specs.Config.{config_of}
+use Rattle.nextest_load.specs.Load.{Loaded}
+use Rattle.nextest_load.specs.Meaning.{config_meaning}
+use Rattle.nextest_load.specs.Scripts.{AreScriptsOf}
+use Rattle.nextest_rules.specs.Definitions.{Features}
+use Rattle.nextest_sources.specs.Endings.{IsMemory}
+use Rattle.nextest_sources.specs.Inputs.{LoadInputs, sources_in}
+use Rattle.nextest_sources.specs.Sources.{file_view, tool_file_view}
+use Rattle.nextest_sources.specs.declared.error.ConfigParseError.{ConfigParseError}
+use Rattle.target_language.specs.Expressions.{Spec, spec_view}
+use Rattle.target_language.specs.Messages.{spec_read}
+use Rattle.target_language.specs.Values.{spec_value}
+use Rattle.target_language.specs.declared.expression.TargetSpec.{TargetSpec}
+use Rattle.target_platforms.specs.Platforms.{platform_view}
+use Rattle.target_platforms.specs.declared.Platform.{Platform}
+use Rattle.rinqebo_files.specs.declared.files.Gathered.{Gathered}
+
+-- the files of a load, as they were read: none is the organisation's
+abbrev pub files_view : Gathered → LoadInputs
+files_view gathered = record {
+  shared = file_view gathered.paths.shared;
+  explicit = option_map file_view gathered.config_file;
+  organisation = None;
+  tools = map tool_file_view gathered.tools.items;
+}
+
+-- what nextest's languages make of texts
+abbrev pub readings : NextestFilters → Readings Filter Spec Platform
+readings filters = record {
+  read_filter = read_filter filters;
+  read_spec = spec_read;
+  match_all = everything;
+  matches_test = filter_holds;
+  matches_binary = filter_holds_binary;
+  leaves = leaves;
+  meets = λ spec platform. spec_value (platform_view platform) spec;
+}
+
+-- A load of files answers a configuration only where every written rule holds, and it is refused,
+-- but for want of memory, only where some rule does not.
+abbrev pub IfLoaded : {T : Type 0} → Readings Filter Spec Platform → Features → LoadInputs
+    → Result T ConfigParseError → Type 0
+IfLoaded engines features files r =
+    MatchResult r (λ _. IsAccepted engines features files)
+    (λ e. IsMemory e ⊎ (¬ IsAccepted engines features files))
+
+-- What was loaded of files is what they mean, and its scripts are those that they define.
+pub record IsLoadedFrom (engines : Readings Filter Spec Platform) (files : LoadInputs)
+    (loaded : Loaded (Filterset FieldMatcher) TargetSpec) : Type 0 where
+  pub means : config_meaning (marks_view names_of) spec_view loaded.config
+      ≡ config_of engines (sources_in files)
+  pub scripts : AreScriptsOf (sources_in files) loaded.scripts

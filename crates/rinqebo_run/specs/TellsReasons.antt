@@ -1,0 +1,90 @@
+-- That a report tells the rules of a setting, by what the files mean.
+use Rattle.std.specs.Prelude.{◌≡◌, ℕ, List, [], ◌∷◌, ◌++◌, Bool, Option, string_bytes}
+use Rattle.filter_language.specs.Filtersets.{marks_view}
+use Rattle.filter_language.specs.declared.filterset.Filterset.{Filterset}
+use Rattle.nextest_engines.specs.Engines.{Test}
+use Rattle.nextest_engines.specs.declared.queries.BuildPlatforms.{BuildPlatforms}
+use Rattle.nextest_filters.specs.Compiling.{names_of}
+use Rattle.nextest_filters.specs.Engine.{Filter}
+use Rattle.nextest_filters.specs.declared.compiling.FieldMatcher.{FieldMatcher}
+use Rattle.nextest_load.specs.Config.{ScriptTables, config_of}
+use Rattle.nextest_load.specs.Load.{Loaded}
+use Rattle.nextest_load.specs.Meaning.{config_meaning}
+use Rattle.nextest_load.specs.Scripts.{AreScriptsOf}
+use Rattle.nextest_profiles.specs.Profiles.{IsProfileOf}
+use Rattle.nextest_settings.specs.Profile.{Configured, EarlyModel, profile_on}
+use Rattle.nextest_settings.specs.Queries.{query_in}
+use Rattle.nextest_settings.specs.declared.setting.Setting.{Setting}
+use Rattle.nextest_sources.specs.Inputs.{SourceText, sources_in}
+use Rattle.nextest_tables.specs.FileTexts.{names_in, IsIn}
+use Rattle.nextest_tables.specs.Written.{Name}
+use Rattle.rinqebo_report.specs.declared.report.Content.{Content}
+use Rattle.rinqebo_report.specs.declared.report.Content.TheVariants as contents
+use Rattle.rinqebo_report.specs.declared.report.Report.{Report}
+use Rattle.rinqebo_report.specs.declared.report.Rule.{Rule}
+use Rattle.rinqebo_report.specs.declared.report.Verdict.TheVariants as told
+use Rattle.rinqebo_request.specs.Keys.{key_text}
+use Rattle.rinqebo_request.specs.declared.request.TestName.{TestName}
+use Rattle.target_language.specs.Expressions.{Spec}
+use Rattle.target_language.specs.declared.expression.TargetSpec.{TargetSpec}
+use Rattle.rinqebo_run.specs.Checked.{AreAccepted}
+use Rattle.rinqebo_run.specs.Reasons.{AreRulesTold}
+use Rattle.rinqebo_run.specs.Sessions.{files_view, readings}
+use Rattle.rinqebo_run.specs.SettingRules.{rules_for}
+use Rattle.rinqebo_run.specs.declared.session.Session.{Session}
+
+-- The rules of a setting are told for a test of a name: each override of a profile, in order, or for
+-- a run wrapper each script rule, with what comes of it on the platforms of a build, and then what
+-- counts where none decides.
+pub record AreReasons {M K P : Type 0} (meets : K → P → Option Bool) (matches : M → Test → M → Bool)
+    (platforms : BuildPlatforms P) (test : TestName) (s : Setting) (profile : EarlyModel M K)
+    (rules : List Rule) : Type 0 where
+  pub asked : Test
+  pub name : asked.name ≡ test.name.now
+  pub binary : asked.binary.binary_id ≡ test.binary.now
+  pub platform : asked.binary.platform ≡ test.platform
+  pub before : List Rule
+  pub fallback : Rule
+  pub are : rules ≡ before ++ fallback ∷ []
+  pub rules_told : AreRulesTold meets platforms
+      (query_in matches (profile_on meets platforms profile) asked)
+      (rules_for s test.mode profile.overrides profile.script_rules) before
+  pub fallback_told : fallback.verdict ≡ told.Fallback
+
+-- The rules of a setting are told for a test in the profile of a name.
+pub record AreReasonsIn {M K P : Type 0} (meets : K → P → Option Bool)
+    (matches : M → Test → M → Bool) (platforms : BuildPlatforms P) (configured : Configured M K)
+    (name : Name) (test : TestName) (s : Setting) (rules : List Rule) : Type 0 where
+  pub profile : EarlyModel M K
+  pub is_profile : IsProfileOf configured name profile
+  pub reasons : AreReasons meets matches platforms test s profile rules
+
+-- what the files of a session mean, with these scripts
+abbrev pub configured_by : Session → ScriptTables → Configured Filter Spec
+configured_by session scripts = record {
+  root = string_bytes session.gathered.now.paths.workspace_root;
+  config = config_of (readings session.engines.filters)
+      (sources_in (files_view session.gathered.now));
+  scripts = scripts;
+}
+
+-- a fact of the key and of the rules that a report tells
+abbrev pub IfWhy : Content → (List ℕ → List Rule → Type 0) → Type 0
+IfWhy (contents.Why asked key rules) P = P (string_bytes key) rules.items
+IfWhy _ P = ⊥
+
+-- A report tells the rules of a setting for a test in a profile, by what the files mean.
+pub record TellsReasons (session : Session) (profile : List ℕ) (test : TestName) (s : Setting)
+    (report : Report) : Type 0 where
+  -- Every written rule holds of the files.
+  pub acceptance : AreAccepted session
+  -- Their scripts are those that they define.
+  pub scripts : ScriptTables
+  pub are_scripts : AreScriptsOf (sources_in (files_view session.gathered.now)) scripts
+  -- They have the profile.
+  pub known : IsIn (names_in (configured_by session scripts).config.profiles) profile
+  -- The report tells the key of the setting, and what comes of each rule of the profile.
+  pub told : IfWhy report.content (λ key rules. (key ≡ key_text s test.mode)
+      × AreReasonsIn (readings session.engines.filters).meets
+      (readings session.engines.filters).matches_test session.engines.platforms
+      (configured_by session scripts) profile test s rules)

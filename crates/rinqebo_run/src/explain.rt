@@ -1,0 +1,281 @@
+//! The settings of a test.
+ghost use Rattle.std.specs.Prelude.{◌≡◌, IfOk, Some, map, slice_get, string_bytes};
+ghost use Rattle.std.specs.List.{AllZip};
+ghost use Rattle.nextest_config.specs.Headline.{Row};
+ghost use Rattle.nextest_config.specs.RowView.{row_view};
+ghost use Rattle.rinqebo_run.specs.Explained.{AreRowsOf, IfExplained, IsTold, IsTestTold, Explains};
+
+use crate::answer::Failure;
+use crate::binary::query_of;
+use crate::check::{failure_of_load, failure_of_run, report_of};
+use crate::findings::warning_findings;
+use crate::grounds::{built_in, profile_grounds, setting_path};
+use crate::rule_places::{RuleKind, RulePlace};
+use crate::rules::{chain_of_profile, copied_names};
+use crate::session::{Config, Session};
+use crate::wrappers::wrapping_place;
+use nextest_config::run::{PlainSource, TestRow, resolve};
+use nextest_config::{BuildPlatform, DefaultConfigWarnings, NextestRunMode, Setting};
+use nextest_filters::NextestTally;
+use rinqebo_files::Layer;
+use rinqebo_report::{Asked, Content, Origin, Platform, Report, RunMode, SettingRow, TestRows};
+use rinqebo_request::{Request, SettingKey, TestName};
+use rinqebo_values::{reported_if_set, value_in_row};
+use std::alloc::{AllocError, Global};
+
+/// What a row's settings are told with: the layers, the chain of the profile, and where the script
+/// rule stands that wraps the run of the test.
+#[derive(Drop)]
+struct Grounds<'g> {
+    layers: &'g [Layer<'g>],
+    chain: &'g [&'g str],
+    wrapping: Option<RulePlace<'g>>,
+}
+
+/// Where a rule writes a setting.
+fn rule_origins(
+    alloc: Global,
+    layers: &[Layer],
+    rule: RulePlace<'_>,
+    key: SettingKey,
+) -> Result<Vec<Origin>, AllocError> {
+    let path = setting_path(alloc, &rule.path(), key)?;
+    let mut origins = Vec::new(alloc);
+    origins.push(rule.origin_at(alloc, layers, &path)?)?;
+    Ok(origins)
+}
+
+/// Where the run wrapper comes from.
+fn wrapping_origins(
+    alloc: Global,
+    grounds: &Grounds<'_>,
+    key: SettingKey,
+) -> Result<Vec<Origin>, AllocError> {
+    match grounds.wrapping {
+        Some(rule) => rule_origins(alloc, grounds.layers, rule, key),
+        None => Ok(Vec::new(alloc)),
+    }
+}
+
+/// Where the value of a setting comes from.
+fn origins_of(
+    alloc: Global,
+    grounds: &Grounds<'_>,
+    source: Option<&PlainSource>,
+    key: SettingKey,
+) -> Result<Vec<Origin>, AllocError> {
+    match source {
+        None => Ok(Vec::new(alloc)),
+        Some(PlainSource::Script) => wrapping_origins(alloc, grounds, key),
+        Some(PlainSource::Default) => built_in(alloc),
+        Some(PlainSource::Profile) => profile_grounds(alloc, grounds.layers, grounds.chain, key),
+        Some(
+            PlainSource::Override {
+                source,
+                profile,
+                index,
+            },
+        ) => {
+            let rule = RulePlace {
+                source,
+                profile: profile.as_str(),
+                kind: RuleKind::Override,
+                index: *index,
+            };
+            rule_origins(alloc, grounds.layers, rule, key)
+        }
+    }
+}
+
+/// A setting of a row.
+fn setting_row(
+    alloc: Global,
+    grounds: &Grounds<'_>,
+    row: &TestRow,
+    setting: Setting,
+    mode: NextestRunMode,
+) -> Result<SettingRow, AllocError>
+    ensures { IfOk result (IsTold (row_view row.now) mode setting) }
+{
+    let key = SettingKey::of(setting, mode);
+    Ok(SettingRow {
+        key: key.text(alloc)?,
+        value: reported_if_set(alloc, value_in_row(row, setting))?,
+        origins: origins_of(alloc, grounds, row.source(setting), key)?,
+    })
+}
+
+/// Settings of a row, in the order in which they are asked for.
+fn setting_rows(
+    alloc: Global,
+    grounds: &Grounds<'_>,
+    row: &TestRow,
+    settings: &[Setting],
+    mode: NextestRunMode,
+) -> Result<Vec<SettingRow>, AllocError>
+    ensures { IfOk result (λ rows. AllZip (IsTold (row_view row.now) mode) settings.now rows.items) }
+{
+    let mut rows = Vec::new(alloc);
+    for setting in settings {
+        rows.push(setting_row(alloc, grounds, row, *setting, mode)?)?;
+    }
+    Ok(rows)
+}
+
+/// Settings of the first row, if there is one.
+fn first_settings(
+    alloc: Global,
+    grounds: &Grounds<'_>,
+    rows: &[TestRow],
+    settings: &[Setting],
+    mode: NextestRunMode,
+) -> Result<Vec<SettingRow>, AllocError>
+    ensures { IfOk result (λ told. (row : Row)
+        → slice_get (map row_view rows.now) 0 ≡ Some row
+        → AllZip (IsTold row mode) settings.now told.items) }
+{
+    match rows.first() {
+        Some(row) => setting_rows(alloc, grounds, row, settings, mode),
+        None => Ok(Vec::new(alloc)),
+    }
+}
+
+/// For what a binary is built, as it is reported.
+fn reported_platform(platform: BuildPlatform) -> Platform {
+    match platform {
+        BuildPlatform::Host => Platform::Host,
+        BuildPlatform::Target => Platform::Target,
+    }
+}
+
+/// For what tests are run, as it is reported.
+fn reported_mode(mode: NextestRunMode) -> RunMode {
+    match mode {
+        NextestRunMode::Test => RunMode::Test,
+        NextestRunMode::Benchmark => RunMode::Benchmark,
+    }
+}
+
+/// What is asked about.
+pub fn asked_of(
+    alloc: Global,
+    request: &Request<'_>,
+    profile: &str,
+    chain: &[&str],
+    mode: NextestRunMode,
+) -> Result<Asked, AllocError> {
+    let target = match request.engines.target {
+        Some(target) => Some(String::from_str(alloc, target)?),
+        None => None,
+    };
+    Ok(Asked {
+        profile: String::from_str(alloc, profile)?,
+        chain: copied_names(alloc, chain)?,
+        mode: reported_mode(mode),
+        host: String::from_str(alloc, request.engines.host)?,
+        target,
+    })
+}
+
+/// The one row of a test.
+fn row_of_test(
+    alloc: Global,
+    session: &Session<'_>,
+    profile: &str,
+    test: &TestName<'_>,
+    warnings: &mut DefaultConfigWarnings,
+) -> Result<Vec<TestRow>, Failure>
+    ensures { IfOk result (λ rows.
+        AreRowsOf session.now profile.now test.now (map row_view rows.items)) }
+{
+    let rows = resolve(
+        alloc,
+        &session.inputs(),
+        &session.parse_context(),
+        profile,
+        &session.engines.platforms,
+        test.mode,
+        &[query_of(test)],
+        warnings,
+        &mut NextestTally::new(),
+    );
+    match rows {
+        Ok(rows) => Ok(rows),
+        Err(fault) => Err(failure_of_run(alloc, session, warnings, &fault)?),
+    }
+}
+
+/// The settings of a test, as they are reported.
+fn test_rows(
+    alloc: Global,
+    grounds: &Grounds<'_>,
+    rows: &[TestRow],
+    test: &TestName<'_>,
+    settings: &[Setting],
+) -> Result<TestRows, AllocError>
+    ensures { IfOk result (λ told. (row : Row)
+        → slice_get (map row_view rows.now) 0 ≡ Some row
+        → IsTestTold row test.now settings.now told) }
+{
+    Ok(TestRows {
+        binary: String::from_str(alloc, test.binary)?,
+        name: String::from_str(alloc, test.name)?,
+        platform: reported_platform(test.platform),
+        settings: first_settings(alloc, grounds, rows, settings, test.mode)?,
+    })
+}
+
+/// The configuration of a session. Its warnings were told before.
+pub fn load_again(alloc: Global, session: &Session<'_>) -> Result<Config, Failure> {
+    let mut warnings = DefaultConfigWarnings::new(alloc);
+    match session.load(alloc, &mut warnings) {
+        Ok(config) => Ok(config),
+        Err(error) => Err(failure_of_load(alloc, session, &warnings, &error)?),
+    }
+}
+
+/// The settings of a test, by its rows.
+fn explained(
+    alloc: Global,
+    request: &Request<'_>,
+    session: &Session<'_>,
+    profile: &str,
+    test: &TestName<'_>,
+    settings: &[Setting],
+    rows: &[TestRow],
+) -> Result<Content, Failure>
+    ensures { IfOk result (λ content. IfExplained content (λ told. (row : Row)
+        → slice_get (map row_view rows.now) 0 ≡ Some row
+        → IsTestTold row test.now settings.now told)) }
+{
+    let config = load_again(alloc, session)?;
+    let chain = chain_of_profile(alloc, &config, profile)?;
+    let grounds = Grounds {
+        layers: &session.layers,
+        chain: &chain,
+        wrapping: wrapping_place(alloc, session, &config, &chain, test)?,
+    };
+    Ok(Content::Explain {
+        asked: asked_of(alloc, request, profile, &chain, test.mode)?,
+        test: test_rows(alloc, &grounds, rows, test, settings)?,
+    })
+}
+
+/// The settings of a test.
+pub fn explain(
+    alloc: Global,
+    request: &Request<'_>,
+    session: &Session<'_>,
+    profile: &str,
+    test: &TestName<'_>,
+    settings: &[Setting],
+) -> Result<Report, Failure>
+    ensures { IfOk result (Explains session.now profile.now test.now settings.now) }
+{
+    let mut warnings = DefaultConfigWarnings::new(alloc);
+    let rows = row_of_test(alloc, session, profile, test, &mut warnings)?;
+    let content = explained(alloc, request, session, profile, test, settings, &rows)?;
+    let findings = warning_findings(alloc, &session.layers, &warnings)?;
+    let report = report_of(alloc, session, findings, Vec::new(alloc), content)?;
+    Ok(report)
+}

@@ -1,0 +1,44 @@
+//! What is told of a fault in a filter.
+use nextest_filters::{Ban, FaultKind};
+
+/// Why a set may not stand in a filter.
+fn ban_words(ban: Ban) -> &'static str {
+    match ban {
+        Ban::DefaultInDefaultFilter => "`default()` may not stand here",
+        Ban::GroupInDefaultFilter | Ban::GroupInOverrideFilter => "`group(..)` may not stand here",
+    }
+}
+
+/// What is wrong with a filter.
+pub fn fault_words(kind: FaultKind) -> &'static str {
+    match kind {
+        FaultKind::ExpectedExpr => "expected an expression",
+        FaultKind::TooDeeplyNested => "more than 128 levels",
+        FaultKind::ExpectedOpenParenthesis => "expected `(`",
+        FaultKind::ExpectedCloseParenthesis => "expected `)`",
+        FaultKind::UnexpectedArgument => "this set takes no argument",
+        FaultKind::UnexpectedComma => "this set takes one argument",
+        FaultKind::InvalidString => "expected a text",
+        FaultKind::InvalidEscapeCharacter => "invalid escape",
+        FaultKind::InvalidGlob => "invalid glob",
+        FaultKind::InvalidRegex => "invalid regex",
+        FaultKind::ExpectedCloseRegex => "expected `/`",
+        FaultKind::InvalidPlatformArgument => "expected `host` or `target`",
+        FaultKind::InvalidOrOperator => "expected `|`, `+` or `or`",
+        FaultKind::InvalidAndOperator => "expected `&` or `and`",
+        FaultKind::ExpectedEndOfExpression => "expected the end of the expression",
+        FaultKind::BannedPredicate(ban) => ban_words(ban),
+        FaultKind::NoTestGroups => "groups of tests are not known here",
+        FaultKind::NoPackageGraph => "the packages are not known",
+    }
+}
+
+/// What to do about it, where that is not plain.
+pub fn fault_help(kind: FaultKind) -> Option<&'static str> {
+    match kind {
+        FaultKind::NoPackageGraph => {
+            Some("pass `--metadata F`, where F has what `cargo metadata --format-version 1` prints")
+        }
+        _ => None,
+    }
+}

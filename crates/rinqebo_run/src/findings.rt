@@ -1,0 +1,187 @@
+//! Findings: how they are made, and those of warnings.
+use crate::hints::key_hint;
+use nextest_config::{ConfigSource, ConfigWarning, DefaultConfigWarnings, Tree};
+use rinqebo_files::{Layer, place_of, spelled_place};
+use rinqebo_report::{Finding, Level, Place};
+use std::alloc::{AllocError, Global};
+
+/// A source of a run, by its position among the layers, if it is known.
+#[derive(Clone, Copy)]
+pub struct SourceAt<'l> {
+    pub layers: &'l [Layer<'l>],
+    pub position: Option<usize>,
+}
+
+impl<'l> SourceAt<'l> {
+    /// The tree of the source, if its text is a document.
+    pub fn tree(self) -> Option<&'l Tree> {
+        self.layers.get(self.position?)?.tree.as_ref()
+    }
+
+    /// The place of the source, or of a path in it.
+    fn place(self, alloc: Global, path: Option<&str>) -> Result<Option<Place>, AllocError> {
+        let Some(source) = self.position else {
+            return Ok(None);
+        };
+        match path {
+            Some(path) => Ok(Some(spelled_place(alloc, self.layers, source, path)?)),
+            None => Ok(Some(Place {
+                source,
+                lines: None,
+            })),
+        }
+    }
+}
+
+/// A finding of a source, with a message alone.
+pub fn finding(
+    alloc: Global,
+    level: Level,
+    code: &str,
+    source: SourceAt<'_>,
+    path: Option<String>,
+    message: String,
+) -> Result<Finding, AllocError> {
+    Ok(Finding {
+        level,
+        code: String::from_str(alloc, code)?,
+        place: source.place(alloc, path.as_deref())?,
+        column: None,
+        path,
+        message,
+        expression: None,
+        expected: None,
+        help: None,
+    })
+}
+
+/// Warns of a key without effect.
+fn unknown_key(alloc: Global, source: SourceAt<'_>, path: &str) -> Result<Finding, AllocError> {
+    let message = format!(in alloc; "{path} has no effect")?;
+    let at = Some(String::from_str(alloc, path)?);
+    let mut found = finding(
+        alloc,
+        Level::Warning,
+        "UnknownConfigKeys",
+        source,
+        at,
+        message,
+    )?;
+    found.help = key_hint(alloc, path)?;
+    Ok(found)
+}
+
+/// Warns of a profile whose name is reserved.
+fn reserved_profile(
+    alloc: Global,
+    source: SourceAt<'_>,
+    name: &str,
+) -> Result<Finding, AllocError> {
+    let path = format!(in alloc; "profile.{name}")?;
+    let message = format!(in alloc;
+        "profile.{name}: names that begin `default-` are nextest's own"
+    )?;
+    finding(
+        alloc,
+        Level::Warning,
+        "UnknownReservedProfiles",
+        source,
+        Some(path),
+        message,
+    )
+}
+
+/// Warns of scripts under the old key.
+fn old_scripts(alloc: Global, source: SourceAt<'_>) -> Result<Finding, AllocError> {
+    let path = Some(String::from_str(alloc, "script")?);
+    let message = String::from_str(
+        alloc,
+        "script: this table is the old place of setup scripts",
+    )?;
+    let mut found = finding(
+        alloc,
+        Level::Warning,
+        "DeprecatedScriptConfig",
+        source,
+        path,
+        message,
+    )?;
+    found.help = Some(String::from_str(alloc, "write `scripts.setup`")?);
+    Ok(found)
+}
+
+/// Warns of script rules that name no script.
+fn empty_rules(
+    alloc: Global,
+    source: SourceAt<'_>,
+    profile: &str,
+    count: usize,
+) -> Result<Finding, AllocError> {
+    let path = format!(in alloc; "profile.{profile}.scripts")?;
+    let message = format!(in alloc;
+        "profile.{profile}.scripts: rules that name no script: {count}"
+    )?;
+    finding(
+        alloc,
+        Level::Warning,
+        "EmptyScriptSections",
+        source,
+        Some(path),
+        message,
+    )
+}
+
+/// The source that a warning is about.
+fn source_of(warning: &ConfigWarning) -> &ConfigSource {
+    match warning {
+        ConfigWarning::UnknownConfigKeys { source, .. }
+        | ConfigWarning::UnknownReservedProfiles { source, .. }
+        | ConfigWarning::DeprecatedScriptConfig { source }
+        | ConfigWarning::EmptyScriptSections { source, .. } => source,
+    }
+}
+
+/// Adds the findings of a warning.
+fn add_warning(
+    alloc: Global,
+    layers: &[Layer],
+    warning: &ConfigWarning,
+    findings: &mut Vec<Finding>,
+) -> Result<(), AllocError> {
+    let source = SourceAt {
+        layers,
+        position: place_of(layers, source_of(warning)),
+    };
+    match warning {
+        ConfigWarning::UnknownConfigKeys { paths, .. } => {
+            for path in paths {
+                findings.push(unknown_key(alloc, source, path.as_str())?)?;
+            }
+        }
+        ConfigWarning::UnknownReservedProfiles { names, .. } => {
+            for name in names {
+                findings.push(reserved_profile(alloc, source, name.as_str())?)?;
+            }
+        }
+        ConfigWarning::DeprecatedScriptConfig { .. } => {
+            findings.push(old_scripts(alloc, source)?)?;
+        }
+        ConfigWarning::EmptyScriptSections { profile, count, .. } => {
+            findings.push(empty_rules(alloc, source, profile.as_str(), *count)?)?;
+        }
+    }
+    Ok(())
+}
+
+/// The findings of warnings, in their order.
+pub fn warning_findings(
+    alloc: Global,
+    layers: &[Layer],
+    warnings: &DefaultConfigWarnings,
+) -> Result<Vec<Finding>, AllocError> {
+    let mut findings = Vec::new(alloc);
+    for warning in warnings.warnings() {
+        add_warning(alloc, layers, warning, &mut findings)?;
+    }
+    Ok(findings)
+}

@@ -1,0 +1,29 @@
+//! What the program `rinqebo` does, over words, files and writers of a caller's choosing.
+//!
+//! [`perform`] answers a request over the files that it names: with the settings of a test, the rules
+//! of a setting, or what is wrong with the files.
+#![tactic(auto)]
+
+mod answer;
+mod binary;
+mod chain_rules;
+mod check;
+mod conditions;
+mod engines;
+mod explain;
+mod expressions;
+mod fallback;
+mod fault_words;
+mod findings;
+mod grounds;
+mod hints;
+mod refusals;
+mod rule_places;
+mod rules;
+mod run;
+mod session;
+mod unknown_names;
+mod why;
+mod wrappers;
+
+pub use run::{perform, refuse_gathering, refuse_words};

@@ -1,0 +1,207 @@
+//! Answers a request, and writes what it answers.
+ghost use Rattle.std.specs.Prelude.{◌≡◌, ◌⊎◌, IsOk, IfOk, IfErr};
+ghost use Rattle.std.specs.Io.KnownBytes.{Appends};
+ghost use Rattle.std.specs.Result.{result_map_both};
+ghost use Rattle.rinqebo_report.specs.Rendered.{rendered};
+ghost use Rattle.rinqebo_run.specs.Answered.{AnswersQuestion, IsAnswer, Tells};
+ghost use Rattle.rinqebo_run.specs.Statuses.{IsStatus, IsAnswerStatus, IsFailureOf, failure_status};
+
+use crate::answer::{Answer, Failure};
+use crate::check::check;
+use crate::explain::explain;
+use crate::session::Session;
+use crate::why::why;
+use nextest_explain::refuse_for_memory;
+use rinqebo_files::{GatherFault, Gathered};
+use rinqebo_report::{Colour, Content, Format, Report, render, render_findings};
+use rinqebo_request::{ParseStop, Question, Request};
+use std::alloc::{AllocError, Global};
+use std::io::{self, Write};
+
+/// The answer that is a report, where a run succeeds.
+fn answered(report: Result<Report, Failure>) -> Result<Answer, Failure>
+    ensures status { IfOk result (λ answer. answer.status ≡ 0) }
+    ensures report { result_map_both (λ answer. answer.report) (λ failure. failure) result
+        ≡ report }
+{
+    match report {
+        Ok(report) => Ok(Answer { report, status: 0 }),
+        Err(failure) => Err(failure),
+    }
+}
+
+/// What a request is answered, over the files that it names.
+fn answer_of(alloc: Global, request: &Request<'_>, gathered: &Gathered) -> Result<Answer, Failure>
+    ensures ok { IfOk result
+        (λ answer. IsAnswer request.now gathered.now answer.report answer.status) }
+    ensures err { IfErr result (IsFailureOf request.now.question) }
+{
+    let session = Session::new(alloc, request, gathered)?;
+    answer_in(alloc, request, &session)
+}
+
+/// What a request is answered in a session.
+fn answer_in(alloc: Global, request: &Request<'_>, session: &Session<'_>) -> Result<Answer, Failure>
+    ensures ok { IfOk result (λ answer.
+        AnswersQuestion request.now.question session.now answer.report answer.status) }
+    ensures err { IfErr result (IsFailureOf request.now.question) }
+{
+    match &request.question {
+        Question::Explain {
+            profile,
+            test,
+            settings,
+        } => answered(explain(alloc, request, session, *profile, test, settings)),
+        Question::Why {
+            profile,
+            test,
+            setting,
+        } => answered(why(alloc, request, session, *profile, test, *setting)),
+        Question::Check { deny_warnings } => check(alloc, session, *deny_warnings),
+    }
+}
+
+/// The status, unless the last write failed.
+fn status_of_write(written: io::Result<()>, status: u8) -> u8
+    ensures status { (result ≡ status) ⊎ (result ≡ 6) }
+    ensures failed { (result ≡ 6) ⊎ IsOk written }
+{
+    match written {
+        Ok(()) => status,
+        Err(_) => 6,
+    }
+}
+
+/// Writes a text, and answers a status, or 6 where a write fails.
+fn tell<W: Write>(text: &str, status: u8, out: &mut W) -> u8
+    ensures status { (result ≡ status) ⊎ (result ≡ 6) }
+    ensures written { (result ≡ 6) ⊎ Appends (W.contents out.old) (W.contents out.new) text.now }
+{
+    if out.write_all(text.as_bytes()).is_err() {
+        return 6;
+    }
+    status_of_write(out.flush(), status)
+}
+
+/// What standard error is told beside a page: its findings, where the page does not have them.
+fn notes_of(
+    alloc: Global,
+    report: &Report,
+    format: Format<'_>,
+    colour: Colour,
+) -> Result<String, AllocError> {
+    match (&report.content, format) {
+        (Content::Check, _) | (_, Format::Json) => Ok(String::new(alloc)),
+        _ => render_findings(alloc, report, colour),
+    }
+}
+
+/// Writes an answer: its notes, and then the report.
+fn tell_answer<O: Write, E: Write>(
+    alloc: Global,
+    request: &Request<'_>,
+    answer: &Answer,
+    out: &mut O,
+    err: &mut E,
+) -> u8
+    ensures status { (result ≡ answer.now.status) ⊎ (result ≡ 5) ⊎ (result ≡ 6) }
+    ensures quiet { (result ≡ answer.now.status) ⊎ (result ≡ 6)
+        ⊎ (O.contents out.new ≡ O.contents out.old) }
+    ensures page { (result ≡ 5) ⊎ (result ≡ 6) ⊎ Appends (O.contents out.old) (O.contents out.new)
+        (rendered answer.now.report request.now.format request.now.colour) }
+{
+    let report = &answer.report;
+    let Ok(notes) = notes_of(alloc, report, request.format, request.colour) else {
+        return refuse_for_memory(err);
+    };
+    let Ok(text) = render(alloc, report, request.format, request.colour) else {
+        return refuse_for_memory(err);
+    };
+    match tell(notes.as_str(), 0, err) {
+        0 => tell(text.as_str(), answer.status, out),
+        status => status,
+    }
+}
+
+/// Tells the findings for which a run answers nothing.
+fn refuse_with<E: Write>(
+    alloc: Global,
+    report: &Report,
+    colour: Colour,
+    status: u8,
+    err: &mut E,
+) -> u8
+    ensures { (result ≡ status) ⊎ (result ≡ 5) ⊎ (result ≡ 6) }
+{
+    match render_findings(alloc, report, colour) {
+        Ok(text) => tell(text.as_str(), status, err),
+        Err(_) => refuse_for_memory(err),
+    }
+}
+
+/// Tells a message, and answers a status.
+fn refuse_message<E: Write>(message: Result<String, AllocError>, status: u8, err: &mut E) -> u8
+    ensures { (result ≡ status) ⊎ (result ≡ 5) ⊎ (result ≡ 6) }
+{
+    match message {
+        Ok(text) => tell(text.as_str(), status, err),
+        Err(_) => refuse_for_memory(err),
+    }
+}
+
+/// Tells why a run answers nothing, and answers the exit status.
+fn refuse<E: Write>(alloc: Global, failure: &Failure, colour: Colour, err: &mut E) -> u8
+    ensures { (result ≡ failure_status failure.now) ⊎ (result ≡ 5) ⊎ (result ≡ 6) }
+{
+    match failure {
+        Failure::Engines(fault) => refuse_message(format!(in alloc; "error: {fault}\n"), 2, err),
+        Failure::Refused(report) => refuse_with(alloc, report, colour, 3, err),
+        Failure::NoProfile(report) => refuse_with(alloc, report, colour, 4, err),
+        Failure::Memory => refuse_for_memory(err),
+    }
+}
+
+/// Answers a request over the files that it names, and answers the exit status: 0, or 1 for warnings
+/// that are denied, 2 for platforms and metadata that are not understood, 3 where the files are
+/// refused, 4 where there is no such profile, 5 for want of memory, 6 where a write fails. Nothing
+/// goes to standard output where a run refuses, but for the findings of a check.
+pub fn perform<O: Write, E: Write>(
+    alloc: Global,
+    request: &Request<'_>,
+    gathered: &Gathered,
+    out: &mut O,
+    err: &mut E,
+) -> u8
+    ensures status { IsStatus result }
+    ensures quiet { IsAnswerStatus request.now.question result ⊎ (result ≡ 6)
+        ⊎ (O.contents out.new ≡ O.contents out.old) }
+    ensures page { IsAnswerStatus request.now.question result
+        → Tells request.now gathered.now result (O.contents out.old) (O.contents out.new) }
+{
+    match answer_of(alloc, request, gathered) {
+        Ok(answer) => tell_answer(alloc, request, &answer, out, err),
+        Err(failure) => refuse(alloc, &failure, request.colour, err),
+    }
+}
+
+/// Tells why words are no request, and answers the exit status. Help goes to standard output.
+pub fn refuse_words<O: Write, E: Write>(stop: &ParseStop, out: &mut O, err: &mut E) -> u8
+    ensures status { (result ≡ 0) ⊎ (result ≡ 2) ⊎ (result ≡ 5) ⊎ (result ≡ 6) }
+    ensures quiet { (result ≡ 0) ⊎ (result ≡ 6) ⊎ (O.contents out.new ≡ O.contents out.old) }
+{
+    match stop {
+        ParseStop::Help(text) => tell(text.as_str(), 0, out),
+        ParseStop::Usage(text) => tell(text.as_str(), 2, err),
+        ParseStop::Memory => refuse_for_memory(err),
+    }
+}
+
+/// Tells why the files of a request were not read, and answers the exit status.
+pub fn refuse_gathering<E: Write>(alloc: Global, fault: &GatherFault, err: &mut E) -> u8
+    ensures { (result ≡ 2) ⊎ (result ≡ 5) ⊎ (result ≡ 6) }
+{
+    match fault {
+        GatherFault::Memory => refuse_for_memory(err),
+        fault => refuse_message(format!(in alloc; "error: {fault}\n"), 2, err),
+    }
+}

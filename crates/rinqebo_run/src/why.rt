@@ -1,0 +1,290 @@
+//! The rules of a setting, and what comes of each.
+ghost use Rattle.std.specs.Prelude.{◌≡◌, IfOk, List, map};
+ghost use Rattle.filter_language.specs.declared.filterset.Filterset.{Filterset};
+ghost use Rattle.nextest_filters.specs.declared.compiling.FieldMatcher.{FieldMatcher};
+ghost use Rattle.nextest_inheritance.specs.Parents.{with_default};
+ghost use Rattle.nextest_inheritance.specs.View.{borrowed_view};
+ghost use Rattle.nextest_settings.specs.Profile.{Configured, profile_of};
+ghost use Rattle.nextest_tables.specs.FileTexts.{names_in, IsIn};
+ghost use Rattle.nextest_tables.specs.Written.{Name};
+ghost use Rattle.rinqebo_report.specs.declared.report.Verdict.TheVariants as told;
+ghost use Rattle.rinqebo_request.specs.Keys.{key_text};
+ghost use Rattle.rinqebo_run.specs.Conditions.{is_met_by, filter_matches};
+ghost use Rattle.rinqebo_run.specs.Reasons.{told_verdict, answers_told, IsRuleTold, facts_told, verdicts_here, AreRulesToldHere};
+ghost use Rattle.rinqebo_run.specs.RuleViews.{setting_rule_view};
+ghost use Rattle.rinqebo_run.specs.TellsReasons.{AreReasons, AreReasonsIn, IfWhy, TellsReasons};
+ghost use Rattle.target_language.specs.declared.expression.TargetSpec.{TargetSpec};
+
+use crate::answer::Failure;
+use crate::binary::query_of;
+use crate::chain_rules::{SettingRule, rules_for};
+use crate::check::{failure_of_load, failure_of_profile, report_of};
+use crate::conditions::{Answers, Asking, answers_of, default_filter};
+use crate::explain::asked_of;
+use crate::fallback::fallback_value;
+use crate::findings::warning_findings;
+use crate::grounds::{built_in, profile_grounds};
+use crate::rules::{chain_of_profile, has_profile, missing_profile};
+use crate::session::{Config, Session};
+use nextest_config::{DefaultConfigWarnings, NextestRunMode, Setting};
+use rinqebo_files::{Layer, host_text, target_text, text_at};
+use rinqebo_report::{Condition, ConditionAnswer, Content, Origin, Report, Rule, Verdict};
+use rinqebo_request::{Request, SettingKey, TestName};
+use rinqebo_values::reported_if_set;
+use rule_verdicts::{RuleFacts, verdicts_of};
+use std::alloc::{AllocError, Global};
+
+/// A condition, with its text.
+fn condition(
+    alloc: Global,
+    text: Option<&str>,
+    answer: ConditionAnswer,
+) -> Result<Condition, AllocError>
+    ensures { IfOk result (λ condition. condition.answer ≡ answer) }
+{
+    Ok(Condition {
+        text: String::from_str(alloc, text.unwrap_or(""))?,
+        answer,
+    })
+}
+
+/// A verdict, as it is reported.
+fn reported_verdict(verdict: rule_verdicts::Verdict) -> Verdict
+    ensures { result ≡ told_verdict verdict }
+{
+    match verdict {
+        rule_verdicts::Verdict::PlatformNo => Verdict::PlatformNo,
+        rule_verdicts::Verdict::FilterNo => Verdict::FilterNo,
+        rule_verdicts::Verdict::SetsNothing => Verdict::SetsNothing,
+        rule_verdicts::Verdict::DecidedBefore => Verdict::DecidedBefore,
+        rule_verdicts::Verdict::Decides => Verdict::Decides,
+    }
+}
+
+/// What the conditions of a rule say.
+fn answers_to(rule: &SettingRule<'_>, asking: &Asking<'_, '_>) -> Answers
+    ensures { result ≡ answers_told asking.now (setting_rule_view rule.now) }
+{
+    answers_of(rule.platforms, rule.filter, asking)
+}
+
+/// A rule with its verdict.
+fn reported_rule(
+    alloc: Global,
+    layers: &[Layer],
+    rule: &SettingRule<'_>,
+    asking: &Asking<'_, '_>,
+    verdict: rule_verdicts::Verdict,
+) -> Result<Rule, AllocError>
+    ensures { let view = setting_rule_view rule.now in
+        IfOk result (IsRuleTold view.writes (answers_told asking.now view) verdict) }
+{
+    let table = rule.place.table(layers);
+    let answers = answers_to(rule, asking);
+    Ok(Rule {
+        verdict: reported_verdict(verdict),
+        origin: rule.place.origin(alloc, layers)?,
+        host: condition(alloc, host_text(table), answers.host)?,
+        target: condition(alloc, target_text(table), answers.target)?,
+        filter: condition(alloc, text_at(table, "filter"), answers.filter)?,
+        value: reported_if_set(alloc, rule.value)?,
+    })
+}
+
+/// What is known of a rule.
+pub fn facts_of(rule: &SettingRule<'_>, asking: &Asking<'_, '_>) -> RuleFacts
+    ensures { result ≡ facts_told asking.now (setting_rule_view rule.now) }
+{
+    let answers = answers_to(rule, asking);
+    RuleFacts {
+        is_on: answers.is_on(),
+        matches: answers.matches(),
+        writes: rule.value.is_some(),
+    }
+}
+
+/// What is known of each rule.
+fn all_facts(
+    alloc: Global,
+    rules: &[SettingRule<'_>],
+    asking: &Asking<'_, '_>,
+) -> Result<Vec<RuleFacts>, AllocError>
+    ensures { IfOk result (λ facts. facts.items
+        ≡ map (facts_told asking.now) (map setting_rule_view rules.now)) }
+{
+    let mut facts = Vec::new(alloc);
+    for rule in rules {
+        facts.push(facts_of(rule, asking))?;
+    }
+    Ok(facts)
+}
+
+/// What comes of each rule.
+fn all_verdicts(
+    alloc: Global,
+    rules: &[SettingRule<'_>],
+    asking: &Asking<'_, '_>,
+) -> Result<Vec<rule_verdicts::Verdict>, AllocError>
+    ensures { IfOk result (λ verdicts. verdicts.items
+        ≡ verdicts_here asking.now (map setting_rule_view rules.now)) }
+{
+    let facts = all_facts(alloc, rules, asking)?;
+    verdicts_of(alloc, &facts)
+}
+
+/// Rules with their verdicts.
+fn rules_with_verdicts(
+    alloc: Global,
+    layers: &[Layer],
+    rules: &[SettingRule<'_>],
+    verdicts: &[rule_verdicts::Verdict],
+    asking: &Asking<'_, '_>,
+) -> Result<Vec<Rule>, AllocError>
+    ensures { verdicts.now ≡ verdicts_here asking.now (map setting_rule_view rules.now)
+        → IfOk result (λ told.
+        AreRulesToldHere asking.now (map setting_rule_view rules.now) told.items) }
+{
+    let mut reported = Vec::new(alloc);
+    for (rule, verdict) in rules.iter().zip(verdicts) {
+        reported.push(reported_rule(alloc, layers, rule, asking, *verdict)?)?;
+    }
+    Ok(reported)
+}
+
+/// Rules, each with its verdict.
+fn reported_rules(
+    alloc: Global,
+    layers: &[Layer],
+    rules: &[SettingRule<'_>],
+    asking: &Asking<'_, '_>,
+) -> Result<Vec<Rule>, AllocError>
+    ensures { IfOk result (λ told.
+        AreRulesToldHere asking.now (map setting_rule_view rules.now) told.items) }
+{
+    let verdicts = all_verdicts(alloc, rules, asking)?;
+    rules_with_verdicts(alloc, layers, rules, &verdicts, asking)
+}
+
+/// Where a setting comes from where no rule decides it. Several files may write parts of it: the
+/// first is told.
+fn fallback_origin(
+    alloc: Global,
+    layers: &[Layer],
+    chain: &[&str],
+    setting: Setting,
+    key: SettingKey,
+) -> Result<Origin, AllocError> {
+    let origins = match setting {
+        Setting::Priority | Setting::TestGroup | Setting::RunWrapper => built_in(alloc)?,
+        _ => profile_grounds(alloc, layers, chain, key)?,
+    };
+    match origins.into_iter().next() {
+        Some(origin) => Ok(origin),
+        None => Ok(Origin::BuiltIn),
+    }
+}
+
+/// What counts where no rule decides.
+fn fallback_rule(
+    alloc: Global,
+    session: &Session<'_>,
+    config: &Config,
+    chain: &[&str],
+    setting: Setting,
+    mode: NextestRunMode,
+) -> Result<Rule, AllocError>
+    ensures { IfOk result (λ rule. rule.verdict ≡ told.Fallback) }
+{
+    let key = SettingKey::of(setting, mode);
+    let value = fallback_value(alloc, config, chain, setting, mode)?;
+    Ok(Rule {
+        verdict: Verdict::Fallback,
+        origin: fallback_origin(alloc, &session.layers, chain, setting, key)?,
+        host: condition(alloc, None, ConditionAnswer::Absent)?,
+        target: condition(alloc, None, ConditionAnswer::Absent)?,
+        filter: condition(alloc, None, ConditionAnswer::Absent)?,
+        value: reported_if_set(alloc, value)?,
+    })
+}
+
+/// All rules of a setting, and then what counts where none decides.
+fn rules_and_fallback<'c>(
+    alloc: Global,
+    session: &'c Session<'_>,
+    config: &'c Config,
+    chain: &[&'c str],
+    test: &'c TestName<'_>,
+    setting: Setting,
+) -> Result<Vec<Rule>, AllocError>
+    ensures { (configured : Configured (Filterset FieldMatcher) TargetSpec) (name : Name)
+        (names : List Name) → configured.config ≡ config.now.config
+        → borrowed_view chain.now ≡ with_default names
+        → IfOk result (λ rules. AreReasons is_met_by filter_matches session.now.engines.platforms
+        test.now setting (profile_of configured name names) rules.items) }
+{
+    let platforms = &session.engines.platforms;
+    let query = query_of(test);
+    let default_filter = default_filter(alloc, config, chain, platforms)?;
+    let asking = Asking {
+        platforms,
+        test,
+        query: &query,
+        default_filter,
+    };
+    let rules = rules_for(alloc, config, chain, setting, test.mode)?;
+    let mut reported = reported_rules(alloc, &session.layers, &rules, &asking)?;
+    let fallback = fallback_rule(alloc, session, config, chain, setting, test.mode)?;
+    reported.push(fallback)?;
+    Ok(reported)
+}
+
+/// The rules of a setting, by a configuration.
+fn reasons<'c>(
+    alloc: Global,
+    request: &Request<'_>,
+    session: &'c Session<'_>,
+    config: &'c Config,
+    profile: &'c str,
+    test: &'c TestName<'_>,
+    setting: Setting,
+) -> Result<Content, AllocError>
+    ensures { (configured : Configured (Filterset FieldMatcher) TargetSpec)
+        → configured.config ≡ config.now.config
+        → IsIn (names_in config.now.config.profiles) profile.now
+        → IfOk result (λ content. IfWhy content (λ key rules.
+        (key ≡ key_text setting test.now.mode)
+        × AreReasonsIn is_met_by filter_matches session.now.engines.platforms configured
+        profile.now test.now setting rules)) }
+{
+    let chain = chain_of_profile(alloc, config, profile)?;
+    let asked = asked_of(alloc, request, profile, &chain, test.mode)?;
+    let key = SettingKey::of(setting, test.mode).text(alloc)?;
+    let rules = rules_and_fallback(alloc, session, config, &chain, test, setting)?;
+    Ok(Content::Why { asked, key, rules })
+}
+
+/// The rules of a setting, and what comes of each.
+pub fn why(
+    alloc: Global,
+    request: &Request<'_>,
+    session: &Session<'_>,
+    profile: &str,
+    test: &TestName<'_>,
+    setting: Setting,
+) -> Result<Report, Failure>
+    ensures { IfOk result (TellsReasons session.now profile.now test.now setting) }
+{
+    let mut warnings = DefaultConfigWarnings::new(alloc);
+    let config = match session.load(alloc, &mut warnings) {
+        Ok(config) => config,
+        Err(error) => return Err(failure_of_load(alloc, session, &warnings, &error)?),
+    };
+    if !has_profile(&config, profile) {
+        let missing = missing_profile(alloc, &config, profile)?;
+        return Err(failure_of_profile(alloc, session, &warnings, &missing)?);
+    }
+    let content = reasons(alloc, request, session, &config, profile, test, setting)?;
+    let findings = warning_findings(alloc, &session.layers, &warnings)?;
+    let report = report_of(alloc, session, findings, Vec::new(alloc), content)?;
+    Ok(report)
+}

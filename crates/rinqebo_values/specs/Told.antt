@@ -1,0 +1,140 @@
+-- Values of settings as they are reported.
+use Rattle.std.specs.Prelude.{ℕ, ℤ, pos, min, ◌^◌, ◌-◌, ◌==◌, ◌&&◌, not, List, [], ◌∷◌, ◌++◌, Bool, true, false, Option, None, Some, map, codes, string_bytes}
+use Rattle.nextest_elements.specs.FlakyResult.{flaky_result_text}
+use Rattle.nextest_elements.specs.Junit.{report_skip_policy_text, junit_flaky_fail_status_text}
+use Rattle.nextest_elements.specs.LeakTimeout.{leak_result_text}
+use Rattle.nextest_elements.specs.SlowTimeout.{slow_result_text}
+use Rattle.nextest_elements.specs.TestGroup.{group_text}
+use Rattle.nextest_elements.specs.TestOutputDisplay.{test_output_display_text}
+use Rattle.nextest_elements.specs.ThreadsRequired.{threads_required_text}
+use Rattle.nextest_elements.specs.declared.leak_timeout.LeakTimeout.{LeakTimeout}
+use Rattle.nextest_elements.specs.declared.retry_policy.RetryPolicy.{RetryPolicy}
+use Rattle.nextest_elements.specs.declared.retry_policy.RetryPolicy.TheVariants as policies
+use Rattle.nextest_elements.specs.declared.slow_timeout.SlowTimeout.{SlowTimeout}
+use Rattle.nextest_elements.specs.declared.threads_required.ThreadsRequired.{ThreadsRequired}
+use Rattle.nextest_elements.specs.declared.threads_required.ThreadsRequired.TheVariants as threads
+use Rattle.nextest_settings.specs.Settings.{ValueOf}
+use Rattle.nextest_settings.specs.declared.setting.Setting.{Setting}
+use Rattle.nextest_settings.specs.declared.setting.Setting.TheVariants as at
+use Rattle.rinqebo_report.specs.declared.value.Field.{Field}
+use Rattle.rinqebo_report.specs.declared.value.Scalar.{Scalar}
+use Rattle.rinqebo_report.specs.declared.value.Scalar.TheVariants as scalars
+use Rattle.rinqebo_report.specs.declared.value.Value.{Value}
+use Rattle.rinqebo_report.specs.declared.value.Value.TheVariants as values
+
+-- A value that holds no others: whether something is so, a number, a text, or a length of time in
+-- nanoseconds.
+pub data ToldScalar : Type 0 where
+  boolean : Bool → ToldScalar
+  integer : ℤ → ToldScalar
+  text : List ℕ → ToldScalar
+  duration : ℕ → ToldScalar
+
+-- A member of a table.
+pub record ToldField : Type 0 where
+  pub key : List ℕ
+  pub value : ToldScalar
+
+-- A value: one that holds no others, texts, or a table.
+pub data ToldValue : Type 0 where
+  scalar : ToldScalar → ToldValue
+  texts : List (List ℕ) → ToldValue
+  table : List ToldField → ToldValue
+
+-- what contracts see of a value that holds no others
+abbrev pub scalar_view : Scalar → ToldScalar
+scalar_view (scalars.Boolean b) = boolean b
+scalar_view (scalars.Integer n) = integer n
+scalar_view (scalars.Text t) = text (string_bytes t)
+scalar_view (scalars.Duration n) = duration n
+
+-- what contracts see of a member of a table
+abbrev pub field_view : Field → ToldField
+field_view f = record { key = string_bytes f.key; value = scalar_view f.value }
+
+-- what contracts see of a value
+abbrev pub value_view : Value → ToldValue
+value_view (values.Scalar s) = scalar (scalar_view s)
+value_view (values.Texts ts) = texts (map string_bytes ts.items)
+value_view (values.Table fs) = table (map field_view fs.items)
+
+-- A count is told as a number, the greatest one of TOML where it is greater.
+abbrev pub told_count : ℕ → ToldScalar
+told_count n = integer (pos (min n (2 ^ 63 - 1)))
+
+-- a table of one member
+abbrev pub one : List ℕ → ToldScalar → List ToldField
+one key value = record { key = key; value = value } ∷ []
+
+-- a member that may be absent
+abbrev pub one_if : {X : Type 0} → List ℕ → (X → ToldScalar) → Option X → List ToldField
+one_if key told None = []
+one_if key told (Some x) = one key (told x)
+
+-- that something is so, or nothing
+abbrev pub one_if_true : List ℕ → Bool → List ToldField
+one_if_true key false = []
+one_if_true key true = one key (boolean true)
+
+-- the members of a retry policy: no jitter is left out
+abbrev pub retry_fields : List ℕ → ℕ → ℕ → Bool → Option ℕ → List ToldField
+retry_fields backoff count delay jitter max_delay =
+    one (codes "backoff") (text backoff) ++ one (codes "count") (integer (pos count))
+    ++ one (codes "delay") (duration delay) ++ one_if_true (codes "jitter") jitter
+    ++ one_if (codes "max-delay") duration max_delay
+
+-- a fixed retry policy, by whether it has neither delay nor jitter
+abbrev pub fixed_as : Bool → ℕ → ℕ → Bool → ToldValue
+fixed_as true count delay jitter = scalar (integer (pos count))
+fixed_as false count delay jitter =
+    table (retry_fields (codes "fixed") count delay jitter None)
+
+-- whether a retry policy has neither delay nor jitter
+abbrev pub is_plain : ℕ → Bool → Bool
+is_plain delay jitter = (delay == 0) && not jitter
+
+-- a fixed retry policy: a count where it has neither delay nor jitter
+abbrev pub told_fixed : ℕ → ℕ → Bool → ToldValue
+told_fixed count delay jitter = fixed_as (is_plain delay jitter) count delay jitter
+
+-- a retry policy
+abbrev pub told_retries : RetryPolicy → ToldValue
+told_retries (policies.Fixed count delay jitter) = told_fixed count delay jitter
+told_retries (policies.Exponential count delay jitter max_delay) =
+    table (retry_fields (codes "exponential") count delay jitter max_delay)
+
+-- a slow timeout
+abbrev pub told_slow : SlowTimeout → ToldValue
+told_slow slow = table (one (codes "period") (duration slow.period)
+    ++ one_if (codes "terminate-after") told_count slow.terminate_after
+    ++ one (codes "grace-period") (duration slow.grace_period)
+    ++ one (codes "on-timeout") (text (slow_result_text slow.on_timeout)))
+
+-- a leak timeout
+abbrev pub told_leak : LeakTimeout → ToldValue
+told_leak leak = table (one (codes "period") (duration leak.period)
+    ++ one (codes "result") (text (leak_result_text leak.result)))
+
+-- how many threads a test takes
+abbrev pub told_threads : ThreadsRequired → ToldScalar
+told_threads (threads.Count n) = told_count n
+told_threads threads.NumCpus = text (threads_required_text threads.NumCpus)
+told_threads threads.NumTestThreads = text (threads_required_text threads.NumTestThreads)
+
+-- The value of a setting is told by its kind.
+abbrev pub told_of : (s : Setting) → ValueOf s → ToldValue
+told_of at.Priority priority = scalar (integer priority.0)
+told_of at.ThreadsRequired threads = scalar (told_threads threads)
+told_of at.RunWrapper id = scalar (text id)
+told_of at.RunExtraArgs arguments = texts arguments
+told_of at.Retries retries = told_retries retries
+told_of at.FlakyResult result = scalar (text (flaky_result_text result))
+told_of at.SlowTimeout slow = told_slow slow
+told_of at.LeakTimeout leak = told_leak leak
+told_of at.TestGroup group = scalar (text (group_text group))
+told_of at.SuccessOutput display = scalar (text (test_output_display_text display))
+told_of at.FailureOutput display = scalar (text (test_output_display_text display))
+told_of at.JunitStoreSuccessOutput stored = scalar (boolean stored)
+told_of at.JunitStoreFailureOutput stored = scalar (boolean stored)
+told_of at.JunitReportSkipped policy = scalar (text (report_skip_policy_text policy))
+told_of at.JunitFlakyFailStatus status = scalar (text (junit_flaky_fail_status_text status))

@@ -1,0 +1,90 @@
+//! What is printed of a run.
+use crate::case::Case;
+use nextest_config::ReadOutcome;
+use nextest_explain::FileReader;
+use rinqebo_files::gather;
+use rinqebo_request::parse;
+use rinqebo_run::{perform, refuse_gathering, refuse_words};
+use std::alloc::{AllocError, Global};
+
+/// Runs over the files of a case, and answers the status.
+fn run(
+    alloc: Global,
+    case: &Case<'_>,
+    words: &[String],
+    out: &mut Vec<u8>,
+    err: &mut Vec<u8>,
+) -> Result<u8, AllocError> {
+    let request = match parse(alloc, words, &case.environment) {
+        Ok(request) => request,
+        Err(stop) => return Ok(refuse_words(&stop, out, err)),
+    };
+    let input = if request.reads_input() {
+        case.files.read(alloc, "-")?
+    } else {
+        ReadOutcome::NotFound
+    };
+    match gather(alloc, &request, &case.environment, input, &case.files) {
+        Ok(gathered) => Ok(perform(alloc, &request, &gathered, out, err)),
+        Err(fault) => Ok(refuse_gathering(alloc, &fault, err)),
+    }
+}
+
+/// The case's name, the words, the status, and what was written to the two streams.
+pub fn report_of(alloc: Global, case: &Case<'_>, words: &str) -> Result<String, AllocError> {
+    let mut out = Vec::new(alloc);
+    let mut err = Vec::new(alloc);
+    let status = run(alloc, case, &words_of(alloc, words)?, &mut out, &mut err)?;
+    let name = case.name;
+    let mut report = format!(in alloc; "case {name}\nrun {words}\nstatus {status}\n")?;
+    add_text(&mut report, "stdout\n", text_of(alloc, out)?.as_str())?;
+    add_text(&mut report, "stderr\n", text_of(alloc, err)?.as_str())?;
+    Ok(report)
+}
+
+/// The words of a line, parted by one space, with the program's name before them.
+fn words_of(alloc: Global, line: &str) -> Result<Vec<String>, AllocError> {
+    let mut words = Vec::new(alloc);
+    words.push(String::from_str(alloc, "rinqebo")?)?;
+    for word in line.split(' ') {
+        if !word.is_empty() {
+            words.push(String::from_str(alloc, word)?)?;
+        }
+    }
+    Ok(words)
+}
+
+/// The text of what was written.
+fn text_of(alloc: Global, bytes: Vec<u8>) -> Result<String, AllocError> {
+    match String::from_utf8(bytes) {
+        Ok(text) => Ok(text),
+        Err(_) => String::from_str(alloc, "bytes that are not UTF-8"),
+    }
+}
+
+/// Adds a line behind two spaces, with `\e` for each escape.
+fn add_line(report: &mut String, line: &str) -> Result<(), AllocError> {
+    report.push_str("  ")?;
+    for (place, part) in line.split('\u{1b}').enumerate() {
+        if place > 0 {
+            report.push_str("\\e")?;
+        }
+        report.push_str(part)?;
+    }
+    report.push_str("\n")
+}
+
+/// Adds all lines of a text below a heading, unless there are none.
+fn add_text(report: &mut String, heading: &str, text: &str) -> Result<(), AllocError> {
+    if text.is_empty() {
+        return Ok(());
+    }
+    report.push_str(heading)?;
+    for line in text.strip_suffix("\n").unwrap_or(text).split('\n') {
+        add_line(report, line)?;
+    }
+    if !text.ends_with("\n") {
+        report.push_str("without a newline at the end\n")?;
+    }
+    Ok(())
+}
