@@ -18,10 +18,10 @@ fn decides(rule: &SettingRule<'_>, asking: &Asking<'_, '_>) -> bool {
 /// wrapper and holds.
 pub fn wrapping_place<'c>(
     alloc: Global,
-    session: &'c Session<'_>,
+    session: &Session<'_>,
     config: &'c Config,
     chain: &[&'c str],
-    test: &'c TestName<'_>,
+    test: &TestName<'_>,
 ) -> Result<Option<RulePlace<'c>>, AllocError> {
     let platforms = &session.engines.platforms;
     let query = query_of(test);
