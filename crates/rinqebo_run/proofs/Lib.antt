@@ -1,4 +1,5 @@
 pub mod Statuses
+pub mod Refused
 pub mod Loads
 pub mod Rows
 pub mod Reasons

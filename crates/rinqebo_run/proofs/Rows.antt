@@ -1,20 +1,25 @@
 -- Settings of a row, and the rows of a test.
-use Rattle.std.proofs.Common.{◌≡◌, ◌∙◌, ◌<◌, ◌+◌, ℕ, List, [], ◌∷◌, ◌++◌, Option, Some, None, Result, Ok, Err, IfOk, ap, map, refl, subst, sym, length, take, get_or, unwrap_or}
+use Rattle.std.proofs.Common.{◌≡◌, ◌∙◌, ◌<◌, ◌+◌, ℕ, List, [], ◌∷◌, ◌++◌, Option, Some, None, Result, Ok, Err, IfOk, ap, map, refl, subst, sym, length, string_bytes, take, get_or, unwrap_or}
 use Rattle.std.proofs.lemmas.List.{take_more}
 use Rattle.std.specs.List.{AllZip, slice_get}
 use Rattle.nextest_config.proofs.AreRows.{zip_push}
 use Rattle.nextest_config.specs.Headline.{Request, Row, Resolves}
 use Rattle.nextest_config.specs.RowView.{row_view}
-use Rattle.nextest_config.specs.RunView.{run_view}
+use Rattle.nextest_config.specs.RunView.{request_view, run_view}
+use Rattle.nextest_config.specs.declared.run.Inputs.{Inputs}
 use Rattle.nextest_config.specs.declared.run.row.TestRow.{TestRow}
+use Rattle.nextest_engines.specs.Engines.{test_view}
+use Rattle.nextest_engines.specs.declared.queries.TestQuery.{TestQuery}
 use Rattle.nextest_filters.specs.declared.engine.NextestFilters.{NextestFilters}
+use Rattle.nextest_rules.specs.KnownView.{features_view}
 use Rattle.nextest_settings.specs.declared.setting.Setting.{Setting}
+use Rattle.nextest_sources.specs.Inputs.{load_inputs_view}
 use Rattle.nextest_sources.specs.Warnings.{Warning}
 use Rattle.rinqebo_report.specs.declared.report.Content.{Content}
 use Rattle.rinqebo_report.specs.declared.report.Report.{Report}
 use Rattle.target_platforms.specs.declared.Platform.{Platform}
 use Rattle.rinqebo_run.specs.Explained.{Asks, AreRowsOf, IfExplained, IsTestTold, Explains}
-use Rattle.rinqebo_run.specs.Sessions.{readings}
+use Rattle.rinqebo_run.specs.Sessions.{files_view, readings}
 use Rattle.rinqebo_request.specs.declared.request.TestName.{TestName}
 use Rattle.rinqebo_run.specs.declared.session.Session.{Session}
 
@@ -48,6 +53,28 @@ pub no_first : {X Y Z : Type 0} (view : X → Y) (rows : List X) (row : Y) → N
     → slice_get (map view rows) 0 ≡ Some row → Z
 no_first view [] row is asked = absurd (cc)
 no_first view (x ∷ xs) row is asked = absurd (cc)
+
+-- what the inputs of a session ask for, in a profile and of one test
+pub asked_by : (session : Session) (profile : List ℕ) (test : TestName) (inputs : Inputs) (query : TestQuery)
+    → inputs.paths.now ≡ session.gathered.now.paths
+    → load_inputs_view inputs.paths.now.shared inputs.selection inputs.tools.now ≡ files_view session.gathered.now
+    → inputs.features.now ≡ session.features → query.test_name.now ≡ test.name.now
+    → query.binary_query.binary_id.now ≡ test.binary.now → query.binary_query.platform ≡ test.platform
+    → Asks session profile test
+    (request_view inputs profile session.engines.platforms test.mode (query ∷ []))
+asked_by session profile test inputs query paths files features name binary platform = record {
+  root = ap (λ paths. string_bytes paths.workspace_root) paths;
+  files_read = files;
+  features = ap features_view features;
+  profile_named = refl;
+  platforms = refl;
+  mode = refl;
+  asked = test_view query;
+  tests = refl;
+  name = name;
+  binary = binary;
+  platform = platform;
+}
 
 -- rows that resolve what a session asks for are those of its test
 pub rows_of : (session : Session) (profile : List ℕ) (test : TestName) (filters : NextestFilters)

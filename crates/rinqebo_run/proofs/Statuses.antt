@@ -5,7 +5,8 @@ use Rattle.rinqebo_report.specs.Rendered.{rendered}
 use Rattle.rinqebo_report.specs.declared.report.Report.{Report}
 use Rattle.rinqebo_run.specs.Answered.{AnswersQuestion, IsAnswer, Tells}
 use Rattle.rinqebo_run.specs.SessionOf.{IsSessionOf}
-use Rattle.rinqebo_run.specs.Statuses.{IsAnswerStatus, IsFailureOf, failure_status}
+use Rattle.rinqebo_run.specs.Refused.{Fails, IsFailureIn}
+use Rattle.rinqebo_run.specs.Statuses.{IsAnswerStatus, failure_status}
 use Rattle.rinqebo_run.specs.declared.answer.Answer.{Answer}
 use Rattle.rinqebo_run.specs.declared.answer.Failure.{Failure}
 use Rattle.rinqebo_run.specs.declared.answer.Failure.TheVariants as failures
@@ -31,22 +32,38 @@ no_six (questions.Check deny_warnings) (inl is) = omega arith
 no_six (questions.Check deny_warnings) (inr (inl is)) = omega arith
 no_six (questions.Check deny_warnings) (inr (inr is)) = omega arith
 
+-- an answer is no fault of engines
+no_two : (q : Question) → IsAnswerStatus q 2 → ⊥
+no_two (questions.Explain profile test settings) is = omega arith
+no_two (questions.Why profile test setting) is = omega arith
+no_two (questions.Check deny_warnings) (inl is) = omega arith
+no_two (questions.Check deny_warnings) (inr (inl is)) = omega arith
+no_two (questions.Check deny_warnings) (inr (inr is)) = omega arith
+
+-- an answer is no missing profile
+no_four : (q : Question) → IsAnswerStatus q 4 → ⊥
+no_four (questions.Explain profile test settings) is = omega arith
+no_four (questions.Why profile test setting) is = omega arith
+no_four (questions.Check deny_warnings) (inl is) = omega arith
+no_four (questions.Check deny_warnings) (inr (inl is)) = omega arith
+no_four (questions.Check deny_warnings) (inr (inr is)) = omega arith
+
+-- refused files are the answer of a check alone, which does not fail with them
+no_three : (q : Question) (session : Session) (report : Report) → IsFailureIn session q (failures.Refused report)
+    → IsAnswerStatus q 3 → ⊥
+no_three (questions.Explain profile test settings) session report cause is = omega arith
+no_three (questions.Why profile test setting) session report cause is = omega arith
+no_three (questions.Check deny_warnings) session report cause is = cause
+
 -- a failure is no answer
-no_failure : (q : Question) (f : Failure) → IsFailureOf q f → IsAnswerStatus q (failure_status f) → ⊥
-no_failure (questions.Explain profile test settings) (failures.Engines fault) can is = omega arith
-no_failure (questions.Explain profile test settings) (failures.Refused report) can is = omega arith
-no_failure (questions.Explain profile test settings) (failures.NoProfile report) can is = omega arith
-no_failure (questions.Explain profile test settings) failures.Memory can is = omega arith
-no_failure (questions.Why profile test setting) (failures.Engines fault) can is = omega arith
-no_failure (questions.Why profile test setting) (failures.Refused report) can is = omega arith
-no_failure (questions.Why profile test setting) (failures.NoProfile report) can is = omega arith
-no_failure (questions.Why profile test setting) failures.Memory can is = omega arith
-no_failure (questions.Check deny_warnings) (failures.Engines fault) can (inl is) = omega arith
-no_failure (questions.Check deny_warnings) (failures.Engines fault) can (inr (inl is)) = omega arith
-no_failure (questions.Check deny_warnings) (failures.Engines fault) can (inr (inr is)) = omega arith
-no_failure (questions.Check deny_warnings) (failures.Refused report) can is = can
-no_failure (questions.Check deny_warnings) (failures.NoProfile report) can is = can
-no_failure (questions.Check deny_warnings) failures.Memory can is = no_five (questions.Check deny_warnings) is
+no_failure : (request : Request) (gathered : Gathered) (f : Failure) → Fails request gathered f
+    → IsAnswerStatus request.question (failure_status f) → ⊥
+no_failure request gathered (failures.Engines fault) fails is = no_two request.question is
+no_failure request gathered (failures.Refused report) (inl begins) is = begins
+no_failure request gathered (failures.Refused report) (inr fails) is =
+    no_three request.question fails.session report fails.cause is
+no_failure request gathered (failures.NoProfile report) fails is = no_four request.question is
+no_failure request gathered failures.Memory fails is = no_five request.question is
 
 -- the status of a run with an answer of status m
 pub told_same : (q : Question) (n m : ℕ) → (n ≡ m) ⊎ (n ≡ 5) ⊎ (n ≡ 6) → IsAnswerStatus q n → n ≡ m
@@ -71,11 +88,14 @@ tells request gathered report n m old new answer same page = record {
 }
 
 -- a run with a failure has no status of an answer
-pub failed_silent : {X : Type 0} (q : Question) (f : Failure) (n : ℕ) → IsFailureOf q f
-    → (n ≡ failure_status f) ⊎ (n ≡ 5) ⊎ (n ≡ 6) → IsAnswerStatus q n → X
-failed_silent q f n can (inl same) is = absurd (no_failure q f can (subst (IsAnswerStatus q) same is))
-failed_silent q f n can (inr (inl five)) is = absurd (no_five q (subst (IsAnswerStatus q) five is))
-failed_silent q f n can (inr (inr six)) is = absurd (no_six q (subst (IsAnswerStatus q) six is))
+pub failed_silent : {X : Type 0} (request : Request) (gathered : Gathered) (f : Failure) (n : ℕ)
+    → Fails request gathered f → (n ≡ failure_status f) ⊎ (n ≡ 5) ⊎ (n ≡ 6) → IsAnswerStatus request.question n → X
+failed_silent request gathered f n fails (inl same) is =
+    absurd (no_failure request gathered f fails (subst (IsAnswerStatus request.question) same is))
+failed_silent request gathered f n fails (inr (inl five)) is =
+    absurd (no_five request.question (subst (IsAnswerStatus request.question) five is))
+failed_silent request gathered f n fails (inr (inr six)) is =
+    absurd (no_six request.question (subst (IsAnswerStatus request.question) six is))
 
 -- what answers a question of a session answers the request
 pub is_answered : (request : Request) (gathered : Gathered) (session : Session) (answer : Result Answer Failure)

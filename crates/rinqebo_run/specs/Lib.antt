@@ -3,6 +3,7 @@ pub mod Sessions
 pub mod Explained
 pub mod Checked
 pub mod Answered
+pub mod Refused
 pub mod Engines
 pub mod SessionOf
 pub mod Conditions

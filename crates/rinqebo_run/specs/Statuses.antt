@@ -25,13 +25,6 @@ IsAnswerStatus (questions.Explain profile test settings) n = n ≡ 0
 IsAnswerStatus (questions.Why profile test setting) n = n ≡ 0
 IsAnswerStatus (questions.Check deny_warnings) n = (n ≡ 0) ⊎ (n ≡ 1) ⊎ (n ≡ 3)
 
--- Whether a question can end with a failure: refused files are the answer of a check, and no profile
--- is looked for.
-abbrev pub IsFailureOf : Question → Failure → Type 0
-IsFailureOf (questions.Check deny_warnings) (failures.Refused report) = ⊥
-IsFailureOf (questions.Check deny_warnings) (failures.NoProfile report) = ⊥
-IsFailureOf question failure = Unit {0}
-
 -- A failure of what all commands begin with: the engines, or want of memory.
 abbrev pub IsBeginningFailure : Failure → Type 0
 IsBeginningFailure (failures.Engines fault) = Unit {0}

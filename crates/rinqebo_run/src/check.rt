@@ -2,6 +2,7 @@
 ghost use Rattle.std.specs.Prelude.{◌≡◌, ◌⊎◌, IfOk, IfErr};
 ghost use Rattle.nextest_sources.specs.Endings.{IsMemory};
 ghost use Rattle.rinqebo_run.specs.Checked.{IsCheckStatus};
+ghost use Rattle.rinqebo_run.specs.Refused.{IsLoadFailure, IsProfileFailure, IsRunFailure};
 ghost use Rattle.rinqebo_run.specs.Statuses.{IsBeginningFailure};
 
 use crate::answer::{Answer, Failure};
@@ -129,7 +130,9 @@ pub fn failure_of_load(
     session: &Session<'_>,
     warnings: &DefaultConfigWarnings,
     error: &ConfigParseError,
-) -> Result<Failure, AllocError> {
+) -> Result<Failure, AllocError>
+    ensures { IfOk result (IsLoadFailure error.now) }
+{
     if error.config_file().is_none() {
         return Ok(Failure::Memory);
     }
@@ -157,7 +160,9 @@ pub fn failure_of_profile(
     session: &Session<'_>,
     warnings: &DefaultConfigWarnings,
     missing: &ProfileNotFound,
-) -> Result<Failure, AllocError> {
+) -> Result<Failure, AllocError>
+    ensures { IfOk result IsProfileFailure }
+{
     let mut findings = warning_findings(alloc, &session.layers, warnings)?;
     findings.push(no_profile(alloc, missing)?)?;
     let report = report_of(alloc, session, findings, Vec::new(alloc), Content::Check)?;
@@ -170,7 +175,9 @@ pub fn failure_of_run(
     session: &Session<'_>,
     warnings: &DefaultConfigWarnings,
     fault: &ResolveFault,
-) -> Result<Failure, AllocError> {
+) -> Result<Failure, AllocError>
+    ensures { IfOk result (IsRunFailure fault.now) }
+{
     match fault {
         ResolveFault::Config(error) => failure_of_load(alloc, session, warnings, error),
         ResolveFault::NoProfile(missing) => failure_of_profile(alloc, session, warnings, missing),

@@ -1,9 +1,11 @@
 //! The settings of a test.
-ghost use Rattle.std.specs.Prelude.{◌≡◌, IfOk, Some, map, slice_get, string_bytes};
+ghost use Rattle.std.specs.Prelude.{◌≡◌, IfErr, IfOk, Some, map, slice_get, string_bytes};
 ghost use Rattle.std.specs.List.{AllZip};
 ghost use Rattle.nextest_config.specs.Headline.{Row};
 ghost use Rattle.nextest_config.specs.RowView.{row_view};
+ghost use Rattle.nextest_tables.specs.Written.{Name};
 ghost use Rattle.rinqebo_run.specs.Explained.{AreRowsOf, IfExplained, IsTold, IsTestTold, Explains};
+ghost use Rattle.rinqebo_run.specs.Refused.{IsFailureAbout};
 
 use crate::answer::Failure;
 use crate::binary::query_of;
@@ -185,8 +187,9 @@ fn row_of_test(
     test: &TestName<'_>,
     warnings: &mut DefaultConfigWarnings,
 ) -> Result<Vec<TestRow>, Failure>
-    ensures { IfOk result (λ rows.
+    ensures ok { IfOk result (λ rows.
         AreRowsOf session.now profile.now test.now (map row_view rows.items)) }
+    ensures err { IfErr result (IsFailureAbout session.now profile.now) }
 {
     let rows = resolve(
         alloc,
@@ -226,7 +229,9 @@ fn test_rows(
 }
 
 /// The configuration of a session. Its warnings were told before.
-pub fn load_again(alloc: Global, session: &Session<'_>) -> Result<Config, Failure> {
+fn load_again(alloc: Global, session: &Session<'_>) -> Result<Config, Failure>
+    ensures { (profile : Name) → IfErr result (IsFailureAbout session.now profile) }
+{
     let mut warnings = DefaultConfigWarnings::new(alloc);
     match session.load(alloc, &mut warnings) {
         Ok(config) => Ok(config),
@@ -244,9 +249,10 @@ fn explained(
     settings: &[Setting],
     rows: &[TestRow],
 ) -> Result<Content, Failure>
-    ensures { IfOk result (λ content. IfExplained content (λ told. (row : Row)
+    ensures ok { IfOk result (λ content. IfExplained content (λ told. (row : Row)
         → slice_get (map row_view rows.now) 0 ≡ Some row
         → IsTestTold row test.now settings.now told)) }
+    ensures err { IfErr result (IsFailureAbout session.now profile.now) }
 {
     let config = load_again(alloc, session)?;
     let chain = chain_of_profile(alloc, &config, profile)?;
@@ -270,7 +276,8 @@ pub fn explain(
     test: &TestName<'_>,
     settings: &[Setting],
 ) -> Result<Report, Failure>
-    ensures { IfOk result (Explains session.now profile.now test.now settings.now) }
+    ensures ok { IfOk result (Explains session.now profile.now test.now settings.now) }
+    ensures err { IfErr result (IsFailureAbout session.now profile.now) }
 {
     let mut warnings = DefaultConfigWarnings::new(alloc);
     let rows = row_of_test(alloc, session, profile, test, &mut warnings)?;

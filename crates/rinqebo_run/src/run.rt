@@ -4,7 +4,8 @@ ghost use Rattle.std.specs.Io.KnownBytes.{Appends};
 ghost use Rattle.std.specs.Result.{result_map_both};
 ghost use Rattle.rinqebo_report.specs.Rendered.{rendered};
 ghost use Rattle.rinqebo_run.specs.Answered.{AnswersQuestion, IsAnswer, Tells};
-ghost use Rattle.rinqebo_run.specs.Statuses.{IsStatus, IsAnswerStatus, IsFailureOf, failure_status};
+ghost use Rattle.rinqebo_run.specs.Refused.{Fails, IsFailureIn, IsToldBy};
+ghost use Rattle.rinqebo_run.specs.Statuses.{IsStatus, IsAnswerStatus, failure_status};
 
 use crate::answer::{Answer, Failure};
 use crate::check::check;
@@ -34,7 +35,7 @@ fn answered(report: Result<Report, Failure>) -> Result<Answer, Failure>
 fn answer_of(alloc: Global, request: &Request<'_>, gathered: &Gathered) -> Result<Answer, Failure>
     ensures ok { IfOk result
         (λ answer. IsAnswer request.now gathered.now answer.report answer.status) }
-    ensures err { IfErr result (IsFailureOf request.now.question) }
+    ensures err { IfErr result (Fails request.now gathered.now) }
 {
     let session = Session::new(alloc, request, gathered)?;
     answer_in(alloc, request, &session)
@@ -44,7 +45,7 @@ fn answer_of(alloc: Global, request: &Request<'_>, gathered: &Gathered) -> Resul
 fn answer_in(alloc: Global, request: &Request<'_>, session: &Session<'_>) -> Result<Answer, Failure>
     ensures ok { IfOk result (λ answer.
         AnswersQuestion request.now.question session.now answer.report answer.status) }
-    ensures err { IfErr result (IsFailureOf request.now.question) }
+    ensures err { IfErr result (IsFailureIn session.now request.now.question) }
 {
     match &request.question {
         Question::Explain {
@@ -177,6 +178,7 @@ pub fn perform<O: Write, E: Write>(
         ⊎ (O.contents out.new ≡ O.contents out.old) }
     ensures page { IsAnswerStatus request.now.question result
         → Tells request.now gathered.now result (O.contents out.old) (O.contents out.new) }
+    ensures cause { IsToldBy request.now gathered.now result }
 {
     match answer_of(alloc, request, gathered) {
         Ok(answer) => tell_answer(alloc, request, &answer, out, err),

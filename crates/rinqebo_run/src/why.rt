@@ -1,5 +1,5 @@
 //! The rules of a setting, and what comes of each.
-ghost use Rattle.std.specs.Prelude.{◌≡◌, IfOk, List, map};
+ghost use Rattle.std.specs.Prelude.{◌≡◌, IfErr, IfOk, List, map};
 ghost use Rattle.filter_language.specs.declared.filterset.Filterset.{Filterset};
 ghost use Rattle.nextest_filters.specs.declared.compiling.FieldMatcher.{FieldMatcher};
 ghost use Rattle.nextest_inheritance.specs.Parents.{with_default};
@@ -11,6 +11,7 @@ ghost use Rattle.rinqebo_report.specs.declared.report.Verdict.TheVariants as tol
 ghost use Rattle.rinqebo_request.specs.Keys.{key_text};
 ghost use Rattle.rinqebo_run.specs.Conditions.{is_met_by, filter_matches};
 ghost use Rattle.rinqebo_run.specs.Reasons.{told_verdict, answers_told, IsRuleTold, facts_told, verdicts_here, AreRulesToldHere};
+ghost use Rattle.rinqebo_run.specs.Refused.{IsFailureAbout};
 ghost use Rattle.rinqebo_run.specs.RuleViews.{setting_rule_view};
 ghost use Rattle.rinqebo_run.specs.TellsReasons.{AreReasons, AreReasonsIn, IfWhy, TellsReasons};
 ghost use Rattle.target_language.specs.declared.expression.TargetSpec.{TargetSpec};
@@ -272,7 +273,8 @@ pub fn why(
     test: &TestName<'_>,
     setting: Setting,
 ) -> Result<Report, Failure>
-    ensures { IfOk result (TellsReasons session.now profile.now test.now setting) }
+    ensures ok { IfOk result (TellsReasons session.now profile.now test.now setting) }
+    ensures err { IfErr result (IsFailureAbout session.now profile.now) }
 {
     let mut warnings = DefaultConfigWarnings::new(alloc);
     let config = match session.load(alloc, &mut warnings) {

@@ -1,3 +1,4 @@
+use Rattle.rinqebo_run.proofs.Refused.{fails_in}
 use Rattle.rinqebo_run.proofs.Statuses.{is_answered}
 use Rattle.rinqebo_run.proofs.run.answer_of.Goals as goal
 
@@ -5,3 +6,8 @@ pub returns-clause-ok : goal.returns-clause-ok
 returns-clause-ok c =
     is_answered c.args.request.now c.args.gathered.now c.in_ok-session.session c.answer_in.result
     c.in_ok-session.ensures.begun c.answer_in.ensures.ok
+
+pub returns-clause-err : goal.returns-clause-err
+returns-clause-err c =
+    fails_in c.args.request.now c.args.gathered.now c.in_ok-session.session c.answer_in.result
+    c.in_ok-session.ensures.begun c.answer_in.ensures.err

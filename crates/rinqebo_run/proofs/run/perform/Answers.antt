@@ -1,3 +1,4 @@
+use Rattle.rinqebo_run.proofs.Refused.{answer_told, failure_told}
 use Rattle.rinqebo_run.proofs.Statuses.{told_same, told_page, tells, failed_silent}
 use Rattle.rinqebo_run.proofs.run.perform.Goals as goal
 
@@ -8,6 +9,15 @@ returns-in-Ok-clause-page g c answered =
     (told_same q _ _ c.tell_answer.ensures.status answered)
     (told_page q _ c.tell_answer.ensures.page answered)
 
+pub returns-in-Ok-clause-cause : goal.returns-in-Ok-clause-cause
+returns-in-Ok-clause-cause g c =
+    answer_told c.args.request.now c.args.gathered.now c.in-Ok.answer.report _ _ c.in-Ok.ensures.ok
+    c.tell_answer.ensures.status
+
 pub returns-in-Err-clause-page : goal.returns-in-Err-clause-page
 returns-in-Err-clause-page g c answered =
-    failed_silent c.args.request.now.question c.in-Err.failure _ c.in-Err.ensures.err c.refuse.ensures answered
+    failed_silent c.args.request.now c.args.gathered.now c.in-Err.failure _ c.in-Err.ensures.err c.refuse.ensures answered
+
+pub returns-in-Err-clause-cause : goal.returns-in-Err-clause-cause
+returns-in-Err-clause-cause g c =
+    failure_told c.args.request.now c.args.gathered.now c.in-Err.failure _ c.in-Err.ensures.err c.refuse.ensures
