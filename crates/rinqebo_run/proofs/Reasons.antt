@@ -79,8 +79,10 @@ same_verdicts d [] (g ∷ gs) all = absurd all
 same_verdicts d (f ∷ fs) [] all = absurd all
 same_verdicts d (f ∷ fs) (g ∷ gs) all =
     let same = all.0 in
-    let verdict = same_verdict f.is_on g.is_on f.matches g.matches f.writes g.writes d same.is_on same.matches same.writes in
-    let decides = same_deciding f.is_on g.is_on f.matches g.matches f.writes g.writes same.is_on same.matches same.writes in
+    let verdict = same_verdict f.is_on g.is_on f.matches g.matches f.writes g.writes d same.is_on same.matches
+    same.writes in
+    let decides = same_deciding f.is_on g.is_on f.matches g.matches f.writes g.writes same.is_on same.matches
+    same.writes in
     ap (λ v. v ∷ verdicts_by (d || decides_by f) fs) verdict
     ∙ ap (λ vs. verdict_by g.is_on g.matches g.writes d ∷ vs)
     (same_verdicts (d || decides_by f) fs gs all.1 ∙ ap (λ b. verdicts_by (d || b) gs) decides)

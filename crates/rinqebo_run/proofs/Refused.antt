@@ -81,11 +81,13 @@ pub run_failure : (session : Session) (profile : List ℕ) (test : TestName) (fi
     (before after : List ℕ) → filters ≡ session.engines.filters → Asks session profile test request
     → Resolves (readings filters) request (run_view (Err (refusal_view fault)) old new before after)
     → IsRunFailure fault failure → IsFailureAbout session profile failure
-run_failure session profile test filters request (faults.Config error) failure old new before after same asks resolves is =
+run_failure session profile test filters request (faults.Config error) failure old new before after same asks
+    resolves is =
     load_failure session profile error failure
     (inr (of_session (λ f features files. ¬ IsAccepted (readings f) features files) session profile test filters request
     same asks resolves.refusal.broken)) is
-run_failure session profile test filters request (faults.NoProfile missing) failure old new before after same asks resolves is =
+run_failure session profile test filters request (faults.NoProfile missing) failure old new before after same
+    asks resolves is =
     let none = resolves.absence.1 in
     let names = names_in (config_of (readings filters) (sources_in request.files)).profiles in
     let absent : ¬ IsIn names profile = subst (λ name. ¬ IsIn names name) asks.profile_named

@@ -45,7 +45,8 @@ at_first view P (x ∷ xs) first row is asked holds =
 pub first_holds : {X Y T E : Type 0} (view : X → Y) (P : Y → T → Type 0) (r : Result T E) (rows : List X) (first : X)
     → Some first ≡ slice_get rows 0 → IfOk r (P (view first))
     → IfOk r (λ told. (row : Y) → slice_get (map view rows) 0 ≡ Some row → P row told)
-first_holds view P (Ok told) rows first is holds = λ row asked. at_first view (λ y. P y told) rows first row is asked holds
+first_holds view P (Ok told) rows first is holds =
+    λ row asked. at_first view (λ y. P y told) rows first row is asked holds
 first_holds view P (Err e) rows first is holds = tt
 
 -- without a first row there is no first view

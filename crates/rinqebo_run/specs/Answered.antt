@@ -29,8 +29,8 @@ pub record IsAnswer (request : Request) (gathered : Gathered) (report : Report) 
   pub begun : IsSessionOf request gathered session
   pub answers : AnswersQuestion request.question session report status
 
--- A writer was given the page of an answer: known bytes grew by exactly the report, in the format and
--- the colours that are asked for.
+-- A writer was given the page of an answer: known bytes grew by exactly the report, in the format
+-- and the colours that are asked for.
 pub record Tells (request : Request) (gathered : Gathered) (status : ℕ)
     (old new : Option (List ℕ)) : Type 0 where
   pub report : Report

@@ -27,7 +27,8 @@ abbrev pub answers_by : {M K P W : Type 0} → (K → P → Option Bool) → Bui
     → QueryContext M → Compiled M K W → Answers
 answers_by meets platforms query rule =
     let host = told_condition (λ spec. meets spec platforms.host) rule.host in
-    let target = told_condition (λ spec. meets spec (runs_on platforms query.platform)) rule.target in
+    let runs = runs_on platforms query.platform in
+    let target = told_condition (λ spec. meets spec runs) rule.target in
     record {
       host = host;
       target = target;

@@ -47,8 +47,8 @@ pub record LacksProfile (session : Session) (name : Name) : Type 0 where
   pub absent : ¬ IsIn (names_in (config_of (readings session.engines.filters)
       (sources_in (files_view session.gathered.now))).profiles) name
 
--- A session answers nothing about a profile: files are refused only where some written rule does not
--- hold of them, and the profile is missing only where they lack it.
+-- A session answers nothing about a profile: files are refused only where some written rule does
+-- not hold of them, and the profile is missing only where they lack it.
 abbrev pub IsFailureAbout : Session → Name → Failure → Type 0
 IsFailureAbout session profile (failures.Engines fault) = ⊥
 IsFailureAbout session profile (failures.Refused report) = ¬ AreAccepted session

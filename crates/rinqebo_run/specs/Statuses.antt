@@ -5,9 +5,9 @@ use Rattle.rinqebo_run.specs.declared.answer.Failure.TheVariants as failures
 use Rattle.rinqebo_request.specs.declared.request.Question.{Question}
 use Rattle.rinqebo_request.specs.declared.request.Question.TheVariants as questions
 
--- The exit status of a run: 0 with an answer; 1 for warnings that are denied; 2 for words, platforms
--- or metadata that are not understood; 3 where files are refused; 4 where there is no such profile;
--- 5 for want of memory; 6 where a write failed.
+-- The exit status of a run: 0 with an answer; 1 for warnings that are denied; 2 for words,
+-- platforms or metadata that are not understood; 3 where files are refused; 4 where there is no such
+-- profile; 5 for want of memory; 6 where a write failed.
 abbrev pub IsStatus : ℕ → Type 0
 IsStatus n = n ≤ 6
 

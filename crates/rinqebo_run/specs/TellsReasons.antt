@@ -33,9 +33,9 @@ use Rattle.rinqebo_run.specs.Sessions.{files_view, readings}
 use Rattle.rinqebo_run.specs.SettingRules.{rules_for}
 use Rattle.rinqebo_run.specs.declared.session.Session.{Session}
 
--- The rules of a setting are told for a test of a name: each override of a profile, in order, or for
--- a run wrapper each script rule, with what comes of it on the platforms of a build, and then what
--- counts where none decides.
+-- The rules of a setting are told for a test of a name: each override of a profile, in order, or
+-- for a run wrapper each script rule, with what comes of it on the platforms of a build, and then
+-- what counts where none decides.
 pub record AreReasons {M K P : Type 0} (meets : K → P → Option Bool) (matches : M → Test → M → Bool)
     (platforms : BuildPlatforms P) (test : TestName) (s : Setting) (profile : EarlyModel M K)
     (rules : List Rule) : Type 0 where

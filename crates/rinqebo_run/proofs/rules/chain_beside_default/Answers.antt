@@ -21,5 +21,6 @@ chain_of-requires c =
 pub returns-then-has_profile : goal.returns-then-has_profile
 returns-then-has_profile c = λ there.
     let written = parents_same c.profiles.result.now.entries ∙ ap parents_written c.profiles.ensures.profiles in
-    subst (λ ps. IfOk c.chain_of.result (λ chain. IsChain (parents_in ps) c.args.profile.now (borrowed_view chain.items)))
+    subst (λ ps. IfOk c.chain_of.result
+    (λ chain. IsChain (parents_in ps) c.args.profile.now (borrowed_view chain.items)))
     written c.chain_of.ensures

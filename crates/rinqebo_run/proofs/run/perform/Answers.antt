@@ -16,7 +16,8 @@ returns-in-Ok-clause-cause g c =
 
 pub returns-in-Err-clause-page : goal.returns-in-Err-clause-page
 returns-in-Err-clause-page g c answered =
-    failed_silent c.args.request.now c.args.gathered.now c.in-Err.failure _ c.in-Err.ensures.err c.refuse.ensures answered
+    failed_silent c.args.request.now c.args.gathered.now c.in-Err.failure _ c.in-Err.ensures.err
+    c.refuse.ensures answered
 
 pub returns-in-Err-clause-cause : goal.returns-in-Err-clause-cause
 returns-in-Err-clause-cause g c =

@@ -12,7 +12,8 @@ returns-in-Ok-clause-verdict c =
     let engines = readings c.parse_context.result.filters.now in
     subst (λ filters. IsAccepted (readings filters) (features_view session.features) files) c.parse_context.ensures
     (subst (λ features. IsAccepted engines (features_view features) files) c.inputs-inputs.ensures.features
-    (subst (λ fs. IsAccepted engines (features_view c.inputs-inputs.result.features.now) fs) c.inputs-inputs.ensures.files
+    (subst (λ fs. IsAccepted engines (features_view c.inputs-inputs.result.features.now) fs)
+    c.inputs-inputs.ensures.files
     c.in-Ok.ensures.loads.verdict))
 
 pub returns-in-Ok-clause-means : goal.returns-in-Ok-clause-means
