@@ -113,7 +113,9 @@ pub same_failure : {A B C E : Type 0} (f : A → C) (g : B → C) (P : E → Typ
     → result_map_both f (λ e. e) r ≡ result_map_both g (λ e. e) s → IfErr s P → IfErr r P
 same_failure f g P (Ok a) s same is = tt
 same_failure f g P (Err e) (Ok b) same is = absurd (cc)
-same_failure f g P (Err e) (Err d) same is = cc
+same_failure f g P (Err e) (Err d) same is =
+    let joined : d ≡ e = cc in
+    subst P joined is
 
 -- why a session does not answer a question is why it does not answer the request
 pub fails_in : (request : Asked) (gathered : Gathered) (session : Session) {A : Type 0} (answer : Result A Failure)
