@@ -15,8 +15,8 @@ returns-in-Ok-clause-ok c =
     c.inputs.ensures.files c.inputs.ensures.features c.query_of.ensures.name c.query_of.ensures.binary
     c.query_of.ensures.platform) c.in-Ok.ensures.resolves
 
-pub returns-in-Err-clause-err : goal.returns-in-Err-clause-err
-returns-in-Err-clause-err c =
+pub returns-in_ok-failure_of_run-in-Err-clause-err : goal.returns-in_ok-failure_of_run-in-Err-clause-err
+returns-in_ok-failure_of_run-in-Err-clause-err c =
     let session = c.args.session.now in
     let test = c.args.test.now in
     run_failure session c.args.profile.now test c.parse_context.result.filters.now

@@ -8,8 +8,8 @@ use Rattle.rinqebo_run.proofs.why.why.Goals as goal
 told_of_test : (t b : Bool) → t ≡ b → (t ≡ true) → b ≡ true
 told_of_test t b same is = sym same ∙ is
 
-pub returns : goal.returns
-returns c =
+pub returns-clause-ok : goal.returns-clause-ok
+returns-clause-ok c =
     let profile = c.args.profile.now in
     let loaded = c.in-Ok.config in
     let there : is_one_of (names_in loaded.config.profiles) profile ≡ true =
