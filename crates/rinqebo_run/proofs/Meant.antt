@@ -15,7 +15,7 @@ use Rattle.nextest_rules.specs.Meaning.{rule_meaning, override_meaning, script_r
 use Rattle.nextest_rules.specs.Rules.{Compiled, OverrideUse}
 use Rattle.nextest_settings.specs.Deciding.{QueryContext, filter_holds}
 use Rattle.nextest_settings.specs.Platforms.{spec_holds, specs_hold, runs_on, rule_on, by_platform}
-use Rattle.nextest_settings.specs.Profile.{Configured, EarlyModel, profile_of, profile_on}
+use Rattle.nextest_settings.specs.Profile.{Configured, profile_of, profile_on}
 use Rattle.nextest_settings.specs.declared.setting.Setting.{Setting}
 use Rattle.nextest_tables.specs.FileTexts.{ScriptUse}
 use Rattle.nextest_tables.specs.Written.{Name}

@@ -1,5 +1,5 @@
 -- Why a run answers nothing: from loads and rows to questions, and from there to exit statuses.
-use Rattle.std.proofs.Common.{◌≡◌, ◌∙◌, ◌⊎◌, inl, inr, ℕ, List, false, map, string_bytes, Result, Ok, Err, IfErr, arith, subst, sym}
+use Rattle.std.proofs.Common.{◌≡◌, ◌∙◌, ◌⊎◌, inl, inr, ℕ, List, false, map, string_bytes, Result, Ok, Err, IfErr, IsErrAnd, arith, subst, sym}
 use Rattle.std.specs.Result.{result_map_both}
 use Rattle.filter_language.specs.declared.filterset.Filterset.{Filterset}
 use Rattle.nextest_config.specs.Headline.{Request, Resolves}
@@ -32,7 +32,7 @@ use Rattle.rinqebo_run.specs.Explained.{Asks}
 use Rattle.rinqebo_run.specs.Refused.{AreRefusedFor, Fails, IsFailureAbout, IsFailureIn, IsLoadFailure, IsProfileFailure, IsRunFailure, IsToldBy, LackProfileFor, LacksProfile, LacksProfileOf}
 use Rattle.rinqebo_run.specs.SessionOf.{IsSessionOf}
 use Rattle.rinqebo_run.specs.Sessions.{files_view, readings, IsLoadedFrom}
-use Rattle.rinqebo_run.specs.Statuses.{IsBeginningFailure, failure_status}
+use Rattle.rinqebo_run.specs.Statuses.{failure_status}
 use Rattle.rinqebo_run.specs.declared.answer.Failure.{Failure}
 use Rattle.rinqebo_run.specs.declared.answer.Failure.TheVariants as failures
 use Rattle.rinqebo_run.specs.declared.session.Session.{Session}
@@ -104,9 +104,16 @@ run_failure session profile test filters request faults.Memory failure old new b
     subst (IsFailureAbout session profile) (sym is) tt
 
 -- want of memory is a failure about any profile
-pub want : (session : Session) (profile : Name) (failure : Failure) → failure ≡ failures.Memory
-    → IsFailureAbout session profile failure
-want session profile failure is = subst (IsFailureAbout session profile) (sym is) tt
+pub want_told : {A : Type 0} (session : Session) (profile : Name) (r : Result A Failure)
+    → IsErrAnd r (λ failure. failure ≡ failures.Memory) → IfErr r (IsFailureAbout session profile)
+want_told session profile (Ok answer) is = tt
+want_told session profile (Err failure) is = subst (IsFailureAbout session profile) (sym is) tt
+
+-- what holds of a failure holds of it where it is told
+pub passed_on : {A : Type 0} (P : Failure → Type 0) (r : Result A Failure) (failure : Failure)
+    → IsErrAnd r (λ told. told ≡ failure) → P failure → IfErr r P
+passed_on P (Ok answer) failure same is = tt
+passed_on P (Err told) failure same is = subst P (sym same) is
 
 -- a failure of one result is that of another one which has its failures
 pub same_failure : {A B C E : Type 0} (f : A → C) (g : B → C) (P : E → Type 0) (r : Result A E) (s : Result B E)

@@ -1,5 +1,5 @@
 -- Settings of a row, and the rows of a test.
-use Rattle.std.proofs.Common.{◌≡◌, ◌∙◌, ◌<◌, ◌+◌, ℕ, List, [], ◌∷◌, ◌++◌, Option, Some, None, Result, Ok, Err, IfOk, ap, map, refl, subst, sym, length, string_bytes, take, get_or, unwrap_or}
+use Rattle.std.proofs.Common.{◌≡◌, ◌∙◌, ◌<◌, ◌+◌, ℕ, List, [], ◌∷◌, ◌++◌, Some, None, Result, Ok, Err, IfOk, ap, map, refl, subst, sym, length, string_bytes, take, get_or, unwrap_or}
 use Rattle.std.proofs.lemmas.List.{take_more}
 use Rattle.std.specs.List.{AllZip, slice_get}
 use Rattle.nextest_config.proofs.AreRows.{zip_push}

@@ -6,7 +6,7 @@ use Rattle.rinqebo_report.specs.declared.report.Report.{Report}
 use Rattle.rinqebo_run.specs.Answered.{AnswersQuestion, IsAnswer, Tells}
 use Rattle.rinqebo_run.specs.SessionOf.{IsSessionOf}
 use Rattle.rinqebo_run.specs.Refused.{Fails, IsFailureIn}
-use Rattle.rinqebo_run.specs.Statuses.{IsAnswerStatus, failure_status}
+use Rattle.rinqebo_run.specs.Statuses.{IsAnswerStatus, IsStatus, failure_status}
 use Rattle.rinqebo_run.specs.declared.answer.Answer.{Answer}
 use Rattle.rinqebo_run.specs.declared.answer.Failure.{Failure}
 use Rattle.rinqebo_run.specs.declared.answer.Failure.TheVariants as failures
@@ -86,6 +86,15 @@ tells request gathered report n m old new answer same page = record {
   is_answer = subst (IsAnswer request gathered report) (sym same) answer;
   page = page;
 }
+
+-- what a run with a failure ends with is a status
+pub failed_status : (f : Failure) (n : ℕ) → (n ≡ failure_status f) ⊎ (n ≡ 5) ⊎ (n ≡ 6) → IsStatus n
+failed_status (failures.Engines fault) n (inl same) = omega arith
+failed_status (failures.Refused report) n (inl same) = omega arith
+failed_status (failures.NoProfile report) n (inl same) = omega arith
+failed_status failures.Memory n (inl same) = omega arith
+failed_status f n (inr (inl five)) = omega arith
+failed_status f n (inr (inr six)) = omega arith
 
 -- a run with a failure has no status of an answer
 pub failed_silent : {X : Type 0} (request : Request) (gathered : Gathered) (f : Failure) (n : ℕ)

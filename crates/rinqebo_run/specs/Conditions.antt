@@ -1,10 +1,9 @@
 -- What the conditions of a rule say of a test.
-use Rattle.std.specs.Prelude.{Bool, true, false, ◌&&◌, if◌then◌else◌, List, map, Option, None, Some}
+use Rattle.std.specs.Prelude.{Bool, true, false, List, map, Option, None, Some}
 use Rattle.filter_language.specs.Filtersets.{marks_view}
 use Rattle.filter_language.specs.declared.filterset.Filterset.{Filterset}
 use Rattle.nextest_engines.specs.Engines.{Test, test_view}
 use Rattle.nextest_engines.specs.declared.queries.BuildPlatforms.{BuildPlatforms}
-use Rattle.nextest_engines.specs.declared.queries.TestQuery.{TestQuery}
 use Rattle.nextest_filters.specs.Compiling.{names_of}
 use Rattle.nextest_filters.specs.Engine.{filter_holds}
 use Rattle.nextest_filters.specs.declared.compiling.FieldMatcher.{FieldMatcher}

@@ -1,9 +1,9 @@
 -- What is told of the settings of a test.
-use Rattle.std.specs.Prelude.{◌≡◌, ℕ, List, [], ◌∷◌, Option, Ok, option_map, slice_get, Some, string_bytes}
+use Rattle.std.specs.Prelude.{◌≡◌, ℕ, List, [], ◌∷◌, Ok, option_map, slice_get, Some, string_bytes}
 use Rattle.std.specs.List.{AllZip}
 use Rattle.nextest_config.specs.Headline.{Request, Row, Run, Resolves}
 use Rattle.nextest_elements.specs.declared.run_mode.NextestRunMode.{NextestRunMode}
-use Rattle.nextest_engines.specs.Engines.{Test, test_view}
+use Rattle.nextest_engines.specs.Engines.{Test}
 use Rattle.nextest_rules.specs.KnownView.{features_view}
 use Rattle.nextest_settings.specs.declared.setting.Setting.{Setting}
 use Rattle.rinqebo_report.specs.declared.report.Content.{Content}

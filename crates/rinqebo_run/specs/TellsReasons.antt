@@ -1,21 +1,15 @@
 -- That a report tells the rules of a setting, by what the files mean.
 use Rattle.std.specs.Prelude.{◌≡◌, ℕ, List, [], ◌∷◌, ◌++◌, Bool, Option, string_bytes}
-use Rattle.filter_language.specs.Filtersets.{marks_view}
-use Rattle.filter_language.specs.declared.filterset.Filterset.{Filterset}
 use Rattle.nextest_engines.specs.Engines.{Test}
 use Rattle.nextest_engines.specs.declared.queries.BuildPlatforms.{BuildPlatforms}
-use Rattle.nextest_filters.specs.Compiling.{names_of}
 use Rattle.nextest_filters.specs.Engine.{Filter}
-use Rattle.nextest_filters.specs.declared.compiling.FieldMatcher.{FieldMatcher}
 use Rattle.nextest_load.specs.Config.{ScriptTables, config_of}
-use Rattle.nextest_load.specs.Load.{Loaded}
-use Rattle.nextest_load.specs.Meaning.{config_meaning}
 use Rattle.nextest_load.specs.Scripts.{AreScriptsOf}
 use Rattle.nextest_profiles.specs.Profiles.{IsProfileOf}
 use Rattle.nextest_settings.specs.Profile.{Configured, EarlyModel, profile_on}
 use Rattle.nextest_settings.specs.Queries.{query_in}
 use Rattle.nextest_settings.specs.declared.setting.Setting.{Setting}
-use Rattle.nextest_sources.specs.Inputs.{SourceText, sources_in}
+use Rattle.nextest_sources.specs.Inputs.{sources_in}
 use Rattle.nextest_tables.specs.FileTexts.{names_in, IsIn}
 use Rattle.nextest_tables.specs.Written.{Name}
 use Rattle.rinqebo_report.specs.declared.report.Content.{Content}
@@ -26,7 +20,6 @@ use Rattle.rinqebo_report.specs.declared.report.Verdict.TheVariants as told
 use Rattle.rinqebo_request.specs.Keys.{key_text}
 use Rattle.rinqebo_request.specs.declared.request.TestName.{TestName}
 use Rattle.target_language.specs.Expressions.{Spec}
-use Rattle.target_language.specs.declared.expression.TargetSpec.{TargetSpec}
 use Rattle.rinqebo_run.specs.Checked.{AreAccepted}
 use Rattle.rinqebo_run.specs.Reasons.{AreRulesTold}
 use Rattle.rinqebo_run.specs.Sessions.{files_view, readings}

@@ -5,4 +5,4 @@ pub returns-clause-ok : goal.returns-clause-ok
 returns-clause-ok c =
     explains c.args.session.now c.args.profile.now c.args.test.now c.args.settings.now c.in_ok-report.report
     c.in_ok-content.content c.in_ok-rows.rows.items c.deref.result.now c.in_ok-report.ensures c.deref.ensures.value
-    c.in_ok-rows.ensures c.in_ok-content.ensures
+    c.in_ok-rows.ensures.ok c.in_ok-content.ensures.ok

@@ -24,4 +24,4 @@ returns-in_ok-failure_of_run-in-Err-clause-err c =
     c.in-Err.fault _ _ _ _ _ c.parse_context.ensures
     (asked_by session c.args.profile.now test c.inputs.result c.query_of.result c.inputs.ensures.root
     c.inputs.ensures.files c.inputs.ensures.features c.query_of.ensures.name c.query_of.ensures.binary
-    c.query_of.ensures.platform) c.in-Err.ensures.resolves c.in_ok-failure_of_run.ensures
+    c.query_of.ensures.platform) c.in-Err.ensures.resolves c.in_ok-failure_of_run-in-Err.ensures

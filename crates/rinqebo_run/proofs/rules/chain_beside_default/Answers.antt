@@ -1,4 +1,4 @@
-use Rattle.std.proofs.Common.{◌≡◌, ◌∙◌, ap, sym, subst, true, IfOk}
+use Rattle.std.proofs.Common.{◌≡◌, ◌∙◌, ap, subst, true, IfOk}
 use Rattle.nextest_inheritance.specs.Parents.{parents_in, HasOneChain, IsChain}
 use Rattle.nextest_inheritance.specs.View.{borrowed_view}
 use Rattle.nextest_load.specs.Config.{config_parents}

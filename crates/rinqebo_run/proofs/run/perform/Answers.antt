@@ -1,5 +1,5 @@
 use Rattle.rinqebo_run.proofs.Refused.{answer_told, failure_told}
-use Rattle.rinqebo_run.proofs.Statuses.{told_same, told_page, tells, failed_silent}
+use Rattle.rinqebo_run.proofs.Statuses.{told_same, told_page, tells, failed_silent, failed_status}
 use Rattle.rinqebo_run.proofs.run.perform.Goals as goal
 
 pub returns-in-Ok-clause-page : goal.returns-in-Ok-clause-page
@@ -13,6 +13,9 @@ pub returns-in-Ok-clause-cause : goal.returns-in-Ok-clause-cause
 returns-in-Ok-clause-cause g c =
     answer_told c.args.request.now c.args.gathered.now c.in-Ok.answer.report _ _ c.in-Ok.ensures.ok
     c.tell_answer.ensures.status
+
+pub returns-in-Err-clause-status : goal.returns-in-Err-clause-status
+returns-in-Err-clause-status g c = failed_status c.in-Err.failure _ c.refuse.ensures
 
 pub returns-in-Err-clause-page : goal.returns-in-Err-clause-page
 returns-in-Err-clause-page g c answered =

@@ -1,5 +1,4 @@
-use Rattle.std.proofs.Common.{◌≡◌, ◌∙◌, ap, map, sym}
-use Rattle.nextest_inheritance.specs.Parents.{with_default}
+use Rattle.std.proofs.Common.{◌∙◌, ap, map, sym}
 use Rattle.nextest_inheritance.specs.View.{borrowed_view}
 use Rattle.nextest_settings.specs.Chains.{overrides_of, script_rules_of}
 use Rattle.rinqebo_run.specs.Conditions.{default_filter_here}
