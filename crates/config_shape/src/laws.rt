@@ -1,0 +1,17 @@
+//! What the shape of a file says of the files that load.
+ghost use Rattle.std.specs.Prelude.{◌≡◌, []};
+ghost use Rattle.config_shape.specs.Accepts.{Accepts};
+ghost use Rattle.config_shape.specs.FileForm.{file_form};
+ghost use Rattle.nextest_documents.specs.Merge.{over};
+ghost use Rattle.nextest_tables.specs.Complete.{IsReadable};
+ghost use Rattle.nextest_tables.specs.Defaults.{defaults};
+ghost use Rattle.nextest_tables.specs.Tables.{a_file};
+ghost use Rattle.nextest_tree.specs.Node.{Node};
+ghost use Rattle.nextest_tree.specs.Schema.{unknown};
+
+/// A file that loads without faults of its elements and without unknown keys, over the table of
+/// defaults, is accepted by the shape of files as it is written.
+pub fn law_schema()
+    ensures { (file : Node) → IsReadable file → unknown a_file [] (over file defaults) ≡ []
+        → Accepts file_form file }
+{}
