@@ -1,0 +1,4 @@
+pub mod Keys
+pub mod Fits
+pub mod Leaves
+pub mod Tables
