@@ -2,3 +2,4 @@ pub mod Keys
 pub mod Fits
 pub mod Leaves
 pub mod Tables
+pub mod Profiles

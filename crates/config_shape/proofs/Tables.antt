@@ -46,7 +46,7 @@ pub fits_output : Fits a_test_output_display output_form
 unfolding a_test_output_display test_output_display_names
 fits_output = fits_names test_output_display_names test_output_display_expected
 
-fits_slow_result : Fits a_slow_result (words slow_words)
+pub fits_slow_result : Fits a_slow_result (words slow_words)
 unfolding a_slow_result slow_result_text slow_result_names
 fits_slow_result = fits_names slow_result_names slow_result_expected
 

@@ -248,12 +248,16 @@ profile_rest_forms is_required =
     (may keys.Inherits some_text
     no_fields)))))
 
+-- the fields of a profile
+abbrev pub profile_forms : (is_required : Bool) → FieldForms
+profile_forms is_required =
+    and_fields profile_run_forms
+    (and_fields profile_output_forms
+    (and_fields (profile_end_forms is_required) (profile_rest_forms is_required)))
+
 -- a profile, whose timeouts have to have a period unless the table of defaults has one there
 unfoldable pub profile_form : (is_required : Bool) → Form
-profile_form is_required =
-    a_table (and_fields profile_run_forms
-    (and_fields profile_output_forms
-    (and_fields (profile_end_forms is_required) (profile_rest_forms is_required))))
+profile_form is_required = a_table (profile_forms is_required)
 
 -- the profiles by name; the table of defaults has the periods of `default`
 unfoldable pub profiles_form : Form

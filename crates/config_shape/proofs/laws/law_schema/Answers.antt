@@ -1,5 +1,5 @@
-use Rattle.config_shape.proofs.Tables.{fits_scripts}
+use Rattle.config_shape.proofs.Profiles.{file_fits}
 use Rattle.config_shape.proofs.laws.law_schema.Goals as goal
 
 pub returns : goal.returns
-returns c = ?
+returns c = λ file h u. file_fits.accepts _ _ file h u
