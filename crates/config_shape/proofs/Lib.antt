@@ -3,3 +3,4 @@ pub mod Fits
 pub mod Leaves
 pub mod Tables
 pub mod Profiles
+pub mod Views

@@ -2,7 +2,9 @@
 #![tactic(auto)]
 
 mod laws;
+mod parts;
 mod shape;
+mod values;
 
 pub use laws::law_schema;
 pub use shape::{Field, Pattern, Shape, TextShape};
