@@ -1,10 +1,16 @@
 //! The shape of a configuration file as data, and the JSON schema that says it to editors.
 #![tactic(auto)]
 
+mod file;
 mod laws;
 mod parts;
+mod profile;
+mod reports;
+mod rules;
+mod scripts;
 mod shape;
 mod values;
 
+pub use file::file_shape;
 pub use laws::law_schema;
 pub use shape::{Field, Pattern, Shape, TextShape};
