@@ -2,3 +2,5 @@ pub mod Form
 pub mod View
 pub mod Accepts
 pub mod FileForm
+pub mod About
+pub mod Page

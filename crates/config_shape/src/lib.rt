@@ -1,8 +1,11 @@
 //! The shape of a configuration file as data, and the JSON schema that says it to editors.
 #![tactic(auto)]
 
+mod about;
+mod expression;
 mod file;
 mod laws;
+mod page;
 mod parts;
 mod profile;
 mod reports;
@@ -13,4 +16,5 @@ mod values;
 
 pub use file::file_shape;
 pub use laws::law_schema;
+pub use page::{json_schema, schema_page};
 pub use shape::{Field, Pattern, Shape, TextShape};
