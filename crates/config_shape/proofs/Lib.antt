@@ -4,3 +4,5 @@ pub mod Leaves
 pub mod Tables
 pub mod Profiles
 pub mod Views
+pub mod Properties
+pub mod Whole

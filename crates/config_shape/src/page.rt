@@ -237,13 +237,22 @@ pub fn json_schema(alloc: Global, shape: &Shape) -> Result<Value, AllocError>
     Ok(Value::Object(members))
 }
 
+/// The JSON schema of a configuration file, as a text without spaces between its marks.
+fn schema_text(alloc: Global) -> Result<String, AllocError>
+    ensures { IfOk result (λ text. string_bytes text ≡ compact_text (schema_data file_form)) }
+{
+    let shape = file_shape(alloc)?;
+    let schema = json_schema(alloc, &shape)?;
+    let text = schema.to_string(alloc)?;
+    Ok(text)
+}
+
 /// The JSON schema of a configuration file, on one line.
 pub fn schema_page(alloc: Global) -> Result<String, AllocError>
     ensures { IfOk result (λ text. string_bytes text
         ≡ compact_text (schema_data file_form) ++ 10 ∷ []) }
 {
-    let schema = json_schema(alloc, &file_shape(alloc)?)?;
-    let mut text = schema.to_string(alloc)?;
+    let mut text = schema_text(alloc)?;
     text.push('\n')?;
     Ok(text)
 }
