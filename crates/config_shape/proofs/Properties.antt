@@ -23,14 +23,14 @@ with_next fields i f before after all within is put_there left =
     ∙ left
 
 -- a schema that is put at a key, by what its parts are
-pub put_described : (about name : List ℕ) (told data : Data) (members with_about before after : Members)
+pub put_described : (about name : List ℕ) (told schema : Data) (members with_about before after : Members)
     (f : Field Shape) → name ≡ key_text f.key → told ≡ string about → about ≡ about_text f.key
     → members ≡ schema_members (shape_view f.shape) → with_about ≡ put (codes "description") told members
-    → data ≡ object with_about → after ≡ put name data before
+    → schema ≡ object with_about → after ≡ put name schema before
     → after ≡ put (key_text f.key) (object (described (about_text f.key) (schema_members (shape_view f.shape)))) before
-put_described about name told data members with_about before after f e1 e2 e3 e4 e5 e6 e7 =
+put_described about name told schema members with_about before after f e1 e2 e3 e4 e5 e6 e7 =
     e7
-    ∙ ap (λ n. put n data before) e1
+    ∙ ap (λ n. put n schema before) e1
     ∙ ap (λ d. put (key_text f.key) d before)
     (e6 ∙ ap object (e5
     ∙ ap (λ t. put (codes "description") t members) (e2 ∙ ap string e3)
