@@ -112,7 +112,8 @@ table_meets how other fs across ds gs es xs p q lies fewer fit h u =
     let rest = fields_faults fs p xs ++ at p (across xs) in
     let free = left_nil (fields_faults fs p xs) (at p (across xs)) (right_nil refused rest h) in
     let known = left_nil (fields_unknown fs q xs) noted u in
-    let none = none_other how (names_of fs) p q xs (left_nil refused rest h) (right_nil (fields_unknown fs q xs) noted u)
+    let none = none_other how (names_of fs) p q xs (left_nil refused rest h)
+    (right_nil (fields_unknown fs q xs) noted u)
     in (
       fields_meet fs ds gs es xs p q lies fit free known,
       rw (← same_keys fs ds gs fit) (fewer none),
@@ -309,8 +310,8 @@ fits_map test names s f exact named fit = record { accepts = go }
       λ k n there. (
         named k (key_free test s p k es n exact h there),
         λ other. let free = entry_free test s p k es n h there in
-        let known = entry_known test s q k es n u there in
-        fit.accepts free.0 known.0 n free.1 known.1,
+            let known = entry_known test s q k es n u there in
+            fit.accepts free.0 known.0 n free.1 known.1,
       ),
     )
     go p q (array ns) h u = cc

@@ -6,3 +6,6 @@ pub mod Profiles
 pub mod Views
 pub mod Properties
 pub mod Whole
+pub mod Known
+pub mod KnownValues
+pub mod KnownTables

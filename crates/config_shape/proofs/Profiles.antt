@@ -27,27 +27,102 @@ use Rattle.config_shape.proofs.Tables.{fits_flaky_result, fits_status_level, fit
 
 alone : FieldsFit profile_fields no_entries (profile_forms true)
 unfolding profile_fields
-alone =
-    (refl, tt, fits_text,
-    (refl, tt, fits_retries,
-    (refl, tt, fits_flaky_result,
-    (refl, tt, fits_test_threads,
-    (refl, tt, fits_threads_required,
-    (refl, tt, fits_texts,
-    (refl, tt, fits_status_level,
-    (refl, tt, fits_final_status_level,
-    (refl, tt, fits_output,
-    (refl, tt, fits_output,
-    (refl, tt, fits_fail_fast,
-    (refl, tt, fits_slow,
-    (refl, tt, fits_duration,
-    (refl, tt, fits_leak,
-    (refl, tt, fits_list an_override override_form fits_override,
-    (refl, tt, fits_list a_script_rule script_rule_form fits_script_rule,
-    (refl, tt, fits_profile_junit,
-    (refl, tt, fits_any,
-    (refl, tt, fits_profile_bench,
-    (refl, tt, fits_text, tt))))))))))))))))))))
+alone = (
+  refl,
+  tt,
+  fits_text,
+  (
+    refl,
+    tt,
+    fits_retries,
+    (
+      refl,
+      tt,
+      fits_flaky_result,
+      (
+        refl,
+        tt,
+        fits_test_threads,
+        (
+          refl,
+          tt,
+          fits_threads_required,
+          (
+            refl,
+            tt,
+            fits_texts,
+            (
+              refl,
+              tt,
+              fits_status_level,
+              (
+                refl,
+                tt,
+                fits_final_status_level,
+                (
+                  refl,
+                  tt,
+                  fits_output,
+                  (
+                    refl,
+                    tt,
+                    fits_output,
+                    (
+                      refl,
+                      tt,
+                      fits_fail_fast,
+                      (
+                        refl,
+                        tt,
+                        fits_slow,
+                        (
+                          refl,
+                          tt,
+                          fits_duration,
+                          (
+                            refl,
+                            tt,
+                            fits_leak,
+                            (
+                              refl,
+                              tt,
+                              fits_list an_override override_form fits_override,
+                              (
+                                refl,
+                                tt,
+                                fits_list a_script_rule script_rule_form fits_script_rule,
+                                (
+                                  refl,
+                                  tt,
+                                  fits_profile_junit,
+                                  (
+                                    refl,
+                                    tt,
+                                    fits_any,
+                                    (
+                                      refl,
+                                      tt,
+                                      fits_profile_bench,
+                                      (refl, tt, fits_text, tt),
+                                    ),
+                                  ),
+                                ),
+                              ),
+                            ),
+                          ),
+                        ),
+                      ),
+                    ),
+                  ),
+                ),
+              ),
+            ),
+          ),
+        ),
+      ),
+    ),
+  ),
+)
 
 fits_profile : Fits a_profile (profile_form true)
 unfolding a_profile profile_form
@@ -62,11 +137,22 @@ fits_profile_over_none = fits_struct_over profile_fields no_entries _ alone
 slow_over : FitsOver slow_timeout slow_default (slow_form false slow_words)
 unfolding key_text slow_default
 slow_over =
-    fits_or_over _ _ slow_fields _ _ _ _ fits_duration
-    (refl, tt, fits_flat _ _ _ tt fits_duration,
-    (refl, tt, fits_positive,
-    (refl, tt, fits_duration,
-    (refl, tt, fits_flat _ _ _ tt fits_slow_result, tt))))
+    fits_or_over _ _ slow_fields _ _ _ _ fits_duration (
+      refl,
+      tt,
+      fits_flat _ _ _ tt fits_duration,
+      (
+        refl,
+        tt,
+        fits_positive,
+        (
+          refl,
+          tt,
+          fits_duration,
+          (refl, tt, fits_flat _ _ _ tt fits_slow_result, tt),
+        ),
+      ),
+    )
 
 period_default : Node
 period_default = table (entry (key_text keys.Period) (text (codes "30y")) no_entries)
@@ -74,11 +160,22 @@ period_default = table (entry (key_text keys.Period) (text (codes "30y")) no_ent
 bench_slow_over : FitsOver slow_timeout period_default (slow_form false slow_words)
 unfolding key_text period_default
 bench_slow_over =
-    fits_or_over _ _ slow_fields _ _ _ _ fits_duration
-    (refl, tt, fits_flat _ _ _ tt fits_duration,
-    (refl, tt, fits_positive,
-    (refl, tt, fits_duration,
-    (refl, tt, fits_slow_result, tt))))
+    fits_or_over _ _ slow_fields _ _ _ _ fits_duration (
+      refl,
+      tt,
+      fits_flat _ _ _ tt fits_duration,
+      (
+        refl,
+        tt,
+        fits_positive,
+        (
+          refl,
+          tt,
+          fits_duration,
+          (refl, tt, fits_slow_result, tt),
+        ),
+      ),
+    )
 
 bench_over : FitsOver bench bench_default (profile_bench_form false)
 unfolding key_text bench_default period_default
@@ -89,38 +186,132 @@ bench_over =
 junit_over : FitsOver a_junit junit_default profile_junit_form
 unfolding key_text a_junit junit_default
 junit_over =
-    fits_struct_over junit_fields _ _
-    (refl, tt, fits_text,
-    (refl, tt, fits_flat _ _ _ tt fits_text,
-    (refl, tt, fits_flat _ _ _ tt fits_bool,
-    (refl, tt, fits_flat _ _ _ tt fits_bool,
-    (refl, tt, fits_flat _ _ _ tt fits_skipped,
-    (refl, tt, fits_flat _ _ _ tt fits_flaky_status, tt))))))
+    fits_struct_over junit_fields _ _ (
+      refl,
+      tt,
+      fits_text,
+      (
+        refl,
+        tt,
+        fits_flat _ _ _ tt fits_text,
+        (
+          refl,
+          tt,
+          fits_flat _ _ _ tt fits_bool,
+          (
+            refl,
+            tt,
+            fits_flat _ _ _ tt fits_bool,
+            (
+              refl,
+              tt,
+              fits_flat _ _ _ tt fits_skipped,
+              (refl, tt, fits_flat _ _ _ tt fits_flaky_status, tt),
+            ),
+          ),
+        ),
+      ),
+    )
 
 fits_default : FitsOver a_profile profile_default (profile_form false)
 unfolding key_text profile_fields a_profile profile_default profile_form
 fits_default =
-    fits_struct_over profile_fields _ _
-    (refl, tt, fits_text,
-    (refl, tt, fits_flat _ _ _ tt fits_retries,
-    (refl, tt, fits_flat _ _ _ tt fits_flaky_result,
-    (refl, tt, fits_flat _ _ _ tt fits_test_threads,
-    (refl, tt, fits_flat _ _ _ tt fits_threads_required,
-    (refl, tt, fits_flat _ _ _ tt fits_texts,
-    (refl, tt, fits_flat _ _ _ tt fits_status_level,
-    (refl, tt, fits_flat _ _ _ tt fits_final_status_level,
-    (refl, tt, fits_flat _ _ _ tt fits_output,
-    (refl, tt, fits_flat _ _ _ tt fits_output,
-    (refl, tt, fits_flat _ _ _ tt fits_fail_fast,
-    (refl, tt, slow_over,
-    (refl, tt, fits_flat _ _ _ tt fits_duration,
-    (refl, tt, fits_flat _ _ _ tt fits_leak,
-    (refl, tt, fits_list an_override override_form fits_override,
-    (refl, tt, fits_list a_script_rule script_rule_form fits_script_rule,
-    (refl, tt, junit_over,
-    (refl, tt, fits_any,
-    (refl, tt, bench_over,
-    (refl, tt, fits_text, tt))))))))))))))))))))
+    fits_struct_over profile_fields _ _ (
+      refl,
+      tt,
+      fits_text,
+      (
+        refl,
+        tt,
+        fits_flat _ _ _ tt fits_retries,
+        (
+          refl,
+          tt,
+          fits_flat _ _ _ tt fits_flaky_result,
+          (
+            refl,
+            tt,
+            fits_flat _ _ _ tt fits_test_threads,
+            (
+              refl,
+              tt,
+              fits_flat _ _ _ tt fits_threads_required,
+              (
+                refl,
+                tt,
+                fits_flat _ _ _ tt fits_texts,
+                (
+                  refl,
+                  tt,
+                  fits_flat _ _ _ tt fits_status_level,
+                  (
+                    refl,
+                    tt,
+                    fits_flat _ _ _ tt fits_final_status_level,
+                    (
+                      refl,
+                      tt,
+                      fits_flat _ _ _ tt fits_output,
+                      (
+                        refl,
+                        tt,
+                        fits_flat _ _ _ tt fits_output,
+                        (
+                          refl,
+                          tt,
+                          fits_flat _ _ _ tt fits_fail_fast,
+                          (
+                            refl,
+                            tt,
+                            slow_over,
+                            (
+                              refl,
+                              tt,
+                              fits_flat _ _ _ tt fits_duration,
+                              (
+                                refl,
+                                tt,
+                                fits_flat _ _ _ tt fits_leak,
+                                (
+                                  refl,
+                                  tt,
+                                  fits_list an_override override_form fits_override,
+                                  (
+                                    refl,
+                                    tt,
+                                    fits_list a_script_rule script_rule_form fits_script_rule,
+                                    (
+                                      refl,
+                                      tt,
+                                      junit_over,
+                                      (
+                                        refl,
+                                        tt,
+                                        fits_any,
+                                        (
+                                          refl,
+                                          tt,
+                                          bench_over,
+                                          (refl, tt, fits_text, tt),
+                                        ),
+                                      ),
+                                    ),
+                                  ),
+                                ),
+                              ),
+                            ),
+                          ),
+                        ),
+                      ),
+                    ),
+                  ),
+                ),
+              ),
+            ),
+          ),
+        ),
+      ),
+    )
 
 -- ---- the profiles by name
 
@@ -183,10 +374,16 @@ fits_profiles = record { accepts = go }
     go : (p q : List ℕ) (n : Node) → faults (map_of any_key a_profile) p (over n profiles_default) ≡ []
         → unknown (map_of any_key a_profile) q (over n profiles_default) ≡ [] → Accepts profiles_form n
     go p q (table es) h u = (
-      (default_met (get default_name es) (profile_form false)
-          (λ n there. profile_met default_name n (profile_form false) p q es there fits_default h u), tt),
-      λ k n there. (tt, λ other. profile_met k n (profile_form true) p q es there
-          (other_over k (cmp k default_name) refl (not_default k other)) h u),
+      (
+        default_met (get default_name es) (profile_form false)
+            (λ n there. profile_met default_name n (profile_form false) p q es there fits_default h u),
+        tt,
+      ),
+      λ k n there. (
+        tt,
+        λ other. profile_met k n (profile_form true) p q es there
+            (other_over k (cmp k default_name) refl (not_default k other)) h u,
+      ),
     )
     go p q (array ns) h u = cc
     go p q (text t) h u = cc
@@ -203,11 +400,34 @@ fits_store = fits_struct_over store_fields _ _ (refl, tt, fits_flat _ _ _ tt fit
 pub file_fits : FitsOver a_file defaults file_form
 unfolding key_text a_file defaults file_form
 file_fits =
-    fits_struct_over file_fields _ _
-    (refl, tt, fits_store,
-    (refl, tt, fits_any,
-    (refl, tt, fits_any,
-    (refl, tt, fits_groups,
-    (refl, tt, fits_setup_scripts,
-    (refl, tt, fits_scripts,
-    (refl, tt, fits_profiles, tt)))))))
+    fits_struct_over file_fields _ _ (
+      refl,
+      tt,
+      fits_store,
+      (
+        refl,
+        tt,
+        fits_any,
+        (
+          refl,
+          tt,
+          fits_any,
+          (
+            refl,
+            tt,
+            fits_groups,
+            (
+              refl,
+              tt,
+              fits_setup_scripts,
+              (
+                refl,
+                tt,
+                fits_scripts,
+                (refl, tt, fits_profiles, tt),
+              ),
+            ),
+          ),
+        ),
+      ),
+    )

@@ -83,19 +83,41 @@ fits_target_runner = fits_names target_runner_names target_runner_expected
 
 pub fits_slow : Fits slow_timeout slow_timeout_form
 fits_slow =
-    fits_or _ _ slow_fields _ _ _ fits_duration
-    (refl, λ es. refl, fits_duration,
-    (refl, tt, fits_positive,
-    (refl, tt, fits_duration,
-    (refl, tt, fits_slow_result, tt))))
+    fits_or _ _ slow_fields _ _ _ fits_duration (
+      refl,
+      λ es. refl,
+      fits_duration,
+      (
+        refl,
+        tt,
+        fits_positive,
+        (
+          refl,
+          tt,
+          fits_duration,
+          (refl, tt, fits_slow_result, tt),
+        ),
+      ),
+    )
 
 fits_setup_timeout : Fits a_setup_timeout (slow_form true (codes "fail" ∷ []))
 fits_setup_timeout =
-    fits_or _ _ setup_timeout_fields _ _ _ fits_duration
-    (refl, λ es. refl, fits_duration,
-    (refl, tt, fits_positive,
-    (refl, tt, fits_duration,
-    (refl, tt, fits_setup_result, tt))))
+    fits_or _ _ setup_timeout_fields _ _ _ fits_duration (
+      refl,
+      λ es. refl,
+      fits_duration,
+      (
+        refl,
+        tt,
+        fits_positive,
+        (
+          refl,
+          tt,
+          fits_duration,
+          (refl, tt, fits_setup_result, tt),
+        ),
+      ),
+    )
 
 pub fits_leak : Fits leak_timeout leak_timeout_form
 fits_leak =
@@ -104,12 +126,27 @@ fits_leak =
 
 pub fits_retries : Fits retry retries_form
 fits_retries =
-    fits_or _ _ retry_fields _ _ _ fits_count
-    (refl, λ es. refl, fits_backoff,
-    (refl, λ es. refl, fits_count,
-    (refl, tt, fits_duration,
-    (refl, tt, fits_bool,
-    (refl, tt, fits_duration, tt)))))
+    fits_or _ _ retry_fields _ _ _ fits_count (
+      refl,
+      λ es. refl,
+      fits_backoff,
+      (
+        refl,
+        λ es. refl,
+        fits_count,
+        (
+          refl,
+          tt,
+          fits_duration,
+          (
+            refl,
+            tt,
+            fits_bool,
+            (refl, tt, fits_duration, tt),
+          ),
+        ),
+      ),
+    )
 
 pub fits_fail_fast : Fits a_max_fail fail_fast_form
 unfolding a_max_fail
@@ -123,22 +160,52 @@ fits_texts = fits_list a_text some_text fits_text
 pub fits_override_junit : Fits a_junit_override override_junit_form
 unfolding a_junit_override
 fits_override_junit =
-    fits_struct junit_override_fields _
-    (refl, tt, fits_bool,
-    (refl, tt, fits_bool,
-    (refl, tt, fits_skipped,
-    (refl, tt, fits_flaky_status, tt))))
+    fits_struct junit_override_fields _ (
+      refl,
+      tt,
+      fits_bool,
+      (
+        refl,
+        tt,
+        fits_bool,
+        (
+          refl,
+          tt,
+          fits_skipped,
+          (refl, tt, fits_flaky_status, tt),
+        ),
+      ),
+    )
 
 pub fits_profile_junit : Fits a_junit profile_junit_form
 unfolding a_junit
 fits_profile_junit =
-    fits_struct junit_fields _
-    (refl, tt, fits_text,
-    (refl, tt, fits_text,
-    (refl, tt, fits_bool,
-    (refl, tt, fits_bool,
-    (refl, tt, fits_skipped,
-    (refl, tt, fits_flaky_status, tt))))))
+    fits_struct junit_fields _ (
+      refl,
+      tt,
+      fits_text,
+      (
+        refl,
+        tt,
+        fits_text,
+        (
+          refl,
+          tt,
+          fits_bool,
+          (
+            refl,
+            tt,
+            fits_bool,
+            (
+              refl,
+              tt,
+              fits_skipped,
+              (refl, tt, fits_flaky_status, tt),
+            ),
+          ),
+        ),
+      ),
+    )
 
 fits_override_bench : Fits bench_override override_bench_form
 fits_override_bench = fits_struct bench_override_fields _ (refl, tt, fits_slow, tt)
@@ -156,22 +223,77 @@ fits_platform =
 pub fits_override : Fits an_override override_form
 unfolding an_override override_fields override_form
 fits_override =
-    fits_struct override_fields _
-    (refl, tt, fits_platform,
-    (refl, tt, fits_text,
-    (refl, tt, fits_priority,
-    (refl, tt, fits_text,
-    (refl, tt, fits_threads_required,
-    (refl, tt, fits_texts,
-    (refl, tt, fits_retries,
-    (refl, tt, fits_flaky_result,
-    (refl, tt, fits_slow,
-    (refl, tt, fits_leak,
-    (refl, tt, fits_test_group,
-    (refl, tt, fits_output,
-    (refl, tt, fits_output,
-    (refl, tt, fits_override_junit,
-    (refl, tt, fits_override_bench, tt)))))))))))))))
+    fits_struct override_fields _ (
+      refl,
+      tt,
+      fits_platform,
+      (
+        refl,
+        tt,
+        fits_text,
+        (
+          refl,
+          tt,
+          fits_priority,
+          (
+            refl,
+            tt,
+            fits_text,
+            (
+              refl,
+              tt,
+              fits_threads_required,
+              (
+                refl,
+                tt,
+                fits_texts,
+                (
+                  refl,
+                  tt,
+                  fits_retries,
+                  (
+                    refl,
+                    tt,
+                    fits_flaky_result,
+                    (
+                      refl,
+                      tt,
+                      fits_slow,
+                      (
+                        refl,
+                        tt,
+                        fits_leak,
+                        (
+                          refl,
+                          tt,
+                          fits_test_group,
+                          (
+                            refl,
+                            tt,
+                            fits_output,
+                            (
+                              refl,
+                              tt,
+                              fits_output,
+                              (
+                                refl,
+                                tt,
+                                fits_override_junit,
+                                (refl, tt, fits_override_bench, tt),
+                              ),
+                            ),
+                          ),
+                        ),
+                      ),
+                    ),
+                  ),
+                ),
+              ),
+            ),
+          ),
+        ),
+      ),
+    )
 
 fits_script_ids : Fits script_ids (one_or_other identifier_form (an_array 0 identifier_form))
 unfolding script_ids
@@ -180,12 +302,27 @@ fits_script_ids = fits_items _ _ identifier_form identifier_form fits_identifier
 pub fits_script_rule : Fits a_script_rule script_rule_form
 unfolding a_script_rule script_rule_form
 fits_script_rule =
-    fits_struct script_rule_fields _
-    (refl, tt, fits_platform,
-    (refl, tt, fits_text,
-    (refl, tt, fits_script_ids,
-    (refl, tt, fits_identifier,
-    (refl, tt, fits_identifier, tt)))))
+    fits_struct script_rule_fields _ (
+      refl,
+      tt,
+      fits_platform,
+      (
+        refl,
+        tt,
+        fits_text,
+        (
+          refl,
+          tt,
+          fits_script_ids,
+          (
+            refl,
+            tt,
+            fits_identifier,
+            (refl, tt, fits_identifier, tt),
+          ),
+        ),
+      ),
+    )
 
 -- ---- groups and scripts
 
@@ -199,10 +336,17 @@ fits_env = fits_map env_key_cause (of_pattern patterns.EnvironmentKey) a_text so
 fits_command : Fits a_command command_form
 unfolding a_command command_form
 fits_command =
-    fits_or _ _ command_fields _ _ _ fits_command_line
-    (refl, λ es. refl, fits_command_line,
-    (refl, tt, fits_env,
-    (refl, tt, fits_relative_to, tt)))
+    fits_or _ _ command_fields _ _ _ fits_command_line (
+      refl,
+      λ es. refl,
+      fits_command_line,
+      (
+        refl,
+        tt,
+        fits_env,
+        (refl, tt, fits_relative_to, tt),
+      ),
+    )
 
 fits_setup_junit : Fits a_setup_junit (a_table (stored_fields no_fields))
 fits_setup_junit = fits_struct setup_junit_fields _ (refl, tt, fits_bool, (refl, tt, fits_bool, tt))
@@ -210,13 +354,32 @@ fits_setup_junit = fits_struct setup_junit_fields _ (refl, tt, fits_bool, (refl,
 fits_setup_script : Fits a_setup_script setup_script_form
 unfolding a_setup_script setup_script_form
 fits_setup_script =
-    fits_struct setup_script_fields _
-    (refl, λ es. refl, fits_command,
-    (refl, tt, fits_setup_timeout,
-    (refl, tt, fits_leak,
-    (refl, tt, fits_bool,
-    (refl, tt, fits_bool,
-    (refl, tt, fits_setup_junit, tt))))))
+    fits_struct setup_script_fields _ (
+      refl,
+      λ es. refl,
+      fits_command,
+      (
+        refl,
+        tt,
+        fits_setup_timeout,
+        (
+          refl,
+          tt,
+          fits_leak,
+          (
+            refl,
+            tt,
+            fits_bool,
+            (
+              refl,
+              tt,
+              fits_bool,
+              (refl, tt, fits_setup_junit, tt),
+            ),
+          ),
+        ),
+      ),
+    )
 
 fits_wrapper_script : Fits a_wrapper_script wrapper_script_form
 unfolding a_wrapper_script wrapper_script_form
@@ -235,6 +398,9 @@ fits_setup_scripts = by_id a_setup_script setup_script_form fits_setup_script
 pub fits_scripts : Fits a_scripts_table scripts_form
 unfolding a_scripts_table
 fits_scripts =
-    fits_struct scripts_fields _
-    (refl, tt, fits_setup_scripts,
-    (refl, tt, by_id a_wrapper_script wrapper_script_form fits_wrapper_script, tt))
+    fits_struct scripts_fields _ (
+      refl,
+      tt,
+      fits_setup_scripts,
+      (refl, tt, by_id a_wrapper_script wrapper_script_form fits_wrapper_script, tt),
+    )

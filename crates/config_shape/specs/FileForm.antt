@@ -67,7 +67,9 @@ slow_timeout_form = slow_form true slow_words
 abbrev pub leak_timeout_form : Form
 leak_timeout_form =
     one_or_other duration_form
-    (a_table (period_field true (may keys.Result (words (codes "pass" ∷ codes "fail" ∷ [])) no_fields)))
+    (a_table (period_field true
+    (may keys.Result (words (codes "pass" ∷ codes "fail" ∷ []))
+    no_fields)))
 
 -- a number of tries
 abbrev pub count_form : Form

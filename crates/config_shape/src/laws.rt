@@ -6,7 +6,7 @@ ghost use Rattle.nextest_documents.specs.Merge.{over};
 ghost use Rattle.nextest_tables.specs.Complete.{IsReadable};
 ghost use Rattle.nextest_tables.specs.Defaults.{defaults};
 ghost use Rattle.nextest_tables.specs.Tables.{a_file};
-ghost use Rattle.nextest_tree.specs.Node.{Node};
+ghost use Rattle.nextest_tree.specs.Node.{IsSorted, Node};
 ghost use Rattle.nextest_tree.specs.Schema.{unknown};
 
 /// A file that loads without faults of its elements and without unknown keys, over the table of
@@ -14,4 +14,11 @@ ghost use Rattle.nextest_tree.specs.Schema.{unknown};
 pub fn law_schema()
     ensures { (file : Node) → IsReadable file → unknown a_file [] (over file defaults) ≡ []
         → Accepts file_form file }
+{}
+
+/// The shape of files has the keys that files have, and no others: a file that it accepts, and whose
+/// keys ascend as those of each document do, has no unknown key.
+pub fn law_keys()
+    ensures { (file : Node) → IsSorted file → Accepts file_form file
+        → unknown a_file [] file ≡ [] }
 {}

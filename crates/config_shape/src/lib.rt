@@ -15,6 +15,6 @@ mod shape;
 mod values;
 
 pub use file::file_shape;
-pub use laws::law_schema;
+pub use laws::{law_keys, law_schema};
 pub use page::{json_schema, schema_page};
 pub use shape::{Field, Pattern, Shape, TextShape};

@@ -19,7 +19,12 @@ fn typed(alloc: Global, name: &str) -> Result<Map<String, Value>, AllocError>
     ensures { IfOk result (λ members. members_view members.entries ≡ typed name.now) }
 {
     let mut members = Map::new(alloc);
-    put(&mut members, alloc, "type", Value::try_from_str(alloc, name)?)?;
+    put(
+        &mut members,
+        alloc,
+        "type",
+        Value::try_from_str(alloc, name)?,
+    )?;
     Ok(members)
 }
 
@@ -83,11 +88,7 @@ fn number_members(
 }
 
 /// The members of the schema of arrays.
-fn array_members(
-    alloc: Global,
-    least: u64,
-    items: Value,
-) -> Result<Map<String, Value>, AllocError>
+fn array_members(alloc: Global, least: u64, items: Value) -> Result<Map<String, Value>, AllocError>
     ensures { IfOk result (λ members. members_view members.entries
         ≡ array_members least (view items)) }
 {
@@ -123,7 +124,12 @@ fn table_members(
     let mut members = typed(alloc, "object")?;
     put(&mut members, alloc, "required", required)?;
     put(&mut members, alloc, "properties", Value::Object(properties))?;
-    put(&mut members, alloc, "additionalProperties", Value::Bool(false))?;
+    put(
+        &mut members,
+        alloc,
+        "additionalProperties",
+        Value::Bool(false),
+    )?;
     Ok(members)
 }
 
@@ -147,10 +153,7 @@ fn map_members(
 }
 
 /// The members of the schema of several shapes.
-fn either_members(
-    alloc: Global,
-    schemas: Vec<Value>,
-) -> Result<Map<String, Value>, AllocError>
+fn either_members(alloc: Global, schemas: Vec<Value>) -> Result<Map<String, Value>, AllocError>
     ensures { IfOk result (λ members. members_view members.entries
         ≡ member (codes "anyOf") (array (items_of (map view schemas.items))) no_members) }
 {
@@ -195,10 +198,7 @@ fn schema_members(alloc: Global, shape: &Shape) -> Result<Map<String, Value>, Al
 
 /// The properties of fields, each at its key, which says what the key is for.
 #[cycle(page)]
-fn properties(
-    alloc: Global,
-    fields: &Vec<Field<Shape>>,
-) -> Result<Map<String, Value>, AllocError>
+fn properties(alloc: Global, fields: &Vec<Field<Shape>>) -> Result<Map<String, Value>, AllocError>
     ensures { IfOk result (λ properties. members_view properties.entries
         ≡ with_properties (fields_view fields.now.items) no_members) }
 {
@@ -207,7 +207,12 @@ fn properties(
         let mut members = schema_members(alloc, &field.shape)?;
         let about = Value::try_from_str(alloc, about(field.key))?;
         put(&mut members, alloc, "description", about)?;
-        put(&mut properties, alloc, field.key.text(), Value::Object(members))?;
+        put(
+            &mut properties,
+            alloc,
+            field.key.text(),
+            Value::Object(members),
+        )?;
     }
     Ok(properties)
 }

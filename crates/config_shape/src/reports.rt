@@ -45,7 +45,10 @@ pub(crate) fn override_junit(alloc: Global) -> Result<Shape, AllocError>
 pub(crate) fn profile_junit(alloc: Global) -> Result<Shape, AllocError>
     ensures { IfOk result (λ shape. shape_view shape ≡ profile_junit_form) }
 {
-    let own = vec![in alloc; optional(Key::Path, text()), optional(Key::ReportName, text())]?;
+    let own = vec![in alloc;
+        optional(Key::Path, text()),
+        optional(Key::ReportName, text()),
+    ]?;
     Ok(Shape::Table(joined(own, report_fields(alloc)?)?))
 }
 

@@ -23,9 +23,10 @@ pub(crate) fn flaky_result() -> Shape
 fn platform(alloc: Global) -> Result<Shape, AllocError>
     ensures { IfOk result (λ shape. shape_view shape ≡ platform_form) }
 {
-    let table = Shape::Table(
-        vec![in alloc; optional(Key::Host, text()), optional(Key::Target, text())]?,
-    );
+    let table = Shape::Table(vec![in alloc;
+        optional(Key::Host, text()),
+        optional(Key::Target, text()),
+    ]?);
     one_or_other(alloc, text(), table)
 }
 

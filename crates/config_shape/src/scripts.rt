@@ -91,7 +91,8 @@ pub(crate) fn scripts(alloc: Global) -> Result<Shape, AllocError>
 {
     let setup = map_by(alloc, Pattern::Identifier, setup_script(alloc)?)?;
     let wrapper = map_by(alloc, Pattern::Identifier, wrapper_script(alloc)?)?;
-    Ok(Shape::Table(
-        vec![in alloc; optional(Key::Setup, setup), optional(Key::Wrapper, wrapper)]?,
-    ))
+    Ok(Shape::Table(vec![in alloc;
+        optional(Key::Setup, setup),
+        optional(Key::Wrapper, wrapper),
+    ]?))
 }

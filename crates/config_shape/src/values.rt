@@ -98,9 +98,7 @@ pub(crate) fn test_threads(alloc: Global) -> Result<Shape, AllocError>
         least: None,
         greatest: Some(-1),
     };
-    Ok(Shape::Either(
-        vec![in alloc; negative, positive(), one_of(NUMBER_OF_CPUS)]?,
-    ))
+    Ok(Shape::Either(vec![in alloc; negative, positive(), one_of(NUMBER_OF_CPUS)]?))
 }
 
 /// How many threads a test takes up.
