@@ -113,9 +113,9 @@ knows_or how other fs across f gs rest no_table all = record { knows = go }
   where
     flat : (q : List ℕ) (n : Node) → IsSorted n → (Accepts (a_table gs) n → ⊥)
         → Accepts (one_or_other f (a_table gs)) n → unknown other q n ≡ []
-    flat q n sorted no (inl a) = rest.knows q n sorted a
-    flat q n sorted no (inr (inl m)) = absurd (no m)
-    flat q n sorted no (inr (inr b)) = absurd b
+    flat q n sorted not_one (inl a) = rest.knows q n sorted a
+    flat q n sorted not_one (inr (inl m)) = absurd (not_one m)
+    flat q n sorted not_one (inr (inr b)) = absurd b
 
     go : (q : List ℕ) (n : Node) → IsSorted n → Accepts (one_or_other f (a_table gs)) n
         → unknown (fields how other fs across) q n ≡ []
