@@ -12,7 +12,7 @@ use Rattle.nextest_tables.proofs.Free.{left_nil, right_nil, entry_free}
 use Rattle.config_shape.specs.Accepts.{Accepts, AcceptsFields, AcceptsText, MeetsAt, HasNoOthers, AreItems}
 use Rattle.config_shape.specs.FileForm.{one_or_other}
 use Rattle.config_shape.specs.Form.{TextForm, Form, anything, an_array, a_table, a_map, FieldForms, no_fields, a_field, field_keys}
-use Rattle.config_shape.proofs.Keys.{no_others_over, map_nil}
+use Rattle.config_shape.proofs.Laid.{no_others_over, map_nil}
 
 pub record Fits (s : Schema) (f : Form) : Type 0 where
   pub accepts : (p q : List ℕ) (n : Node) → faults s p n ≡ [] → unknown s q n ≡ [] → Accepts f n

@@ -1,5 +1,5 @@
 -- A form knows all keys of a schema: what it accepts has no unknown key there.
-use Rattle.std.proofs.Common.{◌≡◌, ℕ, ◌+◌, ◌-◌, List, [], ◌∷◌, ◌++◌, Bool, true, false, ◌||◌, map, Option, Some, None, Ordering, Less, Equal, Greater, nat_cmp, inl, inr, refl, sym, ap, ◌∙◌, subst, bytes_eq}
+use Rattle.std.proofs.Common.{◌≡◌, ℕ, ◌+◌, ◌-◌, List, [], ◌∷◌, ◌++◌, Bool, true, false, ◌||◌, map, Option, Some, None, Ordering, Less, Equal, Greater, inl, inr, refl, ap, ◌∙◌, subst, bytes_eq}
 use Rattle.std.proofs.lemmas.Cmp.{nat_list_cmp_total}
 use Rattle.std.proofs.lemmas.Slice.Eq.{bytes_eq-Decides}
 use Rattle.std.specs.Cmp.{tied_itself}
@@ -8,7 +8,7 @@ use Rattle.std.specs.Ordering.{match_ordering}
 use Rattle.nextest_tree.specs.declared.key.Key.{Key}
 use Rattle.nextest_tree.specs.Key.{key_text}
 use Rattle.nextest_tree.specs.Node.{Node, table, array, text, int, bool, opaque, Nodes, no_nodes, node, Entries, no_entries, entry, get, PrecedesKeys, IsSorted, NodesAreSorted, EntriesAreSorted}
-use Rattle.nextest_tree.specs.Schema.{FaultCause, Schema, any, leaf, not_table, not_array, fields, Others, are_noted, are_refused, Fields, no_more, field, struct, map_of, items_of, list_of, below, each_item, each_entry, is_one_of, names_of, others, others_unknown, unknown, fields_unknown, field_unknown}
+use Rattle.nextest_tree.specs.Schema.{FaultCause, Schema, leaf, not_table, fields, Others, are_noted, are_refused, Fields, no_more, field, struct, map_of, items_of, list_of, below, each_item, each_entry, is_one_of, names_of, others, others_unknown, unknown, fields_unknown, field_unknown}
 use Rattle.nextest_documents.proofs.Laying.{cmp, turned, equal_text}
 use Rattle.config_shape.specs.Accepts.{Accepts, AcceptsFields, MeetsAt, AreItems}
 use Rattle.config_shape.specs.FileForm.{one_or_other}

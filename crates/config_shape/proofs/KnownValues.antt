@@ -1,5 +1,5 @@
 -- The forms of values know all keys of their tables.
-use Rattle.std.proofs.Common.{◌≡◌, ℕ, List, Bool, true, refl}
+use Rattle.std.proofs.Common.{ℕ, List, Bool, true, refl}
 use Rattle.nextest_tree.specs.Leaf.{a_text, a_bool}
 use Rattle.nextest_tree.specs.Schema.{any, list_of}
 use Rattle.nextest_texts.specs.IdentifierReader.{an_identifier}

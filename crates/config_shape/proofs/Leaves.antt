@@ -1,13 +1,12 @@
 -- The forms of leaves fit their schemas.
-use Rattle.std.proofs.Common.{◌≡◌, ℕ, zero, suc, ◌+◌, ◌<◌, List, [], ◌∷◌, ◌++◌, Bool, true, false, ◌||◌, cond, if◌then◌else◌, Option, Some, None, Result, Ok, Err, ℤ, pos, negsuc, nat_lt, int_lt, is_some, map, ok_or, codes, inl, inr, refl, sym, ap, ◌∙◌, arith}
+use Rattle.std.proofs.Common.{◌≡◌, ℕ, zero, suc, List, [], ◌∷◌, Bool, true, false, ◌||◌, cond, if◌then◌else◌, Option, Some, None, Result, Ok, Err, ℤ, pos, negsuc, nat_lt, int_lt, is_some, map, ok_or, codes, inl, inr, refl, sym, arith}
 use Rattle.std.proofs.lemmas.Int.{ints}
 use Rattle.std.proofs.lemmas.Slice.Eq.{bytes_eq-Decides}
 use Rattle.std.specs.Map.{lookup}
-use Rattle.std.specs.Str.{bytes_eq, chars}
-use Rattle.nextest_tree.specs.Node.{Node, table, array, text, int, bool, opaque, Nodes, no_nodes, node}
+use Rattle.std.specs.Str.{bytes_eq}
+use Rattle.nextest_tree.specs.Node.{Node, table, array, text, int, bool, opaque, no_nodes, node}
 use Rattle.nextest_tree.specs.Leaf.{cause_of, value, text_at, a_text, bool_at, a_bool, name_at}
-use Rattle.nextest_tree.specs.Schema.{FaultCause, bad_value, out_of_range, wrong_kind, Schema, leaf, at, is_one_of, faults, unknown, each_item, list_of, not_array}
-use Rattle.nextest_texts.specs.declared.duration.DurationError.{DurationError}
+use Rattle.nextest_tree.specs.Schema.{FaultCause, bad_value, out_of_range, leaf, at, is_one_of, faults, unknown, each_item}
 use Rattle.nextest_texts.specs.DurationFunction.{duration_of, duration_result}
 use Rattle.nextest_texts.specs.Identifier.{is_identifier}
 use Rattle.nextest_texts.specs.IdentifierReader.{identifier_expected, identifier_at, identifier_cause, an_identifier}
@@ -19,14 +18,13 @@ use Rattle.nextest_elements.specs.TestGroup.{global_text, test_group_at, a_test_
 use Rattle.nextest_elements.specs.TestPriority.{priority_at, a_priority}
 use Rattle.nextest_elements.specs.TestThreads.{test_threads_names, test_threads_expected, test_threads_at, a_test_threads}
 use Rattle.nextest_elements.specs.ThreadsRequired.{threads_required_names, threads_required_expected, threads_required_at, count_required, a_threads_required}
-use Rattle.nextest_scripts.specs.CommandLine.{words_cause, line_cause, list_cause, a_command_line}
+use Rattle.nextest_scripts.specs.CommandLine.{line_cause, a_command_line}
 use Rattle.nextest_scripts.specs.EnvKey.{is_env_var_key}
 use Rattle.nextest_scripts.specs.EnvMap.{env_key_cause}
-use Rattle.nextest_scripts.specs.ShellReading.{words_in}
 use Rattle.config_shape.specs.declared.shape.Pattern.TheVariants as patterns
 use Rattle.config_shape.specs.Accepts.{Accepts, HasPattern}
 use Rattle.config_shape.specs.FileForm.{words, some_text, positive_form, duration_form, identifier_form, count_form, test_threads_form, threads_required_form, one_or_other, command_line_form}
-use Rattle.config_shape.specs.Form.{Form, a_truth, a_number, a_text as text_form, an_array, of_pattern}
+use Rattle.config_shape.specs.Form.{Form, a_truth, a_number, a_text as text_form, of_pattern}
 use Rattle.nextest_tables.proofs.Free.{left_nil}
 use Rattle.config_shape.proofs.Fits.{Fits, items_meet}
 

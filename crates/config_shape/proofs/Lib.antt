@@ -1,4 +1,4 @@
-pub mod Keys
+pub mod Laid
 pub mod Fits
 pub mod Leaves
 pub mod Tables

@@ -1,12 +1,12 @@
 -- The forms of profiles and of a whole file fit their schemas, over the table of defaults too.
-use Rattle.std.proofs.Common.{◌≡◌, ℕ, List, [], ◌∷◌, Bool, true, false, Option, Some, None, Ordering, Less, Equal, Greater, codes, refl, sym, ap, ◌∙◌}
+use Rattle.std.proofs.Common.{◌≡◌, ℕ, List, [], ◌∷◌, true, false, Option, Some, None, Ordering, Less, Equal, Greater, codes, refl, ap, ◌∙◌}
 use Rattle.std.specs.Option.{option_map_or}
 use Rattle.std.specs.Ordering.{match_ordering}
 use Rattle.nextest_tree.specs.declared.key.Key.TheVariants as keys
 use Rattle.nextest_tree.specs.Key.{key_text}
 use Rattle.nextest_tree.specs.Leaf.{any_key}
 use Rattle.nextest_tree.specs.Node.{Node, table, array, text, int, bool, opaque, Entries, no_entries, entry, get}
-use Rattle.nextest_tree.specs.Schema.{Schema, is_one_of, faults, unknown, map_of, list_of}
+use Rattle.nextest_tree.specs.Schema.{Schema, is_one_of, faults, unknown, map_of}
 use Rattle.nextest_documents.specs.Merge.{over, entries_over}
 use Rattle.nextest_documents.proofs.Laying.{cmp, equal_text, laid_over, get-entries_over}
 use Rattle.nextest_elements.specs.Bench.{bench_fields, bench}

@@ -1,9 +1,7 @@
 -- The forms of the tables of a file fit their schemas.
-use Rattle.std.proofs.Common.{◌≡◌, ℕ, List, [], ◌∷◌, Bool, true, false, Option, Some, None, codes, refl}
-use Rattle.nextest_tree.specs.declared.key.Key.TheVariants as keys
-use Rattle.nextest_tree.specs.Leaf.{a_text, any_key}
-use Rattle.nextest_tree.specs.Node.{Entries, no_entries}
-use Rattle.nextest_tree.specs.Schema.{Schema, Others, are_noted, are_refused, list_of, map_of, leaf, not_array}
+use Rattle.std.proofs.Common.{[], ◌∷◌, true, codes, refl}
+use Rattle.nextest_tree.specs.Leaf.{a_text}
+use Rattle.nextest_tree.specs.Schema.{Schema, list_of, map_of}
 use Rattle.nextest_documents.proofs.Laying.{equal_text}
 use Rattle.nextest_texts.specs.IdentifierReader.{identifier_cause}
 use Rattle.nextest_elements.specs.Bench.{bench_fields, bench, bench_override_fields, bench_override}
@@ -11,21 +9,20 @@ use Rattle.nextest_elements.specs.FlakyResult.{flaky_result_names, flaky_result_
 use Rattle.nextest_elements.specs.Junit.{report_skip_policy_names, report_skip_policy_expected, a_report_skip_policy, junit_flaky_fail_status_names, junit_flaky_fail_status_expected, a_junit_flaky_fail_status, junit_override_fields, a_junit_override, junit_fields, a_junit}
 use Rattle.nextest_elements.specs.LeakTimeout.{leak_result_text, leak_result_names, leak_result_expected, a_leak_result, leak_fields, leak_timeout}
 use Rattle.nextest_elements.specs.MaxFail.{max_fail_fields, a_max_fail}
-use Rattle.nextest_elements.specs.RetryPolicy.{backoff_names, backoff_expected, a_backoff, retry_fields, retry_across, retry}
+use Rattle.nextest_elements.specs.RetryPolicy.{backoff_names, backoff_expected, a_backoff, retry_fields, retry}
 use Rattle.nextest_elements.specs.SlowTimeout.{slow_result_text, slow_result_names, slow_result_expected, a_slow_result, slow_fields, slow_timeout}
 use Rattle.nextest_elements.specs.StatusLevel.{status_level_names, status_level_expected, a_status_level, final_status_level_names, final_status_level_expected, a_final_status_level}
 use Rattle.nextest_elements.specs.TestGroup.{group_fields, group_config}
 use Rattle.nextest_elements.specs.TestOutputDisplay.{test_output_display_names, test_output_display_expected, a_test_output_display}
 use Rattle.nextest_scripts.specs.Command.{relative_to_names, relative_to_expected, a_relative_to, command_fields, a_command}
-use Rattle.nextest_scripts.specs.CommandLine.{a_command_line}
 use Rattle.nextest_scripts.specs.EnvMap.{env_key_cause, an_env_map}
 use Rattle.nextest_scripts.specs.SetupScript.{setup_result_names, setup_result_expected, a_setup_result, setup_timeout_fields, a_setup_timeout, setup_junit_fields, a_setup_junit, setup_script_fields, a_setup_script}
 use Rattle.nextest_scripts.specs.WrapperScript.{target_runner_names, target_runner_expected, a_target_runner, wrapper_script_fields, a_wrapper_script}
 use Rattle.nextest_tables.specs.Tables.{platform_fields, a_platform, override_fields, an_override, script_ids, script_rule_fields, a_script_rule, scripts_fields, a_scripts_table}
 use Rattle.config_shape.specs.declared.shape.Pattern.TheVariants as patterns
-use Rattle.config_shape.specs.FileForm.{slow_form, slow_words, stored_fields, slow_timeout_form, leak_timeout_form, retries_form, flaky_result_form, fail_fast_form, status_level_form, final_status_level_form, output_form, override_junit_form, profile_junit_form, override_bench_form, profile_bench_form, platform_form, override_form, script_rule_form, group_form, command_form, command_line_form, env_form, setup_script_form, wrapper_script_form, by_identifier, scripts_form, some_text, words, identifier_form, one_or_other, texts_form}
-use Rattle.config_shape.specs.Form.{Form, FieldForms, no_fields, an_array, a_table, any_text, of_pattern}
-use Rattle.config_shape.proofs.Fits.{Fits, FieldsFit, fits_struct, fits_or, fits_any, fits_items, fits_map, fits_list}
+use Rattle.config_shape.specs.FileForm.{slow_form, slow_words, stored_fields, slow_timeout_form, leak_timeout_form, retries_form, flaky_result_form, fail_fast_form, status_level_form, final_status_level_form, output_form, override_junit_form, profile_junit_form, override_bench_form, profile_bench_form, platform_form, override_form, script_rule_form, group_form, command_form, env_form, setup_script_form, wrapper_script_form, by_identifier, scripts_form, some_text, words, identifier_form, one_or_other, texts_form}
+use Rattle.config_shape.specs.Form.{Form, no_fields, an_array, a_table, of_pattern}
+use Rattle.config_shape.proofs.Fits.{Fits, fits_struct, fits_or, fits_any, fits_items, fits_map, fits_list}
 use Rattle.config_shape.proofs.Leaves.{fits_text, fits_bool, fits_names, fits_positive, fits_count, fits_priority, fits_test_threads, fits_threads_required, fits_limit, fits_duration, fits_identifier, fits_test_group, identifier_named, env_named, fits_command_line}
 
 -- ---- words

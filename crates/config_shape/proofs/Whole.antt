@@ -9,7 +9,7 @@ use Rattle.serde_json.specs.View.{items_of}
 use Rattle.serde_json.specs.Written.{has_float, items_have_float, members_have_float}
 use Rattle.config_shape.specs.About.{about_text}
 use Rattle.config_shape.specs.Form.{TextForm, any_text, one_of, of_pattern, Form, anything, a_truth, a_number, a_text, an_array, a_table, a_map, either, FieldForms, no_fields, a_field, Forms, no_forms, or_form}
-use Rattle.config_shape.specs.Page.{typed, text_members, with_bound, number_members, described, required_keys, schema_members, with_properties, schemas_of, titled, schema_data}
+use Rattle.config_shape.specs.Page.{typed, text_members, with_bound, described, required_keys, schema_members, with_properties, schemas_of, schema_data}
 
 neither : (a b : Bool) → (a || b) ≡ false → (a ≡ false) × (b ≡ false)
 neither true b h = absurd (cc)

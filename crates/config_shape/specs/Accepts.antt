@@ -1,5 +1,5 @@
 -- Which nodes of a tree a form accepts.
-use Rattle.std.specs.Prelude.{◌≡◌, ◌≤◌, ◌⊎◌, ℕ, zero, suc, ◌-◌, ℤ, int_lt, Bool, true, IsTrue, IsFalse, is_some, List, [], map, Option, Some, None, ◌||◌}
+use Rattle.std.specs.Prelude.{◌≡◌, ◌⊎◌, ℕ, ◌-◌, ℤ, int_lt, Bool, IsTrue, IsFalse, is_some, List, [], map, Option, Some, None, ◌||◌}
 use Rattle.std.specs.Str.{bytes_eq, chars}
 use Rattle.nextest_tree.specs.declared.key.Key.{Key}
 use Rattle.nextest_tree.specs.Key.{key_text}

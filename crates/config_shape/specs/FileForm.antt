@@ -1,9 +1,9 @@
 -- The form of a whole file, by its tables.
-use Rattle.std.specs.Prelude.{ℕ, ℤ, pos, negsuc, List, [], ◌∷◌, Bool, true, false, Option, Some, None, codes}
+use Rattle.std.specs.Prelude.{ℕ, pos, negsuc, List, [], ◌∷◌, Bool, true, false, Some, None, codes}
 use Rattle.nextest_tree.specs.declared.key.Key.{Key}
 use Rattle.nextest_tree.specs.declared.key.Key.TheVariants as keys
 use Rattle.config_shape.specs.declared.shape.Pattern.TheVariants as patterns
-use Rattle.config_shape.specs.Form.{TextForm, any_text, one_of, of_pattern, Form, anything, a_truth, a_number, a_text, an_array, a_table, a_map, either, FieldForms, no_fields, a_field, Forms, no_forms, or_form, and_fields}
+use Rattle.config_shape.specs.Form.{any_text, one_of, of_pattern, Form, anything, a_truth, a_number, a_text, an_array, a_table, a_map, either, FieldForms, no_fields, a_field, no_forms, or_form, and_fields}
 
 -- a field that a file may leave out, before other fields
 abbrev pub may : Key → Form → FieldForms → FieldForms

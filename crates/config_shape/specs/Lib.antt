@@ -4,3 +4,4 @@ pub mod Accepts
 pub mod FileForm
 pub mod About
 pub mod Page
+pub mod Keys

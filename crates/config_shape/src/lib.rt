@@ -4,6 +4,7 @@
 mod about;
 mod expression;
 mod file;
+mod keys;
 mod laws;
 mod page;
 mod parts;
@@ -15,6 +16,7 @@ mod shape;
 mod values;
 
 pub use file::file_shape;
+pub use keys::keys_of;
 pub use laws::{law_keys, law_schema};
 pub use page::{json_schema, schema_page};
 pub use shape::{Field, Pattern, Shape, TextShape};

@@ -1,4 +1,3 @@
-use Rattle.std.proofs.Common.{◌≡◌}
 use Rattle.serde_json.proofs.Views.{view-Object}
 use Rattle.config_shape.proofs.Properties.{with_next, put_described}
 use Rattle.config_shape.proofs.page.+page.Goals as goal

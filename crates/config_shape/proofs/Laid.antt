@@ -1,5 +1,5 @@
 -- Keys of a table that is laid over another one, and keys that are all known.
-use Rattle.std.proofs.Common.{◌≡◌, ℕ, List, [], ◌∷◌, ◌++◌, Bool, true, false, not, map, filter, cond, Ordering, Less, Equal, Greater, refl, subst, sym}
+use Rattle.std.proofs.Common.{◌≡◌, ℕ, List, [], ◌∷◌, Bool, true, false, not, map, filter, cond, Ordering, Less, Equal, Greater, refl, subst, sym}
 use Rattle.std.specs.Ordering.{match_ordering}
 use Rattle.nextest_tree.specs.declared.key.Key.{Key}
 use Rattle.nextest_tree.specs.Key.{key_text}
