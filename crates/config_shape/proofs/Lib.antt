@@ -9,3 +9,4 @@ pub mod Whole
 pub mod Known
 pub mod KnownValues
 pub mod KnownTables
+pub mod KeysAt

@@ -22,11 +22,7 @@ fn own_keys(alloc: Global, fields: &[Field<Shape>]) -> Result<Vec<&'static str>,
 ///
 /// A position stands for any item, and of several shapes the first with keys there has them.
 #[cycle(keys)]
-pub fn keys_of(
-    alloc: Global,
-    shape: &Shape,
-    path: &[&str],
-) -> Result<Vec<&'static str>, AllocError>
+pub fn keys_of(alloc: Global, shape: &Shape, path: &[&str]) -> Result<Vec<&'static str>, AllocError>
     ensures { IfOk result (λ keys. map (λ key. key.now) keys.items
         ≡ keys_at (shape_view shape.now) (map (λ part. part.now) path.now)) }
 {
