@@ -2,7 +2,7 @@
 use Rattle.std.specs.Prelude.{ℕ, List, [], ◌∷◌, map, Option, Some, None, unwrap_or, if◌then◌else◌}
 use Rattle.std.specs.Str.{bytes_eq}
 use Rattle.nextest_tree.specs.Key.{key_text}
-use Rattle.config_shape.specs.Form.{TextForm, Form, anything, a_truth, a_number, a_text, an_array, a_table, a_map, either, FieldForms, no_fields, a_field, Forms, no_forms, or_form, field_keys}
+use Rattle.config_shape.specs.Form.{Form, an_array, a_table, a_map, either, FieldForms, no_fields, a_field, Forms, no_forms, or_form, field_keys}
 
 -- the texts of the keys of fields
 abbrev pub key_texts : FieldForms → List (List ℕ)

@@ -1,5 +1,5 @@
 -- Of several shapes the first with keys has them, and a map has those of its fields or of its values.
-use Rattle.std.proofs.Common.{◌≡◌, map, List, ℕ, Bor, length, [], ap, ◌∙◌, sym, arith, option_map, Some, None}
+use Rattle.std.proofs.Common.{◌≡◌, map, List, ℕ, Bor, length, ap, ◌∙◌, sym, arith, option_map, Some, None}
 use Rattle.config_shape.specs.Keys.{key_texts, keys_at, first_keys_at}
 use Rattle.config_shape.specs.Form.{a_map, Form}
 use Rattle.config_shape.specs.View.{text_view, shape_view, fields_view, shapes_view}
