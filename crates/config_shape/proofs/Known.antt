@@ -33,7 +33,7 @@ both_nil xs ys h k = rw (h, k) refl
 
 -- ---- what stands at a key
 
-found_sorted : (k : List ℕ) (es : Entries) (n : Node) → EntriesAreSorted es → get k es ≡ Some n → IsSorted n
+pub found_sorted : (k : List ℕ) (es : Entries) (n : Node) → EntriesAreSorted es → get k es ≡ Some n → IsSorted n
 found_sorted k no_entries n s h = cc
 found_sorted k (entry l m es) n s h = by_order (cmp k l) h (found_sorted k es n s.2)
   where
@@ -172,10 +172,10 @@ knows_items other s across f g least rest no_array all = record { knows = go }
 abbrev KnownAt : Schema → Entries → Type 0
 KnownAt s es = (k : List ℕ) → (n : Node) → get k es ≡ Some n → (q : List ℕ) → unknown s q n ≡ []
 
-first_found : (k : List ℕ) (n : Node) (es : Entries) → get k (entry k n es) ≡ Some n
+pub first_found : (k : List ℕ) (n : Node) (es : Entries) → get k (entry k n es) ≡ Some n
 first_found k n es = rw (tied_itself nat_list_cmp_total k) refl
 
-later_found : (k l : List ℕ) (n m : Node) (es : Entries) → PrecedesKeys k es → get l es ≡ Some m
+pub later_found : (k l : List ℕ) (n m : Node) (es : Entries) → PrecedesKeys k es → get l es ≡ Some m
     → get l (entry k n es) ≡ Some m
 later_found k l n m es before h =
     let above : cmp l k ≡ Greater = turned k l Less (found_later k l es m before h) in
@@ -202,7 +202,7 @@ knows_map test names s f all = record { knows = go }
     go q (bool b) sorted met = absurd met
     go q opaque sorted met = absurd met
 
-only : (b : Bool) → (b || false) ≡ true → b ≡ true
+pub only : (b : Bool) → (b || false) ≡ true → b ≡ true
 only true h = refl
 only false h = h
 

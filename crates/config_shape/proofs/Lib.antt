@@ -10,3 +10,7 @@ pub mod Known
 pub mod KnownValues
 pub mod KnownTables
 pub mod KeysAt
+pub mod Mild
+pub mod MildLeaves
+pub mod MildValues
+pub mod MildTables

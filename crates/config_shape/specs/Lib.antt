@@ -5,3 +5,4 @@ pub mod FileForm
 pub mod About
 pub mod Page
 pub mod Keys
+pub mod Mild

@@ -2,12 +2,13 @@
 ghost use Rattle.std.specs.Prelude.{◌≡◌, []};
 ghost use Rattle.config_shape.specs.Accepts.{Accepts};
 ghost use Rattle.config_shape.specs.FileForm.{file_form};
+ghost use Rattle.config_shape.specs.Mild.{AreMild};
 ghost use Rattle.nextest_documents.specs.Merge.{over};
 ghost use Rattle.nextest_tables.specs.Complete.{IsReadable};
 ghost use Rattle.nextest_tables.specs.Defaults.{defaults};
 ghost use Rattle.nextest_tables.specs.Tables.{a_file};
 ghost use Rattle.nextest_tree.specs.Node.{IsSorted, Node};
-ghost use Rattle.nextest_tree.specs.Schema.{unknown};
+ghost use Rattle.nextest_tree.specs.Schema.{faults, unknown};
 
 /// A file that loads without faults of its elements and without unknown keys, over the table of
 /// defaults, is accepted by the shape of files as it is written.
@@ -21,4 +22,12 @@ pub fn law_schema()
 pub fn law_keys()
     ensures { (file : Node) → IsSorted file → Accepts file_form file
         → unknown a_file [] file ≡ [] }
+{}
+
+/// Of the values of a file that the shape accepts, and whose keys ascend as those of each document
+/// do, none is of a wrong kind or a bad text, and no key is refused: its faults are only of what is
+/// missing, or out of its range.
+pub fn law_values()
+    ensures { (file : Node) → IsSorted file → Accepts file_form file
+        → AreMild (faults a_file [] file) }
 {}

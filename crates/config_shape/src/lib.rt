@@ -17,6 +17,6 @@ mod values;
 
 pub use file::file_shape;
 pub use keys::keys_of;
-pub use laws::{law_keys, law_schema};
+pub use laws::{law_keys, law_schema, law_values};
 pub use page::{json_schema, schema_page};
 pub use shape::{Field, Pattern, Shape, TextShape};
