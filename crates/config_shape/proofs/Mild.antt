@@ -1,11 +1,11 @@
 -- What a form accepts has only faults of what is missing or out of range.
-use Rattle.std.proofs.Common.{◌≡◌, ℕ, ◌+◌, ◌-◌, List, [], ◌∷◌, ◌++◌, Bool, true, false, ◌||◌, map, Option, Some, None, inl, inr, refl, sym, ap, ◌∙◌, subst, bytes_eq}
+use Rattle.std.proofs.Common.{◌≡◌, ℕ, ◌+◌, ◌-◌, List, [], ◌∷◌, ◌++◌, Bool, true, false, Option, Some, None, inl, inr, refl, ap, ◌∙◌, subst, bytes_eq}
 use Rattle.std.proofs.lemmas.Slice.Eq.{bytes_eq-Decides}
 use Rattle.std.specs.Fmt.{decimal}
 use Rattle.nextest_tree.specs.declared.key.Key.{Key}
 use Rattle.nextest_tree.specs.Key.{key_text}
 use Rattle.nextest_tree.specs.Node.{Node, table, array, text, int, bool, opaque, Nodes, no_nodes, node, Entries, no_entries, entry, get, IsSorted, NodesAreSorted, EntriesAreSorted}
-use Rattle.nextest_tree.specs.Schema.{FaultCause, Fault, Schema, any, leaf, not_table, not_array, fields, Others, are_noted, are_refused, Fields, no_more, field, struct, map_of, items_of, list_of, below, at, each_item, each_entry, is_one_of, names_of, others, others_faults, faults, fields_faults, field_faults}
+use Rattle.nextest_tree.specs.Schema.{FaultCause, Fault, Schema, any, leaf, not_table, fields, Others, are_noted, are_refused, Fields, no_more, field, struct, map_of, items_of, list_of, below, at, each_item, each_entry, is_one_of, names_of, others, others_faults, faults, fields_faults, field_faults}
 use Rattle.config_shape.specs.Accepts.{Accepts, AcceptsFields, AcceptsText, MeetsAt, AreItems}
 use Rattle.config_shape.specs.FileForm.{one_or_other}
 use Rattle.config_shape.specs.Form.{TextForm, Form, an_array, a_table, a_map, FieldForms, no_fields, a_field, field_keys}

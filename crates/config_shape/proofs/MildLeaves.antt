@@ -1,11 +1,11 @@
 -- What forms of leaves accept has only faults of range.
-use Rattle.std.proofs.Common.{◌≡◌, ℕ, zero, suc, List, [], ◌∷◌, Bool, true, false, ◌||◌, cond, if◌then◌else◌, Option, Some, None, Result, Ok, Err, ℤ, pos, negsuc, nat_lt, nat_le, int_lt, is_some, map, ok_or, codes, inl, inr, refl, sym}
+use Rattle.std.proofs.Common.{◌≡◌, ℕ, zero, suc, List, [], ◌∷◌, Bool, true, false, ◌||◌, cond, if◌then◌else◌, Option, Some, None, Result, Ok, Err, ℤ, pos, negsuc, nat_lt, nat_le, int_lt, is_some, ok_or, inl, inr, refl, sym}
 use Rattle.std.proofs.lemmas.Slice.Eq.{bytes_eq-Decides}
 use Rattle.std.specs.Map.{lookup}
 use Rattle.std.specs.Str.{bytes_eq, chars}
 use Rattle.nextest_tree.specs.Node.{Node, table, array, text, int, bool, opaque, Nodes, no_nodes, node}
 use Rattle.nextest_tree.specs.Leaf.{cause_of, value, text_at, a_text, bool_at, a_bool, name_at}
-use Rattle.nextest_tree.specs.Schema.{FaultCause, bad_value, out_of_range, Schema, is_one_of}
+use Rattle.nextest_tree.specs.Schema.{FaultCause, bad_value, out_of_range, is_one_of}
 use Rattle.nextest_texts.specs.declared.duration.DurationError.TheVariants as errors
 use Rattle.nextest_texts.specs.DurationFunction.{duration_of, duration_result}
 use Rattle.nextest_texts.specs.Duration.{longest_duration}
@@ -25,8 +25,8 @@ use Rattle.nextest_scripts.specs.EnvMap.{env_key_cause}
 use Rattle.nextest_scripts.specs.ShellReading.{words_in}
 use Rattle.config_shape.specs.declared.shape.Pattern.TheVariants as patterns
 use Rattle.config_shape.specs.Accepts.{Accepts, HasPattern}
-use Rattle.config_shape.specs.FileForm.{words, some_text, positive_form, duration_form, identifier_form, count_form, test_threads_form, threads_required_form, one_or_other, command_line_form}
-use Rattle.config_shape.specs.Form.{Form, a_truth, a_number, a_text as text_form, of_pattern}
+use Rattle.config_shape.specs.FileForm.{words, some_text, positive_form, duration_form, identifier_form, count_form, test_threads_form, threads_required_form, command_line_form}
+use Rattle.config_shape.specs.Form.{Form, a_truth, a_text as text_form, of_pattern}
 use Rattle.config_shape.proofs.Leaves.{words_of, priority_form, limit_form, test_group_form}
 use Rattle.config_shape.proofs.Mild.{MildAll, IsMildIf, mild_leaf, mild_items}
 
@@ -64,7 +64,8 @@ turned : (a b : List ℕ) → bytes_eq a b ≡ true → bytes_eq b a ≡ true
 turned a b h = (bytes_eq-Decides b a).1 (sym ((bytes_eq-Decides a b).0 h))
 
 found : {X : Type 0} (s : List ℕ) (names : List (List ℕ × X)) (expected : List ℕ)
-    → is_one_of (words_of names) s ≡ true → IsMildIf (cause_of (ok_or (lookup (bytes_eq s) names) (bad_value s expected)))
+    → is_one_of (words_of names) s ≡ true
+    → IsMildIf (cause_of (ok_or (lookup (bytes_eq s) names) (bad_value s expected)))
 found s [] expected h = cc
 found {X} s (p ∷ names) expected h = by_test (bytes_eq s p.0) refl (bytes_eq p.0 s) refl h (found s names expected)
   where
@@ -312,4 +313,5 @@ list_mild (node n ns) = tt
 pub mild_command_line : MildAll a_command_line command_line_form
 unfolding a_command_line
 mild_command_line =
-    mild_items _ a_text list_cause line_form some_text 1 (mild_leaf line_cause line_form line_mild) (λ ns a. a) list_mild mild_text
+    mild_items _ a_text list_cause line_form some_text 1 (mild_leaf line_cause line_form line_mild)
+    (λ ns a. a) list_mild mild_text

@@ -90,7 +90,8 @@ mild_override =
 
 mild_script_ids : MildAll script_ids (one_or_other identifier_form (an_array 0 identifier_form))
 unfolding script_ids
-mild_script_ids = mild_items _ _ _ identifier_form identifier_form 0 mild_identifier (λ ns a. a) (λ ns. tt) mild_identifier
+mild_script_ids = mild_items _ _ _ identifier_form identifier_form 0 mild_identifier (λ ns a. a) (λ ns. tt)
+    mild_identifier
 
 mild_script_rule : MildAll a_script_rule script_rule_form
 unfolding a_script_rule script_rule_form

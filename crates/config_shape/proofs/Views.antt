@@ -14,5 +14,6 @@ fields_view-append (x ∷ xs) ys =
 
 -- the form of a map
 pub shape_view-Map : (names : TextShape) (fields : Vec (Field Shape) Global) (values : Box Shape Global)
-    → shape_view (Map names fields values) ≡ a_map (text_view names) (fields_view fields.items) (shape_view values.value)
+    → shape_view (Map names fields values)
+    ≡ a_map (text_view names) (fields_view fields.items) (shape_view values.value)
 shape_view-Map names fields values = search (rules, the_lemmas)

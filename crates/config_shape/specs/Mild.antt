@@ -1,5 +1,5 @@
 -- Faults that a form does not speak of.
-use Rattle.std.specs.Prelude.{ℕ, List}
+use Rattle.std.specs.Prelude.{List}
 use Rattle.std.specs.List.{AllByRecursion}
 use Rattle.nextest_tree.specs.Schema.{FaultCause, missing, out_of_range, Fault}
 

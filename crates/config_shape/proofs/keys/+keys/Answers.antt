@@ -24,7 +24,8 @@ keys_of-returns-in-Some-3 t c =
     a_map (text_view c.in-Map.names) (fields_view c.in-Map.fields.items) (shape_view c.in-Map.values.value) in
     let is : shape_view c.args.shape.now ≡ form =
     ap shape_view c.in-Map.is ∙ shape_view-Map c.in-Map.names c.in-Map.fields c.in-Map.values in
-    let found = ap (option_map (λ keys. texts keys.items)) (sym c.in-Some-3.is) ∙ c.in_ok-keys-in-Some-split_first-2.ensures
+    let found = ap (option_map (λ keys. texts keys.items)) (sym c.in-Some-3.is)
+    ∙ c.in_ok-keys-in-Some-split_first-2.ensures
     in
     keys_in_map _ _ _ (shape_view c.in-Map.values.value) _ _ _ (Some (texts c.in-Some-3.keys.items)) is
     (ap texts c.in-Some-split_first-2.ensures.cases.0) found
@@ -35,7 +36,8 @@ keys_of-returns-in_ok-keys_of-in-None-3 t c =
     a_map (text_view c.in-Map.names) (fields_view c.in-Map.fields.items) (shape_view c.in-Map.values.value) in
     let is : shape_view c.args.shape.now ≡ form =
     ap shape_view c.in-Map.is ∙ shape_view-Map c.in-Map.names c.in-Map.fields c.in-Map.values in
-    let found = ap (option_map (λ keys. texts keys.items)) (sym c.in-None-3.is) ∙ c.in_ok-keys-in-Some-split_first-2.ensures in
+    let found = ap (option_map (λ keys. texts keys.items)) (sym c.in-None-3.is)
+    ∙ c.in_ok-keys-in-Some-split_first-2.ensures in
     let rest = texts c.in-Some-split_first-2.rest.now in
     let told : texts c.in_ok-keys_of-in-None-3.field-0.items ≡ keys_at (shape_view c.deref-in-None-3.result.now) rest =
     c.in_ok-keys_of-in-None-3.ensures in
