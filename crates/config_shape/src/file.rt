@@ -1,6 +1,6 @@
 //! The shape of a whole file.
 ghost use Rattle.std.specs.Prelude.{◌≡◌, IfOk};
-ghost use Rattle.config_shape.specs.FileForm.{by_identifier, group_form, setup_script_form, store_form, file_form};
+ghost use Rattle.config_shape.specs.FileForm.{by_identifier, group_form, store_form, file_form};
 ghost use Rattle.config_shape.specs.View.{shape_view};
 
 use crate::parts::{map_by, optional, required, text};

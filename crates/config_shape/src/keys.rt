@@ -1,5 +1,5 @@
 //! The keys that the table at a path knows.
-ghost use Rattle.std.specs.Prelude.{◌≡◌, ◌∷◌, IfOk, map, option_map, List, ℕ};
+ghost use Rattle.std.specs.Prelude.{◌≡◌, IfOk, map, option_map};
 ghost use Rattle.config_shape.specs.Keys.{key_texts, keys_at, field_keys_at, first_keys_at};
 ghost use Rattle.config_shape.specs.View.{shape_view, fields_view, shapes_view};
 

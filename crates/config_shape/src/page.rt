@@ -4,7 +4,7 @@ ghost use Rattle.serde_json.specs.Data.{array, no_members, member};
 ghost use Rattle.serde_json.specs.View.{view, members_view, items_of};
 ghost use Rattle.serde_json.specs.Written.{compact_text};
 ghost use Rattle.config_shape.specs.FileForm.{file_form};
-ghost use Rattle.config_shape.specs.Page.{typed, texts_data, text_members, with_bound, number_members, array_members, table_members, map_members, required_keys, described, schema_members, with_properties, schemas_of, titled, schema_data};
+ghost use Rattle.config_shape.specs.Page.{typed, texts_data, text_members, with_bound, number_members, array_members, table_members, map_members, required_keys, schema_members, with_properties, schemas_of, schema_data};
 ghost use Rattle.config_shape.specs.View.{text_view, shape_view, fields_view, shapes_view};
 
 use crate::about::about;

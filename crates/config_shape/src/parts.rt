@@ -1,7 +1,7 @@
 //! Shapes that others are made of.
 ghost use Rattle.std.specs.Prelude.{◌≡◌, IfOk, map, true, false};
-ghost use Rattle.config_shape.specs.FileForm.{some_text, words as words_form, one_or_other, texts_form, by_identifier};
-ghost use Rattle.config_shape.specs.Form.{Form, a_text, of_pattern, an_array, a_table, a_map, no_fields, and_fields};
+ghost use Rattle.config_shape.specs.FileForm.{some_text, words as words_form, one_or_other};
+ghost use Rattle.config_shape.specs.Form.{a_text, of_pattern, an_array, a_map, no_fields, and_fields};
 ghost use Rattle.config_shape.specs.View.{shape_view, field_view, fields_view};
 
 use crate::shape::{Field, Pattern, Shape, TextShape};

@@ -1,6 +1,6 @@
 //! The shape of a profile.
 ghost use Rattle.std.specs.Prelude.{◌≡◌, IfOk};
-ghost use Rattle.config_shape.specs.FileForm.{status_level_form, final_status_level_form, profile_run_forms, profile_output_forms, profile_end_forms, profile_rest_forms, profile_form, profiles_form};
+ghost use Rattle.config_shape.specs.FileForm.{profile_run_forms, profile_output_forms, profile_end_forms, profile_rest_forms, profile_form, profiles_form};
 ghost use Rattle.config_shape.specs.View.{shape_view, fields_view};
 
 use crate::parts::{joined, list, one_of, optional, text, text_of};

@@ -1,6 +1,6 @@
 //! The shapes of overrides and of script rules.
 ghost use Rattle.std.specs.Prelude.{◌≡◌, IfOk};
-ghost use Rattle.config_shape.specs.FileForm.{flaky_result_form, texts_form, platform_form, override_head_forms, override_run_forms, override_output_forms, override_form, script_rule_form};
+ghost use Rattle.config_shape.specs.FileForm.{flaky_result_form, platform_form, override_head_forms, override_run_forms, override_output_forms, override_form, script_rule_form};
 ghost use Rattle.config_shape.specs.View.{shape_view, fields_view};
 
 use crate::parts::{joined, list, one_of, one_or_other, optional, text, text_of};

@@ -1,6 +1,6 @@
 //! The shapes of scripts.
 ghost use Rattle.std.specs.Prelude.{◌≡◌, IfOk};
-ghost use Rattle.config_shape.specs.FileForm.{command_line_form, env_form, command_form, stored_fields, setup_script_form, wrapper_script_form, scripts_form};
+ghost use Rattle.config_shape.specs.FileForm.{command_line_form, command_form, stored_fields, setup_script_form, wrapper_script_form, scripts_form};
 ghost use Rattle.config_shape.specs.Form.{a_table, no_fields};
 ghost use Rattle.config_shape.specs.View.{shape_view};
 
