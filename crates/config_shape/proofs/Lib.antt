@@ -1,0 +1,16 @@
+pub mod Laid
+pub mod Fits
+pub mod Leaves
+pub mod Tables
+pub mod Profiles
+pub mod Views
+pub mod Properties
+pub mod Whole
+pub mod Known
+pub mod KnownValues
+pub mod KnownTables
+pub mod KeysAt
+pub mod Mild
+pub mod MildLeaves
+pub mod MildValues
+pub mod MildTables
