@@ -10,6 +10,7 @@ mod chain_rules;
 mod check;
 mod conditions;
 mod engines;
+mod expected;
 mod explain;
 mod expressions;
 mod fallback;

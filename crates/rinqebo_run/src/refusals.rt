@@ -1,4 +1,5 @@
 //! Findings of a refused configuration: one for each thing that is wrong.
+use crate::expected::expected_at;
 use crate::expressions::add_refused_texts;
 use crate::findings::{SourceAt, finding};
 use crate::hints::quoted_hint;
@@ -141,7 +142,9 @@ fn add_element(refused: &mut Refused<'_>, fault: &ElementFault) -> Result<(), Al
         }
         cause => {
             let wrong = cause.to_string(alloc)?;
-            let found = refused.at(path, wrong.as_str())?;
+            let expected = expected_at(alloc, cause, path.as_str())?;
+            let mut found = refused.at(path, wrong.as_str())?;
+            found.expected = expected;
             refused.add_finding(found)
         }
     }

@@ -1,0 +1,153 @@
+//! What the shape of a file wants at a path, in words.
+use config_shape::{Field, Pattern, Shape, TextShape, file_shape};
+use nextest_config::ElementCause;
+use std::alloc::{AllocError, Global};
+
+/// What is wanted at a key, if it is that of a field.
+fn field_of<'s>(fields: &'s Vec<Field<Shape>>, key: &str) -> Option<&'s Shape> {
+    for field in fields {
+        if field.key.text() == key {
+            return Some(&field.shape);
+        }
+    }
+    None
+}
+
+/// What one shape wants at a key, a name or a position below it.
+fn below_one<'s>(shape: &'s Shape, part: &str) -> Option<&'s Shape> {
+    match shape {
+        Shape::List { items, .. } => Some(items),
+        Shape::Table(fields) => field_of(fields, part),
+        Shape::Map { fields, values, .. } => match field_of(fields, part) {
+            Some(wanted) => Some(wanted),
+            None => Some(values),
+        },
+        _ => None,
+    }
+}
+
+/// What the first of several shapes wants that has something there.
+fn below_first<'s>(shapes: &'s Vec<Shape>, part: &str) -> Option<&'s Shape> {
+    for shape in shapes {
+        if let Some(wanted) = below_one(shape, part) {
+            return Some(wanted);
+        }
+    }
+    None
+}
+
+/// What is wanted at a key, a name or a position below a shape.
+fn below<'s>(shape: &'s Shape, part: &str) -> Option<&'s Shape> {
+    match shape {
+        Shape::Either(shapes) => below_first(shapes, part),
+        one => below_one(one, part),
+    }
+}
+
+/// The shape at a path below another one.
+fn shape_at<'s>(shape: &'s Shape, path: &str) -> Option<&'s Shape> {
+    let mut wanted = shape;
+    for part in path.split('.') {
+        wanted = below(wanted, part)?;
+    }
+    Some(wanted)
+}
+
+/// A whole number in its range, in words.
+fn number_words(
+    alloc: Global,
+    least: Option<i64>,
+    greatest: Option<i64>,
+) -> Result<String, AllocError> {
+    match (least, greatest) {
+        (Some(least), Some(greatest)) => {
+            format!(in alloc; "a whole number from {least} to {greatest}")
+        }
+        (Some(least), None) => format!(in alloc; "a whole number from {least} on"),
+        (None, Some(greatest)) => format!(in alloc; "a whole number up to {greatest}"),
+        (None, None) => String::from_str(alloc, "a whole number"),
+    }
+}
+
+/// A text of a pattern, in words.
+fn pattern_words(pattern: Pattern) -> &'static str {
+    match pattern {
+        Pattern::Duration => "a duration such as `60s`",
+        Pattern::Identifier => "an identifier",
+        Pattern::TestGroup => "`@global` or the name of a group",
+        Pattern::CommandLine => "a command line",
+        Pattern::EnvironmentKey => "the key of an environment variable",
+    }
+}
+
+/// Words between backquotes.
+fn quoted_words(alloc: Global, words: &[&str]) -> Result<String, AllocError> {
+    let mut told = String::new(alloc);
+    for word in words {
+        if !told.is_empty() {
+            told.push_str(", ")?;
+        }
+        let quoted = format!(in alloc; "`{word}`")?;
+        told.push_str(quoted.as_str())?;
+    }
+    Ok(told)
+}
+
+/// One shape, in words.
+fn shape_words(alloc: Global, shape: &Shape) -> Result<String, AllocError> {
+    match shape {
+        Shape::Boolean => String::from_str(alloc, "`true`, `false`"),
+        Shape::Integer { least, greatest } => number_words(alloc, *least, *greatest),
+        Shape::Text(TextShape::Any) => String::from_str(alloc, "a text"),
+        Shape::Text(TextShape::OneOf(words)) => quoted_words(alloc, *words),
+        Shape::Text(TextShape::Of(pattern)) => String::from_str(alloc, pattern_words(*pattern)),
+        Shape::List { .. } => String::from_str(alloc, "a list"),
+        Shape::Table(_) | Shape::Map { .. } => String::from_str(alloc, "a table"),
+        Shape::Anything | Shape::Either(_) => String::from_str(alloc, "anything"),
+    }
+}
+
+/// Several shapes, in words: `or` stands between them, and none twice in a row.
+fn words_of_each(alloc: Global, shapes: &Vec<Shape>) -> Result<String, AllocError> {
+    let mut told = String::new(alloc);
+    for shape in shapes {
+        let words = shape_words(alloc, shape)?;
+        if told.as_str().ends_with(words.as_str()) {
+            continue;
+        }
+        if !told.is_empty() {
+            told.push_str(" or ")?;
+        }
+        told.push_str(words.as_str())?;
+    }
+    Ok(told)
+}
+
+/// Whether a shape says what is wrong: for a kind always, and for a range where it is the only one.
+fn says_why(cause: &ElementCause, shape: &Shape) -> bool {
+    match cause {
+        ElementCause::WrongKind => true,
+        ElementCause::OutOfRange => !matches!(shape, Shape::Either(_)),
+        _ => false,
+    }
+}
+
+/// What is wanted at a path in place of a value that is refused, if the shape of a file says it.
+pub fn expected_at(
+    alloc: Global,
+    cause: &ElementCause,
+    path: &str,
+) -> Result<Option<String>, AllocError> {
+    let file = file_shape(alloc)?;
+    let Some(shape) = shape_at(&file, path) else {
+        return Ok(None);
+    };
+    if !says_why(cause, shape) {
+        return Ok(None);
+    }
+    let words = match shape {
+        Shape::Either(shapes) => words_of_each(alloc, shapes)?,
+        one => shape_words(alloc, one)?,
+    };
+    Ok(Some(words))
+}
