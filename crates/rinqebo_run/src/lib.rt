@@ -16,6 +16,7 @@ mod expressions;
 mod fallback;
 mod fault_words;
 mod findings;
+mod given;
 mod grounds;
 mod hints;
 mod refusals;

@@ -2,6 +2,7 @@
 use crate::expected::expected_at;
 use crate::expressions::add_refused_texts;
 use crate::findings::{SourceAt, finding};
+use crate::given::given_at;
 use crate::hints::quoted_hint;
 use crate::session::Session;
 use crate::unknown_names::{add_script_errors, add_unknown_group};
@@ -128,6 +129,27 @@ fn add_no_document(refused: &mut Refused<'_>, message: &str) -> Result<(), Alloc
     refused.add_finding(found)
 }
 
+/// What is wrong with a value of a wrong kind: the kind that it has.
+fn wrong_kind(alloc: Global, source: SourceAt<'_>, path: &str) -> Result<String, AllocError> {
+    match given_at(source, path) {
+        Some(given) => format!(in alloc; "a value of the wrong kind: {given}"),
+        None => String::from_str(alloc, "a value of the wrong kind"),
+    }
+}
+
+/// What is wrong with a value, but for texts that are not taken.
+fn wrong_element(
+    alloc: Global,
+    source: SourceAt<'_>,
+    cause: &ElementCause,
+    path: &str,
+) -> Result<String, AllocError> {
+    match cause {
+        ElementCause::WrongKind => wrong_kind(alloc, source, path),
+        cause => cause.to_string(alloc),
+    }
+}
+
 /// A value that may not stand where it does.
 fn add_element(refused: &mut Refused<'_>, fault: &ElementFault) -> Result<(), AllocError> {
     let alloc = refused.alloc;
@@ -141,7 +163,7 @@ fn add_element(refused: &mut Refused<'_>, fault: &ElementFault) -> Result<(), Al
             refused.add_finding(found)
         }
         cause => {
-            let wrong = cause.to_string(alloc)?;
+            let wrong = wrong_element(alloc, refused.source, cause, path.as_str())?;
             let expected = expected_at(alloc, cause, path.as_str())?;
             let mut found = refused.at(path, wrong.as_str())?;
             found.expected = expected;
