@@ -75,12 +75,20 @@ abbrev pub first_fault : List Demand → Option Fault
 first_fault [] = None
 first_fault (demand ∷ demands) = option_or (fault_of demand) (first_fault demands)
 
+-- the place of the suite of an id
+abbrev pub suite_place : List ℕ → List ℕ
+suite_place id = codes "rust-suites." ++ id
+
+-- the place of what the suite of an id has at a key
+abbrev pub member_place : List ℕ → List ℕ → List ℕ
+member_place id key = suite_place id ++ codes "." ++ key
+
 -- the keys that lead to a place, with dots between them
 abbrev pub place_text : Place → List ℕ
 place_text (places.Platforms keys) = codes "rust-build-meta.platforms." ++ keys.now
 place_text places.Suites = codes "rust-suites"
-place_text (places.Suite id) = codes "rust-suites." ++ id.now
-place_text (places.Member id key) = codes "rust-suites." ++ id.now ++ codes "." ++ key.now
+place_text (places.Suite id) = suite_place id.now
+place_text (places.Member id key) = member_place id.now key.now
 
 -- a value of a kind is demanded at a place
 abbrev pub demand_at : Place → Option Data → Kind → Demand
@@ -146,21 +154,14 @@ members_in found = unwrap_or (option_map listed (option_and_then as_object found
 
 -- what a suite has at a key is demanded
 abbrev pub member_demand : List ℕ → Data → List ℕ → Expected → Demand
-member_demand id suite key expected = record {
-  place = codes "rust-suites." ++ id ++ codes "." ++ key;
-  found = get key suite;
-  expected = expected;
-}
+member_demand id suite key expected =
+    record { place = member_place id key; found = get key suite; expected = expected }
 
 -- a suite is an object, and has the names and ids of its package and its binary, the kind of its
 -- target, a platform, and its tests
 abbrev pub suite_demands : List ℕ × Data → List Demand
 suite_demands (id, suite) =
-    record {
-      place = codes "rust-suites." ++ id;
-      found = Some suite;
-      expected = of_kind kinds.Object;
-    }
+    record { place = suite_place id; found = Some suite; expected = of_kind kinds.Object }
     ∷ member_demand id suite (codes "package-name") (of_kind kinds.Text)
     ∷ member_demand id suite (codes "package-id") (of_kind kinds.Text)
     ∷ member_demand id suite (codes "binary-id") (of_kind kinds.Text)
