@@ -1,7 +1,8 @@
-use Rattle.std.proofs.Common.{◌∷◌, ap, map, subst, sym, ◌∙◌}
+use Rattle.std.proofs.Common.{ℕ, List, ◌∷◌, ap, map, subst, sym, ◌∙◌}
 use Rattle.std.proofs.lemmas.List.{map_push}
 use Rattle.std.proofs.lemmas.Result.{err_from_is_err_and}
 use Rattle.std.specs.List.{flat_map}
+use Rattle.serde_json.specs.Data.{Data}
 use Rattle.serde_json.specs.View.{view}
 use Rattle.test_lists.specs.Demands.{suite_demands}
 use Rattle.test_lists.specs.ListView.{listed_view}
@@ -20,7 +21,7 @@ pub returns-in_err-suite-clause-err : goal.returns-in_err-suite-clause-err
 returns-in_err-suite-clause-err c =
     let p = err_from_is_err_and c.from_residual.result c.from_residual.ensures.1 in
     let all = c.args.suites.now.entries in
-    let s = (c.as_str.result.now, view c.in-Some.suite.now) in
+    let s : List ℕ × Data = (c.as_str.result.now, view c.in-Some.suite.now) in
     let next = ap suites_in c.in-Some.ensures.steps
     ∙ ap (λ id. (id, view c.in-Some.suite.now) ∷ suites_in c.next.new.self) (sym c.as_str.ensures.value) in
     rw (p.1, p.2)
@@ -31,7 +32,7 @@ returns-in_err-suite-clause-err c =
 
 pub loop-id-preserved : goal.loop-id-preserved
 loop-id-preserved c =
-    let s = (c.as_str.result.now, view c.in-Some.suite.now) in
+    let s : List ℕ × Data = (c.as_str.result.now, view c.in-Some.suite.now) in
     let binary = c.in_ok-binary_of.field-0 in
     let next = ap suites_in c.in-Some.ensures.steps
     ∙ ap (λ id. (id, view c.in-Some.suite.now) ∷ suites_in c.next.new.self) (sym c.as_str.ensures.value) in

@@ -1,0 +1,6 @@
+pub mod RuleViews
+pub mod Unused
+pub mod Uses
+pub mod MarkedView
+pub mod Settings
+pub mod Rows
