@@ -26,7 +26,7 @@ returns-in_err-suite-clause-err c =
     ∙ ap (λ id. (id, view c.in-Some.suite.now) ∷ suites_in c.next.new.self) (sym c.as_str.ensures.value) in
     rw (p.1, p.2)
     (tells_first (suite_demands s) (flat_map suite_demands (suites_in all)) c.in_err-suite.field-0.0
-    (one_unmet all c.loop-id.id-iterator c.next.new.self (map listed_view c.loop-id.binaries.items) s
+    (λ f. one_unmet all c.loop-id.id-iterator c.next.new.self (map listed_view c.loop-id.binaries.items) s f
     c.loop-id.invariant next)
     c.in_err-suite.ensures.err)
 

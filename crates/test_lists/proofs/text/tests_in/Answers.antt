@@ -12,5 +12,5 @@ returns-in_err-triples-clause-err c =
     let p = err_from_is_err_and c.from_residual.result c.from_residual.ensures.1 in
     rw (p.1, p.2)
     (tells_first (build_demands document) (demands document) c.in_err-triples.field-0.0
-    (fault_before (build_demands document) (suites_demands (get (codes "rust-suites") document)))
+    (λ f. fault_before (build_demands document) (suites_demands (get (codes "rust-suites") document)) f)
     c.in_err-triples.ensures.err)
