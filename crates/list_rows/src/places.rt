@@ -90,6 +90,7 @@ impl<'c> ChainRules<'c> {
 }
 
 /// The layers of a case, and the chain of its profile.
+#[derive(Clone, Copy)]
 pub struct Layers<'l> {
     pub layers: &'l [Layer<'l>],
     pub chain: &'l [&'l str],

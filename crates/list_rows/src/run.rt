@@ -52,6 +52,7 @@ fn words_of(alloc: Global, line: &str) -> Result<Vec<String>, AllocError> {
 }
 
 /// What a line asks.
+#[derive(Clone, Copy)]
 struct Asked<'a> {
     kind: &'a str,
     profile: &'a str,

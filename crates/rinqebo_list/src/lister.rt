@@ -17,6 +17,7 @@ use rinqebo_report::{Platform, TestRows};
 use std::alloc::{AllocError, Global};
 
 /// What a list is told by.
+#[derive_where(Clone, Copy)]
 pub struct Asking<'l, 'c, F: Filters, S: Specs, T, O> {
     /// The profile on the platforms of the build.
     pub profile: &'l EvaluatableProfile<'c, F, S>,

@@ -56,7 +56,7 @@ fn decided_settings<'c, F: Filters, S: Specs>(
 
 /// What decides a setting of a test, if it has a value. Of script rules it is the one that is told
 /// by a tag.
-fn decider_of<'c, F: Filters, S: Specs, T>(
+fn decider_of<'c, F: Filters, S: Specs, T: Copy>(
     settings: &SourcedSettings<'c, F, S>,
     setting: Setting,
     script_rule: Option<T>,
