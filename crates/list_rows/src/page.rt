@@ -79,10 +79,9 @@ pub fn tests_page(alloc: Global, tests: &ListedTests) -> Result<String, AllocErr
         let name = binary.name.as_str();
         let kind = binary.kind.as_str();
         let platform = binary.platform;
-        page.push_str(
-            format!(in alloc; "{id}: {package} ({package_id}), {kind} {name}, {platform:?}\n")?
-                .as_str(),
-        )?;
+        page.push_str(format!(in alloc;
+            "{id}: {package} ({package_id}), {kind} {name}, {platform:?}\n"
+        )?.as_str())?;
         for test in &binary.tests {
             page.push_str("  ")?;
             page.push_str(test.as_str())?;

@@ -1,5 +1,5 @@
 -- Rules, and which of them have held for a test.
-use Rattle.std.specs.Prelude.{◌≡◌, List, map, Bool, Option, option_map, find}
+use Rattle.std.specs.Prelude.{◌≡◌, ◌||◌, List, map, Bool, false, Option, option_map, find}
 use Rattle.nextest_settings.specs.Deciding.{QueryContext, rule_holds}
 use Rattle.nextest_settings.specs.Platforms.{EvaluatedRule}
 use Rattle.rinqebo_list.specs.Unused.{is_used}
@@ -13,6 +13,14 @@ pub record Marked (M W : Type 0) : Type 0 where
 pub record UseModel (M W : Type 0) : Type 0 where
   pub rules : List (Marked M W)
   pub default_filter : M
+
+-- a rule that has held for no test yet
+abbrev pub unmarked : {M W : Type 0} → EvaluatedRule M W → Marked M W
+unmarked rule = record { rule = rule; is_used = false }
+
+-- a rule after a test: it is used from now on where it holds for the test
+abbrev pub after_test : {M W : Type 0} → QueryContext M → Marked M W → Marked M W
+after_test test m = record { rule = m.rule; is_used = m.is_used || rule_holds test m.rule }
 
 -- the rules without their marks
 abbrev pub rules_in : {M W : Type 0} → UseModel M W → List (EvaluatedRule M W)

@@ -54,7 +54,10 @@ fn same_fields(one: &[Field], other: &[Field]) -> bool
     ensures { IsTrue result ↔ (map field_view one.now ≡ map field_view other.now) }
 {
     one.len() == other.len()
-        && one.iter().zip(other).all(|(one, other)| same_field(one, other))
+        && one
+            .iter()
+            .zip(other)
+            .all(|(one, other)| same_field(one, other))
 }
 
 /// Whether two lists of texts are the same.
@@ -62,7 +65,10 @@ fn same_texts(one: &[String], other: &[String]) -> bool
     ensures { IsTrue result ↔ (map string_bytes one.now ≡ map string_bytes other.now) }
 {
     one.len() == other.len()
-        && one.iter().zip(other).all(|(one, other)| one.as_str() == other.as_str())
+        && one
+            .iter()
+            .zip(other)
+            .all(|(one, other)| one.as_str() == other.as_str())
 }
 
 /// Whether two values are the same.

@@ -1,13 +1,12 @@
 //! Rules on the platforms of a build, and whether they hold for a test.
-ghost use Rattle.std.specs.Prelude.{◌≡◌, IfOk, map, option_map};
+ghost use Rattle.std.specs.Prelude.{◌≡◌};
 ghost use Rattle.nextest_settings.specs.Deciding.{filter_holds, rule_holds};
 ghost use Rattle.nextest_settings.specs.Engines.{meets_by, test_query_by};
 ghost use Rattle.nextest_settings.specs.Platforms.{by_platform, rule_on, spec_holds, specs_hold};
-ghost use Rattle.rinqebo_list.specs.RuleViews.{judged_view, judged_meaning, list_rule_view};
+ghost use Rattle.rinqebo_list.specs.RuleViews.{judged_view, list_rule_view};
 
 use nextest_engines::{BuildPlatform, BuildPlatforms, EvalContext, Filters, Specs, TestQuery};
 use nextest_rules::PlatformSpecs;
-use std::alloc::{AllocError, Global};
 
 /// A rule of a profile, and what it is told by.
 #[derive_where(Clone, Copy; T)]
@@ -75,7 +74,7 @@ impl<'c, F: Filters, T> JudgedRule<'c, F, T> {
         tally: &mut F::Tally,
     ) -> bool
         ensures { let query = test_query_by F.Filters cx.now.default_filter.now query.now in
-            result ≡ filter_holds query.matches (judged_meaning F.meaning self.now).filter }
+            result ≡ filter_holds query.matches (judged_view F.meaning self.now).filter }
     {
         match self.filter {
             None => true,
@@ -93,19 +92,19 @@ impl<'c, F: Filters, T> JudgedRule<'c, F, T> {
         tally: &mut F::Tally,
     ) -> bool
         ensures { let query = test_query_by F.Filters cx.now.default_filter.now query.now in
-            result ≡ rule_holds query (judged_meaning F.meaning self.now) }
+            result ≡ rule_holds query (judged_view F.meaning self.now) }
     {
         self.is_on(query.binary_query.platform) && self.matches(number, query, cx, tally)
     }
 }
 
 /// A rule on the platforms of a build.
-fn judged_rule<'c, F: Filters, S: Specs, T: Copy>(
+pub fn judged_rule<'c, F: Filters, S: Specs, T: Copy>(
     rule: &ListRule<'c, F, S, T>,
     platforms: &BuildPlatforms<S::Platform>,
 ) -> JudgedRule<'c, F, T>
-    ensures { judged_view result
-        ≡ rule_on (meets_by S.Specs) platforms.now (list_rule_view rule.now) }
+    ensures { judged_view F.meaning result
+        ≡ rule_on (meets_by S.Specs) platforms.now (list_rule_view F.meaning rule.now) }
 {
     JudgedRule {
         filter: rule.filter,
@@ -113,20 +112,4 @@ fn judged_rule<'c, F: Filters, S: Specs, T: Copy>(
         for_target: specs_hold(rule.platforms, platforms, BuildPlatform::Target),
         tag: rule.tag,
     }
-}
-
-/// Rules on the platforms of a build, in their order.
-pub fn judged_rules<'c, F: Filters, S: Specs, T: Copy>(
-    alloc: Global,
-    rules: &[ListRule<'c, F, S, T>],
-    platforms: &BuildPlatforms<S::Platform>,
-) -> Result<Vec<JudgedRule<'c, F, T>>, AllocError>
-    ensures { IfOk result (λ judged. map judged_view judged.items
-        ≡ map (rule_on (meets_by S.Specs) platforms.now) (map list_rule_view rules.now)) }
-{
-    let mut judged = Vec::with_capacity(alloc, rules.len())?;
-    for rule in rules {
-        judged.push(judged_rule(rule, platforms))?;
-    }
-    Ok(judged)
 }

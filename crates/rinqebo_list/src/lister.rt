@@ -51,13 +51,22 @@ impl<'l, 'c, F: Filters, S: Specs, T: Copy, O: OriginTeller<T>> Asking<'l, 'c, F
             IfOk result (IsTestTold (query_in F.holds profile (test_view query.now)) self.now.mode
             profile self.now.asked.now (test_view query.now)) }
     {
-        let settings = self.profile.settings_with_source_for(self.mode, query, tally);
+        let settings = self
+            .profile
+            .settings_with_source_for(self.mode, query, tally);
         let wrapper = self.wrappers.first(query, tally);
         Ok(TestRows {
             binary: String::from_str(alloc, query.binary_query.binary_id)?,
             name: String::from_str(alloc, query.test_name)?,
             platform: reported_platform(query.binary_query.platform),
-            settings: rows_of(alloc, &settings, self.asked, self.mode, wrapper, self.teller)?,
+            settings: rows_of(
+                alloc,
+                &settings,
+                self.asked,
+                self.mode,
+                wrapper,
+                self.teller,
+            )?,
         })
     }
 }

@@ -1,15 +1,15 @@
 //! Which rules hold for tests, one test after another.
-ghost use Rattle.std.specs.Prelude.{◌≡◌, ◌++◌, ◌∷◌, [], List, IfOk, map, option_map};
+ghost use Rattle.std.specs.Prelude.{◌≡◌, ◌++◌, ◌∷◌, [], List, IfOk, filter, map, not};
+ghost use Rattle.nextest_engines.specs.Engines.{test_view};
 ghost use Rattle.nextest_settings.specs.Deciding.{QueryContext};
-ghost use Rattle.nextest_settings.specs.Engines.{meets_by};
+ghost use Rattle.nextest_settings.specs.Engines.{meets_by, test_query_by};
 ghost use Rattle.nextest_settings.specs.Platforms.{rule_on};
 ghost use Rattle.nextest_settings.specs.Queries.{test_query};
-ghost use Rattle.nextest_engines.specs.Engines.{test_view};
-ghost use Rattle.rinqebo_list.specs.RuleViews.{list_rule_meaning};
+ghost use Rattle.rinqebo_list.specs.RuleViews.{list_rule_view, marked_view};
 ghost use Rattle.rinqebo_list.specs.Unused.{unused_among};
-ghost use Rattle.rinqebo_list.specs.Uses.{AreMarked, first_tag, rules_in};
+ghost use Rattle.rinqebo_list.specs.Uses.{AreMarked, after_test, first_tag, rules_in, unmarked};
 
-use crate::judged::{JudgedRule, ListRule, judged_rules};
+use crate::judged::{JudgedRule, ListRule, judged_rule};
 use nextest_engines::{BuildPlatforms, EvalContext, Filters, Specs, TestQuery};
 use std::alloc::{AllocError, Global};
 use std::marker::Model;
@@ -30,8 +30,8 @@ pub struct RuleUse<'c, F: Filters, T> {
 
 impl<'c, F: Filters, T> Model for RuleUse<'c, F, T> {
     ghost use Rattle.std.specs.Prelude.{map};
+    ghost use Rattle.rinqebo_list.specs.RuleViews.{marked_view};
     ghost use Rattle.rinqebo_list.specs.Uses.{UseModel};
-    ghost use Rattle.rinqebo_list.specs.MarkedView.{marked_view};
 
     ghost Value = { UseModel F.Meaning T };
 
@@ -42,16 +42,106 @@ impl<'c, F: Filters, T> Model for RuleUse<'c, F, T> {
 }
 
 /// A rule that has held for no test yet.
-fn unmarked<'c, F: Filters, T: Copy>(rule: &JudgedRule<'c, F, T>) -> MarkedRule<'c, F, T> {
+fn marked_rule<'c, F: Filters, S: Specs, T: Copy>(
+    rule: &ListRule<'c, F, S, T>,
+    platforms: &BuildPlatforms<S::Platform>,
+) -> MarkedRule<'c, F, T>
+    ensures { marked_view F.meaning result ≡ unmarked
+        (rule_on (meets_by S.Specs) platforms.now (list_rule_view F.meaning rule.now)) }
+{
     MarkedRule {
-        rule: *rule,
+        rule: judged_rule(rule, platforms),
         is_used: false,
     }
 }
 
+/// Rules that have held for no test yet.
+fn marked_rules<'c, F: Filters, S: Specs, T: Copy>(
+    alloc: Global,
+    rules: &[ListRule<'c, F, S, T>],
+    platforms: &BuildPlatforms<S::Platform>,
+) -> Result<Vec<MarkedRule<'c, F, T>>, AllocError>
+    ensures { IfOk result (λ marked. map (marked_view F.meaning) marked.items
+        ≡ map unmarked (map (rule_on (meets_by S.Specs) platforms.now)
+        (map (list_rule_view F.meaning) rules.now))) }
+{
+    let mut marked = Vec::with_capacity(alloc, rules.len())?;
+    for rule in rules {
+        marked.push(marked_rule(rule, platforms))?;
+    }
+    Ok(marked)
+}
+
+/// Marks a rule that holds for a test. One that is marked is not asked.
+fn see_rule<'c, F: Filters, T: Copy>(
+    marked: &mut MarkedRule<'c, F, T>,
+    number: usize,
+    query: &TestQuery<'_>,
+    cx: &EvalContext<'_, F::Expr>,
+    tally: &mut F::Tally,
+)
+    ensures { marked_view F.meaning marked.new
+        ≡ after_test (test_query_by F.Filters cx.now.default_filter.now query.now)
+        (marked_view F.meaning marked.old) }
+{
+    marked.is_used = marked.is_used || marked.rule.holds(number, query, cx, tally);
+}
+
+/// Marks the rules that hold for a test.
+fn see_rules<'c, F: Filters, T: Copy>(
+    rules: &mut [MarkedRule<'c, F, T>],
+    query: &TestQuery<'_>,
+    cx: &EvalContext<'_, F::Expr>,
+    tally: &mut F::Tally,
+)
+    ensures { map (marked_view F.meaning) rules.new
+        ≡ map (after_test (test_query_by F.Filters cx.now.default_filter.now query.now))
+        (map (marked_view F.meaning) rules.old) }
+{
+    for (number, marked) in rules.iter_mut().enumerate() {
+        see_rule(marked, number, query, cx, tally);
+    }
+}
+
+/// What the rules are told by that are not marked.
+fn unmarked_tags<'c, F: Filters, T: Copy>(
+    alloc: Global,
+    rules: &[MarkedRule<'c, F, T>],
+) -> Result<Vec<T>, AllocError>
+    ensures { IfOk result (λ tags. tags.items ≡ map (λ m. m.rule.writes)
+        (filter (λ m. not m.is_used) (map (marked_view F.meaning) rules.now))) }
+{
+    let mut tags = Vec::new(alloc);
+    for marked in rules {
+        if !marked.is_used {
+            tags.push(marked.rule.tag)?;
+        }
+    }
+    Ok(tags)
+}
+
+/// What the first rule is told by that holds for a test.
+fn first_of<'c, F: Filters, T: Copy>(
+    rules: &[MarkedRule<'c, F, T>],
+    query: &TestQuery<'_>,
+    cx: &EvalContext<'_, F::Expr>,
+    tally: &mut F::Tally,
+) -> Option<T>
+    ensures { result ≡ first_tag
+        (test_query_by F.Filters cx.now.default_filter.now query.now)
+        (map (λ m. m.rule) (map (marked_view F.meaning) rules.now)) }
+{
+    for (number, marked) in rules.iter().enumerate() {
+        if marked.rule.holds(number, query, cx, tally) {
+            return Some(marked.rule.tag);
+        }
+    }
+    None
+}
+
 impl<'c, F: Filters, T: Copy> RuleUse<'c, F, T> {
-    /// Rules on the platforms of a build, of which none has held for a test yet. `default()` stands
-    /// for the default filter in them.
+    /// Rules on the platforms of a build, of which none has held for a test yet. In their filters
+    /// `default()` stands for the default filter.
     pub fn new<S: Specs>(
         alloc: Global,
         rules: &[ListRule<'c, F, S, T>],
@@ -60,28 +150,15 @@ impl<'c, F: Filters, T: Copy> RuleUse<'c, F, T> {
     ) -> Result<RuleUse<'c, F, T>, AllocError>
         ensures rules { IfOk result (λ found. rules_in found
             ≡ map (rule_on (meets_by S.Specs) platforms.now)
-            (map (list_rule_meaning F.meaning) rules.now)) }
+            (map (list_rule_view F.meaning) rules.now)) }
         ensures unmarked { IfOk result (AreMarked []) }
         ensures default_filter { IfOk result (λ found.
-            found.default_filter ≡ F.meaning default_filter.entry.now) }
+            found.default_filter ≡ F.meaning default_filter.now) }
     {
-        let mut marked = Vec::with_capacity(alloc, rules.len())?;
-        for rule in &judged_rules(alloc, rules, platforms)? {
-            marked.push(unmarked(rule))?;
-        }
         Ok(RuleUse {
-            rules: marked,
+            rules: marked_rules(alloc, rules, platforms)?,
             default_filter,
         })
-    }
-
-    /// What filters are evaluated with.
-    fn context(&self) -> EvalContext<'c, F::Expr>
-        ensures { F.meaning result.default_filter.now ≡ self.now.default_filter }
-    {
-        EvalContext {
-            default_filter: self.default_filter,
-        }
     }
 
     /// Sees a test: each rule is used from now on that holds for it. Only those are asked that have
@@ -90,15 +167,14 @@ impl<'c, F: Filters, T: Copy> RuleUse<'c, F, T> {
         ensures rules { rules_in self.new ≡ rules_in self.old }
         ensures default_filter { self.new.default_filter ≡ self.old.default_filter }
         ensures marks { (seen : List (QueryContext F.Meaning)) → AreMarked seen self.old
-            → AreMarked (seen ++ test_query F.holds self.old.default_filter (test_view query.now) ∷ [])
+            → AreMarked
+            (seen ++ test_query F.holds self.old.default_filter (test_view query.now) ∷ [])
             self.new }
     {
-        let cx = self.context();
-        for (number, marked) in self.rules.iter_mut().enumerate() {
-            if !marked.is_used {
-                marked.is_used = marked.rule.holds(number, query, &cx, tally);
-            }
-        }
+        let cx = EvalContext {
+            default_filter: self.default_filter,
+        };
+        see_rules(&mut self.rules, query, &cx, tally);
     }
 
     /// The rules that have held for no test, in their order: what they are told by.
@@ -107,13 +183,7 @@ impl<'c, F: Filters, T: Copy> RuleUse<'c, F, T> {
             → IfOk result (λ unused. unused.items
             ≡ map (λ rule. rule.writes) (unused_among seen (rules_in self.now))) }
     {
-        let mut unused = Vec::new(alloc);
-        for marked in &self.rules {
-            if !marked.is_used {
-                unused.push(marked.rule.tag)?;
-            }
-        }
-        Ok(unused)
+        unmarked_tags(alloc, &self.rules)
     }
 
     /// What the first rule is told by that holds for a test.
@@ -121,12 +191,9 @@ impl<'c, F: Filters, T: Copy> RuleUse<'c, F, T> {
         ensures { result ≡ first_tag
             (test_query F.holds self.now.default_filter (test_view query.now)) (rules_in self.now) }
     {
-        let cx = self.context();
-        for (number, marked) in self.rules.iter().enumerate() {
-            if marked.rule.holds(number, query, &cx, tally) {
-                return Some(marked.rule.tag);
-            }
-        }
-        None
+        let cx = EvalContext {
+            default_filter: self.default_filter,
+        };
+        first_of(&self.rules, query, &cx, tally)
     }
 }

@@ -73,11 +73,7 @@ fn triples_in<'v>(alloc: Global, platforms: &'v Value) -> Result<Triples<'v>, Li
         Place::Platforms("host.platform.triple"),
         triple_in(platforms.get("host")),
     )?;
-    let targets = list_at(
-        alloc,
-        Place::Platforms("targets"),
-        platforms.get("targets"),
-    )?;
+    let targets = list_at(alloc, Place::Platforms("targets"), platforms.get("targets"))?;
     Ok(Triples {
         host: Some(host),
         target: target_in(alloc, targets)?,

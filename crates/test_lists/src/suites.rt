@@ -80,11 +80,7 @@ fn platform_in(alloc: Global, id: &str, suite: &Value) -> Result<BuildPlatform, 
     let name = member_text(alloc, id, suite, "build-platform")?;
     match platform_of(name) {
         Some(platform) => Ok(platform),
-        None => Err(unknown_platform(
-            alloc,
-            Place::Member(id, "build-platform"),
-            name,
-        )?),
+        None => Err(unknown_platform(alloc, Place::Member(id, "build-platform"), name)?),
     }
 }
 
@@ -102,7 +98,11 @@ fn suite_of<'v>(alloc: Global, id: &str, suite: &'v Value) -> Result<Suite<'v>, 
         binary_name: member_text(alloc, id, suite, "binary-name")?,
         kind: member_text(alloc, id, suite, "kind")?,
         platform: platform_in(alloc, id, suite)?,
-        cases: object_at(alloc, Place::Member(id, "testcases"), suite.get("testcases"))?,
+        cases: object_at(
+            alloc,
+            Place::Member(id, "testcases"),
+            suite.get("testcases"),
+        )?,
     })
 }
 
@@ -134,10 +134,7 @@ fn binary_of(alloc: Global, suite: &Suite<'_>) -> Result<ListedBinary, AllocErro
 }
 
 /// The binaries of suites.
-fn binaries_in(
-    alloc: Global,
-    suites: &Map<String, Value>,
-) -> Result<Vec<ListedBinary>, ListFault>
+fn binaries_in(alloc: Global, suites: &Map<String, Value>) -> Result<Vec<ListedBinary>, ListFault>
     ensures ok { IfOk result (λ binaries. AllZip IsSuiteOf
         (values (members_view suites.now.entries)) (map listed_view binaries.items)) }
     ensures met { IfOk result (λ _.
