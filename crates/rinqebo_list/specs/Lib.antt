@@ -1,4 +1,5 @@
 pub mod RuleViews
+pub mod Selections
 pub mod Unused
 pub mod Uses
 pub mod Settings

@@ -7,6 +7,7 @@
 
 mod groups;
 mod judged;
+mod laws;
 mod lister;
 mod origins;
 mod rows;
@@ -15,6 +16,7 @@ mod values;
 
 pub use groups::{GroupedTest, ValueGroup, ValueGroups};
 pub use judged::ListRule;
+pub use laws::law_unused;
 pub use lister::Asking;
 pub use origins::{Decider, OriginTeller};
 pub use rows::AskedSettings;

@@ -104,8 +104,9 @@ if_given d = Some d
 
 -- the platforms of the build, where a list has them
 abbrev pub platforms_in : Data → Option Data
-platforms_in document = option_and_then (λ meta.
-    option_and_then if_given (get (codes "platforms") meta)) (get (codes "rust-build-meta") document)
+platforms_in document =
+    option_and_then (λ meta. option_and_then if_given (get (codes "platforms") meta))
+    (get (codes "rust-build-meta") document)
 
 -- the triple of a platform
 abbrev pub triple_in : Option Data → Option Data
