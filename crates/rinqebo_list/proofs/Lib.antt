@@ -1,3 +1,3 @@
 pub mod Marks
-pub mod Rows
+pub mod RowsMore
 pub mod Selecting

@@ -4,7 +4,7 @@ use Rattle.std.specs.List.{list_any}
 use Rattle.nextest_settings.specs.Deciding.{QueryContext, rule_holds}
 use Rattle.nextest_settings.specs.Platforms.{EvaluatedRule}
 use Rattle.rinqebo_list.specs.Unused.{is_used, unused_among}
-use Rattle.rinqebo_list.specs.Uses.{Marked, after_test, unmarked}
+use Rattle.rinqebo_list.specs.Uses.{Marked, AreMarked, after_test, meant, meant_rules, rules_in, unmarked}
 
 or_assoc : (a b c : Bool) → ((a || b) || c) ≡ (a || (b || c))
 or_assoc true b c = refl
@@ -28,57 +28,57 @@ module _ {M W : Type 0} where
       ap (λ b. rule_holds first rule || b) (used_more seen test rule)
       ∙ sym (or_assoc (rule_holds first rule) (is_used seen rule) (rule_holds test rule))
 
+pub same_unmarked : {E W : Type 0} (rules : List (EvaluatedRule E W)) → rules_in (map unmarked rules) ≡ rules
+same_unmarked [] = refl
+same_unmarked (rule ∷ rules) = ap (λ rest. rule ∷ rest) (same_unmarked rules)
+
+kept : {E W : Type 0} → List Bool → List (Marked E W) → List W
+kept [] ms = []
+kept (mark ∷ marks) [] = []
+kept (mark ∷ marks) (m ∷ ms) = cond mark (kept marks ms) (m.rule.writes ∷ kept marks ms)
+
+marks_after : {E M W : Type 0} → (E → M) → QueryContext M → List (Marked E W) → List Bool → List Bool
+marks_after f test [] marks = []
+marks_after f test (m ∷ ms) [] = []
+marks_after f test (m ∷ ms) (mark ∷ marks) =
+    (mark || rule_holds test (meant f m.rule)) ∷ marks_after f test ms marks
+
+module _ {E M W : Type 0} (f : E → M) where
   -- rules keep what they say
-  pub same_rules : (test : QueryContext M) (ms : List (Marked M W))
-      → map (λ m. m.rule) (map (after_test test) ms) ≡ map (λ m. m.rule) ms
+  pub same_rules : (test : QueryContext M) (ms : List (Marked E W))
+      → rules_in (map (after_test f test) ms) ≡ rules_in ms
   same_rules test [] = refl
   same_rules test (m ∷ ms) = ap (λ rest. m.rule ∷ rest) (same_rules test ms)
 
-  pub same_unmarked : (rules : List (EvaluatedRule M W)) → map (λ m. m.rule) (map unmarked rules) ≡ rules
-  same_unmarked [] = refl
-  same_unmarked (rule ∷ rules) = ap (λ rest. rule ∷ rest) (same_unmarked rules)
-
   -- before any test no rule is used
-  pub none_marked : (rules : List (EvaluatedRule M W))
-      → map (λ m. m.is_used) (map unmarked rules) ≡ map (λ m. is_used [] m.rule) (map unmarked rules)
+  pub none_marked : (rules : List (EvaluatedRule E W)) → AreMarked f [] (map unmarked rules)
   none_marked [] = refl
   none_marked (rule ∷ rules) = ap (λ rest. false ∷ rest) (none_marked rules)
 
-  marks_after : (test : QueryContext M) (ms : List (Marked M W)) → List Bool → List Bool
-  marks_after test [] marks = []
-  marks_after test (m ∷ ms) [] = []
-  marks_after test (m ∷ ms) (mark ∷ marks) = (mark || rule_holds test m.rule) ∷ marks_after test ms marks
-
-  after_own : (test : QueryContext M) (ms : List (Marked M W))
-      → map (λ m. m.is_used) (map (after_test test) ms) ≡ marks_after test ms (map (λ m. m.is_used) ms)
+  after_own : (test : QueryContext M) (ms : List (Marked E W))
+      → map (λ m. m.is_used) (map (after_test f test) ms) ≡ marks_after f test ms (map (λ m. m.is_used) ms)
   unfolding marks_after
   after_own test [] = refl
-  after_own test (m ∷ ms) = ap (λ rest. (m.is_used || rule_holds test m.rule) ∷ rest) (after_own test ms)
+  after_own test (m ∷ ms) =
+      ap (λ rest. (m.is_used || rule_holds test (meant f m.rule)) ∷ rest) (after_own test ms)
 
-  after_used : (seen : List (QueryContext M)) (test : QueryContext M) (ms : List (Marked M W))
-      → marks_after test ms (map (λ m. is_used seen m.rule) ms)
-      ≡ map (λ m. is_used (seen ++ test ∷ []) m.rule) (map (after_test test) ms)
+  after_used : (seen : List (QueryContext M)) (test : QueryContext M) (ms : List (Marked E W))
+      → marks_after f test ms (map (λ m. is_used seen (meant f m.rule)) ms)
+      ≡ map (λ m. is_used (seen ++ test ∷ []) (meant f m.rule)) (map (after_test f test) ms)
   unfolding marks_after
   after_used seen test [] = refl
   after_used seen test (m ∷ ms) =
-      ap (λ rest. (is_used seen m.rule || rule_holds test m.rule) ∷ rest) (after_used seen test ms)
-      ∙ ap (λ b. b ∷ map (λ m. is_used (seen ++ test ∷ []) m.rule) (map (after_test test) ms))
-      (sym (used_more seen test m.rule))
+      ap (λ rest. (is_used seen (meant f m.rule) || rule_holds test (meant f m.rule)) ∷ rest) (after_used seen test ms)
+      ∙ ap (λ b. b ∷ map (λ m. is_used (seen ++ test ∷ []) (meant f m.rule)) (map (after_test f test) ms))
+      (sym (used_more seen test (meant f m.rule)))
 
   -- after one more test each rule is marked that holds for it
-  pub marked_more : (seen : List (QueryContext M)) (test : QueryContext M) (ms : List (Marked M W))
-      → map (λ m. m.is_used) ms ≡ map (λ m. is_used seen m.rule) ms
-      → map (λ m. m.is_used) (map (after_test test) ms)
-      ≡ map (λ m. is_used (seen ++ test ∷ []) m.rule) (map (after_test test) ms)
+  pub marked_more : (seen : List (QueryContext M)) (test : QueryContext M) (ms : List (Marked E W))
+      → AreMarked f seen ms → AreMarked f (seen ++ test ∷ []) (map (after_test f test) ms)
   marked_more seen test ms marked =
-      after_own test ms ∙ ap (marks_after test ms) marked ∙ after_used seen test ms
+      after_own test ms ∙ ap (marks_after f test ms) marked ∙ after_used seen test ms
 
-  kept : (marks : List Bool) (ms : List (Marked M W)) → List W
-  kept [] ms = []
-  kept (mark ∷ marks) [] = []
-  kept (mark ∷ marks) (m ∷ ms) = cond mark (kept marks ms) (m.rule.writes ∷ kept marks ms)
-
-  kept_own : (ms : List (Marked M W)) → map (λ m. m.rule.writes) (filter (λ m. not m.is_used) ms)
+  kept_own : (ms : List (Marked E W)) → map (λ m. m.rule.writes) (filter (λ m. not m.is_used) ms)
       ≡ kept (map (λ m. m.is_used) ms) ms
   unfolding kept
   kept_own [] = refl
@@ -86,17 +86,18 @@ module _ {M W : Type 0} where
       keep_or (λ m. m.rule.writes) m.is_used m (filter (λ m. not m.is_used) ms) (kept (map (λ m. m.is_used) ms) ms)
       (kept_own ms)
 
-  kept_used : (seen : List (QueryContext M)) (ms : List (Marked M W)) → kept (map (λ m. is_used seen m.rule) ms) ms
-      ≡ map (λ rule. rule.writes) (unused_among seen (map (λ m. m.rule) ms))
+  kept_used : (seen : List (QueryContext M)) (ms : List (Marked E W))
+      → kept (map (λ m. is_used seen (meant f m.rule)) ms) ms
+      ≡ map (λ rule. rule.writes) (unused_among seen (meant_rules f ms))
   unfolding kept
   kept_used seen [] = refl
   kept_used seen (m ∷ ms) =
-      sym (keep_or (λ rule. rule.writes) (is_used seen m.rule) m.rule (unused_among seen (map (λ m. m.rule) ms))
-      (kept (map (λ m. is_used seen m.rule) ms) ms) (sym (kept_used seen ms)))
+      sym (keep_or (λ rule. rule.writes) (is_used seen (meant f m.rule)) (meant f m.rule)
+      (unused_among seen (meant_rules f ms)) (kept (map (λ m. is_used seen (meant f m.rule)) ms) ms)
+      (sym (kept_used seen ms)))
 
   -- the rules that are not marked are those that hold for no test
-  pub unmarked_are_unused : (seen : List (QueryContext M)) (ms : List (Marked M W))
-      → map (λ m. m.is_used) ms ≡ map (λ m. is_used seen m.rule) ms
+  pub unmarked_are_unused : (seen : List (QueryContext M)) (ms : List (Marked E W)) → AreMarked f seen ms
       → map (λ m. m.rule.writes) (filter (λ m. not m.is_used) ms)
-      ≡ map (λ rule. rule.writes) (unused_among seen (map (λ m. m.rule) ms))
+      ≡ map (λ rule. rule.writes) (unused_among seen (meant_rules f ms))
   unmarked_are_unused seen ms marked = kept_own ms ∙ ap (λ marks. kept marks ms) marked ∙ kept_used seen ms

@@ -4,6 +4,7 @@ ghost use Rattle.nextest_settings.specs.Deciding.{filter_holds, rule_holds};
 ghost use Rattle.nextest_settings.specs.Engines.{meets_by, test_query_by};
 ghost use Rattle.nextest_settings.specs.Platforms.{by_platform, rule_on, spec_holds, specs_hold};
 ghost use Rattle.rinqebo_list.specs.RuleViews.{judged_view, list_rule_view};
+ghost use Rattle.rinqebo_list.specs.Uses.{meant};
 
 use nextest_engines::{BuildPlatform, BuildPlatforms, EvalContext, Filters, Specs, TestQuery};
 use nextest_rules::PlatformSpecs;
@@ -74,7 +75,7 @@ impl<'c, F: Filters, T> JudgedRule<'c, F, T> {
         tally: &mut F::Tally,
     ) -> bool
         ensures { let query = test_query_by F.Filters cx.now.default_filter.now query.now in
-            result ≡ filter_holds query.matches (judged_view F.meaning self.now).filter }
+            result ≡ filter_holds query.matches (meant F.meaning (judged_view self.now)).filter }
     {
         match self.filter {
             None => true,
@@ -92,7 +93,7 @@ impl<'c, F: Filters, T> JudgedRule<'c, F, T> {
         tally: &mut F::Tally,
     ) -> bool
         ensures { let query = test_query_by F.Filters cx.now.default_filter.now query.now in
-            result ≡ rule_holds query (judged_view F.meaning self.now) }
+            result ≡ rule_holds query (meant F.meaning (judged_view self.now)) }
     {
         self.is_on(query.binary_query.platform) && self.matches(number, query, cx, tally)
     }
@@ -103,8 +104,8 @@ pub fn judged_rule<'c, F: Filters, S: Specs, T: Copy>(
     rule: &ListRule<'c, F, S, T>,
     platforms: &BuildPlatforms<S::Platform>,
 ) -> JudgedRule<'c, F, T>
-    ensures { judged_view F.meaning result
-        ≡ rule_on (meets_by S.Specs) platforms.now (list_rule_view F.meaning rule.now) }
+    ensures { judged_view result
+        ≡ rule_on (meets_by S.Specs) platforms.now (list_rule_view rule.now) }
 {
     JudgedRule {
         filter: rule.filter,

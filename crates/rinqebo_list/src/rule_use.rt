@@ -1,13 +1,11 @@
 //! Which rules hold for tests, one test after another.
 ghost use Rattle.std.specs.Prelude.{◌≡◌, ◌++◌, ◌∷◌, [], List, IfOk, filter, map, not};
-ghost use Rattle.nextest_engines.specs.Engines.{test_view};
 ghost use Rattle.nextest_settings.specs.Deciding.{QueryContext};
 ghost use Rattle.nextest_settings.specs.Engines.{meets_by, test_query_by};
 ghost use Rattle.nextest_settings.specs.Platforms.{rule_on};
-ghost use Rattle.nextest_settings.specs.Queries.{test_query};
 ghost use Rattle.rinqebo_list.specs.RuleViews.{list_rule_view, marked_view};
 ghost use Rattle.rinqebo_list.specs.Unused.{unused_among};
-ghost use Rattle.rinqebo_list.specs.Uses.{AreMarked, after_test, first_tag, rules_in, unmarked};
+ghost use Rattle.rinqebo_list.specs.Uses.{AreMarked, after_test, first_tag, meant_rules, rules_in, unmarked};
 
 use crate::judged::{JudgedRule, ListRule, judged_rule};
 use nextest_engines::{BuildPlatforms, EvalContext, Filters, Specs, TestQuery};
@@ -33,11 +31,11 @@ impl<'c, F: Filters, T> Model for RuleUse<'c, F, T> {
     ghost use Rattle.rinqebo_list.specs.RuleViews.{marked_view};
     ghost use Rattle.rinqebo_list.specs.Uses.{UseModel};
 
-    ghost Value = { UseModel F.Meaning T };
+    ghost Value = { UseModel F.Expr T };
 
     ghost view = { λ u. record {
-      rules = map (marked_view F.meaning) u.rules.items;
-      default_filter = F.meaning u.default_filter.now;
+      rules = map marked_view u.rules.items;
+      default_filter = u.default_filter.now;
     } };
 }
 
@@ -46,8 +44,8 @@ fn marked_rule<'c, F: Filters, S: Specs, T: Copy>(
     rule: &ListRule<'c, F, S, T>,
     platforms: &BuildPlatforms<S::Platform>,
 ) -> MarkedRule<'c, F, T>
-    ensures { marked_view F.meaning result ≡ unmarked
-        (rule_on (meets_by S.Specs) platforms.now (list_rule_view F.meaning rule.now)) }
+    ensures { marked_view result ≡ unmarked
+        (rule_on (meets_by S.Specs) platforms.now (list_rule_view rule.now)) }
 {
     MarkedRule {
         rule: judged_rule(rule, platforms),
@@ -61,9 +59,8 @@ fn marked_rules<'c, F: Filters, S: Specs, T: Copy>(
     rules: &[ListRule<'c, F, S, T>],
     platforms: &BuildPlatforms<S::Platform>,
 ) -> Result<Vec<MarkedRule<'c, F, T>>, AllocError>
-    ensures { IfOk result (λ marked. map (marked_view F.meaning) marked.items
-        ≡ map unmarked (map (rule_on (meets_by S.Specs) platforms.now)
-        (map (list_rule_view F.meaning) rules.now))) }
+    ensures { IfOk result (λ marked. map marked_view marked.items ≡ map unmarked
+        (map (rule_on (meets_by S.Specs) platforms.now) (map list_rule_view rules.now))) }
 {
     let mut marked = Vec::with_capacity(alloc, rules.len())?;
     for rule in rules {
@@ -80,9 +77,8 @@ fn see_rule<'c, F: Filters, T: Copy>(
     cx: &EvalContext<'_, F::Expr>,
     tally: &mut F::Tally,
 )
-    ensures { marked_view F.meaning marked.new
-        ≡ after_test (test_query_by F.Filters cx.now.default_filter.now query.now)
-        (marked_view F.meaning marked.old) }
+    ensures { marked_view marked.new ≡ after_test F.meaning
+        (test_query_by F.Filters cx.now.default_filter.now query.now) (marked_view marked.old) }
 {
     marked.is_used = marked.is_used || marked.rule.holds(number, query, cx, tally);
 }
@@ -94,9 +90,8 @@ fn see_rules<'c, F: Filters, T: Copy>(
     cx: &EvalContext<'_, F::Expr>,
     tally: &mut F::Tally,
 )
-    ensures { map (marked_view F.meaning) rules.new
-        ≡ map (after_test (test_query_by F.Filters cx.now.default_filter.now query.now))
-        (map (marked_view F.meaning) rules.old) }
+    ensures { map marked_view rules.new ≡ map (after_test F.meaning
+        (test_query_by F.Filters cx.now.default_filter.now query.now)) (map marked_view rules.old) }
 {
     for (number, marked) in rules.iter_mut().enumerate() {
         see_rule(marked, number, query, cx, tally);
@@ -109,7 +104,7 @@ fn unmarked_tags<'c, F: Filters, T: Copy>(
     rules: &[MarkedRule<'c, F, T>],
 ) -> Result<Vec<T>, AllocError>
     ensures { IfOk result (λ tags. tags.items ≡ map (λ m. m.rule.writes)
-        (filter (λ m. not m.is_used) (map (marked_view F.meaning) rules.now))) }
+        (filter (λ m. not m.is_used) (map marked_view rules.now))) }
 {
     let mut tags = Vec::new(alloc);
     for marked in rules {
@@ -129,7 +124,7 @@ fn first_of<'c, F: Filters, T: Copy>(
 ) -> Option<T>
     ensures { result ≡ first_tag
         (test_query_by F.Filters cx.now.default_filter.now query.now)
-        (map (λ m. m.rule) (map (marked_view F.meaning) rules.now)) }
+        (meant_rules F.meaning (map marked_view rules.now)) }
 {
     for (number, marked) in rules.iter().enumerate() {
         if marked.rule.holds(number, query, cx, tally) {
@@ -148,12 +143,11 @@ impl<'c, F: Filters, T: Copy> RuleUse<'c, F, T> {
         platforms: &BuildPlatforms<S::Platform>,
         default_filter: &'c F::Expr,
     ) -> Result<RuleUse<'c, F, T>, AllocError>
-        ensures rules { IfOk result (λ found. rules_in found
-            ≡ map (rule_on (meets_by S.Specs) platforms.now)
-            (map (list_rule_view F.meaning) rules.now)) }
-        ensures unmarked { IfOk result (AreMarked []) }
+        ensures rules { IfOk result (λ found. rules_in found.rules
+            ≡ map (rule_on (meets_by S.Specs) platforms.now) (map list_rule_view rules.now)) }
+        ensures unmarked { IfOk result (λ found. AreMarked F.meaning [] found.rules) }
         ensures default_filter { IfOk result (λ found.
-            found.default_filter ≡ F.meaning default_filter.now) }
+            found.default_filter ≡ default_filter.now) }
     {
         Ok(RuleUse {
             rules: marked_rules(alloc, rules, platforms)?,
@@ -164,12 +158,11 @@ impl<'c, F: Filters, T: Copy> RuleUse<'c, F, T> {
     /// Sees a test: each rule is used from now on that holds for it. Only those are asked that have
     /// held for none before it; their numbers go into the tally.
     pub fn see(&mut self, query: &TestQuery<'_>, tally: &mut F::Tally)
-        ensures rules { rules_in self.new ≡ rules_in self.old }
+        ensures rules { rules_in self.new.rules ≡ rules_in self.old.rules }
         ensures default_filter { self.new.default_filter ≡ self.old.default_filter }
-        ensures marks { (seen : List (QueryContext F.Meaning)) → AreMarked seen self.old
-            → AreMarked
-            (seen ++ test_query F.holds self.old.default_filter (test_view query.now) ∷ [])
-            self.new }
+        ensures marks { let test = test_query_by F.Filters self.old.default_filter query.now in
+            (seen : List (QueryContext F.Meaning)) → AreMarked F.meaning seen self.old.rules
+            → AreMarked F.meaning (seen ++ test ∷ []) self.new.rules }
     {
         let cx = EvalContext {
             default_filter: self.default_filter,
@@ -179,9 +172,10 @@ impl<'c, F: Filters, T: Copy> RuleUse<'c, F, T> {
 
     /// The rules that have held for no test, in their order: what they are told by.
     pub fn unused(&self, alloc: Global) -> Result<Vec<T>, AllocError>
-        ensures { (seen : List (QueryContext F.Meaning)) → AreMarked seen self.now
+        ensures { let rules = meant_rules F.meaning self.now.rules in
+            (seen : List (QueryContext F.Meaning)) → AreMarked F.meaning seen self.now.rules
             → IfOk result (λ unused. unused.items
-            ≡ map (λ rule. rule.writes) (unused_among seen (rules_in self.now))) }
+            ≡ map (λ rule. rule.writes) (unused_among seen rules)) }
     {
         unmarked_tags(alloc, &self.rules)
     }
@@ -189,7 +183,8 @@ impl<'c, F: Filters, T: Copy> RuleUse<'c, F, T> {
     /// What the first rule is told by that holds for a test.
     pub fn first(&self, query: &TestQuery<'_>, tally: &mut F::Tally) -> Option<T>
         ensures { result ≡ first_tag
-            (test_query F.holds self.now.default_filter (test_view query.now)) (rules_in self.now) }
+            (test_query_by F.Filters self.now.default_filter query.now)
+            (meant_rules F.meaning self.now.rules) }
     {
         let cx = EvalContext {
             default_filter: self.default_filter,

@@ -3,7 +3,7 @@ use Rattle.std.proofs.lemmas.List.{take_all}
 use Rattle.std.specs.List.{AllZip}
 use Rattle.nextest_settings.specs.SettingsView.{value_at}
 use Rattle.rinqebo_list.specs.Settings.{IsSettingTold}
-use Rattle.rinqebo_list.proofs.Rows.{zip_more}
+use Rattle.rinqebo_list.proofs.RowsMore.{zip_more}
 use Rattle.rinqebo_list.proofs.rows.these_rows.Goals as goal
 
 pub loop-setting-preserved : goal.loop-setting-preserved

@@ -7,6 +7,6 @@ use Rattle.rinqebo_list.proofs.rule_use.marked_rules.Given as goal
 
 abbrev pub invariant-loop-rule : goal.invariant-loop-rule
 invariant-loop-rule g l =
-    map (marked_view g.F.Filters.meaning) l.marked.items
+    map marked_view l.marked.items
     ≡ map unmarked (map (rule_on (meets_by g.S.Specs) l.platforms)
-    (map (list_rule_view g.F.Filters.meaning) (take l.rule-index l.rules)))
+    (map list_rule_view (take l.rule-index l.rules)))

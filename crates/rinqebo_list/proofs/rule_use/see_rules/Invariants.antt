@@ -6,7 +6,7 @@ use Rattle.rinqebo_list.proofs.rule_use.see_rules.Given as goal
 
 abbrev pub invariant-loop-number : goal.invariant-loop-number
 invariant-loop-number g l =
-    map (marked_view g.F.Filters.meaning) l.rules
-    ≡ map (after_test (test_query_by g.F.Filters l.cx.default_filter.now l.query))
-    (map (marked_view g.F.Filters.meaning) (take l.number l.initial.rules))
-    ++ map (marked_view g.F.Filters.meaning) (drop l.number l.initial.rules)
+    map marked_view l.rules
+    ≡ map (after_test g.F.Filters.meaning (test_query_by g.F.Filters l.cx.default_filter.now l.query))
+    (map marked_view (take l.number l.initial.rules))
+    ++ map marked_view (drop l.number l.initial.rules)
