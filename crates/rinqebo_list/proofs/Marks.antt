@@ -1,10 +1,57 @@
 -- Rules and their marks, as tests are seen.
-use Rattle.std.proofs.Common.{◌≡◌, List, [], ◌∷◌, ◌++◌, Bool, true, false, ◌||◌, not, cond, map, filter, refl, sym, ap, ◌∙◌}
+use Rattle.std.proofs.Common.{◌≡◌, ◌<◌, ◌≤◌, ◌+◌, ℕ, zero, suc, List, [], ◌∷◌, ◌++◌, Bool, true, false, ◌||◌, not, cond, map, filter, length, take, drop, set, get_or, refl, sym, ap, ◌∙◌, append-nil, add-one, arith}
+use Rattle.std.proofs.Math.ListN.{drop_of_length-le}
+use Rattle.std.proofs.lemmas.List.{get_or-map, length-map, map-set, take_all}
 use Rattle.std.specs.List.{list_any}
 use Rattle.nextest_settings.specs.Deciding.{QueryContext, rule_holds}
 use Rattle.nextest_settings.specs.Platforms.{EvaluatedRule}
 use Rattle.rinqebo_list.specs.Unused.{is_used, unused_among}
 use Rattle.rinqebo_list.specs.Uses.{Marked, AreMarked, after_test, meant, meant_rules, rules_in, unmarked}
+
+-- a slice that was lent whole and kept its length is what comes back
+pub lent_whole : {X : Type 0} (n : ℕ) (new old : List X) → length new ≡ n → length old ≡ n
+    → take n (new ++ drop (length new) old) ≡ new
+lent_whole n new old long same =
+    let past : length old ≤ length new = omega (arith, long, same) in
+    ap (λ more. take n (new ++ more)) (drop_of_length-le old past)
+    ∙ ap (take n) (append-nil new)
+    ∙ take_all n new (omega (arith, long))
+
+-- what is made of each element has as many
+pub same_length : {X Y : Type 0} (view : X → Y) (step : Y → Y) (new old : List X)
+    → map view new ≡ map step (map view old) → length new ≡ length old
+same_length view step new old is =
+    sym (length-map new view) ∙ ap length is ∙ length-map (map view old) step ∙ length-map old view
+
+stepped_get : {X Y : Type 0} (view : X → Y) (step : Y → Y) (old : List X) (n : ℕ) (d : X) (v : Y) → n < length old
+    → get_or (map step (map view (take n old)) ++ map view (drop n old)) n v ≡ view (get_or old n d)
+stepped_get view step [] n d v below = absurd (omega arith)
+stepped_get view step (x ∷ old) zero d v below = refl
+stepped_get view step (x ∷ old) (suc n) d v below = stepped_get view step old n d v (omega arith)
+
+stepped_set : {X Y : Type 0} (view : X → Y) (step : Y → Y) (old : List X) (n : ℕ) (d : X) → n < length old
+    → set (map step (map view (take n old)) ++ map view (drop n old)) n (step (view (get_or old n d)))
+    ≡ map step (map view (take (suc n) old)) ++ map view (drop (suc n) old)
+stepped_set view step [] n d below = absurd (omega arith)
+stepped_set view step (x ∷ old) zero d below = refl
+stepped_set view step (x ∷ old) (suc n) d below =
+    ap (λ more. step (view x) ∷ more) (stepped_set view step old n d (omega arith))
+
+-- one element after another is changed
+pub one_stepped : {X Y : Type 0} (view : X → Y) (step : Y → Y) (old now : List X) (n : ℕ) (x y : X)
+    → n < length now → length now ≡ length old → x ≡ get_or now n x
+    → map view now ≡ map step (map view (take n old)) ++ map view (drop n old) → view y ≡ step (view x)
+    → map view (set now n y) ≡ map step (map view (take (n + 1) old)) ++ map view (drop (n + 1) old)
+one_stepped view step old now n x y below same at so_far is =
+    let within : n < length old = omega (arith, same, below) in
+    let here : view x ≡ view (get_or old n x) =
+    ap view at ∙ sym (get_or-map view now n x (view x) below) ∙ ap (λ vs. get_or vs n (view x)) so_far
+    ∙ stepped_get view step old n x (view x) within in
+    map-set view now n y
+    ∙ ap (λ vs. set vs n (view y)) so_far
+    ∙ ap (set (map step (map view (take n old)) ++ map view (drop n old)) n) (is ∙ ap step here)
+    ∙ stepped_set view step old n x within
+    ∙ ap (λ m. map step (map view (take m old)) ++ map view (drop m old)) (sym (add-one n))
 
 or_assoc : (a b c : Bool) → ((a || b) || c) ≡ (a || (b || c))
 or_assoc true b c = refl

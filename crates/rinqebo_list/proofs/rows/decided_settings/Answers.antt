@@ -1,0 +1,18 @@
+use Rattle.std.proofs.Common.{◌≡◌, filter, refl, subst, sym, ◌∙◌}
+use Rattle.std.proofs.lemmas.List.{take_all}
+use Rattle.nextest_settings.specs.Settings.{settings}
+use Rattle.nextest_settings.specs.SettingsView.{origin_at}
+use Rattle.rinqebo_list.specs.Settings.{is_by_rule}
+use Rattle.rinqebo_list.proofs.RowsMore.{filter_more, filter_same}
+use Rattle.rinqebo_list.proofs.rows.decided_settings.Goals as goal
+use Rattle.rinqebo_list.proofs.rows.decided_settings.Goals.{then-is_by_rule+in_ok-push, else-is_by_rule}
+
+pub loop-setting-preserved : goal.loop-setting-preserved
+unfolding settings
+loop-setting-preserved g c = ?
+
+pub returns : goal.returns
+unfolding settings
+returns g c =
+    subst (λ ss. c.loop-setting.decided.items ≡ filter (λ s. is_by_rule (origin_at c.args.settings.now s)) ss)
+    (take_all c.loop-setting.setting-index settings c.loop-setting-test.false) c.loop-setting.invariant
