@@ -38,19 +38,19 @@ stepped_set view step (x ∷ old) (suc n) d below =
     ap (λ more. step (view x) ∷ more) (stepped_set view step old n d (omega arith))
 
 -- one element after another is changed
-pub one_stepped : {X Y : Type 0} (view : X → Y) (step : Y → Y) (old now : List X) (n : ℕ) (x y : X)
-    → n < length now → length now ≡ length old → x ≡ get_or now n x
-    → map view now ≡ map step (map view (take n old)) ++ map view (drop n old) → view y ≡ step (view x)
+pub one_stepped : {X Y : Type 0} (view : X → Y) (step : Y → Y) (old now : List X) (n : ℕ) (d y : X)
+    → n < length now → length now ≡ length old
+    → map view now ≡ map step (map view (take n old)) ++ map view (drop n old) → view y ≡ step (view (get_or now n d))
     → map view (set now n y) ≡ map step (map view (take (n + 1) old)) ++ map view (drop (n + 1) old)
-one_stepped view step old now n x y below same at so_far is =
+one_stepped view step old now n d y below same so_far is =
     let within : n < length old = omega (arith, same, below) in
-    let here : view x ≡ view (get_or old n x) =
-    ap view at ∙ sym (get_or-map view now n x (view x) below) ∙ ap (λ vs. get_or vs n (view x)) so_far
-    ∙ stepped_get view step old n x (view x) within in
+    let here : view (get_or now n d) ≡ view (get_or old n d) =
+    sym (get_or-map view now n d (view d) below) ∙ ap (λ vs. get_or vs n (view d)) so_far
+    ∙ stepped_get view step old n d (view d) within in
     map-set view now n y
     ∙ ap (λ vs. set vs n (view y)) so_far
     ∙ ap (set (map step (map view (take n old)) ++ map view (drop n old)) n) (is ∙ ap step here)
-    ∙ stepped_set view step old n x within
+    ∙ stepped_set view step old n d within
     ∙ ap (λ m. map step (map view (take m old)) ++ map view (drop m old)) (sym (add-one n))
 
 or_assoc : (a b c : Bool) → ((a || b) || c) ≡ (a || (b || c))

@@ -1,4 +1,4 @@
-use Rattle.std.proofs.Common.{◌≡◌, filter, refl, subst, sym, ◌∙◌}
+use Rattle.std.proofs.Common.{◌≡◌, ap, filter, refl, subst, sym, ◌∙◌}
 use Rattle.std.proofs.lemmas.List.{take_all}
 use Rattle.nextest_settings.specs.Settings.{settings}
 use Rattle.nextest_settings.specs.SettingsView.{origin_at}
@@ -9,7 +9,17 @@ use Rattle.rinqebo_list.proofs.rows.decided_settings.Goals.{then-is_by_rule+in_o
 
 pub loop-setting-preserved : goal.loop-setting-preserved
 unfolding settings
-loop-setting-preserved g c = ?
+loop-setting-preserved g c =
+    let passes = λ s. is_by_rule (origin_at c.args.settings.now s) in
+    elim c.if-is_by_rule.branch [
+      then-is_by_rule+in_ok-push w ↦ filter_more passes settings c.loop-setting.setting-index _ _
+          c.loop-setting-test.true refl c.loop-setting.decided.items c.if-is_by_rule.decided.items
+          c.loop-setting.invariant (sym c.is_by_rule.ensures ∙ w.if-is_by_rule.true)
+          (ap (λ v. v.items) w.decided-is ∙ w.in_ok-push.ensures.items)
+      | else-is_by_rule w ↦ ap (λ v. v.items) w.decided-is ∙ filter_same passes settings c.loop-setting.setting-index _ _
+          c.loop-setting-test.true refl c.loop-setting.decided.items c.loop-setting.invariant
+          (sym c.is_by_rule.ensures ∙ w.if-is_by_rule.false)
+    ]
 
 pub returns : goal.returns
 unfolding settings

@@ -11,4 +11,4 @@ loop-number-preserved g c =
     one_stepped marked_view (after_test g.F.Filters.meaning test) c.args.rules.now c.loop-number.rules
     c.loop-number.number c.index-rules-number.result c.see_rule.new.marked
     (omega (arith, c.loop-number.auto.rules, c.loop-number-test.true)) c.loop-number.auto.rules
-    c.index-rules-number.is c.loop-number.invariant c.see_rule.ensures
+    c.loop-number.invariant c.see_rule.ensures
