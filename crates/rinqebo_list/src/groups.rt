@@ -107,13 +107,6 @@ impl ValueGroups {
         &self.groups
     }
 
-    /// The position of the group of a value, if there is one.
-    fn position(&self, value: &Option<Value>) -> Option<usize> {
-        self.groups
-            .iter()
-            .position(|group| same_if_set(&group.value, value))
-    }
-
     /// Adds a test that has a value.
     pub fn add(
         &mut self,
@@ -121,14 +114,15 @@ impl ValueGroups {
         value: Option<Value>,
         test: GroupedTest,
     ) -> Result<(), AllocError> {
-        match self.position(&value) {
-            Some(position) => self.groups[position].tests.push(test)?,
-            None => {
-                let mut tests = Vec::new(alloc);
-                tests.push(test)?;
-                self.groups.push(ValueGroup { value, tests })?;
+        for group in self.groups.iter_mut() {
+            if same_if_set(&group.value, &value) {
+                group.tests.push(test)?;
+                return Ok(());
             }
         }
+        let mut tests = Vec::new(alloc);
+        tests.push(test)?;
+        self.groups.push(ValueGroup { value, tests })?;
         Ok(())
     }
 }
