@@ -1,3 +1,4 @@
 pub mod Marks
 pub mod RowsMore
+pub mod Same
 pub mod Selecting

@@ -53,22 +53,37 @@ fn same_field(one: &Field, other: &Field) -> bool
 fn same_fields(one: &[Field], other: &[Field]) -> bool
     ensures { IsTrue result ↔ (map field_view one.now ≡ map field_view other.now) }
 {
-    one.len() == other.len()
-        && one
-            .iter()
-            .zip(other)
-            .all(|(one, other)| same_field(one, other))
+    if one.len() != other.len() {
+        return false;
+    }
+    for (place, field) in one.iter().enumerate() {
+        if !same_field(field, &other[place]) {
+            return false;
+        }
+    }
+    true
+}
+
+/// Whether two texts are the same.
+fn same_text(one: &String, other: &String) -> bool
+    ensures { IsTrue result ↔ (string_bytes one.now ≡ string_bytes other.now) }
+{
+    one.as_str() == other.as_str()
 }
 
 /// Whether two lists of texts are the same.
 fn same_texts(one: &[String], other: &[String]) -> bool
     ensures { IsTrue result ↔ (map string_bytes one.now ≡ map string_bytes other.now) }
 {
-    one.len() == other.len()
-        && one
-            .iter()
-            .zip(other)
-            .all(|(one, other)| one.as_str() == other.as_str())
+    if one.len() != other.len() {
+        return false;
+    }
+    for (place, text) in one.iter().enumerate() {
+        if !same_text(text, &other[place]) {
+            return false;
+        }
+    }
+    true
 }
 
 /// Whether two values are the same.

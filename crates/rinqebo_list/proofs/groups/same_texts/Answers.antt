@@ -1,4 +1,12 @@
+use Rattle.std.proofs.Common.{arith, string_bytes, sym, true≢false}
+use Rattle.rinqebo_list.proofs.Same.{same_at}
 use Rattle.rinqebo_list.proofs.groups.same_texts.Goals as goal
 
-pub returns-then-one-other : goal.returns-then-one-other
-returns-then-one-other c = ?
+pub returns-then-not-same_text : goal.returns-then-not-same_text
+returns-then-not-same_text c = (
+  λ t. absurd (true≢false (sym t)),
+  λ same. c.if-not-same_text.ensures.1
+      (same_at string_bytes c.args.one.now c.args.other.now c.loop-place.place c.index-one-place.result
+      c.index-other-place.result c.loop-place-test.true
+      (omega (arith, c.loop-place-test.true, c.if-one-other.false)) c.index-one-place.is c.index-other-place.is same),
+)

@@ -14,7 +14,7 @@ loop-setting-preserved g c =
     let items : Vec Setting Global → List Setting = λ v. v.items in
     let passes : Setting → Bool = λ s. is_by_rule (origin_at c.args.settings.now s) in
     elim c.if-is_by_rule.branch [
-      then-is_by_rule+in_ok-push w ↦ filter_more passes settings c.loop-setting.setting-index _ _
+      | then-is_by_rule+in_ok-push w ↦ filter_more passes settings c.loop-setting.setting-index _ _
           c.loop-setting-test.true refl c.loop-setting.decided.items c.if-is_by_rule.decided.items
           c.loop-setting.invariant (sym c.is_by_rule.ensures ∙ w.if-is_by_rule.true)
           (ap items w.decided-is ∙ w.in_ok-push.ensures.items)
