@@ -6,7 +6,7 @@
 //! | Line | What it says |
 //! |---|---|
 //! | `case NAME` | a case begins, in the folder `/w`, without files |
-//! | `file PATH` | there is a file at this path; the lines below it that begin with two spaces are its text; `-` is the list of tests |
+//! | `file PATH` | a file at this path: the lines below that begin with two spaces; `-` is the list of tests |
 //! | `tests` | the list: its triples, and each binary with its tests |
 //! | `list WORD ..` | the page of the list: of each test the settings that rules decide |
 //! | `told WORD ..` | the same with the settings of the KEYs that the words name, or with all |

@@ -28,7 +28,8 @@ kept_front false y all front last is = is
 filter-one : {X : Type 0} (p : X → Bool) (xs : List X) (x : X)
     → filter p (xs ++ x ∷ []) ≡ filter p xs ++ cond (p x) (x ∷ []) []
 filter-one p [] x = refl
-filter-one p (y ∷ xs) x = kept_front (p y) y (filter p (xs ++ x ∷ [])) (filter p xs) (cond (p x) (x ∷ []) []) (filter-one p xs x)
+filter-one p (y ∷ xs) x =
+    kept_front (p y) y (filter p (xs ++ x ∷ [])) (filter p xs) (cond (p x) (x ∷ []) []) (filter-one p xs x)
 
 -- one more element that passes a test
 pub filter_more : {X : Type 0} (p : X → Bool) (xs : List X) (i : ℕ) (x d : X) → i < length xs → x ≡ get_or xs i d

@@ -55,7 +55,8 @@ pub one_unmet : (all left rest : Entries) (binaries : List Listed) (s : List ℕ
     → AreReadTo all left binaries → suites_in left ≡ s ∷ suites_in rest → first_fault (suite_demands s) ≡ Some f
     → first_fault (flat_map suite_demands (suites_in all)) ≡ Some f
 one_unmet all left rest binaries s f so_far next is =
-    ap (λ ss. first_fault (flat_map suite_demands ss)) (sym (ap (λ more. so_far.done ++ more) (sym next) ∙ so_far.splits))
+    ap (λ ss. first_fault (flat_map suite_demands ss))
+    (sym (ap (λ more. so_far.done ++ more) (sym next) ∙ so_far.splits))
     ∙ ap first_fault (flat_map-append suite_demands so_far.done (s ∷ suites_in rest))
     ∙ fault_behind (flat_map suite_demands so_far.done) (suite_demands s ++ flat_map suite_demands (suites_in rest))
     (Some f) so_far.met (fault_before (suite_demands s) (flat_map suite_demands (suites_in rest)) f is)
