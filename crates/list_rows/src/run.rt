@@ -87,22 +87,23 @@ fn profile_of<'c>(
     }
 }
 
-/// The rules of a chain on the platforms of a build.
+/// The rules of the chain of a profile on the platforms of a build.
 fn uses_of<'c>(
     alloc: Global,
     config: &'c Config,
-    chain: &[&'c str],
+    profile: &'c str,
     platforms: &BuildPlatforms<Platform>,
 ) -> Result<Uses<'c>, AllocError> {
+    let chain = chain_of_profile(alloc, config, profile)?;
     let layers = config.layers();
     let evaluated = evaluate_overrides(
         alloc,
-        &rules_of(alloc, layers, chain)?.overrides,
+        &rules_of(alloc, layers, &chain)?.overrides,
         platforms,
     )?;
-    let nearest = nearest_filter(layers, chain);
+    let nearest = nearest_filter(layers, &chain);
     let default_filter = default_filter_of(&evaluated, nearest, config.match_all()).expr;
-    let rules = ChainRules::of(alloc, config, chain)?;
+    let rules = ChainRules::of(alloc, config, &chain)?;
     Ok(Uses {
         all: RuleUse::new(alloc, &rules.all, platforms, default_filter)?,
         wrappers: RuleUse::new(alloc, &rules.wrappers, platforms, default_filter)?,
@@ -170,7 +171,7 @@ fn page_in(
     let config = config_of(alloc, request, gathered, &filters)?;
     let profile = profile_of(alloc, &config, asked.profile, &platforms)?;
     let chain = chain_of_profile(alloc, &config, asked.profile)?;
-    let mut uses = uses_of(alloc, &config, &chain, &platforms)?;
+    let mut uses = uses_of(alloc, &config, asked.profile, &platforms)?;
     let layers = layers_of(alloc, gathered)?;
     let teller = Layers {
         layers: &layers,
