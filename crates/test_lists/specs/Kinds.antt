@@ -12,7 +12,7 @@ kind_of (boolean b) = Boolean
 kind_of (number n) = Number
 kind_of (string s) = Text
 kind_of (array items) = List
-kind_of (object members) = Object
+kind_of (object _) = Object
 
 -- whether a value is of a kind
 abbrev pub has_kind : Kind → Data → Bool
