@@ -4,3 +4,4 @@ pub mod Steps
 pub mod Shown
 pub mod Sorted
 pub mod Texts
+pub mod Parting

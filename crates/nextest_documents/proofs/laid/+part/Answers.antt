@@ -1,0 +1,1 @@
+use Rattle.nextest_documents.proofs.laid.+part.Goals as goal
