@@ -5,3 +5,4 @@ pub mod Shown
 pub mod Sorted
 pub mod Texts
 pub mod Parting
+pub mod Members

@@ -4,7 +4,7 @@ use Rattle.std.proofs.lemmas.Cmp.{nat_list_cmp_total}
 use Rattle.std.specs.Cmp.{tied_itself}
 use Rattle.std.specs.Option.{option_map_or}
 use Rattle.std.specs.Ordering.{match_ordering}
-use Rattle.nextest_tree.specs.Node.{Node, Entries, no_entries, entry, get, put, PrecedesKeys, IsSorted, EntriesAreSorted}
+use Rattle.nextest_tree.specs.Node.{Node, table, Entries, no_entries, entry, get, put, PrecedesKeys, IsSorted, EntriesAreSorted}
 use Rattle.nextest_documents.specs.Displaced.{Under, replaced, added, within, Unders, no_unders, under, displaced_by, entries_displaced_by}
 use Rattle.nextest_documents.specs.Merge.{over, entries_over}
 use Rattle.nextest_documents.proofs.Laying.{cmp, turned, laid_over, get-entries_over}
@@ -132,3 +132,41 @@ pub is_next : (above below taken members : Entries) (k : List ℕ) (u : Under) (
     → IsNext above below taken members k u left
 is_next above below taken members k u left sa sb h =
     next_at h.rest above below taken members k u left sa sb h.splits h.laid h.displaced
+
+joined_none : (ds : Entries) → joined ds no_entries ≡ ds
+joined_none no_entries = refl
+joined_none (entry k n ds) = ap (entry k n) (joined_none ds)
+
+all_at : (rest above below taken members : Entries) → above ≡ joined taken rest → members ≡ entries_over rest below
+    → no_unders ≡ entries_displaced_by rest below → (taken ≡ above) × (members ≡ below)
+all_at no_entries above below taken members splits laid displaced = (sym (splits ∙ joined_none taken), laid)
+all_at (entry k n es) above below taken members splits laid displaced = absurd (cc)
+
+-- all of them were taken off
+pub have_all_parted : (above below taken members : Entries) → HaveParted above below taken members no_unders
+    → (taken ≡ above) × (members ≡ below)
+have_all_parted above below taken members h =
+    all_at h.rest above below taken members h.splits h.laid h.displaced
+
+not_added : (above below : Node) → added ≡ displaced_by above below → ⊥
+not_added (table xs) (table ys) e = cc
+not_added above below e = cc
+
+-- nothing stood where nothing was displaced
+pub none_displaced : (above : Node) (there : Option Node)
+    → added ≡ option_map_or (λ n. displaced_by above n) there added → there ≡ None
+none_displaced above None e = refl
+none_displaced above (Some below) e = absurd (not_added above below e)
+
+-- only tables displace what tables displaced
+pub parted_tables : (above below : Node) (laid higher lower : Entries) (left : Unders)
+    → IsSorted above → IsSorted below → table laid ≡ over above below → within left ≡ displaced_by above below
+    → ((xs ys : Entries) → EntriesAreSorted xs → EntriesAreSorted ys → laid ≡ entries_over xs ys
+    → left ≡ entries_displaced_by xs ys → (higher ≡ xs) × (lower ≡ ys))
+    → (table higher ≡ above) × (table lower ≡ below)
+parted_tables (table xs) (table ys) laid higher lower left sa sb is displaced parted =
+    let tables : laid ≡ entries_over xs ys = cc in
+    let under : left ≡ entries_displaced_by xs ys = cc in
+    let all = parted xs ys sa sb tables under in
+    (ap table all.0, ap table all.1)
+parted_tables above below laid higher lower left sa sb is displaced parted = absurd (cc)

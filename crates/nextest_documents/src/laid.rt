@@ -38,19 +38,23 @@ pub enum Displaced {
 pub fn lay_upon(alloc: Global, above: Tree, below: Tree) -> Result<Laid, AllocError>
     ensures { IfOk result (IsLaid (tree_view above) (tree_view below)) }
 {
-    match (above, below) {
-        (Tree::Table(higher), Tree::Table(lower)) => {
-            let (members, displaced) = unite(alloc, higher, lower)?;
-            Ok(Laid {
-                tree: Tree::Table(members),
-                displaced: Displaced::Within(displaced),
-            })
-        }
-        (above, below) => Ok(Laid {
+    let Tree::Table(higher) = above else {
+        return Ok(Laid {
             tree: above,
             displaced: Displaced::Replaced(below),
-        }),
-    }
+        });
+    };
+    let Tree::Table(lower) = below else {
+        return Ok(Laid {
+            tree: Tree::Table(higher),
+            displaced: Displaced::Replaced(below),
+        });
+    };
+    let (members, displaced) = unite(alloc, higher, lower)?;
+    Ok(Laid {
+        tree: Tree::Table(members),
+        displaced: Displaced::Within(displaced),
+    })
 }
 
 /// Lays the members of a table upon those of another.
@@ -67,17 +71,38 @@ fn unite(
 {
     let mut all_displaced = Vec::new(alloc);
     for (key, tree) in higher {
-        let displaced = if let Some(found) = lower.get_mut(key.as_str()) {
-            let laid = lay_upon(alloc, tree, mem::replace(found, Tree::Opaque))?;
-            *found = laid.tree;
-            laid.displaced
-        } else {
-            drop(lower.insert(key.clone()?, tree)?);
-            Displaced::Added
-        };
+        let displaced = lay_member(alloc, tree, &mut lower, &key)?;
         all_displaced.push((key, displaced))?;
     }
     Ok((lower, all_displaced))
+}
+
+/// Lays a tree upon what a table has at a key.
+#[cycle(lay_upon)]
+fn lay_member(
+    alloc: Global,
+    above: Tree,
+    members: &mut BTreeMap<String, Tree>,
+    key: &str,
+) -> Result<Displaced, AllocError>
+    ensures members { let below = entries_view members.old.entries in
+        OnOk result (entries_view members.new.entries ≡ put key.now (option_map_or
+        (λ n. over (tree_view above) n) (get key.now below) (tree_view above)) below) }
+    ensures displaced { let below = entries_view members.old.entries in
+        IfOk result (λ displaced. displaced_view displaced ≡ option_map_or
+        (λ n. displaced_by (tree_view above) n) (get key.now below) added) }
+{
+    match members.get_mut(key) {
+        Some(found) => {
+            let laid = lay_upon(alloc, above, mem::replace(found, Tree::Opaque))?;
+            *found = laid.tree;
+            Ok(laid.displaced)
+        }
+        None => {
+            drop(members.insert(key.to_string(alloc)?, above)?);
+            Ok(Displaced::Added)
+        }
+    }
 }
 
 impl Laid {
@@ -98,13 +123,16 @@ fn part(alloc: Global, displaced: Displaced, tree: Tree) -> Result<(Tree, Tree),
         → tree_view tree ≡ over above below → displaced_view displaced ≡ displaced_by above below
         → IfOk result (λ trees. (tree_view trees.0 ≡ above) × (tree_view trees.1 ≡ below)) }
 {
-    match (displaced, tree) {
-        (Displaced::Replaced(below), above) => Ok((above, below)),
-        (Displaced::Within(displaced), Tree::Table(members)) => {
-            let (higher, lower) = part_members(alloc, displaced, members)?;
-            Ok((Tree::Table(higher), Tree::Table(lower)))
-        }
-        (_, tree) => Ok((tree, Tree::Opaque)),
+    match displaced {
+        Displaced::Replaced(below) => Ok((tree, below)),
+        Displaced::Added => Ok((tree, Tree::Opaque)),
+        Displaced::Within(displaced) => match tree {
+            Tree::Table(members) => {
+                let (higher, lower) = part_members(alloc, displaced, members)?;
+                Ok((Tree::Table(higher), Tree::Table(lower)))
+            }
+            other => Ok((other, Tree::Opaque)),
+        },
     }
 }
 

@@ -1,13 +1,41 @@
-use Rattle.std.proofs.Common.{ap}
-use Rattle.nextest_tree.specs.Node.{table}
-use Rattle.nextest_documents.specs.Displaced.{within}
+use Rattle.std.proofs.Common.{rules, ◌≡◌, [], ◌∷◌, ◌++◌, Some, None, string_bytes, sym, ap, ◌∙◌, subst, append_assoc}
+use Rattle.std.specs.List.Sorted.{IsStrictlySortedBy}
+use Rattle.std.specs.Map.{keys_of, lookup}
+use Rattle.std.specs.String.{string_cmp}
+use Rattle.std.specs.BTreeMap.{is_at}
+use Rattle.std.specs.Option.{option_copied_mut, option_map_or}
+use Rattle.nextest_tree.specs.Node.{get, put}
+use Rattle.nextest_tree.specs.View.{tree_view, entries_view}
+use Rattle.nextest_documents.specs.Displaced.{added, displaced_by}
+use Rattle.nextest_documents.specs.DisplacedView.{displaced_view, displaced_entries_view}
+use Rattle.nextest_documents.proofs.Maps.{Entry, text_cmp}
+use Rattle.nextest_documents.proofs.Members.{displaced_last}
+use Rattle.nextest_documents.proofs.Steps.{put_found, put_new, laid, laid_last}
 use Rattle.nextest_documents.proofs.laid.+lay_upon.Goals as goal
 
-pub lay_upon-returns-in_ok-members-in-Table-Table : goal.lay_upon-returns-in_ok-members-in-Table-Table
-lay_upon-returns-in_ok-members-in-Table-Table t c =
-    let is = c.in_ok-members-in-Table-Table.ensures in
-    rw (c.in-Table-Table.is-0, c.in-Table-Table.is-1)
-    (record {
-      tree = ap table is.members;
-      displaced = ap within is.displaced;
-    })
+pub unite-loop-key-preserved : goal.unite-loop-key-preserved
+unite-loop-key-preserved t c =
+    let l = c.loop-key in
+    let now = entries_view l.lower.entries in
+    let below = entries_view c.args.lower.entries in
+    let done = l.invariant.0 in
+    let e : Entry = (c.in-Some.key, c.in-Some.tree) in
+    let left = c.next.new.self in
+    let all : c.args.higher.entries ≡ done ++ e ∷ left =
+    l.invariant.1 ∙ ap (λ es. done ++ es) c.in-Some.ensures.steps in
+    let sorted = subst (λ es. IsStrictlySortedBy string_cmp (keys_of es)) all
+    c.into_iter-key-iterator.ensures.into_iter_gives.5 in
+    let k = string_bytes e.0 in
+    let named : c.deref.result.now ≡ k = search rules in
+    let laid_there : entries_view c.lay_member.new.members.entries ≡ put k (laid e.1 (get k now)) now =
+    rw (← named) c.in_ok-displaced.ensures.members in
+    let under : displaced_view c.in_ok-displaced.displaced
+    ≡ option_map_or (λ n. displaced_by (tree_view e.1) n) (get k now) added =
+    rw (← named) c.in_ok-displaced.ensures.displaced in (
+      done ++ e ∷ [],
+      all ∙ sym (append_assoc done (e ∷ []) left),
+      laid_there ∙ laid_last done e left below now sorted l.invariant.2,
+      ap displaced_entries_view c.in_ok-push.ensures.items
+          ∙ displaced_last done e left below now l.all_displaced.items c.in_ok-displaced.displaced sorted
+          l.invariant.2 l.invariant.3 under,
+    )
