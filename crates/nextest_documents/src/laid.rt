@@ -99,7 +99,7 @@ fn lay_member(
             Ok(laid.displaced)
         }
         None => {
-            drop(members.insert(key.to_string(alloc)?, above)?);
+            drop(members.insert(String::from_str(alloc, key)?, above)?);
             Ok(Displaced::Added)
         }
     }
