@@ -12,14 +12,14 @@ use Rattle.nextest_tree.specs.declared.tree.Tree.{Tree, Table, the_lemmas}
 use Rattle.nextest_tree.specs.Node.{Node, table, Entries, no_entries, entry, get, EntriesAreSorted}
 use Rattle.nextest_tree.specs.View.{tree_view, entries_view}
 use Rattle.nextest_documents.specs.Displaced.{Under, replaced, added, within, Unders, no_unders, under, displaced_by, entries_displaced_by}
-use Rattle.nextest_documents.specs.DisplacedView.{under_step, displaced_view, displaced_entries_view}
+use Rattle.nextest_documents.specs.DisplacedView.{displaced_view, displaced_entries_view}
 use Rattle.nextest_documents.specs.Merge.{entries_over}
 use Rattle.nextest_documents.specs.declared.laid.Displaced as the_own
 use Rattle.nextest_documents.specs.declared.laid.Displaced.{Displaced, Replaced, Added, Within'}
 use Rattle.nextest_documents.specs.declared.laid.Displaced.TheOpen.{Displaced-F}
 use Rattle.nextest_documents.specs.declared.laid.Displaced.TheVariants.{rolls-Replaced, rolls-Added, rolls-Within}
 use Rattle.nextest_documents.specs.declared.laid.Displaced.TheViews.{Within, roll-Displaced, out-Displaced, roll-out-Displaced}
-use Rattle.nextest_documents.proofs.Laying.{cmp, AllBelow, with_last, laid_over, get-entries_over, get-above}
+use Rattle.nextest_documents.proofs.Laying.{cmp, with_last, laid_over, get-entries_over, get-above}
 use Rattle.nextest_documents.proofs.Maps.{Entry, text_cmp}
 use Rattle.nextest_documents.proofs.Parting.{without, HaveParted, IsNext, is_next}
 use Rattle.nextest_documents.proofs.Steps.{below_all, members-last}
@@ -44,7 +44,8 @@ last_under no_unders k u = under k u no_unders
 last_under (under l v us) k u = under l v (last_under us k u)
 
 unders-last : (ds : List (String Global × Displaced)) (d : String Global × Displaced)
-    → displaced_entries_view (ds ++ d ∷ []) ≡ last_under (displaced_entries_view ds) (string_bytes d.0) (displaced_view d.1)
+    → displaced_entries_view (ds ++ d ∷ [])
+    ≡ last_under (displaced_entries_view ds) (string_bytes d.0) (displaced_view d.1)
 unders-last [] d = refl
 unders-last (x ∷ ds) d = ap (under (string_bytes x.0) (displaced_view x.1)) (unders-last ds d)
 
@@ -69,7 +70,8 @@ displaced_last done e rest below now ds d sorted is all here =
     ap (get k) is ∙ get-entries_over k (entries_view done) below
     ∙ ap (λ o. laid_over o (get k below)) (get-above k (entries_view done) (below_all done e rest sorted)) in
     unders-last ds (e.0, d)
-    ∙ (λ i. last_under (all i) k ((here ∙ ap (λ o. option_map_or (λ m. displaced_by (tree_view e.1) m) o added) there) i))
+    ∙ (λ i. last_under (all i) k
+    ((here ∙ ap (λ o. option_map_or (λ m. displaced_by (tree_view e.1) m) o added) there) i))
     ∙ sym (displaced_by-last (entries_view done) below k (tree_view e.1))
     ∙ ap (λ es. entries_displaced_by es below) (sym (members-last done e))
 
@@ -77,13 +79,15 @@ displaced_last done e rest below now ds d sorted is all here =
 pub seen_table : (m : BTreeMap (String Global) Tree) → tree_view (Table m) ≡ table (entries_view m.entries)
 seen_table m = search (rules, the_lemmas)
 
-pub seen_within : (v : Vec (String Global × Displaced)) → displaced_view (Within v) ≡ within (displaced_entries_view v.items)
+pub seen_within : (v : Vec (String Global × Displaced))
+    → displaced_view (Within v) ≡ within (displaced_entries_view v.items)
 seen_within v = search (rules, the_own.the_lemmas)
 
 pub seen_replaced : (t : Tree) → displaced_view (Replaced t) ≡ replaced (tree_view t)
 seen_replaced t = search (rules, the_own.the_lemmas)
 
-added_at : (f : Displaced-F Displaced) (d : Displaced) → d ≡ roll-Displaced f → (d ≡ Added → ⊥) → displaced_view d ≡ added → ⊥
+added_at : (f : Displaced-F Displaced) (d : Displaced) → d ≡ roll-Displaced f → (d ≡ Added → ⊥)
+    → displaced_view d ≡ added → ⊥
 added_at (Displaced-F.Replaced t) d is other e =
     let no : added ≡ replaced (tree_view t) = sym e ∙ ap displaced_view (is ∙ rolls-Replaced t) ∙ seen_replaced t in
     let never : ⊥ = cc in never

@@ -5,7 +5,7 @@ use Rattle.std.specs.Cmp.{tied_itself}
 use Rattle.std.specs.Option.{option_map_or}
 use Rattle.std.specs.Ordering.{match_ordering}
 use Rattle.nextest_tree.specs.Node.{Node, table, Entries, no_entries, entry, get, put, PrecedesKeys, IsSorted, EntriesAreSorted}
-use Rattle.nextest_documents.specs.Displaced.{Under, replaced, added, within, Unders, no_unders, under, displaced_by, entries_displaced_by}
+use Rattle.nextest_documents.specs.Displaced.{Under, added, within, Unders, no_unders, under, displaced_by, entries_displaced_by}
 use Rattle.nextest_documents.specs.Merge.{over, entries_over}
 use Rattle.nextest_documents.proofs.Laying.{cmp, turned, laid_over, get-entries_over}
 use Rattle.nextest_documents.proofs.Sorted.{before_lower, entries_sorted}
@@ -78,7 +78,8 @@ put_next k n (entry l d ds) es s =
     let kl : cmp k l ≡ Greater = turned l k Less (precedes_rest l k n ds es s.0) in
     simp kl (ap (entry l d) (put_next k n ds es s.2))
 
-joined_next : (k : List ℕ) (n : Node) (ds es : Entries) → joined (joined ds (entry k n no_entries)) es ≡ joined ds (entry k n es)
+joined_next : (k : List ℕ) (n : Node) (ds es : Entries)
+    → joined (joined ds (entry k n no_entries)) es ≡ joined ds (entry k n es)
 joined_next k n no_entries es = refl
 joined_next k n (entry l d ds) es = ap (entry l d) (joined_next k n ds es)
 

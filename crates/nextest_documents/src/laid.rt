@@ -13,7 +13,7 @@ use std::alloc::{AllocError, Global};
 use std::collections::BTreeMap;
 use std::mem;
 
-/// A tree that lies upon another one.
+/// A tree that was laid upon another one, and can be taken off again.
 #[derive(Drop)]
 pub struct Laid {
     /// The one over the other.
@@ -33,7 +33,7 @@ pub enum Displaced {
     Within(Vec<(String, Displaced)>),
 }
 
-/// Lays `above` upon `below`, as `lay_over` does, and keeps what it displaces.
+/// Lays `above` upon `below` as `lay_over` does, but without a copy, and keeps what it displaces.
 #[cycle(lay_upon)]
 pub fn lay_upon(alloc: Global, above: Tree, below: Tree) -> Result<Laid, AllocError>
     ensures { IfOk result (IsLaid (tree_view above) (tree_view below)) }
@@ -116,7 +116,7 @@ impl Laid {
     }
 }
 
-/// Parts a tree into an upper one and the one that it displaced.
+/// Parts a tree into an upper one and the one that it displaced, an opaque one if there was none.
 #[cycle(part)]
 fn part(alloc: Global, displaced: Displaced, tree: Tree) -> Result<(Tree, Tree), AllocError>
     ensures { (above : Node) (below : Node) → IsSorted above → IsSorted below

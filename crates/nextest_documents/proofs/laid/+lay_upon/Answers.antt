@@ -74,7 +74,8 @@ lay_member-returns-in_ok-insert-in-None-clause-members t c =
     let entries = rw c.get_mut.follows.holds-at-none at c.in_ok-insert-in-None.ensures.entries in
     ap entries_view entries ∙ put_new c.in_ok-from_str-in-None.field-0 k c.args.above c.args.above es at named refl
 
-pub lay_member-returns-in_ok-insert-in-None-clause-displaced : goal.lay_member-returns-in_ok-insert-in-None-clause-displaced
+pub lay_member-returns-in_ok-insert-in-None-clause-displaced :
+    goal.lay_member-returns-in_ok-insert-in-None-clause-displaced
 lay_member-returns-in_ok-insert-in-None-clause-displaced t c =
     let k = c.args.key.now in
     let es = c.args.members.now.entries in

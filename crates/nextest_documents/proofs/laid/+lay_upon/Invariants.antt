@@ -2,7 +2,7 @@ use Rattle.std.proofs.Common.{◌≡◌, List, ◌++◌}
 use Rattle.nextest_documents.specs.Displaced.{entries_displaced_by}
 use Rattle.nextest_documents.specs.DisplacedView.{displaced_entries_view}
 use Rattle.nextest_documents.specs.Merge.{entries_over}
-use Rattle.nextest_tree.specs.View.{tree_view, entries_view}
+use Rattle.nextest_tree.specs.View.{entries_view}
 use Rattle.nextest_documents.proofs.Maps.{Entry}
 use Rattle.nextest_documents.proofs.laid.+lay_upon.Given as goal
 

@@ -1,4 +1,4 @@
-use Rattle.std.proofs.Common.{rules, length, refl, ◌≡◌, List, [], ◌∷◌, Some, None, option_map, String, Global, string_bytes, sym, ap, ◌∙◌, subst}
+use Rattle.std.proofs.Common.{rules, length, refl, ◌≡◌, List, [], ◌∷◌, Some, None, option_map, string_bytes, sym, ap, ◌∙◌, subst}
 use Rattle.std.specs.BTreeMap.{is_at}
 use Rattle.std.specs.Map.{lookup}
 use Rattle.std.specs.Option.{option_copied_mut}
@@ -26,7 +26,8 @@ some≢none x e = cc
 pub part-returns-in_ok-higher-in-Table : goal.part-returns-in_ok-higher-in-Table
 part-returns-in_ok-higher-in-Table t c = λ above below sa sb is displaced.
     let laid : tree_view c.args.tree ≡ table (entries_view c.in-Table.members.entries) = search (rules, the_lemmas) in
-    let under : displaced_view c.args.displaced ≡ within (displaced_entries_view c.in-Within.displaced.items) = search (rules, the_own.the_lemmas) in
+    let under : displaced_view c.args.displaced
+    ≡ within (displaced_entries_view c.in-Within.displaced.items) = search (rules, the_own.the_lemmas) in
     let higher = c.in_ok-higher-in-Table.higher in
     let lower = c.in_ok-higher-in-Table.lower in
     let all = parted_tables above below _ (entries_view higher.entries) (entries_view lower.entries) _ sa sb
@@ -45,7 +46,8 @@ part_members-loop-key-preserved-in-Some-2 t c = λ above below sa sb is displace
     c.in_ok-tree.ensures.taken next.higher next.lower next.higher_sorted next.lower_sorted next.laid next.displaced in
     let tree : tree_view c.in-Some-2.tree ≡ next.higher =
     some_is _ _ (ap (option_map tree_view) (sym c.in-Some-2.is) ∙ taken) in
-    let members = c.in_ok-tree.ensures.left next.higher next.lower next.higher_sorted next.lower_sorted next.laid next.displaced in
+    let members = c.in_ok-tree.ensures.left next.higher next.lower next.higher_sorted next.lower_sorted
+    next.laid next.displaced in
     let higher = ap entries_view c.in_ok-insert.ensures.entries
     ∙ members-insert_entry l.higher.entries c.in-Some.key c.in-Some-2.tree
     ∙ ap (λ n. put (string_bytes c.in-Some.key) n (entries_view l.higher.entries)) tree
@@ -112,10 +114,12 @@ take_member-returns-in_ok-above-in-Some t c =
     let set = ap entries_view (c.get_mut.follows.holds new).0
     ∙ members-set_value k es new found c.in-Some.ensures.ordered at in
     let parts = λ (above lower : Node) (below : Entries) (sa : IsSorted above) (sl : IsSorted lower)
-    (is : entries_view es ≡ put k (over above lower) below) (under : displaced_view c.args.displaced ≡ displaced_by above lower).
+    (is : entries_view es ≡ put k (over above lower) below)
+    (under : displaced_view c.args.displaced ≡ displaced_by above lower).
     c.in_ok-above-in-Some.ensures above lower sa sl
     (ap tree_view c.replace.ensures.value
-    ∙ some_is _ _ (ap (option_map tree_view) (sym at) ∙ members-lookup k es ∙ ap (get k) is ∙ get-put_same k (over above lower) below))
+    ∙ some_is _ _ (ap (option_map tree_view) (sym at) ∙ members-lookup k es ∙ ap (get k) is
+    ∙ get-put_same k (over above lower) below))
     under in
     record {
       taken = λ above below sa sb is displaced.
@@ -134,7 +138,9 @@ pub take_member-returns-in-None : goal.take_member-returns-in-None
 take_member-returns-in-None t c =
     let k = c.args.key.now in
     let es = c.args.members.now.entries in
-    let none : get k (entries_view es) ≡ None = sym (members-lookup k es) ∙ ap (option_map tree_view) (sym c.get_mut.ensures.value ∙ ap option_copied_mut c.in-None.is) in
+    let none : get k (entries_view es) ≡ None =
+    sym (members-lookup k es)
+    ∙ ap (option_map tree_view) (sym c.get_mut.ensures.value ∙ ap option_copied_mut c.in-None.is) in
     let never = λ (n : Node) (below : Entries) (is : entries_view es ≡ put k n below).
     some≢none n (sym (get-put_same k n below) ∙ ap (get k) (sym is) ∙ none) in
     record {

@@ -1,4 +1,4 @@
-use Rattle.std.proofs.Common.{◌≡◌, Ok, ap, ◌∙◌}
+use Rattle.std.proofs.Common.{Ok, ap, ◌∙◌}
 use Rattle.nextest_tree.specs.View.{tree_view}
 use Rattle.nextest_documents.specs.Merge.{over}
 use Rattle.nextest_documents.proofs.Shown.{laid_nodes}
