@@ -4,6 +4,7 @@ use Rattle.std.proofs.lemmas.List.{drop_more, take_more, take-append-drop}
 use Rattle.nextest_engines.specs.Readings.{readings_view}
 use Rattle.nextest_rules.specs.KnownView.{features_view}
 use Rattle.nextest_sources.proofs.Runs.{ran_exit}
+use Rattle.nextest_tables.specs.Defaults.{defaults}
 use Rattle.nextest_tree.specs.View.{tree_view}
 use Rattle.nextest_load.specs.Kept.{IsKept}
 use Rattle.nextest_load.specs.Trees.{merged_tree}
@@ -15,6 +16,7 @@ loop-input-init g c =
     runs_start _ _ _ _ c.args.inputs.now _ c.new-loaded.result
     (record {
       known = c.new-loaded.ensures.known;
+      defaults = subst (λ tree. IfSome tree (λ t. tree_view t ≡ defaults)) (sym c.new-loaded.ensures.defaults) tt;
       merged =
           ap (option_map tree_view) c.new-loaded.ensures.merged;
       kept = subst (λ kept. IfSome kept (IsKept (merged_tree []))) (sym c.new-loaded.ensures.kept) tt;
