@@ -200,6 +200,7 @@ impl<F: Filters, S: Specs> LoadedLayers<F, S> {
         input: &SourceInput<'_>,
         warnings: &mut W,
     ) -> Result<(), ConfigParseError>
+        requires { IfSome self.old.defaults (λ tree. tree_view tree ≡ defaults) }
         ensures ran { let engines = readings_view F.Filters S.Specs pcx.now in
             (below : List SourceText) → HasLoaded F.meaning S.spec_meaning engines below self.old
             → Ran (one_input_steps engines (features_view features.now) below
@@ -219,7 +220,15 @@ impl<F: Filters, S: Specs> LoadedLayers<F, S> {
             is_lowest: self.merged.is_none(),
         };
         let lower = made_once(alloc, self.defaults.take())?;
-        let loaded = read_source(alloc, pcx, features, &mut self.known, &file, lower, warnings)?;
+        let loaded = read_source(
+            alloc,
+            pcx,
+            features,
+            &mut self.known,
+            &file,
+            lower,
+            warnings,
+        )?;
         self.add(alloc, loaded)?;
         Ok(())
     }

@@ -192,8 +192,8 @@ fn read_rules<F: Filters, S: Specs, W: ConfigWarnings>(
     check_table(alloc, pcx, known, file, table, warnings)
 }
 
-/// A source that was loaded: its tree over the defaults, the ids of its scripts, its rules, and what
-/// a configuration keeps of it, if it is the lowest.
+/// A source that was loaded: its tree over the defaults, the ids of its scripts, its rules, and
+/// what a configuration keeps of it, if it is the lowest.
 #[derive(Drop)]
 pub(crate) struct LoadedSource<F: Filters, S: Specs> {
     pub(crate) laid: Laid,

@@ -25,6 +25,9 @@ loop-input-init g c =
       names = c.new-loaded.ensures.names;
     })
 
+pub read_layer-requires : goal.read_layer-requires
+read_layer-requires g c = c.loop-input.invariant.sources.defaults
+
 pub returns-in_err-read_layer-clause-ran : goal.returns-in_err-read_layer-clause-ran
 returns-in_err-read_layer-clause-ran g c =
     let engines = readings_view g.F.Filters g.S.Specs c.args.pcx.now in
