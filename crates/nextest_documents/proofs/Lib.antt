@@ -4,3 +4,5 @@ pub mod Steps
 pub mod Shown
 pub mod Sorted
 pub mod Texts
+pub mod Parting
+pub mod Members

@@ -11,7 +11,7 @@ use Rattle.nextest_tree.specs.declared.tree.Tree.{Tree}
 use Rattle.nextest_documents.specs.Merge.{over, entries_over, merged}
 use Rattle.nextest_documents.proofs.Laying.{cmp, turned}
 
-before_lower : (j k : List ℕ) (es : Entries) → cmp j k ≡ Less → PrecedesKeys k es → PrecedesKeys j es
+pub before_lower : (j k : List ℕ) (es : Entries) → cmp j k ≡ Less → PrecedesKeys k es → PrecedesKeys j es
 before_lower j k no_entries h b = tt
 before_lower j k (entry l m es) h b = (nat_list_cmp_total.trans j k l h b.0, before_lower j k es h b.1)
 
@@ -38,7 +38,7 @@ put_sorted k n no_entries h s = (tt, h, tt)
 put_sorted k n (entry l m es) h s = put_at (cmp k l) k l n m es refl h s (put_sorted k n es h s.2)
 
 -- what stands there, if anything does, is sorted
-abbrev IsSortedThere : Option Node → Type 0
+abbrev pub IsSortedThere : Option Node → Type 0
 IsSortedThere None = Unit {0}
 IsSortedThere (Some n) = IsSorted n
 
@@ -48,7 +48,7 @@ there_at Less n rest h s = s
 there_at Equal n rest h s = h
 there_at Greater n rest h s = s
 
-get_sorted : (k : List ℕ) (es : Entries) → EntriesAreSorted es → IsSortedThere (get k es)
+pub get_sorted : (k : List ℕ) (es : Entries) → EntriesAreSorted es → IsSortedThere (get k es)
 get_sorted k no_entries s = tt
 get_sorted k (entry l m es) s = there_at (cmp k l) m (get k es) s.1 (get_sorted k es s.2)
 
@@ -62,7 +62,7 @@ mutual
   over_sorted (table xs) (table ys) h s = entries_sorted xs ys h s
   over_sorted above below h s = h
 
-  entries_sorted : (xs ys : Entries) → EntriesAreSorted xs → EntriesAreSorted ys → EntriesAreSorted (entries_over xs ys)
+  pub entries_sorted : (xs ys : Entries) → EntriesAreSorted xs → EntriesAreSorted ys → EntriesAreSorted (entries_over xs ys)
   entries_sorted no_entries ys h s = s
   entries_sorted (entry k n xs) ys h s =
       put_sorted k _ (entries_over xs ys)

@@ -34,12 +34,12 @@ put_new name k above merged es at named is =
     let there : get k (entries_view es) ≡ None = sym (members-lookup k es) ∙ ap (option_map tree_view) at in
     members-insert_entry es name merged ∙ rw (there, named, is)
 
-members-last : (done : List Entry) (e : Entry)
+pub members-last : (done : List Entry) (e : Entry)
     → entries_view (done ++ e ∷ []) ≡ with_last (entries_view done) (string_bytes e.0) (tree_view e.1)
 members-last [] e = refl
 members-last (x ∷ done) e = ap (entry (string_bytes x.0) (tree_view x.1)) (members-last done e)
 
-below_all : (done : List Entry) (e : Entry) (rest : List Entry)
+pub below_all : (done : List Entry) (e : Entry) (rest : List Entry)
     → IsStrictlySortedBy string_cmp (keys_of (done ++ e ∷ rest)) → AllBelow (string_bytes e.0) (entries_view done)
 unfolding IsStrictlySortedBy
 below_all [] e rest h = tt

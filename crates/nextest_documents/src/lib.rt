@@ -4,7 +4,9 @@
 #![tactic(auto)]
 
 mod document;
+mod laid;
 mod merge;
 
 pub use document::{TextFault, tree_from_text};
+pub use laid::{Displaced, Laid, lay_upon};
 pub use merge::{copy_tree, lay_over};

@@ -2,13 +2,13 @@
 ghost use Rattle.std.specs.Prelude.{◌∷◌, [], ◌≡◌, IfOk};
 ghost use Rattle.nextest_tree.specs.Node.{IsSorted};
 ghost use Rattle.nextest_tree.specs.View.{tree_view, nodes_view, entries_view};
-ghost use Rattle.nextest_documents.specs.Merge.{over, entries_over};
+ghost use Rattle.nextest_documents.specs.Merge.{over};
 ghost use Rattle.nextest_documents.specs.Shown.{HasExactly, IsShown};
 
+use crate::laid::lay_upon;
 use nextest_tree::Tree;
 use std::alloc::{AllocError, Global};
 use std::collections::BTreeMap;
-use std::mem;
 
 /// Lays `above` over `below`: two tables unite, and anything else replaces what stands below.
 ///
@@ -21,40 +21,7 @@ pub fn lay_over(alloc: Global, above: &Tree, below: Tree) -> Result<Tree, AllocE
     ensures sorted { IsSorted (tree_view below) → IsSorted (tree_view above.now)
         → IfOk result (λ tree. IsSorted (tree_view tree)) }
 {
-    union_of(alloc, above, below)
-}
-
-#[cycle(union_of)]
-fn union_of(alloc: Global, above: &Tree, below: Tree) -> Result<Tree, AllocError>
-    ensures { IfOk result (λ tree. tree_view tree ≡ over (tree_view above.now) (tree_view below)) }
-{
-    match (above, below) {
-        (Tree::Table(higher), Tree::Table(lower)) => {
-            Ok(Tree::Table(merge_tables(alloc, higher, lower)?))
-        }
-        _ => copy_tree(alloc, above),
-    }
-}
-
-#[cycle(union_of)]
-fn merge_tables(
-    alloc: Global,
-    higher: &BTreeMap<String, Tree>,
-    mut lower: BTreeMap<String, Tree>,
-) -> Result<BTreeMap<String, Tree>, AllocError>
-    ensures { IfOk result (λ trees. entries_view trees.entries
-        ≡ entries_over (entries_view higher.now.entries) (entries_view lower.entries)) }
-{
-    for (key, tree) in higher.iter() {
-        if let Some(found) = lower.get_mut(key.as_str()) {
-            let below = mem::replace(found, Tree::Opaque);
-            *found = union_of(alloc, tree, below)?;
-        } else {
-            let name = key.clone()?;
-            drop(lower.insert(name, copy_tree(alloc, tree)?)?);
-        }
-    }
-    Ok(lower)
+    Ok(lay_upon(alloc, copy_tree(alloc, above)?, below)?.tree)
 }
 
 /// A copy of a tree.

@@ -100,16 +100,18 @@ module _ {F S E T N Q M K P : Type 0} (meaning : E → M) (spec_meaning : N → 
   pub loaded_more : (below texts : List SourceText) (s : SourceText) (old new : LoadedLayers F S E T N Q)
       (rules : LayerRules F S E T N Q) → texts ≡ s ∷ [] → HasLoaded meaning spec_meaning engines below old
       → known_view new.known ≡ sets_of (known_to (map own_file below) (own_file s))
+      → IfSome new.defaults (λ tree. tree_view tree ≡ defaults)
       → option_map tree_view new.merged ≡ tree_so_far (below ++ s ∷ [])
       → IfSome new.kept (IsKept (merged_tree (below ++ s ∷ [])))
       → new.layers.items ≡ old.layers.items ++ rules ∷ []
       → layer_meaning meaning spec_meaning (layer_view rules) ≡ source_layer engines s
       → AreScriptNames (below ++ s ∷ []) new.names
       → HasLoaded meaning spec_meaning engines (below ++ texts) new
-  loaded_more below texts s old new rules one was known merged kept layers layer names =
+  loaded_more below texts s old new rules one was known given_back merged kept layers layer names =
       let seen = λ (l : LayerRules F S E T N Q). layer_meaning meaning spec_meaning (layer_view l) in
       let all : HasLoaded meaning spec_meaning engines (below ++ s ∷ []) new = record {
         known = known ∙ ap (λ fs. sets_of (known_names fs)) (sym (map-append own_file below (s ∷ [])));
+        defaults = given_back;
         merged = merged;
         kept = kept;
         layers = ap (map seen) layers ∙ map-append seen old.layers.items (rules ∷ [])

@@ -8,6 +8,7 @@ use Rattle.nextest_rules.specs.Rules.{Layer, layer_of}
 use Rattle.nextest_rules.specs.View.{layer_view}
 use Rattle.nextest_sources.specs.Inputs.{SourceText}
 use Rattle.nextest_sources.specs.Sources.{source_view}
+use Rattle.nextest_tables.specs.Defaults.{defaults}
 use Rattle.nextest_tree.specs.Node.{Node}
 use Rattle.nextest_tree.specs.View.{tree_view}
 use Rattle.nextest_load.specs.Kept.{IsKept}
@@ -29,12 +30,14 @@ abbrev pub tree_so_far : List SourceText → Option Node
 tree_so_far [] = None
 tree_so_far (s ∷ ss) = Some (merged_tree (s ∷ ss))
 
--- Sources were loaded, the lowest first: the names that they define are known, they are laid over
--- one another, their rules are compiled, and the order of their scripts is known.
+-- Sources were loaded, the lowest first: the names that they define are known, a tree of the
+-- defaults is theirs alone, they are laid over one another, their rules are compiled, and the order
+-- of their scripts is known.
 pub record HasLoaded {F S E T N Q M K P : Type 0} (meaning : E → M) (spec_meaning : N → K)
     (engines : Readings M K P) (ss : List SourceText) (loaded : LoadedLayers F S E T N Q)
     : Type 0 where
   pub known : known_view loaded.known ≡ sets_of (known_names (map own_file ss))
+  pub defaults : IfSome loaded.defaults (λ tree. tree_view tree ≡ defaults)
   pub merged : option_map tree_view loaded.merged ≡ tree_so_far ss
   -- what is kept of their tree, if it is
   pub kept : IfSome loaded.kept (IsKept (merged_tree ss))

@@ -1,6 +1,7 @@
 //! The load, from top to bottom: every source over the defaults, then all of them merged.
 ghost use Rattle.std.specs.Prelude.{◌≡◌, ◌++◌, ◌∷◌, List, [], IfOk, IfSome, OnOk, map, option_map, reverse};
 ghost use Rattle.std.specs.List.{flat_map};
+ghost use Rattle.nextest_documents.specs.Laid.{IsLaid};
 ghost use Rattle.nextest_engines.specs.Readings.{readings_view};
 ghost use Rattle.nextest_load.specs.Kept.{IsKept};
 ghost use Rattle.nextest_load.specs.Load.{IsLoad};
@@ -20,14 +21,15 @@ ghost use Rattle.nextest_sources.specs.Inputs.{SourceText, inputs_view, sources_
 ghost use Rattle.nextest_sources.specs.InputsView.{input_view};
 ghost use Rattle.nextest_sources.specs.Sources.{source_view};
 ghost use Rattle.nextest_sources.specs.Warnings.{Warning};
+ghost use Rattle.nextest_tables.specs.Defaults.{defaults};
 ghost use Rattle.nextest_tree.specs.View.{tree_view};
 
 use crate::kept::KeptTable;
 use crate::loaded_config::LoadedConfig;
 use crate::merged::{MergedTables, keep_merged};
 use crate::scripts::ScriptNames;
-use crate::source::{LoadedSource, SourceFile, SourceTrees, read_source};
-use nextest_documents::lay_over;
+use crate::source::{LoadedSource, SourceFile, read_source};
+use nextest_documents::{Laid, lay_upon};
 use nextest_elements::ConfigExperimental;
 use nextest_engines::{Filters, ParseContext, Specs};
 use nextest_rules::{KnownNames, LayerRules};
@@ -98,6 +100,8 @@ fn read_and_merge<F: Filters, S: Specs, W: ConfigWarnings>(
 pub(crate) struct LoadedLayers<F: Filters, S: Specs> {
     /// The names that they define.
     pub(crate) known: KnownNames,
+    /// The tree of the defaults, if one was made upon which no source lies.
+    pub(crate) defaults: Option<Tree>,
     /// The tree of all of them over the defaults, if there is one.
     pub(crate) merged: Option<Tree>,
     /// What a configuration keeps of this tree, where it is that of one source.
@@ -134,6 +138,7 @@ impl<F: Filters, S: Specs> LoadedLayers<F, S> {
     /// No source yet.
     fn new(alloc: Global) -> Self
         ensures known { known_view result.known ≡ sets_of (known_names []) }
+        ensures defaults { result.defaults ≡ None }
         ensures merged { result.merged ≡ None }
         ensures kept { result.kept ≡ None }
         ensures layers { result.layers.items ≡ [] }
@@ -141,6 +146,7 @@ impl<F: Filters, S: Specs> LoadedLayers<F, S> {
     {
         LoadedLayers {
             known: KnownNames::new(alloc),
+            defaults: None,
             merged: None,
             kept: None,
             layers: Vec::new(alloc),
@@ -151,9 +157,11 @@ impl<F: Filters, S: Specs> LoadedLayers<F, S> {
     /// Lays a source over these, and adds its rules.
     fn add(&mut self, alloc: Global, loaded: LoadedSource<F, S>) -> Result<(), AllocError>
         ensures known { OnOk result (self.new.known ≡ self.old.known) }
+        ensures defaults { (s : SourceText) → IsLaid (tree_in s) defaults loaded.laid
+            → OnOk result (IfSome self.new.defaults (λ tree. tree_view tree ≡ defaults)) }
         ensures merged { (ss : List SourceText) (s : SourceText)
             → option_map tree_view self.old.merged ≡ tree_so_far ss
-            → tree_view loaded.trees.tree ≡ tree_in s → tree_view loaded.trees.own ≡ own_tree s
+            → IsLaid (tree_in s) defaults loaded.laid
             → OnOk result (option_map tree_view self.new.merged ≡ tree_so_far (ss ++ s ∷ [])) }
         ensures kept { (ss : List SourceText) (s : SourceText)
             → option_map tree_view self.old.merged ≡ tree_so_far ss
@@ -169,13 +177,15 @@ impl<F: Filters, S: Specs> LoadedLayers<F, S> {
             → OnOk result (AreScriptNames (ss ++ s ∷ []) self.new.names) }
     {
         let LoadedSource {
-            trees,
+            laid,
             names,
             rules,
             kept,
         } = loaded;
         self.kept = kept_of(&self.merged, kept);
-        self.merged = Some(lay_source(alloc, self.merged.take(), trees)?);
+        let (merged, defaults) = lay_source(alloc, self.merged.take(), laid)?;
+        self.merged = Some(merged);
+        self.defaults = defaults;
         self.layers.push(rules)?;
         self.names.append(names)?;
         Ok(())
@@ -190,6 +200,7 @@ impl<F: Filters, S: Specs> LoadedLayers<F, S> {
         input: &SourceInput<'_>,
         warnings: &mut W,
     ) -> Result<(), ConfigParseError>
+        requires { IfSome self.old.defaults (λ tree. tree_view tree ≡ defaults) }
         ensures ran { let engines = readings_view F.Filters S.Specs pcx.now in
             (below : List SourceText) → HasLoaded F.meaning S.spec_meaning engines below self.old
             → Ran (one_input_steps engines (features_view features.now) below
@@ -208,7 +219,16 @@ impl<F: Filters, S: Specs> LoadedLayers<F, S> {
             text,
             is_lowest: self.merged.is_none(),
         };
-        let loaded = read_source(alloc, pcx, features, &mut self.known, &file, warnings)?;
+        let lower = made_once(alloc, self.defaults.take())?;
+        let loaded = read_source(
+            alloc,
+            pcx,
+            features,
+            &mut self.known,
+            &file,
+            lower,
+            warnings,
+        )?;
         self.add(alloc, loaded)?;
         Ok(())
     }
@@ -227,16 +247,37 @@ fn kept_of(below: &Option<Tree>, kept: Option<KeptTable>) -> Option<KeptTable>
     }
 }
 
-/// Lays a source over those below it. The tree of the lowest one is its file over the defaults.
-fn lay_source(alloc: Global, below: Option<Tree>, trees: SourceTrees) -> Result<Tree, AllocError>
-    ensures { (ss : List SourceText) (s : SourceText)
-        → option_map tree_view below ≡ tree_so_far ss
-        → tree_view trees.tree ≡ tree_in s → tree_view trees.own ≡ own_tree s
-        → IfOk result (λ merged. Some (tree_view merged) ≡ tree_so_far (ss ++ s ∷ [])) }
+/// The tree of the defaults: the one that was made before, if it is still there.
+fn made_once(alloc: Global, made: Option<Tree>) -> Result<Tree, AllocError>
+    requires { IfSome made (λ tree. tree_view tree ≡ defaults) }
+    ensures { IfOk result (λ tree. tree_view tree ≡ defaults) }
+{
+    match made {
+        Some(tree) => Ok(tree),
+        None => default_tree(alloc),
+    }
+}
+
+/// Lays a source over those below it, and gives back the tree of the defaults, upon which it lay.
+///
+/// The tree of the lowest source is its file over the defaults, so that it keeps them.
+fn lay_source(
+    alloc: Global,
+    below: Option<Tree>,
+    laid: Laid,
+) -> Result<(Tree, Option<Tree>), AllocError>
+    ensures merged { (ss : List SourceText) (s : SourceText)
+        → option_map tree_view below ≡ tree_so_far ss → IsLaid (tree_in s) defaults laid
+        → IfOk result (λ trees. Some (tree_view trees.0) ≡ tree_so_far (ss ++ s ∷ [])) }
+    ensures defaults { (s : SourceText) → IsLaid (tree_in s) defaults laid
+        → IfOk result (λ trees. IfSome trees.1 (λ tree. tree_view tree ≡ defaults)) }
 {
     match below {
-        Some(below) => lay_over(alloc, &trees.tree, below),
-        None => Ok(trees.own),
+        Some(below) => {
+            let (tree, defaults) = laid.take_off(alloc)?;
+            Ok((lay_upon(alloc, tree, below)?.tree, Some(defaults)))
+        }
+        None => Ok((laid.tree, None)),
     }
 }
 

@@ -2,6 +2,7 @@
 ghost use Rattle.std.specs.Prelude.{◌≡◌, ℕ, List, [], IfOk, IfSome, OnOk, Some, None, map};
 ghost use Rattle.std.specs.BTreeSet.{contains_text};
 ghost use Rattle.nextest_engines.specs.Readings.{readings_view};
+ghost use Rattle.nextest_documents.specs.Laid.{IsLaid};
 ghost use Rattle.nextest_documents.specs.Text.{tree_of};
 ghost use Rattle.nextest_load.specs.Kept.{IsKept};
 ghost use Rattle.nextest_load.specs.Loading.{source_text_view, source_layer};
@@ -22,6 +23,7 @@ ghost use Rattle.nextest_sources.specs.Inputs.{SourceText};
 ghost use Rattle.nextest_sources.specs.Sources.{source_view};
 ghost use Rattle.nextest_sources.specs.Warnings.{unknown_keys};
 ghost use Rattle.nextest_tables.specs.Complete.{HasCompleteDefault, IsMergedTree};
+ghost use Rattle.nextest_tables.specs.Defaults.{defaults};
 ghost use Rattle.nextest_tables.specs.FileTexts.{FileText, file_text};
 ghost use Rattle.nextest_tables.specs.Scripts.{AreFileScripts, file_scripts_view};
 ghost use Rattle.nextest_tables.specs.Tables.{a_file};
@@ -32,12 +34,12 @@ ghost use Rattle.nextest_tree.specs.View.{tree_view};
 
 use crate::kept::{CheckedTable, KeptTable, check_table};
 use crate::scripts::ScriptNames;
-use nextest_documents::{TextFault, lay_over, tree_from_text};
+use nextest_documents::{Laid, TextFault, lay_upon, tree_from_text};
 use nextest_elements::ConfigExperimental;
 use nextest_engines::{Filters, ParseContext, Specs};
 use nextest_rules::{KnownNames, LayerRules, check_definitions};
 use nextest_sources::{ConfigParseError, ConfigParseErrorKind, ConfigSource, ConfigWarnings};
-use nextest_tables::{FileTable, default_tree, read_file};
+use nextest_tables::{FileTable, read_file};
 use nextest_tree::{Tree, Walk};
 use std::alloc::Global;
 use std::collections::BTreeSet;
@@ -49,13 +51,6 @@ pub(crate) struct SourceFile<'a> {
     pub(crate) text: &'a str,
     /// Whether no source below it gave text.
     pub(crate) is_lowest: bool,
-}
-
-/// The tree of a source, alone and over the defaults.
-#[derive(Drop)]
-pub(crate) struct SourceTrees {
-    pub(crate) tree: Tree,
-    pub(crate) own: Tree,
 }
 
 /// The tree of a source's text.
@@ -75,20 +70,28 @@ fn read_text(alloc: Global, file: &SourceFile<'_>) -> Result<Tree, ConfigParseEr
     }
 }
 
-/// The trees of a source.
-fn read_trees(alloc: Global, file: &SourceFile<'_>) -> Result<SourceTrees, ConfigParseError>
+/// The tree of a source over that of the defaults, and the ids of its scripts.
+fn read_tree(
+    alloc: Global,
+    file: &SourceFile<'_>,
+    lower: Tree,
+) -> Result<(Laid, ScriptNames), ConfigParseError>
+    requires { tree_view lower ≡ defaults }
     ensures found { let s = source_text_view file.now in
         Found (fault_at_source s.source (document_cause (tree_of s.text))) (ending result) }
-    ensures document { IfOk result
-        (λ trees. tree_of file.now.text.now ≡ Some (tree_view trees.tree)) }
-    ensures tree { IfOk result
-        (λ trees. tree_view trees.tree ≡ tree_in (source_text_view file.now)) }
-    ensures own { IfOk result
-        (λ trees. tree_view trees.own ≡ own_tree (source_text_view file.now)) }
+    ensures laid { IfOk result
+        (λ read. IsLaid (tree_in (source_text_view file.now)) defaults read.0) }
+    ensures setup { IfOk result
+        (λ read. IsOrder setup_path file.now.text.now (ids_view read.1.setup)) }
+    ensures old_setup { IfOk result
+        (λ read. IsOrder old_setup_path file.now.text.now (ids_view read.1.old_setup)) }
+    ensures wrapper { IfOk result
+        (λ read. IsOrder wrapper_path file.now.text.now (ids_view read.1.wrapper)) }
 {
     let tree = read_text(alloc, file)?;
-    let own = lay_over(alloc, &tree, default_tree(alloc)?)?;
-    Ok(SourceTrees { tree, own })
+    let names = ScriptNames::of_text(alloc, file.text, &tree)?;
+    let laid = lay_upon(alloc, tree, lower)?;
+    Ok((laid, names))
 }
 
 /// What a tree says, and its unknown paths; its first fault is told at the source.
@@ -189,32 +192,34 @@ fn read_rules<F: Filters, S: Specs, W: ConfigWarnings>(
     check_table(alloc, pcx, known, file, table, warnings)
 }
 
-/// A source that was loaded: its trees, the ids of its scripts, its rules, and what a configuration
-/// keeps of it, if it is the lowest.
+/// A source that was loaded: its tree over the defaults, the ids of its scripts, its rules, and
+/// what a configuration keeps of it, if it is the lowest.
 #[derive(Drop)]
 pub(crate) struct LoadedSource<F: Filters, S: Specs> {
-    pub(crate) trees: SourceTrees,
+    pub(crate) laid: Laid,
     pub(crate) names: ScriptNames,
     pub(crate) rules: LayerRules<F, S>,
     pub(crate) kept: Option<KeptTable>,
 }
 
-/// Reads a source over those below it. Its names go to those that are known.
+/// Reads a source over the defaults and those below it. Its names go to those that are known.
 pub(crate) fn read_source<F: Filters, S: Specs, W: ConfigWarnings>(
     alloc: Global,
     pcx: &ParseContext<'_, F, S>,
     features: &BTreeSet<ConfigExperimental>,
     known: &mut KnownNames,
     file: &SourceFile<'_>,
+    lower: Tree,
     warnings: &mut W,
 ) -> Result<LoadedSource<F, S>, ConfigParseError>
+    requires { tree_view lower ≡ defaults }
     ensures ran { let engines = readings_view F.Filters S.Specs pcx.now in
         (below : List SourceText)
         → known_view known.old ≡ sets_of (known_names (map own_file below))
         → Ran (source_steps engines (features_view features.now) below (source_text_view file.now))
         (W.warnings warnings.old) (W.warnings warnings.new) (ending result) }
-    ensures tree { IfOk result (λ l. tree_view l.trees.tree ≡ tree_in (source_text_view file.now)) }
-    ensures own { IfOk result (λ l. tree_view l.trees.own ≡ own_tree (source_text_view file.now)) }
+    ensures laid { IfOk result
+        (λ l. IsLaid (tree_in (source_text_view file.now)) defaults l.laid) }
     ensures rules { let engines = readings_view F.Filters S.Specs pcx.now in
         IfOk result
         (λ l. layer_meaning F.meaning S.spec_meaning (layer_view l.rules)
@@ -232,12 +237,11 @@ pub(crate) fn read_source<F: Filters, S: Specs, W: ConfigWarnings>(
     ensures kept { IfOk result
         (λ l. IfSome l.kept (IsKept (own_tree (source_text_view file.now)))) }
 {
-    let trees = read_trees(alloc, file)?;
-    let checked = read_rules(alloc, pcx, features, known, file, &trees.own, warnings)?;
-    let names = ScriptNames::of_text(alloc, file.text, &trees.tree)?;
+    let (laid, names) = read_tree(alloc, file, lower)?;
+    let checked = read_rules(alloc, pcx, features, known, file, &laid.tree, warnings)?;
     let CheckedTable { rules, kept } = checked;
     Ok(LoadedSource {
-        trees,
+        laid,
         names,
         rules,
         kept,

@@ -1,18 +1,24 @@
 use Rattle.std.proofs.Common.{◌≡◌, Some, option_map, sym, ap, ◌∙◌}
-use Rattle.std.proofs.lemmas.Result.{IfOk-weaker}
-use Rattle.nextest_documents.specs.Merge.{over}
+use Rattle.nextest_tables.specs.Defaults.{defaults}
+use Rattle.nextest_tables.proofs.Defaulting.{sorted}
 use Rattle.nextest_tree.specs.View.{tree_view}
 use Rattle.nextest_load.specs.Loading.{tree_so_far}
+use Rattle.nextest_load.specs.Trees.{tree_in}
 use Rattle.nextest_load.proofs.Laying.{source_laid, lowest_laid}
+use Rattle.nextest_load.proofs.SortedTrees.{source_sorted}
 use Rattle.nextest_load.proofs.load.lay_source.Goals as goal
 
-pub returns-in-Some : goal.returns-in-Some
-returns-in-Some c ss s so_far tree own =
+pub returns-in_ok-lay_upon-in-Some-clause-merged : goal.returns-in_ok-lay_upon-in-Some-clause-merged
+returns-in_ok-lay_upon-in-Some-clause-merged c ss s so_far is =
     let below = tree_view c.in-Some.below in
     let was : Some below ≡ tree_so_far ss = sym (ap (option_map tree_view) c.in-Some.is) ∙ so_far in
-    IfOk-weaker c.lay_over.result (λ laid. tree_view laid ≡ over (tree_view c.args.trees.tree) below) _
-    (λ laid is. source_laid ss s below (tree_view c.args.trees.tree) (tree_view laid) was tree is) c.lay_over.ensures.is
+    let parts = c.in_ok-tree-in-Some.ensures (tree_in s) defaults (source_sorted s) sorted is in
+    source_laid ss s below (tree_view c.in_ok-tree-in-Some.tree) _ was parts.0 c.in_ok-lay_upon-in-Some.ensures.tree
 
-pub returns-in-None : goal.returns-in-None
-returns-in-None c ss s so_far tree own =
-    lowest_laid ss s (tree_view c.args.trees.own) (sym (ap (option_map tree_view) c.in-None.is) ∙ so_far) own
+pub returns-in_ok-lay_upon-in-Some-clause-defaults : goal.returns-in_ok-lay_upon-in-Some-clause-defaults
+returns-in_ok-lay_upon-in-Some-clause-defaults c s is =
+    (c.in_ok-tree-in-Some.ensures (tree_in s) defaults (source_sorted s) sorted is).1
+
+pub returns-in-None-clause-merged : goal.returns-in-None-clause-merged
+returns-in-None-clause-merged c ss s so_far is =
+    lowest_laid ss s (tree_view c.args.laid.tree) (sym (ap (option_map tree_view) c.in-None.is) ∙ so_far) is.tree

@@ -4,6 +4,7 @@ use Rattle.std.proofs.lemmas.List.{drop_more, take_more, take-append-drop}
 use Rattle.nextest_engines.specs.Readings.{readings_view}
 use Rattle.nextest_rules.specs.KnownView.{features_view}
 use Rattle.nextest_sources.proofs.Runs.{ran_exit}
+use Rattle.nextest_tables.specs.Defaults.{defaults}
 use Rattle.nextest_tree.specs.View.{tree_view}
 use Rattle.nextest_load.specs.Kept.{IsKept}
 use Rattle.nextest_load.specs.Trees.{merged_tree}
@@ -15,6 +16,7 @@ loop-input-init g c =
     runs_start _ _ _ _ c.args.inputs.now _ c.new-loaded.result
     (record {
       known = c.new-loaded.ensures.known;
+      defaults = subst (λ tree. IfSome tree (λ t. tree_view t ≡ defaults)) (sym c.new-loaded.ensures.defaults) tt;
       merged =
           ap (option_map tree_view) c.new-loaded.ensures.merged;
       kept = subst (λ kept. IfSome kept (IsKept (merged_tree []))) (sym c.new-loaded.ensures.kept) tt;
@@ -22,6 +24,9 @@ loop-input-init g c =
           ap (map _) c.new-loaded.ensures.layers;
       names = c.new-loaded.ensures.names;
     })
+
+pub read_layer-requires : goal.read_layer-requires
+read_layer-requires g c = c.loop-input.invariant.sources.defaults
 
 pub returns-in_err-read_layer-clause-ran : goal.returns-in_err-read_layer-clause-ran
 returns-in_err-read_layer-clause-ran g c =
