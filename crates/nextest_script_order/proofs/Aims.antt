@@ -67,7 +67,8 @@ header_gained section key what (inr is) = rw is refl
 -- what an expression adds
 pub gain_aimed : (path : Path) (section : List (List ℕ)) (key : Key) (h : Bool) (what : Definition) (id : List ℕ)
     → IsKind h what → is_told (aim_at path (parts_under section (key, h))) h ≡ true
-    → is_seen (below (gained section key what) (path ++ id ∷ [])) ≡ is_aimed (aim_at path (parts_under section (key, h))) id
+    → is_seen (below (gained section key what) (path ++ id ∷ []))
+    ≡ is_aimed (aim_at path (parts_under section (key, h))) id
 gain_aimed path section key true what id kind told =
     rw (header_gained section key what kind) (aim_gain path key.0 key.1 true what id kind told)
 gain_aimed path section key false what id kind told =

@@ -77,7 +77,8 @@ record Ahead (text : List ℕ) (low count : ℕ) (doc last : Document) : Type 0 
   turns : ℕ
   on : lines turns doc more ≡ Some last
   room : ℕ
-  joins : (next : Document) → lines (suc (suc room)) doc here ≡ Some next → run (first_lines (low + count) text) ≡ Some next
+  joins : (next : Document) → lines (suc (suc room)) doc here ≡ Some next
+      → run (first_lines (low + count) text) ≡ Some next
 
 ahead_first : (text c d : List ℕ) (count : ℕ) (doc last : Document) → run [] ≡ Some doc → run text ≡ Some last
     → first_lines count text ≡ c ++ 10 ∷ [] → after_lines count text ≡ d → text ≡ c ++ 10 ∷ d
