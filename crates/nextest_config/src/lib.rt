@@ -72,7 +72,7 @@ pub use nextest_tables::{ProfileEnds, ProfileFields, ProfileOutputs, ProfileRuns
 
 // What follows from these definitions, proved once.
 pub use nextest_load::laws::{
-    law_closed, law_cycles, law_keys_ascend, law_least_element, law_shown,
+    law_closed, law_cycles, law_keys_ascend, law_least_element, law_own_steps, law_shown,
 };
 pub use nextest_profiles::{
     law_group_of_settings, law_known_groups, law_last_group, law_settings_of_texts,

@@ -62,7 +62,8 @@ mutual
   over_sorted (table xs) (table ys) h s = entries_sorted xs ys h s
   over_sorted above below h s = h
 
-  pub entries_sorted : (xs ys : Entries) → EntriesAreSorted xs → EntriesAreSorted ys → EntriesAreSorted (entries_over xs ys)
+  pub entries_sorted : (xs ys : Entries) → EntriesAreSorted xs → EntriesAreSorted ys
+      → EntriesAreSorted (entries_over xs ys)
   entries_sorted no_entries ys h s = s
   entries_sorted (entry k n xs) ys h s =
       put_sorted k _ (entries_over xs ys)

@@ -13,6 +13,7 @@ pub mod ScriptNames
 pub mod Loading
 pub mod Merged
 pub mod Kept
+pub mod OwnSteps
 pub mod Parts
 pub mod Laws
 pub mod Agreement

@@ -3,6 +3,7 @@ ghost use Rattle.std.specs.Prelude.{List, ◌∷◌, map};
 ghost use Rattle.nextest_documents.specs.Shown.{HasExactly, IsShown};
 ghost use Rattle.nextest_engines.specs.Readings.{Readings};
 ghost use Rattle.nextest_load.specs.Laws.{AcceptedAreClosed, RefusesCycles, RefusesLeast};
+ghost use Rattle.nextest_load.specs.OwnSteps.{KeepOwnSteps};
 ghost use Rattle.nextest_load.specs.Steps.{no_profiles};
 ghost use Rattle.nextest_load.specs.Trees.{tree_in, own_tree, own_file, merged_tree, merged_file};
 ghost use Rattle.nextest_sources.specs.Causes.{NameSet};
@@ -49,4 +50,11 @@ pub fn law_shown()
 /// The merged tree of files that a load accepts always has a complete default profile.
 pub fn law_closed<F: Filters, S: Specs>()
     ensures { (engines : Readings F.Meaning S.SpecMeaning S.Platform) → AcceptedAreClosed engines }
+{}
+
+/// What a source is refused or warned for is the same under any lower files, but for its parents and
+/// for the groups and scripts that its rules name: so a file that is loaded by itself has these
+/// faults beside all others too.
+pub fn law_own_steps<F: Filters, S: Specs>()
+    ensures { (engines : Readings F.Meaning S.SpecMeaning S.Platform) → KeepOwnSteps engines }
 {}

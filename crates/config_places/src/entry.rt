@@ -1,0 +1,116 @@
+//! Expressions of a text: their keys, and the lines that bring them.
+ghost use Rattle.std.specs.Prelude.{◌≡◌};
+ghost use Rattle.std.specs.Option.{option_map_or};
+ghost use Rattle.toml_parser.specs.Reading.{path_view};
+ghost use Rattle.config_places.specs.Marks.{missing, seen, turn};
+ghost use Rattle.config_places.specs.Entries.{aim_along, marks_at};
+
+use crate::place::Lines;
+use crate::step::Step;
+
+/// What an expression is.
+#[derive(Clone, Copy)]
+pub(crate) enum Kind {
+    /// A key and a value.
+    Pair,
+    /// A header of a table.
+    Table,
+    /// A header in double brackets, which begins a new element of an array.
+    Element,
+}
+
+/// An expression of a text.
+#[derive(Drop)]
+pub(crate) struct Entry {
+    pub(crate) kind: Kind,
+    /// The parts of its key, from the root on.
+    pub(crate) parts: Vec<String>,
+    pub(crate) lines: Lines,
+}
+
+/// How far a path stands behind some expressions of a text that do not bring what stands there.
+#[derive(Clone, Copy)]
+pub(crate) struct Cursor {
+    /// How many of its first steps lie in the last elements of their arrays by now.
+    pub(crate) entered: usize,
+    /// How many elements the array of its first position behind these has.
+    pub(crate) count: usize,
+}
+
+/// What an expression has to do with a path.
+#[derive(Clone, Copy)]
+enum Aim {
+    /// It brings nothing on the way of the path that was not there.
+    Elsewhere,
+    /// It brings what stands at the path.
+    Brings,
+    /// It brings one more element of the array that a position of the path leads into.
+    Counts {
+        /// The number of the path's steps up to the position.
+        steps: usize,
+        /// The position.
+        position: usize,
+    },
+}
+
+/// What an expression has to do with a path of which so many steps are entered.
+fn aim_of(entry: &Entry, path: &[Step], entered: usize) -> Aim
+    ensures { result
+        ≡ aim_along entry.now.kind (path_view entry.now.parts.items) entered 0 path.now }
+{
+    let mut used = 0;
+    for (at, step) in path.iter().enumerate() {
+        match step {
+            Step::Key(key) => match entry.parts.get(used) {
+                Some(part) if part.as_str() == *key => used += 1,
+                Some(_) => return Aim::Elsewhere,
+                None => return at_end(entry.kind),
+            },
+            Step::Position(_) if at < entered => {}
+            Step::Position(position) => {
+                if used < entry.parts.len() {
+                    return Aim::Elsewhere;
+                }
+                return at_position(entry.kind, at + 1, *position);
+            }
+        }
+    }
+    Aim::Brings
+}
+
+/// What an expression has to do with a path that goes on by a key behind the expression's own.
+fn at_end(kind: Kind) -> Aim {
+    match kind {
+        Kind::Pair => Aim::Brings,
+        Kind::Table | Kind::Element => Aim::Elsewhere,
+    }
+}
+
+/// The same, where the path goes on by a position.
+fn at_position(kind: Kind, steps: usize, position: usize) -> Aim {
+    match kind {
+        Kind::Pair => Aim::Brings,
+        Kind::Element => Aim::Counts { steps, position },
+        Kind::Table => Aim::Elsewhere,
+    }
+}
+
+/// The cursor of a path behind one more expression, or none where it brings what stands there.
+pub(crate) fn turned(cursor: Cursor, entry: &Entry, path: &[Step]) -> Option<Cursor>
+    ensures { turn entry.now.kind (path_view entry.now.parts.items) (marks_at cursor path.now)
+        ≡ option_map_or (λ next. missing (marks_at next path.now)) result seen }
+{
+    match aim_of(entry, path, cursor.entered) {
+        Aim::Elsewhere => Some(cursor),
+        Aim::Brings => None,
+        Aim::Counts { position, .. } if cursor.count < position => Some(Cursor {
+            entered: cursor.entered,
+            count: cursor.count + 1,
+        }),
+        Aim::Counts { steps, .. } if steps == path.len() => None,
+        Aim::Counts { steps, .. } => Some(Cursor {
+            entered: steps,
+            count: 0,
+        }),
+    }
+}
