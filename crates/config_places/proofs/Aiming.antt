@@ -1,18 +1,21 @@
 -- What an entry does to a path, by what the code finds of its key and the path.
-use Rattle.std.proofs.Common.{◌≡◌, ℕ, zero, suc, ◌+◌, ◌-◌, ◌<◌, ◌≤◌, Bool, true, false, cond, ◌==◌, List, [], ◌∷◌, length, Bor, refl, sym, ap, ◌∙◌, inl, inr, arith, add-one, nat_lt}
+use Rattle.std.proofs.Common.{◌≡◌, ℕ, zero, suc, ◌+◌, ◌-◌, ◌<◌, ◌≤◌, Bool, true, false, cond, ◌==◌, List, [], ◌∷◌, length, get_or, drop, String, Global, string_bytes, Bor, refl, sym, ap, ◌∙◌, inl, inr, arith, add-one, nat_lt}
 use Rattle.std.proofs.lemmas.Bool.{cases_Bool, cases_lt}
 use Rattle.std.proofs.lemmas.Bool.Decides.{nat_tests}
+use Rattle.std.proofs.lemmas.List.{drop_all, drop_more}
 use Rattle.std.specs.Str.{bytes_eq}
+use Rattle.toml_parser.specs.Reading.{path_view}
 use Rattle.config_places.specs.declared.entry.Aim.{Aim}
 use Rattle.config_places.specs.declared.entry.Aim.TheVariants.{Elsewhere, Brings, Counts}
+use Rattle.config_places.specs.declared.entry.Cursor.{Cursor}
 use Rattle.config_places.specs.declared.entry.Entry.{Entry}
 use Rattle.config_places.specs.declared.entry.Kind.{Kind}
 use Rattle.config_places.specs.declared.entry.Kind.TheVariants.{Pair, Table, Element}
 use Rattle.config_places.specs.declared.place.Lines.{Lines}
 use Rattle.config_places.specs.declared.step.Step.{Step}
 use Rattle.config_places.specs.declared.step.Step.TheVariants.{Key, Position}
-use Rattle.config_places.specs.Entries.{found, scan, marks, aim_along, aim_at_key, aim_at_position}
-use Rattle.config_places.specs.Marks.{State, by_key, into, seen, never, missing, under, fresh, next_element, turn}
+use Rattle.config_places.specs.Entries.{found, waits, outcome_of, scan, marks, marks_at, aim_along, aim_at_key, aim_at_position}
+use Rattle.config_places.specs.Marks.{Mark, State, by_key, into, seen, never, missing, under, fresh, next_element, turn}
 
 not_below : (m n : ℕ) → n ≤ m → nat_lt m n ≡ false
 not_below m n h = grind (arith, nat_tests)
@@ -172,8 +175,8 @@ turn_is kind [] entered count at (Position i ∷ path) =
           let rest = ap (under (into zero)) (turn_is kind [] entered count (suc at) path) in
           let aimed = entered_aim entered count at i path (aim_along kind [] entered (suc at) path) (below_is at entered here)
           (λ steps j is. less_more at steps (counts_later kind [] entered (suc at) path steps j is)) in
-          rw here (rest ∙ rw here at aimed)
-      | inr ahead ↦ rw ahead (rw ahead at (at_end kind entered count at i path ahead))
+          rw here (rest ∙ aimed)
+      | inr ahead ↦ rw ahead (at_end kind entered count at i path ahead)
     ]
 turn_is kind (p ∷ ps) entered count at (Position i ∷ path) =
     elim (cases_Bool (nat_lt at entered)) [
@@ -182,8 +185,8 @@ turn_is kind (p ∷ ps) entered count at (Position i ∷ path) =
           let aimed = entered_aim entered count at i path (aim_along kind (p ∷ ps) entered (suc at) path)
           (below_is at entered here)
           (λ steps j is. less_more at steps (counts_later kind (p ∷ ps) entered (suc at) path steps j is)) in
-          rw here (rest ∙ rw here at aimed)
-      | inr ahead ↦ rw ahead refl
+          rw here (rest ∙ aimed)
+      | inr ahead ↦ rw ahead (rw ahead refl)
     ]
 
 -- a cursor, by what the code finds
@@ -218,6 +221,67 @@ module _ (kind : Kind) (parts : List (List ℕ)) (entered count : ℕ) (path : L
       turned_counts steps i is ∙ rw (not_below count i enough, other) refl
 
 -- entries behind what is found
-pub scan_found : (entries : List Entry) (lines : Lines) → scan entries (found lines) ≡ found lines
+scan_found : (entries : List Entry) (lines : Lines) → scan entries (found lines) ≡ found lines
 scan_found [] lines = refl
 scan_found (e ∷ entries) lines = scan_found entries lines
+
+scan_next : (entry : Entry) (entries : List Entry) (ms : List Mark)
+    → turn entry.kind (path_view entry.parts.items) ms ≡ seen → scan (entry ∷ entries) (waits ms) ≡ found entry.lines
+scan_next entry entries ms brings =
+    ap (λ s. scan entries (outcome_of entry.lines ms s)) brings ∙ scan_found entries entry.lines
+
+pub found_at : (entries : List Entry) (i : ℕ) (entry : Entry) (cursor : Cursor) (path : List Step) → i < length entries
+    → entry ≡ get_or entries i entry
+    → turn entry.kind (path_view entry.parts.items) (marks_at cursor path) ≡ seen
+    → scan (drop i entries) (waits (marks_at cursor path)) ≡ found entry.lines
+found_at entries i entry cursor path h is brings =
+    let this : get_or entries i entry ≡ entry = sym is in
+    rw (drop_more entries i entry h, this) (scan_next entry (drop (i + 1) entries) (marks_at cursor path) brings)
+
+-- the next step of a path, and the next part of a key
+same_aim : (kind : Kind) (parts : List (List ℕ)) (entered at i : ℕ) (path : List Step) → at < entered
+    → aim_along kind parts entered (suc at) path ≡ aim_along kind parts entered at (Position i ∷ path)
+same_aim kind [] entered at i path here = rw (is_below at entered here) refl
+same_aim kind (p ∷ ps) entered at i path here = rw (is_below at entered here) refl
+
+module _ (kind : Kind) (parts : List (String Global)) (used entered at : ℕ) (path : List Step) (d : Step)
+    (more : at < length path) where
+  pub at_part : (k : Bor (List ℕ)) (s : String Global) → get_or path at d ≡ Key k → used < length parts
+      → s ≡ get_or parts used s → bytes_eq k.now (string_bytes s) ≡ true
+      → aim_along kind (path_view (drop (used + 1) parts)) entered (at + 1) (drop (at + 1) path)
+      ≡ aim_along kind (path_view (drop used parts)) entered at (drop at path)
+  at_part k s is there part same =
+      let this : get_or parts used s ≡ s = sym part in
+      let next : at + 1 ≡ suc at = add-one at in
+      rw (drop_more path at d more, is, drop_more parts used s there, this, same, next) refl
+
+  pub at_other : (k : Bor (List ℕ)) (s : String Global) → get_or path at d ≡ Key k → used < length parts
+      → s ≡ get_or parts used s → bytes_eq k.now (string_bytes s) ≡ false
+      → aim_along kind (path_view (drop used parts)) entered at (drop at path) ≡ Elsewhere
+  at_other k s is there part other =
+      let this : get_or parts used s ≡ s = sym part in
+      rw (drop_more path at d more, is, drop_more parts used s there, this, other) refl
+
+  pub at_no_part : (k : Bor (List ℕ)) → get_or path at d ≡ Key k → length parts ≤ used
+      → aim_along kind (path_view (drop used parts)) entered at (drop at path) ≡ aim_at_key kind
+  at_no_part k is none = rw (drop_more path at d more, is, drop_all used parts none) refl
+
+  pub at_entered : (i : ℕ) → get_or path at d ≡ Position i → at < entered
+      → aim_along kind (path_view (drop used parts)) entered (at + 1) (drop (at + 1) path)
+      ≡ aim_along kind (path_view (drop used parts)) entered at (drop at path)
+  at_entered i is here =
+      let next : at + 1 ≡ suc at = add-one at in
+      rw (drop_more path at d more, is, next) (same_aim kind (path_view (drop used parts)) entered at i
+      (drop (suc at) path) here)
+
+  pub at_ahead : (s : String Global) (i : ℕ) → get_or path at d ≡ Position i → used < length parts
+      → s ≡ get_or parts used s → entered ≤ at
+      → aim_along kind (path_view (drop used parts)) entered at (drop at path) ≡ Elsewhere
+  at_ahead s i is there part ahead =
+      rw (drop_more path at d more, is, drop_more parts used s there, not_below at entered ahead) refl
+
+  pub at_last : (i : ℕ) → get_or path at d ≡ Position i → length parts ≤ used → entered ≤ at
+      → aim_along kind (path_view (drop used parts)) entered at (drop at path) ≡ aim_at_position kind (at + 1) i
+  at_last i is none ahead =
+      let next : at + 1 ≡ suc at = add-one at in
+      rw (drop_more path at d more, is, drop_all used parts none, not_below at entered ahead, next) refl

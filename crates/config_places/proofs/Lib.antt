@@ -10,3 +10,4 @@ pub mod Turns
 pub mod Tight
 pub mod Walking
 pub mod Aiming
+pub mod Indexed

@@ -1,6 +1,7 @@
 -- No front of a text that ends within an expression's lines is a document.
 use Rattle.std.proofs.Common.{◌≡◌, ℕ, zero, suc, ◌+◌, ◌-◌, ◌<◌, ◌≤◌, Bool, true, false, ◌==◌, List, [], ◌∷◌, ◌++◌, length, Option, Some, None, is_some, unwrap_or, refl, sym, ap, ◌∙◌, subst, inl, inr, arith, append_assoc}
 use Rattle.std.proofs.lemmas.Bool.{cases_Bool, false≢true, true≢false}
+use Rattle.std.proofs.lemmas.Bool.Decides.{nat_tests}
 use Rattle.std.proofs.lemmas.Option.{none-some, same_Some}
 use Rattle.toml_parser.specs.Lexical.{Read, first, skip_blank, skip_from, skip_turn}
 use Rattle.toml.specs.Tables.{Document, Expression}
@@ -36,13 +37,13 @@ grown_lines is_start i j text ends =
 
 after_front : (i j : ℕ) (text : List ℕ) → after_lines i (first_lines (i + j) text) ≡ first_lines j (after_lines i text)
 after_front zero j text = let same : 0 + j ≡ j = omega arith in rw same refl
-after_front (suc i) zero [] = let next : suc i + 0 ≡ suc i = omega arith in rw next refl
-after_front (suc i) (suc j) [] = let next : suc i + suc j ≡ suc (i + suc j) = omega arith in rw next refl
+after_front (suc i) zero [] = let sum : suc i + 0 ≡ suc i = omega arith in rw sum refl
+after_front (suc i) (suc j) [] = let sum : suc i + suc j ≡ suc (i + suc j) = omega arith in rw sum refl
 after_front (suc i) j (c ∷ cs) =
-    let next : suc i + j ≡ suc (i + j) = omega arith in
+    let sum : suc i + j ≡ suc (i + j) = omega arith in
     elim (cases_Bool (c == 10)) [
-      | inl lf ↦ rw (next, lf) (after_front i j cs)
-      | inr other ↦ rw (next, other) (rw next at (after_front (suc i) j cs))
+      | inl lf ↦ rw (sum, lf) (after_front i j cs)
+      | inr other ↦ rw (sum, other) (rw sum at (after_front (suc i) j cs))
     ]
 
 -- where a text that goes on is blank, so is what it goes on with
@@ -106,7 +107,7 @@ read_behind text (suc l) n doc mid front all room =
     let more = first_lines n (after_lines (suc l) text) in
     let both : first_lines (suc l + n) text ≡ a ++ 10 ∷ more =
     lines_join (suc l) n text ∙ rw is (append_assoc a (10 ∷ []) more) in
-    let some : (suc l == 0) ≡ false = refl in
+    let some : (suc l == 0) ≡ false = grind (arith, nat_tests) in
     rw some (split_runs _ _ start doc mid _ _ (bom_grown _ _ (grown_from a more)) (rw is at front) (rw both at all))
 
 line_ends_lf : (text : List ℕ) (low n : ℕ) → 0 < n → low + n < line_count text → EndsLf n (after_lines low text)
@@ -121,7 +122,6 @@ module _ (text : List ℕ) (low count : ℕ) (doc : Document) (expression : Expr
     (over : skip_blank rest ≡ [])
     (begins : skip_blank (read_lines (low == 0) (first_lines 1 (after_lines low text))) ≡ [] → ⊥)
     (ends : skip_blank (after_lines (count - 1) (first_lines count (after_lines low text))) ≡ [] → ⊥) where
-
   -- the first lines are not blank
   begins_later : (k : ℕ) → 0 < k → k < count
       → (length (skip_blank (read_lines (low == 0) (first_lines k (after_lines low text)))) == 0) ≡ false
@@ -144,7 +144,7 @@ module _ (text : List ℕ) (low count : ℕ) (doc : Document) (expression : Expr
       let behind : after_lines k (first_lines count all) ≡ first_lines (count - k) (after_lines k all) =
       rw whole at (after_front k (count - k) all) in
       let last : after_lines (count - 1) (first_lines count all)
-          ≡ after_lines (count - k - 1) (first_lines (count - k) (after_lines k all)) =
+      ≡ after_lines (count - k - 1) (first_lines (count - k) (after_lines k all)) =
       rw (most, behind) at (after_both k (count - k - 1) (first_lines count all)) in
       ends (ap skip_blank last ∙ blank_after (count - k - 1) _ blank)
 
@@ -166,7 +166,7 @@ module _ (text : List ℕ) (low count : ℕ) (doc : Document) (expression : Expr
       let all = after_lines low text in
       let (turns, on) = read_behind text low k doc mid front is (omega (arith, room)) in
       let there = begins_later k some less in
-      let (e, next, m, short, made, behind) = long_turn turns doc mid _ there on in
+      let (e, later, m, short, made, behind) = long_turn turns doc mid _ there on in
       let whole : k + (count - k) ≡ count = omega (arith, less) in
       let few = line_ends_lf text low k some (omega (arith, room, less)) in
       let g = rw whole at (grown_lines (low == 0) k (count - k) all few) in

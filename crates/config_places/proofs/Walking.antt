@@ -33,7 +33,6 @@ use Rattle.config_places.specs.Index.{IsRight, IsWalked}
 use Rattle.config_places.specs.Marks.{Mark, State, seen, never, missing, fresh, turn}
 use Rattle.config_places.specs.Pieces.{IsPiece, is_double}
 use Rattle.config_places.specs.Place.{IsPlaceOfPath, is_there_by, text_has}
-use Rattle.config_places.specs.Search.{ComesBetween}
 use Rattle.config_places.proofs.Nodes.{at_path}
 use Rattle.config_places.proofs.Placing.{place_is}
 use Rattle.config_places.proofs.Standings.{is_seen, state_seen, table_state}
@@ -73,7 +72,7 @@ header_kind x e h is =
         | inr pair ↦
             let (p, pair_is, made) = map_some (λ p. ((p.0.0, key_value p.0.1), p.1)) (keyval (val 80) x) e
             (rw (single, pair) at h) in
-            let value : e.0.1 ≡ key_value p.0.1 = ap (λ e. e.0.1) (sym made) in
+            let value : key_value p.0.1 ≡ e.0.1 = ap (λ e. e.0.1) made in
             elim is [ inl one ↦ absurd (cc) | inr two ↦ absurd (cc) ]
       ]
     ]
@@ -120,7 +119,7 @@ one_turned text low count doc last key front all some room holds begins ends =
           (not_over_long x y goes) there.on in
           let told = line_told x y rest key goes read e long in
           let alone : line (skip_blank (read_lines (low == 0) (first_lines count (after_lines low text))))
-              ≡ Some (e.0, rest) = rw (← there.is_here) told.alone in
+          ≡ Some (e.0, rest) = rw (← there.is_here) told.alone in
           record {
             next = next;
             what = e.0.1;
@@ -218,22 +217,14 @@ scan_last (e ∷ entries) entry o = scan_last entries entry (outcome_behind e o)
 
 module _ (text : List ℕ) (low high : ℕ) (doc next : Document) (path : List Step)
     (front : run (first_lines low text) ≡ Some doc) (read : run (first_lines high text) ≡ Some next)
-    (less : low < high) (within : high ≤ line_count text) (none : NoDocumentBetween text low high)
+    (less : low < high) (none : NoDocumentBetween text low high)
     (here : table_state path next.0 ≡ never → ⊥) where
-
   -- what the lines bring has its place there
   placed : is_seen (table_state path doc.0) ≡ false → is_seen (table_state path next.0) ≡ true
       → IsPlaceOfPath path text (record { first = low + 1; last = high })
   placed before behind =
-      let document : IsDocument text low = rw (tree_run (first_lines low text) doc front) refl in
-      let between : ComesBetween path text low high = record {
-        order = less;
-        within = within;
-        front = document;
-        missing = there_is text low doc path front ∙ before;
-        there = there_is text high next path read ∙ behind;
-      } in
-      place_is path text low high between none
+      place_is path text low high less (rw (tree_run (first_lines low text) doc front) refl)
+      (there_is text low doc path front ∙ before) (there_is text high next path read ∙ behind) none
 
   by_turn : (ms : List Mark) (s : State) → table_state path doc.0 ≡ missing ms → table_state path next.0 ≡ s
       → Right path text next (outcome_of (record { first = low + 1; last = high }) ms s)
@@ -295,7 +286,7 @@ at_entry text low count entries section entry key here some room holds begins en
       right = λ path more there.
           rw (scan_last entries entry (waits (fresh path)))
           (behind_entry text low (low + count) here.doc goes.next path here.front goes.read (omega (arith, some))
-          (omega (arith, room)) goes.none
+          goes.none
           (not_never path goes.turns goes.next here.last goes.behind goes.on there) entry
           (scan entries (waits (fresh path))) place (rw (kinds, all_parts) at (turns path))
           (here.right path more there));
@@ -316,6 +307,10 @@ walked text low entries section here = record {
       right_by path text low here.doc (scan entries (waits (fresh path))) here.front
       (here.right path more (sym (text_is text here.last path here.all) ∙ has));
 }
+
+pub not_empty : (text : List ℕ) → (length text == 0) ≡ false → text ≡ [] → ⊥
+not_empty [] some none = absurd (true≢false some)
+not_empty (c ∷ cs) some none = absurd (cc)
 
 -- a piece, as it is found behind some lines
 module _ (text rest : List ℕ) (low : ℕ) (piece : Piece) (entries : List Entry) (section : List (List ℕ))

@@ -3,7 +3,7 @@ ghost use Rattle.std.specs.Prelude.{◌≡◌};
 ghost use Rattle.std.specs.Option.{option_map_or};
 ghost use Rattle.toml_parser.specs.Reading.{path_view};
 ghost use Rattle.config_places.specs.Marks.{missing, seen, turn};
-ghost use Rattle.config_places.specs.Entries.{aim_along, marks_at};
+ghost use Rattle.config_places.specs.Entries.{aim_along, aim_at_key, aim_at_position, marks_at};
 
 use crate::place::Lines;
 use crate::step::Step;
@@ -53,45 +53,47 @@ enum Aim {
     },
 }
 
-/// What an expression has to do with a path of which so many steps are entered.
-fn aim_of(entry: &Entry, path: &[Step], entered: usize) -> Aim
-    ensures { result
-        ≡ aim_along entry.now.kind (path_view entry.now.parts.items) entered 0 path.now }
+/// What an expression, by its kind and the parts of its key, has to do with a path of which so many
+/// steps are entered.
+fn aim_of(kind: Kind, parts: &[String], path: &[Step], entered: usize) -> Aim
+    ensures { result ≡ aim_along kind (path_view parts.now) entered 0 path.now }
 {
     let mut used = 0;
     for (at, step) in path.iter().enumerate() {
         match step {
-            Step::Key(key) => match entry.parts.get(used) {
-                Some(part) if part.as_str() == *key => used += 1,
+            Step::Key(key) => match parts.get(used) {
+                Some(part) if *key == part.as_str() => used += 1,
                 Some(_) => return Aim::Elsewhere,
-                None => return at_end(entry.kind),
+                None => return at_key(kind),
             },
             Step::Position(_) if at < entered => {}
-            Step::Position(position) => {
-                if used < entry.parts.len() {
-                    return Aim::Elsewhere;
-                }
-                return at_position(entry.kind, at + 1, *position);
-            }
+            Step::Position(position) => match parts.get(used) {
+                Some(_) => return Aim::Elsewhere,
+                None => return at_position(kind, at + 1, *position),
+            },
         }
     }
     Aim::Brings
 }
 
 /// What an expression has to do with a path that goes on by a key behind the expression's own.
-fn at_end(kind: Kind) -> Aim {
+fn at_key(kind: Kind) -> Aim
+    ensures { result ≡ aim_at_key kind }
+{
     match kind {
         Kind::Pair => Aim::Brings,
         Kind::Table | Kind::Element => Aim::Elsewhere,
     }
 }
 
-/// The same, where the path goes on by a position.
-fn at_position(kind: Kind, steps: usize, position: usize) -> Aim {
+/// The same, where the path goes on by a position, with so many steps up to it.
+fn at_position(kind: Kind, steps: usize, position: usize) -> Aim
+    ensures { result ≡ aim_at_position kind steps position }
+{
     match kind {
         Kind::Pair => Aim::Brings,
-        Kind::Element => Aim::Counts { steps, position },
         Kind::Table => Aim::Elsewhere,
+        Kind::Element => Aim::Counts { steps, position },
     }
 }
 
@@ -100,17 +102,21 @@ pub(crate) fn turned(cursor: Cursor, entry: &Entry, path: &[Step]) -> Option<Cur
     ensures { turn entry.now.kind (path_view entry.now.parts.items) (marks_at cursor path.now)
         ≡ option_map_or (λ next. missing (marks_at next path.now)) result seen }
 {
-    match aim_of(entry, path, cursor.entered) {
+    match aim_of(entry.kind, &entry.parts, path, cursor.entered) {
         Aim::Elsewhere => Some(cursor),
         Aim::Brings => None,
-        Aim::Counts { position, .. } if cursor.count < position => Some(Cursor {
-            entered: cursor.entered,
-            count: cursor.count + 1,
-        }),
-        Aim::Counts { steps, .. } if steps == path.len() => None,
-        Aim::Counts { steps, .. } => Some(Cursor {
-            entered: steps,
-            count: 0,
-        }),
+        Aim::Counts { steps, position } => {
+            if cursor.count < position {
+                let count = cursor.count + 1;
+                Some(Cursor { count, ..cursor })
+            } else if steps == path.len() {
+                None
+            } else {
+                Some(Cursor {
+                    entered: steps,
+                    count: 0,
+                })
+            }
+        }
     }
 }

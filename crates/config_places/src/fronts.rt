@@ -127,9 +127,10 @@ pub(crate) fn fronts_behind(
     requires { low < line_count fronts.now }
     ensures { IfOk result (λ found. AreFronts fronts.now low found.0.items found.1) }
 {
+    let count = fronts.count();
     let mut found = Vec::new(alloc);
     let mut high = low;
-    'up: for last in low + 1..fronts.count() {
+    'up: for last in low + 1..count {
         if let Some(document) = document_of(alloc, fronts.front(last))? {
             let lines = Lines {
                 first: high + 1,
@@ -141,7 +142,7 @@ pub(crate) fn fronts_behind(
     }
     let rest = Lines {
         first: high + 1,
-        last: fronts.count(),
+        last: count,
     };
     Ok((found, rest))
 }

@@ -5,5 +5,5 @@ use Rattle.config_places.proofs.entry.aim_of.Given as goal
 
 abbrev pub invariant-loop-at : goal.invariant-loop-at
 invariant-loop-at l =
-    aim_along l.entry.kind (path_view (drop l.used l.entry.parts.items)) l.entered l.at (drop l.at l.path)
-    ≡ aim_along l.entry.kind (path_view l.entry.parts.items) l.entered 0 l.path
+    aim_along l.kind (path_view (drop l.used l.parts)) l.entered l.at (drop l.at l.path)
+    ≡ aim_along l.kind (path_view l.parts) l.entered 0 l.path
