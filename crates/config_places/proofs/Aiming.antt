@@ -1,5 +1,5 @@
 -- What an entry does to a path, by what the code finds of its key and the path.
-use Rattle.std.proofs.Common.{◌≡◌, ℕ, zero, suc, ◌+◌, ◌-◌, ◌<◌, ◌≤◌, Bool, true, false, cond, ◌==◌, List, [], ◌∷◌, length, get_or, drop, String, Global, string_bytes, Bor, refl, sym, ap, ◌∙◌, inl, inr, arith, add-one, nat_lt}
+use Rattle.std.proofs.Common.{◌≡◌, ℕ, zero, suc, ◌+◌, ◌-◌, ◌<◌, ◌≤◌, true, false, cond, ◌==◌, List, [], ◌∷◌, length, get_or, drop, String, Global, string_bytes, Bor, refl, sym, ap, ◌∙◌, inl, inr, arith, add-one, nat_lt}
 use Rattle.std.proofs.lemmas.Bool.{cases_Bool, cases_lt}
 use Rattle.std.proofs.lemmas.Bool.Decides.{nat_tests}
 use Rattle.std.proofs.lemmas.List.{drop_all, drop_more}
@@ -15,7 +15,7 @@ use Rattle.config_places.specs.declared.place.Lines.{Lines}
 use Rattle.config_places.specs.declared.step.Step.{Step}
 use Rattle.config_places.specs.declared.step.Step.TheVariants.{Key, Position}
 use Rattle.config_places.specs.Entries.{found, waits, outcome_of, scan, marks, marks_at, aim_along, aim_at_key, aim_at_position}
-use Rattle.config_places.specs.Marks.{Mark, State, by_key, into, seen, never, missing, under, fresh, next_element, turn}
+use Rattle.config_places.specs.Marks.{Mark, State, by_key, into, seen, missing, under, fresh, next_element, turn}
 
 not_below : (m n : ℕ) → n ≤ m → nat_lt m n ≡ false
 not_below m n h = grind (arith, nat_tests)

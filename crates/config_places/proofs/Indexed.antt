@@ -1,7 +1,6 @@
 -- The places that an index of a text tells.
-use Rattle.std.proofs.Common.{◌≡◌, ℕ, zero, suc, ◌+◌, ◌<◌, ◌≤◌, Bool, true, false, ◌==◌, List, [], ◌∷◌, ◌++◌, length, Option, Some, None, MatchOption, unwrap_or, refl, sym, ap, ◌∙◌, subst, inl, inr, arith, add-one}
+use Rattle.std.proofs.Common.{◌≡◌, ℕ, zero, suc, ◌+◌, ◌<◌, ◌≤◌, true, false, ◌==◌, List, [], ◌∷◌, ◌++◌, length, Option, Some, None, MatchOption, unwrap_or, refl, sym, ap, ◌∙◌, subst, inl, inr, arith, add-one}
 use Rattle.std.proofs.lemmas.Bool.{cases_Bool, cases_lt, true≢false}
-use Rattle.std.specs.Option.{option_map_or}
 use Rattle.nextest_tree.specs.View.{tree_view}
 use Rattle.nextest_documents.specs.Text.{tree_of}
 use Rattle.nextest_script_order.specs.Lines.{first_lines, line_count}
@@ -12,7 +11,7 @@ use Rattle.config_places.specs.declared.index.Index.{Index}
 use Rattle.config_places.specs.declared.place.Lines.{Lines}
 use Rattle.config_places.specs.declared.step.Step.{Step}
 use Rattle.config_places.specs.Entries.{IsWaiting, Outcome, found, scan, waits}
-use Rattle.config_places.specs.Index.{AreFronts, IsIndex, IsIndexed, IsRight, LeadsTo, first_with}
+use Rattle.config_places.specs.Index.{AreFronts, IsIndexed, IsRight, LeadsTo, first_with}
 use Rattle.config_places.specs.Marks.{fresh}
 use Rattle.config_places.specs.Path.{has_path}
 use Rattle.config_places.specs.Place.{IsPlaceOfPath, is_there_by, text_has}

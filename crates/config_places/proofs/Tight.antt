@@ -1,14 +1,14 @@
 -- No front of a text that ends within an expression's lines is a document.
-use Rattle.std.proofs.Common.{◌≡◌, ℕ, zero, suc, ◌+◌, ◌-◌, ◌<◌, ◌≤◌, Bool, true, false, ◌==◌, List, [], ◌∷◌, ◌++◌, length, Option, Some, None, is_some, unwrap_or, refl, sym, ap, ◌∙◌, subst, inl, inr, arith, append_assoc}
-use Rattle.std.proofs.lemmas.Bool.{cases_Bool, false≢true, true≢false}
+use Rattle.std.proofs.Common.{◌≡◌, ℕ, zero, suc, ◌+◌, ◌-◌, ◌<◌, Bool, true, false, ◌==◌, List, [], ◌∷◌, ◌++◌, length, Option, Some, None, is_some, unwrap_or, refl, sym, ap, ◌∙◌, inl, inr, arith, append_assoc}
+use Rattle.std.proofs.lemmas.Bool.{cases_Bool, true≢false}
 use Rattle.std.proofs.lemmas.Bool.Decides.{nat_tests}
-use Rattle.std.proofs.lemmas.Option.{none-some, same_Some}
-use Rattle.toml_parser.specs.Lexical.{Read, first, skip_blank, skip_from, skip_turn}
+use Rattle.std.proofs.lemmas.Option.{same_Some}
+use Rattle.toml_parser.specs.Lexical.{first, skip_blank, skip_from, skip_turn}
 use Rattle.toml.specs.Tables.{Document, Expression}
-use Rattle.toml.specs.Parse.{line, lines, skip_bom}
+use Rattle.toml.specs.Parse.{line, lines}
 use Rattle.nextest_tree.specs.Node.{Node}
 use Rattle.nextest_documents.specs.Text.{tree_of}
-use Rattle.nextest_script_order.specs.Lines.{after_lines, first_lines, line_count, line_ends}
+use Rattle.nextest_script_order.specs.Lines.{after_lines, first_lines, line_count}
 use Rattle.nextest_script_order.specs.Search.{NoDocumentBetween}
 use Rattle.nextest_script_order.specs.Walking.{read_lines}
 use Rattle.nextest_script_order.proofs.Documents.{bom_grown, grown_from, not_over_long}

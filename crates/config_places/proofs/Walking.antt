@@ -1,11 +1,11 @@
 -- The entries of a text, piece by piece.
-use Rattle.std.proofs.Common.{◌≡◌, ◌⊎◌, ℕ, suc, ◌+◌, ◌-◌, ◌<◌, ◌≤◌, Bool, true, false, ◌==◌, ◌&&◌, if◌then◌else◌, List, [], ◌∷◌, ◌++◌, length, slice_index, drop, Option, Some, None, is_some, option_and_then, option_map, refl, sym, ap, ◌∙◌, subst, inl, inr, arith, add-one, cond}
+use Rattle.std.proofs.Common.{◌≡◌, ◌⊎◌, ℕ, suc, ◌+◌, ◌-◌, ◌<◌, ◌≤◌, Bool, true, false, ◌==◌, List, [], ◌∷◌, ◌++◌, length, drop, Some, None, option_and_then, option_map, refl, sym, ap, ◌∙◌, subst, inl, inr, arith, cond}
 use Rattle.std.proofs.lemmas.Bool.{cases_Bool, false≢true, true≢false}
-use Rattle.std.proofs.lemmas.Option.{none-some, same_Some}
+use Rattle.std.proofs.lemmas.Option.{none-some}
 use Rattle.toml_parser.specs.Lexical.{Read, first, skip_blank, skip_ws}
 use Rattle.toml_parser.specs.Reading.{path_view}
 use Rattle.toml_parser.specs.Strings.{Key as Written}
-use Rattle.toml.specs.Data.{table}
+use Rattle.toml.specs.Data.{Data, table}
 use Rattle.toml.specs.Tables.{Definition, key_value, std_table, array_table, Document, Expression, close, define, header, open_table}
 use Rattle.toml.specs.Parse.{after_byte, ends_line, expression, header_key, keyval, line, lines, skip_bom, val}
 use Rattle.nextest_script_order.specs.Contents.{HoldsOne, definition_view}
@@ -24,7 +24,6 @@ use Rattle.nextest_script_order.proofs.Told.{IsKind, key_of_end, line_told}
 use Rattle.nextest_script_order.proofs.Walked.{after_both, ahead, blank_goes, document_run, long_turn, one_turn, run, start, start_run, step_room, step_shorter, tree_run}
 use Rattle.nextest_script_order.specs.declared.expression.Definition.{Definition as Defined}
 use Rattle.config_places.specs.declared.entry.Entry.{Entry}
-use Rattle.config_places.specs.declared.entry.Kind.{Kind}
 use Rattle.config_places.specs.declared.piece.Piece.{Piece}
 use Rattle.config_places.specs.declared.step.Step.{Step}
 use Rattle.config_places.specs.declared.step.Step.TheVariants.{Key, Position}
@@ -54,6 +53,11 @@ unfolding line
 expression_is x e h = line_is (expression x) e h
 
 -- the kind of an expression, by how its line begins
+pair_alone : (key : Written) (p : Data) (rest : List ℕ) (e : Expression × List ℕ) → ((key, key_value p), rest) ≡ e
+    → (e.0.1 ≡ std_table) ⊎ (e.0.1 ≡ array_table) → ⊥
+pair_alone key p rest e made (inl is) = let value = ap (λ e. e.0.1) made in absurd (cc)
+pair_alone key p rest e made (inr is) = let value = ap (λ e. e.0.1) made in absurd (cc)
+
 header_kind : (x : List ℕ) (e : Expression × List ℕ) → expression x ≡ Some e
     → (e.0.1 ≡ std_table) ⊎ (e.0.1 ≡ array_table) → kind_of e.0.1 ≡ kind_in true (is_double x)
 unfolding expression
@@ -72,8 +76,7 @@ header_kind x e h is =
         | inr pair ↦
             let (p, pair_is, made) = map_some (λ p. ((p.0.0, key_value p.0.1), p.1)) (keyval (val 80) x) e
             (rw (single, pair) at h) in
-            let value : key_value p.0.1 ≡ e.0.1 = ap (λ e. e.0.1) made in
-            elim is [ inl one ↦ absurd (cc) | inr two ↦ absurd (cc) ]
+            absurd (pair_alone p.0.0 p.0.1 p.1 e made is)
       ]
     ]
 

@@ -1,5 +1,5 @@
 -- How a path stands to the expressions of a text that were read by now.
-use Rattle.std.specs.Prelude.{ℕ, zero, suc, Bool, if◌then◌else◌, List, [], ◌∷◌}
+use Rattle.std.specs.Prelude.{ℕ, zero, suc, if◌then◌else◌, List, [], ◌∷◌}
 use Rattle.std.specs.Str.{bytes_eq}
 use Rattle.config_places.specs.declared.entry.Kind.{Kind}
 use Rattle.config_places.specs.declared.entry.Kind.TheVariants.{Pair, Table, Element}

@@ -1,5 +1,5 @@
 use Rattle.std.proofs.Common.{◌∙◌, sym}
-use Rattle.config_places.proofs.Aiming.{at_ahead, at_entered, at_last, at_no_part, at_other, at_part}
+use Rattle.config_places.proofs.Aiming.{at_entered, at_no_part, at_other, at_part}
 use Rattle.config_places.proofs.entry.aim_of.Goals.{in-Key+in-Some, in-Position}
 use Rattle.config_places.proofs.entry.aim_of.Goals as goal
 
