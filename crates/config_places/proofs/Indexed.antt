@@ -5,13 +5,13 @@ use Rattle.nextest_tree.specs.View.{tree_view}
 use Rattle.nextest_documents.specs.Text.{tree_of}
 use Rattle.nextest_script_order.specs.Lines.{first_lines, line_count}
 use Rattle.nextest_script_order.specs.Search.{IsDocument, NoDocumentBetween}
-use Rattle.nextest_script_order.proofs.Keeping.{all_lines, some_line}
+use Rattle.nextest_script_order.proofs.Keeping.{all_lines}
 use Rattle.config_places.specs.declared.fronts.Front.{Front}
 use Rattle.config_places.specs.declared.index.Index.{Index}
 use Rattle.config_places.specs.declared.place.Lines.{Lines}
 use Rattle.config_places.specs.declared.step.Step.{Step}
 use Rattle.config_places.specs.Entries.{IsWaiting, Outcome, found, scan, waits}
-use Rattle.config_places.specs.Index.{AreFronts, IsIndexed, IsRight, LeadsTo, first_with}
+use Rattle.config_places.specs.Index.{IsIndexed, IsRight, LeadToEnd, LeadsTo, first_with}
 use Rattle.config_places.specs.Marks.{fresh}
 use Rattle.config_places.specs.Path.{has_path}
 use Rattle.config_places.specs.Place.{IsPlaceOfPath, is_there_by, text_has}
@@ -27,11 +27,6 @@ lines_of_lines (suc k) (suc n) (c ∷ cs) h =
       | inl lf ↦ rw lf (ap (λ t. c ∷ t) (lines_of_lines k n cs (omega (arith, h))))
       | inr other ↦ rw other (ap (λ t. c ∷ t) (lines_of_lines (suc k) (suc n) cs h))
     ]
-
-pub front_some : (n : ℕ) (text : List ℕ) → 0 < n → n ≤ line_count text → 0 < line_count (first_lines n text)
-front_some zero text some within = absurd (omega (arith, some))
-front_some (suc n) [] some within = absurd (omega (arith, within))
-front_some (suc n) (c ∷ cs) some within = some_line c _ 0
 
 -- one more front
 pub leads_more : (text : List ℕ) (low : ℕ) (fronts : List Front) (high : ℕ) (front : Front)
@@ -85,7 +80,7 @@ module _ (path : List Step) (text : List ℕ) where
       front_brings high rest first less document missing there none
   in_rest (Some lines) high rest first less none there place = place
 
-  pub behind_entries : (low : ℕ) (fronts : List Front) (rest : Lines) → AreFronts text low fronts rest
+  behind_entries : (low : ℕ) (fronts : List Front) (rest : Lines) → LeadToEnd text low fronts rest
       → IsDocument text low → is_there_by path text low ≡ false → text_has path text ≡ true
       → IsPlaceOfPath path text (unwrap_or (first_with path fronts) rest)
   behind_entries low fronts rest are document missing has =
@@ -134,11 +129,22 @@ module _ (path : List Step) (some : (length path == 0) ≡ false) (text : List �
   waiting (found lines) none right = absurd none
   waiting (waits ms) none right = right
 
-  pub place_by_fronts : IsWaiting (scan index.entries.items (waits (fresh path)))
-      → IsPlaceOfPath path text (unwrap_or (first_with path index.fronts.items) index.rest)
-  place_by_fronts none =
-      whole_place path text is.0 (unwrap_or (first_with path index.fronts.items) index.rest) has_whole
-      (behind_entries path (first_lines is.0 text) is.2.low index.fronts.items index.rest is.2.fronts
-      is.2.walked.front
-      (waiting (scan index.entries.items (waits (fresh path))) none (is.2.walked.right path some has_whole))
-      has_whole)
+  not_there : IsWaiting (scan index.entries.items (waits (fresh path)))
+      → is_there_by path (first_lines is.0 text) is.2.low ≡ false
+  not_there none =
+      waiting (scan index.entries.items (waits (fresh path))) none (is.2.walked.right path some has_whole)
+
+  pub place_by_fronts : IsWaiting (scan index.entries.items (waits (fresh path))) → (rest : Lines)
+      → index.rest ≡ Some rest → IsPlaceOfPath path text (unwrap_or (first_with path index.fronts.items) rest)
+  place_by_fronts none rest left =
+      whole_place path text is.0 (unwrap_or (first_with path index.fronts.items) rest) has_whole
+      (behind_entries path (first_lines is.0 text) is.2.low index.fronts.items rest
+      (rw left at is.2.fronts) is.2.walked.front (not_there none) has_whole)
+
+  -- where no lines are left, an entry brings what stands at the path
+  pub none_left : IsWaiting (scan index.entries.items (waits (fresh path))) → index.rest ≡ None → ⊥
+  none_left none over =
+      let whole = first_lines is.0 text in
+      let low : is.2.low ≡ line_count whole = rw over at is.2.fronts in
+      let all : first_lines (line_count whole) whole ≡ whole = all_lines whole 0 (line_count whole) (omega arith) in
+      true≢false (sym (ap (is_there_by path whole) low ∙ ap (text_has path) all ∙ has_whole) ∙ not_there none)

@@ -1,5 +1,5 @@
 -- No front of a text that ends within an expression's lines is a document.
-use Rattle.std.proofs.Common.{◌≡◌, ℕ, zero, suc, ◌+◌, ◌-◌, ◌<◌, Bool, true, false, ◌==◌, List, [], ◌∷◌, ◌++◌, length, Option, Some, None, is_some, unwrap_or, refl, sym, ap, ◌∙◌, inl, inr, arith, append_assoc}
+use Rattle.std.proofs.Common.{◌≡◌, ℕ, zero, suc, ◌+◌, ◌-◌, ◌<◌, ◌≤◌, Bool, true, false, ◌==◌, List, [], ◌∷◌, ◌++◌, length, Option, Some, None, is_some, unwrap_or, refl, sym, ap, ◌∙◌, inl, inr, arith, append_assoc}
 use Rattle.std.proofs.lemmas.Bool.{cases_Bool, true≢false}
 use Rattle.std.proofs.lemmas.Bool.Decides.{nat_tests}
 use Rattle.std.proofs.lemmas.Option.{same_Some}
@@ -20,7 +20,7 @@ use Rattle.nextest_script_order.proofs.Values.{line_kept}
 use Rattle.nextest_script_order.proofs.Walked.{after_both, document_run, long_turn, run, start, start_run}
 
 -- lines, and more lines behind them
-grown_read : (is_start : Bool) (x y behind : List ℕ) → GoesOn behind x y
+pub grown_read : (is_start : Bool) (x y behind : List ℕ) → GoesOn behind x y
     → GoesOn behind (read_lines is_start x) (read_lines is_start y)
 grown_read true x y behind g = bom_grown x y g
 grown_read false x y behind g = g
@@ -95,7 +95,7 @@ blank_after zero text h = h
 blank_after (suc n) text h = blank_lines n false text h
 
 -- the lines that a document reads behind another one
-read_behind : (text : List ℕ) (low n : ℕ) (doc mid : Document) → run (first_lines low text) ≡ Some doc
+pub read_behind : (text : List ℕ) (low n : ℕ) (doc mid : Document) → run (first_lines low text) ≡ Some doc
     → run (first_lines (low + n) text) ≡ Some mid → low < line_count text
     → (k : ℕ) × (lines k doc (read_lines (low == 0) (first_lines n (after_lines low text))) ≡ Some mid)
 read_behind text zero n doc mid front all room =
@@ -110,14 +110,14 @@ read_behind text (suc l) n doc mid front all room =
     let some : (suc l == 0) ≡ false = grind (arith, nat_tests) in
     rw some (split_runs _ _ start doc mid _ _ (bom_grown _ _ (grown_from a more)) (rw is at front) (rw both at all))
 
-line_ends_lf : (text : List ℕ) (low n : ℕ) → 0 < n → low + n < line_count text → EndsLf n (after_lines low text)
+pub line_ends_lf : (text : List ℕ) (low n : ℕ) → 0 < n → low + n < line_count text → EndsLf n (after_lines low text)
 line_ends_lf text low zero some room = absurd (omega (arith, some))
 line_ends_lf text low (suc m) some room =
     let left = count_after low text 0 0 (omega (arith, room)) in
     ends_lf m 0 (after_lines low text) (omega (arith, room, left))
 
 module _ (text : List ℕ) (low count : ℕ) (doc : Document) (expression : Expression) (rest : List ℕ)
-    (front : run (first_lines low text) ≡ Some doc) (room : low + count < line_count text)
+    (front : run (first_lines low text) ≡ Some doc) (room : low + count ≤ line_count text)
     (alone : line (skip_blank (read_lines (low == 0) (first_lines count (after_lines low text)))) ≡ Some (expression, rest))
     (over : skip_blank rest ≡ [])
     (begins : skip_blank (read_lines (low == 0) (first_lines 1 (after_lines low text))) ≡ [] → ⊥)
@@ -164,7 +164,7 @@ module _ (text : List ℕ) (low count : ℕ) (doc : Document) (expression : Expr
   within_none : (k : ℕ) → 0 < k → k < count → (mid : Document) → run (first_lines (low + k) text) ≡ Some mid → ⊥
   within_none k some less mid is =
       let all = after_lines low text in
-      let (turns, on) = read_behind text low k doc mid front is (omega (arith, room)) in
+      let (turns, on) = read_behind text low k doc mid front is (omega (arith, room, some, less)) in
       let there = begins_later k some less in
       let (e, later, m, short, made, behind) = long_turn turns doc mid _ there on in
       let whole : k + (count - k) ≡ count = omega (arith, less) in

@@ -1,5 +1,5 @@
 -- What an index of a text knows of it.
-use Rattle.std.specs.Prelude.{◌≡◌, ℕ, suc, ◌==◌, ◌<◌, true, false, if◌then◌else◌, List, [], ◌∷◌, length, Option, Some, None}
+use Rattle.std.specs.Prelude.{◌≡◌, ℕ, suc, ◌==◌, ◌<◌, ◌≤◌, true, false, if◌then◌else◌, List, [], ◌∷◌, length, Option, Some, None}
 use Rattle.nextest_tree.specs.View.{tree_view}
 use Rattle.nextest_documents.specs.Text.{tree_of}
 use Rattle.nextest_script_order.specs.Lines.{first_lines, line_count}
@@ -24,7 +24,7 @@ IsRight path text low (waits ms) = is_there_by path text low ≡ false
 -- The entries tell of each path of the text, but the root's, where it is brought by the first `low`
 -- lines, and whether it is.
 pub record IsWalked (text : List ℕ) (entries : List Entry) (low : ℕ) : Type 0 where
-  pub below : low < line_count text
+  pub within : low ≤ line_count text
   pub front : IsDocument text low
   pub right : (path : List Step) → (length path == 0) ≡ false → text_has path text ≡ true
       → IsRight path text low (scan entries (waits (fresh path)))
@@ -41,13 +41,19 @@ LeadsTo text low (front ∷ fronts) high =
 
 -- The fronts are all documents behind `low` lines of a text but the text itself, and `rest` are the
 -- lines that are left.
-pub record AreFronts (text : List ℕ) (low : ℕ) (fronts : List Front) (rest : Lines) : Type 0 where
+pub record LeadToEnd (text : List ℕ) (low : ℕ) (fronts : List Front) (rest : Lines) : Type 0 where
   pub high : ℕ
   pub leads : LeadsTo text low fronts high
   pub none : NoDocumentBetween text high rest.last
   pub first : rest.first ≡ suc high
   pub below : high < rest.last
   pub whole : rest.last ≡ line_count text
+
+-- The fronts are all documents behind `low` lines of a text but the text itself, with the lines that
+-- are left, if any are.
+abbrev pub AreFronts : List ℕ → ℕ → List Front → Option Lines → Type 0
+AreFronts text low fronts None = low ≡ line_count text
+AreFronts text low fronts (Some rest) = LeadToEnd text low fronts rest
 
 -- the lines of the first front that has a path
 abbrev pub first_with : List Step → List Front → Option Lines

@@ -1,5 +1,5 @@
 -- A piece of a text, which is blank or holds one expression.
-use Rattle.std.specs.Prelude.{◌≡◌, ◌-◌, ◌<◌, ◌==◌, ◌&&◌, ℕ, Bool, List, [], slice_index, MatchOption}
+use Rattle.std.specs.Prelude.{◌≡◌, ◌-◌, ◌<◌, ◌==◌, ◌&&◌, ℕ, Bool, List, [], ◌∷◌, ◌++◌, slice_index, MatchOption}
 use Rattle.toml_parser.specs.Lexical.{first, left_bracket, skip_blank}
 use Rattle.nextest_script_order.specs.Contents.{HoldsOne, definition_view}
 use Rattle.nextest_script_order.specs.Lines.{after_lines, first_lines}
@@ -22,3 +22,7 @@ pub record IsPiece (is_start : Bool) (text : List ℕ) (piece : Piece) : Type 0 
 -- a text begins with two brackets
 abbrev pub is_double : List ℕ → Bool
 is_double text = first text == left_bracket && slice_index text 1 == left_bracket
+
+-- where nothing follows the first lines of a text, it ends with a newline
+abbrev pub IsClosed : List ℕ → List ℕ → Type 0
+IsClosed text behind = behind ≡ [] → (a : List ℕ) × (text ≡ a ++ 10 ∷ [])

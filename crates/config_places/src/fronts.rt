@@ -118,17 +118,20 @@ pub(crate) struct Front {
 }
 
 /// The documents that begin with more than the first `low` lines of a text, but the text itself, and
-/// the lines behind them.
+/// the lines behind them, if there are some.
 pub(crate) fn fronts_behind(
     alloc: Global,
     fronts: &Fronts,
     low: usize,
-) -> Result<(Vec<Front>, Lines), AllocError>
-    requires { low < line_count fronts.now }
+) -> Result<(Vec<Front>, Option<Lines>), AllocError>
+    requires { low ≤ line_count fronts.now }
     ensures { IfOk result (λ found. AreFronts fronts.now low found.0.items found.1) }
 {
     let count = fronts.count();
     let mut found = Vec::new(alloc);
+    if low == count {
+        return Ok((found, None));
+    }
     let mut high = low;
     'up: for last in low + 1..count {
         if let Some(document) = document_of(alloc, fronts.front(last))? {
@@ -144,5 +147,5 @@ pub(crate) fn fronts_behind(
         first: high + 1,
         last: count,
     };
-    Ok((found, rest))
+    Ok((found, Some(rest)))
 }

@@ -2,7 +2,6 @@
 ghost use Rattle.std.specs.Prelude.{◌≡◌, ◌<◌, Some, true, IfOk, MatchOption};
 ghost use Rattle.nextest_tree.specs.View.{tree_view};
 ghost use Rattle.nextest_documents.specs.Text.{tree_of};
-ghost use Rattle.nextest_script_order.specs.Lines.{line_count};
 ghost use Rattle.config_places.specs.Entries.{IsWaiting, found, scan, waits};
 ghost use Rattle.config_places.specs.Index.{IsIndex, first_with};
 ghost use Rattle.config_places.specs.Marks.{fresh};
@@ -24,19 +23,18 @@ pub(crate) struct Index {
     pub(crate) entries: Vec<Entry>,
     /// The documents that end behind these, but the last one.
     pub(crate) fronts: Vec<Front>,
-    /// The lines behind them.
-    pub(crate) rest: Lines,
+    /// The lines behind them, if there are some.
+    pub(crate) rest: Option<Lines>,
 }
 
 impl Index {
     /// The index of a text that is a document.
     pub(crate) fn of(alloc: Global, text: &str, document: Tree) -> Result<Index, AllocError>
-        requires some { 0 < line_count text.now }
-        requires document { tree_of text.now ≡ Some (tree_view document) }
+        requires { tree_of text.now ≡ Some (tree_view document) }
         ensures { IfOk result (IsIndex text.now) }
     {
-        let (entries, low) = entries_of(alloc, text)?;
         let fronts = Fronts::of(alloc, text)?;
+        let (entries, low) = entries_of(alloc, text, fronts.count())?;
         let (fronts, rest) = fronts_behind(alloc, &fronts, low)?;
         Ok(Index {
             document,

@@ -3,7 +3,8 @@ ghost use Rattle.std.specs.Prelude.{◌≡◌, ◌==◌, [], length, IfOk, IfSom
 ghost use Rattle.toml_parser.specs.Lexical as lexical;
 ghost use Rattle.nextest_script_order.specs.Walking.{read_lines};
 ghost use Rattle.nextest_script_order.specs.Lines.{first_lines};
-ghost use Rattle.config_places.specs.Pieces.{IsPiece, is_double};
+ghost use Rattle.std.specs.Bool.{OnTrue};
+ghost use Rattle.config_places.specs.Pieces.{IsClosed, IsPiece, is_double};
 
 use nextest_script_order::{
     Content, Definition, content_of, line_count_of, split_lines, without_mark,
@@ -94,4 +95,17 @@ pub(crate) fn begins_element(lines: &str) -> bool
 {
     let start = skip_blank(lines, true);
     first(start) == b'[' && byte_at(start, 1) == b'['
+}
+
+/// Whether text follows the first lines of a text, or else the text ends with a newline.
+pub(crate) fn is_closed(text: &str, behind: &str) -> bool
+    ensures { OnTrue result (IsClosed text.now behind.now) }
+{
+    if !behind.is_empty() {
+        return true;
+    }
+    if text.is_empty() {
+        return false;
+    }
+    byte_at(text, text.len() - 1) == b'\n'
 }

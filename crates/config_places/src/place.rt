@@ -39,8 +39,9 @@ impl<'a> Model for Places<'a> {
 
 impl<'a> Places<'a> {
     /// The places of a text. One that is a document is read once as a whole, and once more
-    /// expression by expression. Of any other its longest front that is a document is so read,
-    /// and to find it each longer one.
+    /// expression by expression. Of any other its longest front that is a document is so read, and
+    /// to find it each longer one. Where the last line has no newline, the fronts that end within
+    /// the last expression are read too.
     pub fn of(alloc: Global, text: &'a str) -> Result<Places<'a>, AllocError>
         ensures { IfOk result (λ places. places ≡ text.now) }
     {
@@ -67,6 +68,7 @@ impl<'a> Places<'a> {
         if let Some(lines) = lines_by_entries(&index.entries, path) {
             return Some(lines);
         }
-        Some(lines_by_fronts(&index.fronts, path).unwrap_or(index.rest))
+        let rest = index.rest?;
+        Some(lines_by_fronts(&index.fronts, path).unwrap_or(rest))
     }
 }

@@ -11,17 +11,21 @@ ghost use Rattle.config_places.specs.Pieces.{is_double};
 ghost use Rattle.config_places.specs.Entries.{kind_in};
 
 use crate::entry::{Entry, Kind};
-use crate::piece::{Piece, begins_element, next_piece};
+use crate::piece::{Piece, begins_element, is_closed, next_piece};
 use crate::place::Lines;
 use nextest_script_order::Definition;
 use std::alloc::{AllocError, Global};
 
-/// The expressions of a document's text, in order, as far as they are read one by one, and the
-/// number of lines that they take.
+/// The expressions of a document's text of so many lines, in order, as far as they are read one by
+/// one, and the number of lines that they take.
 ///
-/// It ends before the last expression, and where an expression is not found by itself.
-pub(crate) fn entries_of(alloc: Global, text: &str) -> Result<(Vec<Entry>, usize), AllocError>
-    requires some { 0 < line_count text.now }
+/// These are all lines, unless the last one has no newline, or an expression is not found by itself.
+pub(crate) fn entries_of(
+    alloc: Global,
+    text: &str,
+    total: usize,
+) -> Result<(Vec<Entry>, usize), AllocError>
+    requires total { total ≡ line_count text.now }
     requires whole { IsDocument text.now (line_count text.now) }
     ensures { IfOk result (λ walked. IsWalked text.now walked.0.items walked.1) }
 {
@@ -29,7 +33,7 @@ pub(crate) fn entries_of(alloc: Global, text: &str) -> Result<(Vec<Entry>, usize
     let mut section = Vec::new(alloc);
     let mut low = 0;
     let mut rest = text;
-    'pieces: loop {
+    'pieces: while !rest.is_empty() {
         let Some(piece) = next_piece(alloc, rest, low == 0)? else {
             return Ok((entries, low));
         };
@@ -42,7 +46,10 @@ pub(crate) fn entries_of(alloc: Global, text: &str) -> Result<(Vec<Entry>, usize
         let Some(high) = low.checked_add(count) else {
             return Ok((entries, low));
         };
-        if behind.is_empty() {
+        if high > total {
+            return Ok((entries, low));
+        }
+        if !is_closed(rest, behind) {
             return Ok((entries, low));
         }
         if let Some(definition) = definition {
@@ -56,6 +63,7 @@ pub(crate) fn entries_of(alloc: Global, text: &str) -> Result<(Vec<Entry>, usize
         low = high;
         rest = behind;
     }
+    Ok((entries, low))
 }
 
 /// The entry of an expression. A header begins the section of the expressions behind it.

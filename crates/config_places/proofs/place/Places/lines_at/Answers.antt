@@ -1,6 +1,6 @@
 use Rattle.std.proofs.Common.{◌∙◌, sym}
 use Rattle.nextest_tree.specs.View.{tree_view}
-use Rattle.config_places.proofs.Indexed.{place_by_entries, place_by_fronts}
+use Rattle.config_places.proofs.Indexed.{none_left, place_by_entries, place_by_fronts}
 use Rattle.config_places.proofs.Placing.{lacking, never}
 use Rattle.config_places.proofs.place.Places.lines_at.Goals as goal
 
@@ -25,10 +25,17 @@ returns-in-Some c =
     c.in_ok-index.index.now is (sym c.has_path.ensures ∙ c.if-not-has_path.false) c.in-Some.lines
     (rw c.deref.ensures.value at c.in-Some.ensures))
 
+pub returns-in_err-rest : goal.returns-in_err-rest
+returns-in_err-rest c =
+    let is = rw (← c.in_ok-index.ensures.value) at c.self.invariant in
+    absurd (none_left c.args.path.now (sym c.is_empty.ensures ∙ c.if-is_empty.false) c.self.inside.text.now
+    c.in_ok-index.index.now is (sym c.has_path.ensures ∙ c.if-not-has_path.false)
+    (rw c.deref.ensures.value at c.in_default.ensures) c.in_err-rest.was)
+
 pub returns : goal.returns
 returns c =
     let is = rw (← c.in_ok-index.ensures.value) at c.self.invariant in
     rw (c.unwrap_or.ensures, c.lines_by_fronts.ensures, c.deref-2.ensures.value, ← c.self.view_is)
     (place_by_fronts c.args.path.now (sym c.is_empty.ensures ∙ c.if-is_empty.false) c.self.inside.text.now
     c.in_ok-index.index.now is (sym c.has_path.ensures ∙ c.if-not-has_path.false)
-    (rw c.deref.ensures.value at c.in_default.ensures))
+    (rw c.deref.ensures.value at c.in_default.ensures) c.in_ok-rest.rest c.in_ok-rest.was)
