@@ -376,14 +376,17 @@ not_short : (text : List ℕ) → (text ≡ [] → ⊥) → 0 < length text
 not_short [] some = absurd (some refl)
 not_short (c ∷ cs) some = omega arith
 
-pub ends_newline : (text : List ℕ) → slice_index text (length text - 1) ≡ 10 → (text ≡ [] → ⊥)
+one_more : (c : ℕ) (text a : List ℕ) → text ≡ a ++ 10 ∷ [] → (b : List ℕ) × (c ∷ text ≡ b ++ 10 ∷ [])
+one_more c text a is = (c ∷ a, ap (λ t. c ∷ t) is)
+
+ends_newline : (text : List ℕ) → slice_index text (length text - 1) ≡ 10 → (text ≡ [] → ⊥)
     → (a : List ℕ) × (text ≡ a ++ 10 ∷ [])
 ends_newline [] is some = absurd (some refl)
 ends_newline (c ∷ []) is some = ([], ap (λ d. d ∷ []) is)
 ends_newline (c ∷ d ∷ cs) is some =
     let less : length (c ∷ d ∷ cs) - 1 ≡ suc (length (d ∷ cs) - 1) = omega arith in
     let (a, same) = ends_newline (d ∷ cs) (rw less at is) (not_empty (d ∷ cs) (more_left d cs)) in
-    (c ∷ a, ap (λ t. c ∷ t) same)
+    one_more c (d ∷ cs) a same
 
 pub closed_by : (text behind : List ℕ) (byte : ℕ) → byte ≡ slice_index text (length text - 1) → (length text == 0) ≡ false
     → OnTrue (byte == 10) (IsClosed text behind)
