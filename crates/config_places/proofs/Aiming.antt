@@ -159,7 +159,8 @@ at_key_end Table entered count at k path = refl
 at_key_end Element entered count at k path = refl
 
 pub turn_is : (kind : Kind) (parts : List (List ℕ)) (entered count at : ℕ) (path : List Step)
-    → turn kind parts (marks entered count at path) ≡ by_aim entered count at path (aim_along kind parts entered at path)
+    → turn kind parts (marks entered count at path)
+    ≡ by_aim entered count at path (aim_along kind parts entered at path)
 turn_is kind [] entered count at [] = refl
 turn_is kind (p ∷ ps) entered count at [] = refl
 turn_is kind [] entered count at (Key k ∷ path) = at_key_end kind entered count at k path
@@ -173,7 +174,8 @@ turn_is kind [] entered count at (Position i ∷ path) =
     elim (cases_Bool (nat_lt at entered)) [
       | inl here ↦
           let rest = ap (under (into zero)) (turn_is kind [] entered count (suc at) path) in
-          let aimed = entered_aim entered count at i path (aim_along kind [] entered (suc at) path) (below_is at entered here)
+          let aimed = entered_aim entered count at i path (aim_along kind [] entered (suc at) path)
+          (below_is at entered here)
           (λ steps j is. less_more at steps (counts_later kind [] entered (suc at) path steps j is)) in
           rw here (rest ∙ aimed)
       | inr ahead ↦ rw ahead (at_end kind entered count at i path ahead)

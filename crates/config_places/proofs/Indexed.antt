@@ -39,7 +39,8 @@ leads_more text low [] high front is first less none document =
 leads_more text low (f ∷ fronts) high front (a, b, c, d, leads) first less none document =
     (a, b, c, d, leads_more text f.lines.last fronts high front leads first less none document)
 
-pub none_further : (text : List ℕ) (low high : ℕ) → NoDocumentBetween text low high → tree_of (first_lines high text) ≡ None
+pub none_further : (text : List ℕ) (low high : ℕ) → NoDocumentBetween text low high
+    → tree_of (first_lines high text) ≡ None
     → NoDocumentBetween text low (high + 1)
 none_further text low high none here n more less =
     elim (cases_lt n high) [

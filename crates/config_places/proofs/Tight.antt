@@ -118,7 +118,8 @@ line_ends_lf text low (suc m) some room =
 
 module _ (text : List ℕ) (low count : ℕ) (doc : Document) (expression : Expression) (rest : List ℕ)
     (front : run (first_lines low text) ≡ Some doc) (room : low + count ≤ line_count text)
-    (alone : line (skip_blank (read_lines (low == 0) (first_lines count (after_lines low text)))) ≡ Some (expression, rest))
+    (alone : line (skip_blank (read_lines (low == 0) (first_lines count (after_lines low text))))
+    ≡ Some (expression, rest))
     (over : skip_blank rest ≡ [])
     (begins : skip_blank (read_lines (low == 0) (first_lines 1 (after_lines low text))) ≡ [] → ⊥)
     (ends : skip_blank (after_lines (count - 1) (first_lines count (after_lines low text))) ≡ [] → ⊥) where

@@ -97,7 +97,8 @@ changed k ns ms y kind parts differ at (Key j ∷ path) =
           rw (after_other kind j.now k parts (state_of path (get_node j.now ns)) other, found) (inl refl)
     ]
 
-origin_free : (origin : Origin) (ns : Nodes) (path : List Step) → state path (open_table origin ns) ≡ table_state path ns
+origin_free : (origin : Origin) (ns : Nodes) (path : List Step)
+    → state path (open_table origin ns) ≡ table_state path ns
 origin_free origin ns [] = refl
 origin_free origin ns (Key k ∷ path) = refl
 origin_free origin ns (Position i ∷ path) = refl
@@ -222,7 +223,8 @@ kind_of std_table = Table
 kind_of array_table = Element
 
 -- the first element of an array
-first_element : (path : List Step) → Fits (next_element zero (fresh path)) (under (into zero) (table_state path no_nodes))
+first_element : (path : List Step)
+    → Fits (next_element zero (fresh path)) (under (into zero) (table_state path no_nodes))
 first_element [] = inl refl
 first_element (Key k ∷ path) = inl refl
 first_element (Position i ∷ path) = inr refl

@@ -152,7 +152,8 @@ blank_end (suc n) doc last y h over = same_Some doc last (rw over at h)
 last_run : (text : List ℕ) (high : ℕ) (next last : Document) → after_lines high text ≡ [] → run text ≡ Some last
     → next ≡ last → run (first_lines high text) ≡ Some next
 last_run text high next last over all is =
-    let whole : first_lines high text ≡ text = sym (append-nil (first_lines high text)) ∙ rw over at (lines_rest high text) in
+    let whole : first_lines high text ≡ text =
+    sym (append-nil (first_lines high text)) ∙ rw over at (lines_rest high text) in
     ap run whole ∙ all ∙ ap Some (sym is)
 
 -- the lines at the end of a text, which end with a newline
@@ -388,7 +389,8 @@ ends_newline (c ∷ d ∷ cs) is some =
     let (a, same) = ends_newline (d ∷ cs) (rw less at is) (not_empty (d ∷ cs) (more_left d cs)) in
     one_more c (d ∷ cs) a same
 
-pub closed_by : (text behind : List ℕ) (byte : ℕ) → byte ≡ slice_index text (length text - 1) → (length text == 0) ≡ false
+pub closed_by : (text behind : List ℕ) (byte : ℕ) → byte ≡ slice_index text (length text - 1)
+    → (length text == 0) ≡ false
     → OnTrue (byte == 10) (IsClosed text behind)
 closed_by text behind byte is some =
     elim (cases_Bool (byte == 10)) [
@@ -426,7 +428,8 @@ module _ (text rest : List ℕ) (low : ℕ) (piece : Piece) (entries : List Entr
   piece_shorter = elim (follows piece.rest.now refl) [
     | inl none ↦ rw none (not_short rest some)
     | inr more ↦ rw piece_is.rest
-        (step_shorter piece.count rest piece_is.some (subst (λ r. after_lines piece.count r ≡ [] → ⊥) (sym rest_is) more))
+        (step_shorter piece.count rest piece_is.some
+        (subst (λ r. after_lines piece.count r ≡ [] → ⊥) (sym rest_is) more))
   ]
 
   pub over_blank : IsAt text low entries section → piece.definition ≡ None

@@ -13,8 +13,8 @@ use Rattle.config_places.specs.declared.step.Step.{Step}
 use Rattle.config_places.specs.declared.step.Step.TheVariants.{Key, Position}
 use Rattle.config_places.specs.Marks.{Mark, State, by_key, into, missing, never, seen, fresh, turn}
 
--- The marks of a path's steps from the one at `at` on, where positions before `entered` lead into last
--- elements, and the array of the first one behind these has so many elements.
+-- The marks of a path's steps from the one at `at` on, where positions before `entered` lead into
+-- last elements, and the array of the first one behind these has so many elements.
 abbrev pub marks : ℕ → ℕ → ℕ → List Step → List Mark
 marks entered count at [] = []
 marks entered count at (Key k ∷ path) = by_key k.now ∷ marks entered count (suc at) path
@@ -62,7 +62,8 @@ outcome_of lines ms (missing more) = waits more
 
 abbrev pub outcome_behind : Entry → Outcome → Outcome
 outcome_behind entry (found lines) = found lines
-outcome_behind entry (waits ms) = outcome_of entry.lines ms (turn entry.kind (path_view entry.parts.items) ms)
+outcome_behind entry (waits ms) =
+    outcome_of entry.lines ms (turn entry.kind (path_view entry.parts.items) ms)
 
 abbrev pub scan : List Entry → Outcome → Outcome
 scan [] outcome = outcome

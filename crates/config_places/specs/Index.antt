@@ -49,8 +49,8 @@ pub record LeadToEnd (text : List ℕ) (low : ℕ) (fronts : List Front) (rest :
   pub below : high < rest.last
   pub whole : rest.last ≡ line_count text
 
--- The fronts are all documents behind `low` lines of a text but the text itself, with the lines that
--- are left, if any are.
+-- The fronts are all documents behind `low` lines of a text but the text itself, with the lines
+-- that are left, if any are.
 abbrev pub AreFronts : List ℕ → ℕ → List Front → Option Lines → Type 0
 AreFronts text low fronts None = low ≡ line_count text
 AreFronts text low fronts (Some rest) = LeadToEnd text low fronts rest

@@ -117,8 +117,8 @@ pub(crate) struct Front {
     pub(crate) document: Tree,
 }
 
-/// The documents that begin with more than the first `low` lines of a text, but the text itself, and
-/// the lines behind them, if there are some.
+/// The documents that the fronts of a text are which have more than `low` lines, without the text
+/// itself, and the lines behind them, if there are some.
 pub(crate) fn fronts_behind(
     alloc: Global,
     fronts: &Fronts,

@@ -19,7 +19,8 @@ use std::alloc::{AllocError, Global};
 /// The expressions of a document's text of so many lines, in order, as far as they are read one by
 /// one, and the number of lines that they take.
 ///
-/// These are all lines, unless the last one has no newline, or an expression is not found by itself.
+/// These are all lines, unless the last one has no newline, or an expression is not found by
+/// itself.
 pub(crate) fn entries_of(
     alloc: Global,
     text: &str,

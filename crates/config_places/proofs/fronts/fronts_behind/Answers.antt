@@ -15,7 +15,8 @@ up-preserved c = elim c.match-branch-2.branch [
         omega (arith, c.up.invariant.0, c.up.invariant.1),
         omega arith,
         none_yet c.args.fronts.now c.up.last,
-        leads_more c.args.fronts.now c.args.low c.up.found.items c.up.high _ c.up.invariant.3 (add-one c.up.high) c.up.invariant.1
+        leads_more c.args.fronts.now c.args.low c.up.found.items c.up.high _ c.up.invariant.3
+            (add-one c.up.high) c.up.invariant.1
             c.up.invariant.2 document,
       )
   | in_default w ↦
