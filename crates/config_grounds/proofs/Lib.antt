@@ -1,0 +1,6 @@
+pub mod Lists
+pub mod Ways
+pub mod Highest
+pub mod LeafPaths
+pub mod Descending
+pub mod Showing

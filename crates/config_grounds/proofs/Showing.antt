@@ -1,0 +1,114 @@
+-- The leaf that a layer shows at a path.
+use Rattle.std.proofs.Common.{◌≡◌, ℕ, zero, suc, ◌<◌, ◌≤◌, true, List, [], ◌∷◌, ◌++◌, length, map, Option, Some, None, option_map, option_and_then, is_some, Bor, refl, sym, ap, ◌∙◌, subst, arith}
+use Rattle.std.proofs.lemmas.List.{append-nil}
+use Rattle.std.proofs.lemmas.Option.{slice_get-map}
+use Rattle.std.specs.List.{AllByRecursion, slice_get}
+use Rattle.nextest_tree.specs.Node.{Node, table, no_entries, get}
+use Rattle.nextest_tree.specs.View.{tree_view}
+use Rattle.nextest_tree.specs.declared.tree.Tree.{Tree}
+use Rattle.nextest_documents.specs.Shown.{Path, Kind, a_table, a_leaf, kind_of, node_at, Hides, by_leaf, by_table, HasLeafAlong}
+use Rattle.config_grounds.specs.Along.{node_along, node_in, leaf_of, leaf_in}
+use Rattle.config_grounds.specs.Grounds.{ShowsLeaf}
+use Rattle.config_grounds.specs.Layers.{layer_view, layers_view, IsShownBy, IsHighest}
+use Rattle.config_grounds.proofs.Lists.{not_behind}
+use Rattle.config_grounds.proofs.Ways.{kinds, leaf_kind, kind_leaf}
+
+-- the layer at a position has a leaf at a path
+abbrev pub HasLeaf : List Node → ℕ → Path → Node → Type 0
+HasLeaf layers i p v = (n : Node) × (slice_get layers i ≡ Some n) × (node_at p n ≡ Some (a_leaf v))
+
+-- what a layer's document has at a path
+abbrev tree_of : Option (Bor Tree) → Option Node
+tree_of layer = option_map (λ tree. tree_view tree.now) layer
+
+leaf_of_layer : (ls : List (Option (Bor Tree))) (i : ℕ) (p : Path) (v : Node) (o : Option (Option (Bor Tree)))
+    → slice_get ls i ≡ o → option_and_then leaf_of (option_and_then (node_along p) (option_and_then tree_of o)) ≡ Some v
+    → HasLeaf (layers_view ls) i p v
+leaf_of_layer ls i p v None at is = cc
+leaf_of_layer ls i p v (Some None) at is = cc
+leaf_of_layer ls i p v (Some (Some tree)) at is = (
+  tree_view tree.now,
+  slice_get-map layer_view ls i ∙ ap (option_map layer_view) at,
+  kinds p (tree_view tree.now) ∙ leaf_kind (node_along p (tree_view tree.now)) v is,
+)
+
+pub has_leaf : (ls : List (Option (Bor Tree))) (i : ℕ) (p : Path) (v : Node) → leaf_in ls i p ≡ Some v
+    → HasLeaf (layers_view ls) i p v
+has_leaf ls i p v is = leaf_of_layer ls i p v (slice_get ls i) refl is
+
+no_leaf : (p : Path) (v : Node) → node_at p (table no_entries) ≡ Some (a_leaf v) → ⊥
+no_leaf [] v at = cc
+no_leaf (k ∷ ks) v at = cc
+
+layer_of_leaf : (ls : List (Option (Bor Tree))) (i : ℕ) (p : Path) (v n : Node) (o : Option (Option (Bor Tree)))
+    → slice_get ls i ≡ o → option_map layer_view o ≡ Some n → node_at p n ≡ Some (a_leaf v)
+    → option_and_then leaf_of (option_and_then (node_along p) (option_and_then tree_of o)) ≡ Some v
+layer_of_leaf ls i p v n None at there leaf = cc
+layer_of_leaf ls i p v n (Some None) at there leaf =
+    let empty : table no_entries ≡ n = cc in absurd (no_leaf p v (ap (node_at p) empty ∙ leaf))
+layer_of_leaf ls i p v n (Some (Some tree)) at there leaf =
+    let same : tree_view tree.now ≡ n = cc in
+    kind_leaf (node_along p (tree_view tree.now)) v
+    (sym (kinds p (tree_view tree.now)) ∙ ap (node_at p) same ∙ leaf)
+
+pub leaf_is : (ls : List (Option (Bor Tree))) (i : ℕ) (p : Path) (v : Node) → HasLeaf (layers_view ls) i p v
+    → leaf_in ls i p ≡ Some v
+leaf_is ls i p v (n, there, leaf) =
+    rw (layer_of_leaf ls i p v n (slice_get ls i) refl (sym (slice_get-map layer_view ls i) ∙ there) leaf) refl
+
+at_split : (below above : List Node) (x : Node) → slice_get (below ++ x ∷ above) (length below) ≡ Some x
+at_split [] above x = refl
+at_split (y ∷ below) above x = at_split below above x
+
+-- a layer that shows a node has it
+pub has_shown_leaf : (layers : List Node) (i : ℕ) (p : Path) (v : Node) → IsShownBy layers p (a_leaf v) i
+    → HasLeaf layers i p v
+has_shown_leaf layers i p v s =
+    let shown = s.shown in (
+      shown.layer,
+      ap (λ j. slice_get layers j) (sym s.position_is) ∙ ap (λ l. slice_get l (length shown.below)) shown.splits
+          ∙ at_split shown.below shown.above shown.layer,
+      shown.there,
+    )
+
+same_kind : (k l : Kind) → Some k ≡ Some l → k ≡ l
+same_kind k l e = cc
+
+-- the highest layer that shows something at a path shows the leaf that it has there
+pub shown_there : (layers : List Node) (i : ℕ) (p : Path) (v : Node) → IsHighest layers p i → HasLeaf layers i p v
+    → IsShownBy layers p (a_leaf v) i
+shown_there layers i p v highest (n, at, leaf) =
+    let s = highest.shown in
+    let shown = s.shown in
+    let there : slice_get layers i ≡ Some shown.layer =
+    ap (λ j. slice_get layers j) (sym s.position_is) ∙ ap (λ l. slice_get l (length shown.below)) shown.splits
+    ∙ at_split shown.below shown.above shown.layer in
+    let same : shown.layer ≡ n = cc in
+    let kind : highest.kind ≡ a_leaf v =
+    same_kind highest.kind (a_leaf v) (sym shown.there ∙ ap (node_at p) same ∙ leaf) in
+    subst (λ k. IsShownBy layers p k i) kind s
+
+-- what stands at the very path of a leaf hides it
+hides_leaf : (p : Path) (n v : Node) (k : Kind) → node_at p n ≡ Some k → Hides n p (a_leaf v)
+hides_leaf p n v a_table at = by_table at
+hides_leaf p n v (a_leaf w) at = by_leaf (record { front = p; rest = []; value = w; splits = sym (append-nil p); leaf = at })
+
+-- no layer above one that shows a leaf shows anything there
+pub none_above : (layers : List Node) (i j : ℕ) (p : Path) (v : Node) (k : Kind) → IsShownBy layers p (a_leaf v) i
+    → IsShownBy layers p k j → j ≤ i
+none_above layers i j p v k s t =
+    let lower = s.shown in
+    let higher = t.shown in
+    let bound = not_behind (λ n. Hides n p (a_leaf v) → ⊥) lower.layer higher.layer lower.above higher.above
+    lower.unhidden (λ unhidden. unhidden (hides_leaf p higher.layer v k higher.there)) lower.below higher.below
+    (sym lower.splits ∙ higher.splits) in
+    let low = s.position_is in
+    let high = t.position_is in
+    omega (arith, bound, low, high)
+
+-- a layer that shows a leaf is the highest that shows something at its path
+pub is_highest : (layers : List Node) (i j : ℕ) (p : Path) → ShowsLeaf layers p i → IsHighest layers p j → j ≡ i
+is_highest layers i j p shows highest =
+    let upper = none_above layers i j p shows.value highest.kind shows.shown highest.shown in
+    let lower = highest.highest (a_leaf shows.value) i shows.shown in
+    omega (arith, upper, lower)

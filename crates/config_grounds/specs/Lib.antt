@@ -1,0 +1,4 @@
+pub mod Layers
+pub mod Along
+pub mod Leaves
+pub mod Grounds
