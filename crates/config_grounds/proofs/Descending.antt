@@ -1,15 +1,16 @@
 -- Positions that descend.
-use Rattle.std.proofs.Common.{◌≡◌, ◌⊎◌, inl, inr, ℕ, zero, suc, ◌<◌, ◌≤◌, List, [], ◌∷◌, ◌++◌, length, Contains, Ordering, Less, nat_cmp, refl, sym, ap, subst, arith}
-use Rattle.std.proofs.lemmas.List.{length-append}
+use Rattle.std.proofs.Common.{◌≡◌, ◌⊎◌, inl, inr, ℕ, zero, suc, ◌<◌, ◌≤◌, List, [], ◌∷◌, ◌++◌, length, Contains, Ordering, Less, nat_cmp, Option, Bor, refl, sym, ap, ◌∙◌, subst, arith}
+use Rattle.std.proofs.lemmas.List.{length-append, length-map}
 use Rattle.std.specs.Cmp.{nat_cmp_is}
 use Rattle.std.proofs.lemmas.List.Elements.{Contains-push, Contains-append_left}
 use Rattle.std.specs.List.{AllByRecursion}
 use Rattle.std.specs.List.Sorted.{IsStrictlySortedBy}
 use Rattle.std.specs.Ordering.{flip_args}
 use Rattle.nextest_tree.specs.Node.{Node}
+use Rattle.nextest_tree.specs.declared.tree.Tree.{Tree}
 use Rattle.nextest_documents.specs.Shown.{Path, Kind, a_leaf}
 use Rattle.config_grounds.specs.Grounds.{ShowsLeafBelow, AreGrounds}
-use Rattle.config_grounds.specs.Layers.{IsShownBy}
+use Rattle.config_grounds.specs.Layers.{layer_view, layers_view, IsShownBy}
 use Rattle.config_grounds.proofs.Lists.{all_push, all_map}
 
 -- The positions are the grounds among those from one on, and none is lower.
@@ -93,3 +94,23 @@ module _ (layers : List Node) (p : Path) where
     complete = λ position there. all.complete position (omega arith) there;
     descend = all.descend;
   }
+
+-- no positions are looked at
+pub begins : (ls : List (Option (Bor Tree))) (p : Path) (n : ℕ) (positions : List ℕ) → n ≡ length ls → positions ≡ []
+    → AreGroundsFrom (layers_view ls) p n positions
+begins ls p n positions count none =
+    let all : length (layers_view ls) ≡ n = length-map ls layer_view ∙ sym count in
+    subst (AreGroundsFrom (layers_view ls) p n) (sym none)
+    (subst (λ m. AreGroundsFrom (layers_view ls) p m []) all (start (layers_view ls) p))
+
+module _ (layers : List Node) (p : Path) (n m i : ℕ) (positions new : List ℕ)
+    (so_far : AreGroundsFrom layers p n positions) (before : n ≡ suc i) (after : m ≡ i) where
+  pub goes_on : new ≡ positions ++ i ∷ [] → ShowsLeafBelow layers p i → AreGroundsFrom layers p m new
+  goes_on is shows =
+      subst (λ k. AreGroundsFrom layers p k new) (sym after) (subst (AreGroundsFrom layers p i) (sym is)
+      (one_lower layers p i positions (subst (λ k. AreGroundsFrom layers p k positions) before so_far) shows))
+
+  pub passes : new ≡ positions → (ShowsLeafBelow layers p i → ⊥) → AreGroundsFrom layers p m new
+  passes is none =
+      subst (λ k. AreGroundsFrom layers p k new) (sym after) (subst (AreGroundsFrom layers p i) (sym is)
+      (one_past layers p i positions (subst (λ k. AreGroundsFrom layers p k positions) before so_far) none))

@@ -4,3 +4,4 @@ pub mod Highest
 pub mod LeafPaths
 pub mod Descending
 pub mod Showing
+pub mod Nearest

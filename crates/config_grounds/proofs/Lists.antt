@@ -1,5 +1,6 @@
 -- Facts of lists, element by element.
-use Rattle.std.proofs.Common.{◌≡◌, ◌⊎◌, inl, inr, ℕ, zero, suc, ◌<◌, ◌≤◌, ◌+◌, List, [], ◌∷◌, ◌++◌, length, map, Contains, refl, sym, ap, subst, arith}
+use Rattle.std.proofs.Common.{◌≡◌, ℕ, zero, suc, ◌<◌, ◌≤◌, ◌+◌, true, false, List, [], ◌∷◌, ◌++◌, length, take, get_or, map, Contains, refl, sym, ap, ◌∙◌, subst, arith}
+use Rattle.std.proofs.lemmas.List.{get_or-map, length-map, take_more}
 use Rattle.std.proofs.lemmas.List.Elements.{Contains-append_left, Contains-append_right}
 use Rattle.std.specs.List.{AllByRecursion}
 
@@ -79,3 +80,23 @@ no_split P Q x y above others all each fails differ not (w ∷ below) [] is =
 no_split P Q x y above others all each fails differ not (w ∷ below) (z ∷ front) is =
     let rest : below ++ x ∷ above ≡ front ++ y ∷ others = cc in
     no_split P Q x y above others all each fails differ not below front rest
+
+-- an element that is read
+pub in_at : {X : Type 0} (xs : List X) (i : ℕ) (x : X) → i < length xs → x ≡ get_or xs i x → In x xs
+in_at [] i x within is = absurd (omega arith)
+in_at (y ∷ xs) zero x within is = here_at x y xs is
+in_at (y ∷ xs) (suc i) x within is = there (in_at xs i x (omega arith) is)
+
+module _ {X Y : Type 0} (f : X → Y) (xs : List X) (i : ℕ) (d : X) (within : i < length xs) where
+  -- one more of the first elements
+  taken : take (i + 1) (map f xs) ≡ take i (map f xs) ++ f (get_or xs i d) ∷ []
+  taken =
+      let there : i < length (map f xs) = rw (length-map xs f) within in
+      take_more (map f xs) i (f d) there ∙ ap (λ y. take i (map f xs) ++ y ∷ []) (get_or-map f xs i d (f d) within)
+
+  pub all_taken : (P : Y → Type 0) → AllByRecursion P (take i (map f xs)) → P (f (get_or xs i d))
+      → AllByRecursion P (take (i + 1) (map f xs))
+  all_taken P all one = subst (AllByRecursion P) (sym taken) (all_push P (take i (map f xs)) (f (get_or xs i d)) all one)
+
+pub never : {X : Type 0} → false ≡ true → X
+never e = cc

@@ -44,7 +44,10 @@ pub(crate) fn shows_leaf(layers: &[Option<&Tree>], position: usize, path: &[&str
     let Some(highest) = layer_of(layers, path) else {
         return false;
     };
-    highest == position && leaf_in(layers, position, path).is_some()
+    if highest != position {
+        return false;
+    }
+    leaf_in(layers, position, path).is_some()
 }
 
 /// Whether the layer at a position shows a leaf at a path or below it.
@@ -90,6 +93,27 @@ fn layers_with_leaves<'t>(
     Ok(positions)
 }
 
+/// The layers that show leaves of what a profile writes at a key, if it writes something there.
+fn layers_of_profile<'t>(
+    alloc: Global,
+    layers: &[Option<&'t Tree>],
+    profile: &'t str,
+    key: &[&'t str],
+) -> Result<Option<Vec<usize>>, AllocError>
+    ensures { let all = layers_view layers.now in
+        IfOk result (λ found. MatchOption found
+        (¬ Writes all (keys_view key.now) profile.now)
+        (λ positions. Writes all (keys_view key.now) profile.now
+        × AreGrounds all (profile_path profile.now ++ keys_view key.now) positions.items)) }
+{
+    let path = path_in_profile(alloc, profile, key)?;
+    if layer_of(layers, &path).is_none() {
+        return Ok(None);
+    }
+    let positions = layers_with_leaves(alloc, layers, &path)?;
+    Ok(Some(positions))
+}
+
 /// From where the value at a key of profiles comes: the nearest profile of a chain that writes
 /// something there, in whatever layer, and the layers that show leaves of it.
 ///
@@ -107,9 +131,7 @@ pub fn grounds_of<'t>(
         (AreNearestGrounds all (keys_view chain.now) (keys_view key.now))) }
 {
     for (profile, name) in chain.iter().enumerate() {
-        let path = path_in_profile(alloc, *name, key)?;
-        if layer_of(layers, &path).is_some() {
-            let layers = layers_with_leaves(alloc, layers, &path)?;
+        if let Some(layers) = layers_of_profile(alloc, layers, *name, key)? {
             return Ok(Some(Grounds { profile, layers }));
         }
     }
