@@ -5,3 +5,6 @@ pub mod LeafPaths
 pub mod Descending
 pub mod Showing
 pub mod Nearest
+pub mod JoinedKeys
+pub mod KeySets
+pub mod Writing

@@ -1,7 +1,7 @@
 -- Facts of lists, element by element.
-use Rattle.std.proofs.Common.{◌≡◌, ℕ, zero, suc, ◌<◌, ◌≤◌, ◌+◌, true, false, List, [], ◌∷◌, ◌++◌, length, take, get_or, map, Contains, refl, sym, ap, ◌∙◌, subst, arith}
+use Rattle.std.proofs.Common.{◌≡◌, ◌⊎◌, ℕ, zero, suc, ◌<◌, ◌≤◌, ◌+◌, true, false, List, [], ◌∷◌, ◌++◌, length, take, get_or, map, Contains, refl, sym, ap, ◌∙◌, subst, arith}
 use Rattle.std.proofs.lemmas.List.{get_or-map, length-map, take_more}
-use Rattle.std.proofs.lemmas.List.Elements.{Contains-append_left, Contains-append_right}
+use Rattle.std.proofs.lemmas.List.Elements.{Contains-append_left, Contains-append_right, Contains-push_cases}
 use Rattle.std.specs.List.{AllByRecursion}
 
 -- an element of a list
@@ -89,7 +89,7 @@ in_at (y ∷ xs) (suc i) x within is = there (in_at xs i x (omega arith) is)
 
 module _ {X Y : Type 0} (f : X → Y) (xs : List X) (i : ℕ) (d : X) (within : i < length xs) where
   -- one more of the first elements
-  taken : take (i + 1) (map f xs) ≡ take i (map f xs) ++ f (get_or xs i d) ∷ []
+  pub taken : take (i + 1) (map f xs) ≡ take i (map f xs) ++ f (get_or xs i d) ∷ []
   taken =
       let there : i < length (map f xs) = rw (length-map xs f) within in
       take_more (map f xs) i (f d) there ∙ ap (λ y. take i (map f xs) ++ y ∷ []) (get_or-map f xs i d (f d) within)
@@ -100,3 +100,14 @@ module _ {X Y : Type 0} (f : X → Y) (xs : List X) (i : ℕ) (d : X) (within : 
 
 pub never : {X : Type 0} → false ≡ true → X
 never e = cc
+
+pub in_contained : {X : Type 0} (x : X) (xs : List X) → Contains xs x → In x xs
+in_contained x xs (i, within, is) = in_at xs i x within (sym is)
+
+module _ {X Y : Type 0} (f : X → Y) (xs : List X) (i : ℕ) (d : X) (within : i < length xs) where
+  -- one of the first elements, or the one behind them
+  pub contained_taken : (y : Y) → Contains (take (i + 1) (map f xs)) y
+      → Contains (take i (map f xs)) y ⊎ (f (get_or xs i d) ≡ y)
+  contained_taken y c =
+      Contains-push_cases (take i (map f xs)) (f (get_or xs i d)) y
+      (subst (λ l. Contains l y) (taken f xs i d within) c)
