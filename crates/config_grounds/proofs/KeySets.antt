@@ -5,6 +5,8 @@ use Rattle.std.specs.Cmp.Lexicographic.{slice_cmp}
 use Rattle.std.specs.List.{AllByRecursion}
 use Rattle.std.specs.List.Sorted.{IsStrictlySortedBy}
 use Rattle.std.specs.Ordering.{match_ordering, ordering_then}
+use Rattle.std.proofs.lemmas.Cmp.{lists_total, nat_list_cmp_total}
+use Rattle.std.specs.Cmp.{tied_itself}
 use Rattle.std.proofs.lemmas.Map.Lookups.{exact_bytes}
 use Rattle.nextest_documents.specs.Shown.{Path}
 use Rattle.config_grounds.specs.Entries.{path_cmp}
@@ -84,3 +86,7 @@ kept_inserted p k xs new is i =
 pub new_inserted : (k : Keys) (xs new : List Keys) → new ≡ insert_key keys_cmp xs k
     → Contains (paths_view new) (keys_view k.items)
 new_inserted k xs new is = contains_in (keys_view k.items) (paths_view new) (rw is (new_in k xs))
+
+-- a path beside itself
+pub path_tied : (p : Path) → path_cmp p p ≡ Equal
+path_tied p = tied_itself (lists_total nat_list_cmp_total) p

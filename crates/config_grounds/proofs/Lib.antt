@@ -8,3 +8,6 @@ pub mod Nearest
 pub mod JoinedKeys
 pub mod KeySets
 pub mod Writing
+pub mod Results
+pub mod Finding
+pub mod Concluding

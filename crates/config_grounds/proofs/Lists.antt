@@ -1,7 +1,7 @@
 -- Facts of lists, element by element.
-use Rattle.std.proofs.Common.{◌≡◌, ◌⊎◌, ℕ, zero, suc, ◌<◌, ◌≤◌, ◌+◌, true, false, List, [], ◌∷◌, ◌++◌, length, take, get_or, map, Contains, refl, sym, ap, ◌∙◌, subst, arith}
+use Rattle.std.proofs.Common.{◌≡◌, ◌⊎◌, inl, inr, ℕ, zero, suc, ◌<◌, ◌≤◌, ◌+◌, true, false, List, [], ◌∷◌, ◌++◌, length, take, get_or, map, Contains, refl, sym, ap, ◌∙◌, subst, arith}
 use Rattle.std.proofs.lemmas.List.{get_or-map, length-map, take_more}
-use Rattle.std.proofs.lemmas.List.Elements.{Contains-append_left, Contains-append_right, Contains-push_cases}
+use Rattle.std.proofs.lemmas.List.Elements.{Contains-append_left, Contains-append_right, Contains-get_or, Contains-push_cases}
 use Rattle.std.specs.List.{AllByRecursion}
 
 -- an element of a list
@@ -91,8 +91,8 @@ module _ {X Y : Type 0} (f : X → Y) (xs : List X) (i : ℕ) (d : X) (within : 
   -- one more of the first elements
   pub taken : take (i + 1) (map f xs) ≡ take i (map f xs) ++ f (get_or xs i d) ∷ []
   taken =
-      let there : i < length (map f xs) = rw (length-map xs f) within in
-      take_more (map f xs) i (f d) there ∙ ap (λ y. take i (map f xs) ++ y ∷ []) (get_or-map f xs i d (f d) within)
+      let inside : i < length (map f xs) = rw (length-map xs f) within in
+      take_more (map f xs) i (f d) inside ∙ ap (λ y. take i (map f xs) ++ y ∷ []) (get_or-map f xs i d (f d) within)
 
   pub all_taken : (P : Y → Type 0) → AllByRecursion P (take i (map f xs)) → P (f (get_or xs i d))
       → AllByRecursion P (take (i + 1) (map f xs))
@@ -111,3 +111,20 @@ module _ {X Y : Type 0} (f : X → Y) (xs : List X) (i : ℕ) (d : X) (within : 
   contained_taken y c =
       Contains-push_cases (take i (map f xs)) (f (get_or xs i d)) y
       (subst (λ l. Contains l y) (taken f xs i d within) c)
+
+-- an element of a list, by its place
+pub contains_at : {X Y : Type 0} (f : X → Y) (xs : List X) (i : ℕ) (d : X) → i < length xs
+    → Contains (map f xs) (f (get_or xs i d))
+contains_at f xs i d within =
+    let inside : i < length (map f xs) = rw (length-map xs f) within in
+    subst (Contains (map f xs)) (get_or-map f xs i d (f d) within) (Contains-get_or (map f xs) i (f d) inside)
+
+pub in_either : {X : Type 0} (x : X) (xs ys : List X) → In x (xs ++ ys) → In x xs ⊎ In x ys
+in_either x [] ys i = inr i
+in_either x (y ∷ xs) ys here = inl here
+in_either x (y ∷ xs) ys (there i) =
+    elim (in_either x xs ys i) [ inl j ↦ inl (there j) | inr j ↦ inr j ]
+
+pub all_from : {X : Type 0} (P : X → Type 0) (xs : List X) → ((x : X) → In x xs → P x) → AllByRecursion P xs
+all_from P [] each = tt
+all_from P (x ∷ xs) each = (each x here, all_from P xs (λ y i. each y (there i)))

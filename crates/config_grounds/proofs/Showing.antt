@@ -207,3 +207,26 @@ module _ (ls : List (Option (Bor Tree))) (i : ℕ) (p : Path) where
     one_of_all q is_one shows =
         let (rest, is) = behind_path p q (leaf_paths n) (subst (In q) all is_one) in
         record { rest = rest; leaf = subst (λ r. ShowsLeaf (layers_view ls) r i) is shows }
+
+-- the leaves of what stands at a path
+pub leaf_path : (ls : List (Option (Bor Tree))) (i : ℕ) (b p : Path) (v n : Node) → Some n ≡ node_in ls i b
+    → leaf_in ls i (b ++ p) ≡ Some v → In p (leaf_paths n)
+leaf_path ls i b p v n stands is =
+    let (m, at, leaf) = below_leaf ls i b p v (has_leaf ls i (b ++ p) v is) in
+    let same : n ≡ m = same_node n m (stands ∙ at) in
+    has_path p n v (ap (node_at p) same ∙ leaf)
+
+pub no_leaf_path : (ls : List (Option (Bor Tree))) (i : ℕ) (b p : Path) (v : Node) → None ≡ node_in ls i b
+    → leaf_in ls i (b ++ p) ≡ Some v → ⊥
+no_leaf_path ls i b p v none is =
+    let (m, at, leaf) = below_leaf ls i b p v (has_leaf ls i (b ++ p) v is) in
+    let bad : None ≡ Some m = none ∙ at in cc
+
+-- the leaf that is shown is the one that stands there
+pub shown_is : (ls : List (Option (Bor Tree))) (i : ℕ) (p : Path) (v : Node) → leaf_in ls i p ≡ Some v
+    → ShowsLeaf (layers_view ls) p i → IsShownBy (layers_view ls) p (a_leaf v) i
+shown_is ls i p v is shows =
+    let w = shows.value in
+    let at : leaf_in ls i p ≡ Some w = leaf_is ls i p w (has_shown_leaf (layers_view ls) i p w shows.shown) in
+    let same : w ≡ v = same_node w v (sym at ∙ is) in
+    subst (λ n. IsShownBy (layers_view ls) p (a_leaf n) i) same shows.shown

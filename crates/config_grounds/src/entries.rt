@@ -16,7 +16,7 @@ ghost use Rattle.config_grounds.specs.Writers.{writer_view, writers_in, writers,
 use crate::along::{leaf_in, node_in};
 use crate::grounds::{grounds_of, shows_leaf};
 use crate::leaves::add_leaf_paths;
-use crate::section::{Section, is_told, path_in_section, value_path};
+use crate::section::{Section, front, is_told, path_in_section, value_path};
 use crate::spelling::is_asked;
 use nextest_tree::Tree;
 use std::alloc::{AllocError, Global};
@@ -82,9 +82,8 @@ fn writers_of<'t>(
 {
     let mut writers = Vec::new(alloc);
     for (i, name) in chain.iter().enumerate() {
-        let nearer = &chain[..i];
         let section = Section::Profile {
-            nearer,
+            nearer: front(chain, i),
             name: *name,
         };
         add_writers(section, count, &mut writers)?;
@@ -120,7 +119,8 @@ fn insert_written<'t>(
     ensures kept { OnOk result ((p : Path)
         → Contains (paths_view set.old.keys) p → Contains (paths_view set.new.keys) p) }
     ensures added { OnOk result ((p : Path) (v : Node)
-        → leaf_in layers.now writer.entry.layer (base_path (section_view writer.entry.section) ++ p) ≡ Some v
+        → leaf_in layers.now writer.entry.layer
+        (base_path (section_view writer.entry.section) ++ p) ≡ Some v
         → Contains (paths_view set.new.keys) p) }
 {
     let base = path_in_section(alloc, writer.section, &[])?;
@@ -229,8 +229,8 @@ fn entry_of<'t>(
     path: &[&'t str],
 ) -> Result<Option<Entry<'t>>, AllocError>
     ensures { IfOk result (λ found. IsFound (layers_view query.entry.layers.now)
-        (keys_view query.entry.keys.now) query.entry.with_hidden (keys_view path.now) (writer_view writer.entry)
-        (option_map leaf_view found)) }
+        (keys_view query.entry.keys.now) query.entry.with_hidden (keys_view path.now)
+        (writer_view writer.entry) (option_map leaf_view found)) }
 {
     if !is_wanted(alloc, query, writer.section, path)? {
         return Ok(None);
@@ -282,7 +282,7 @@ fn entries_at<'t>(
     ensures found { IfOk result (λ entries. AreAllFound (IsFound (layers_view query.entry.layers.now)
         (keys_view query.entry.keys.now) query.entry.with_hidden) (map writer_view writers.now)
         (paths_view paths.now.keys) (map leaf_view entries.items)) }
-    ensures ascend { IsStrictlySortedBy path_cmp (paths_view paths.now.keys) }
+    ensures ascend { OnOk result (IsStrictlySortedBy path_cmp (paths_view paths.now.keys)) }
 {
     let mut entries = Vec::new(alloc);
     for path in paths.iter() {

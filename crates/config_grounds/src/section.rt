@@ -1,6 +1,5 @@
 //! The sections of layers whose leaves are told.
-ghost use Rattle.std.specs.Prelude.{◌≡◌, ◌++◌, IfOk, codes};
-ghost use Rattle.std.specs.Str.{bytes_eq};
+ghost use Rattle.std.specs.Prelude.{◌≡◌, ◌≤◌, ◌++◌, IfOk, length, take};
 ghost use Rattle.config_grounds.specs.Layers.{keys_view};
 ghost use Rattle.config_grounds.specs.Sections.{section_view, base_path, is_rules, is_beside, is_told, is_group, value_length, value_path};
 
@@ -19,6 +18,14 @@ pub enum Section<'k> {
     },
     /// The tables beside the profiles.
     Beside,
+}
+
+/// The first keys of a path, or the first names of a chain.
+pub(crate) fn front<'p, 'k>(names: &'p [&'k str], count: usize) -> &'p [&'k str]
+    requires { count ≤ length names.now }
+    ensures { result.now ≡ take count names.now }
+{
+    &names[..count]
 }
 
 /// Whether a key of a profile is that of a list of rules.
@@ -72,7 +79,7 @@ fn value_length(path: &[&str]) -> usize
 pub(crate) fn value_path<'p, 'k>(path: &'p [&'k str]) -> &'p [&'k str]
     ensures { keys_view result.now ≡ value_path (keys_view path.now) }
 {
-    &path[..value_length(path).min(path.len())]
+    front(path, value_length(path).min(path.len()))
 }
 
 /// The path of what a section has at a path.

@@ -3,6 +3,7 @@ ghost use Rattle.std.specs.Prelude.{◌≡◌, ◌↔◌, IfOk, IsTrue, string_b
 ghost use Rattle.config_grounds.specs.Entries.{dotted, IsBelow, IsAsked};
 ghost use Rattle.config_grounds.specs.Layers.{keys_view};
 
+use crate::section::front;
 use std::alloc::{AllocError, Global};
 
 /// The keys of a path with dots between them.
@@ -19,7 +20,7 @@ fn is_below(alloc: Global, path: &[&str], key: &str) -> Result<bool, AllocError>
         ↔ IsBelow (keys_view path.now) key.now) }
 {
     for last in 0..path.len() {
-        let text = key_text(alloc, &path[..last + 1])?;
+        let text = key_text(alloc, front(path, last + 1))?;
         if text.as_str() == key {
             return Ok(true);
         }
