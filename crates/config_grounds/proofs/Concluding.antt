@@ -202,8 +202,13 @@ module _ (ls : List (Option (Bor Tree))) (keys : List (List ℕ)) (wh : Bool) wh
       elim (in_either leaf old (somes adds.found) (subst (In leaf) adds.added i)) [
         | inl before ↦
             let b = placed ws ps old rest leaf before in
-            record { path = b.path; writer = b.writer; in_paths = in_front b.path ps (p ∷ []) b.in_paths;
-              in_writers = b.in_writers; entry = b.entry }
+            record {
+              path = b.path;
+              writer = b.writer;
+              in_paths = in_front b.path ps (p ∷ []) b.in_paths;
+              in_writers = b.in_writers;
+              entry = b.entry;
+            }
         | inr at ↦
             let (w, is_one, entry) = some_writer (One p) (Entry p) (own p) ws adds.found adds.each leaf at in
             record { path = p; writer = w; in_paths = in_back p ps (p ∷ []) here; in_writers = is_one; entry = entry }
@@ -258,12 +263,12 @@ module _ (ls : List (Option (Bor Tree))) (keys : List (List ℕ)) (wh : Bool) wh
       subst Q (sym adds.added) (sorted_append leaf_cmp old (somes adds.found)
       (ascend ws writers_ascend ps old rest before) (row_sorted p ws adds.found adds.each writers_ascend)
       (all_from (λ a. AllByRecursion (λ b. leaf_cmp a b ≡ Less) (somes adds.found)) old (λ a i.
-          let x = placed ws ps old rest a i in
-          all_from (λ b. leaf_cmp a b ≡ Less) (somes adds.found) (λ b j.
-              let (w, is_one, y) = some_writer (One p) (Entry p) (own p) ws adds.found adds.each b j in
-              in_order x.path p x.writer w a b x.entry y
-              (ap (λ o. ordering_then o (writer_cmp x.writer w))
-              (all_at (λ r. path_cmp r p ≡ Less) x.path ps below x.in_paths))))))
+      let x = placed ws ps old rest a i in
+      all_from (λ b. leaf_cmp a b ≡ Less) (somes adds.found) (λ b j.
+      let (w, is_one, y) = some_writer (One p) (Entry p) (own p) ws adds.found adds.each b j in
+      in_order x.path p x.writer w a b x.entry y
+      (ap (λ o. ordering_then o (writer_cmp x.writer w))
+      (all_at (λ r. path_cmp r p ≡ Less) x.path ps below x.in_paths))))))
 
 -- the leaves that are found for the writers of a chain at all paths
 pub conclude : (ls : List (Option (Bor Tree))) (chain keys : List (List ℕ)) (wh : Bool) (ps : List Path)

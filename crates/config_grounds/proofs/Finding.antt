@@ -84,8 +84,8 @@ module _ (ls : List (Option (Bor Tree))) (p : Path) (w : Region × ℕ) where
           by_mark leaf.hidden
           (λ h. true≢false (sym (entry.wanted h) ∙ unwanted))
           (λ h. let counts = counts_at leaf entry.at (entry.leaf_is.shown.0 h) in
-              let shown = (both leaf.value (leaf_at leaf entry.at entry.leaf_is.written)).1 counts in
-              true≢false (sym is ∙ shown))
+          let shown = (both leaf.value (leaf_at leaf entry.at entry.leaf_is.written)).1 counts in
+          true≢false (sym is ∙ shown))
 
       -- one that is wanted
       pub entry_is : (v : Node) → Some v ≡ leaf_in ls w.1 (base_path w.0 ++ p) → IsToldAndAsked w.0 keys p

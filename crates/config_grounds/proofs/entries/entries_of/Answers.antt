@@ -23,6 +23,6 @@ returns c =
     let has = subst (AllByRecursion (HasPaths ls ps)) ws c.in_ok-paths.ensures in
     if_both _ _ _ c.entries_at.result
     (λ entries found ascend.
-        conclude ls chain keys wh ps (map leaf_view entries.items) has
-        (subst (λ w. AreAllFound (IsFound (layers_view ls) keys wh) w ps (map leaf_view entries.items)) same found) ascend)
+    conclude ls chain keys wh ps (map leaf_view entries.items) has
+    (subst (λ w. AreAllFound (IsFound (layers_view ls) keys wh) w ps (map leaf_view entries.items)) same found) ascend)
     c.entries_at.ensures.found c.entries_at.ensures.ascend

@@ -34,4 +34,4 @@ loop-last-preserved c =
     c.as_str.ensures.value ∙ c.in_ok-text.ensures ∙ ap dotted keys in
     below_more _ _ c.loop-last.invariant
     (λ is. true≢false
-        (sym ((bytes_eq-Decides c.as_str.result.now c.args.key.now).1 (text ∙ is)) ∙ sym c.if-eq.ensures))
+    (sym ((bytes_eq-Decides c.as_str.result.now c.args.key.now).1 (text ∙ is)) ∙ sym c.if-eq.ensures))
