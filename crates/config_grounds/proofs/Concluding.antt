@@ -1,7 +1,7 @@
 -- The leaves that are found are the entries.
-use Rattle.std.proofs.Common.{◌≡◌, ◌⊎◌, inl, inr, ℕ, zero, suc, ◌<◌, ◌≤◌, List, [], ◌∷◌, ◌++◌, length, map, flat_map, Contains, Bool, Option, Some, None, Ordering, Less, Equal, nat_cmp, Bor, refl, sym, ap, ◌∙◌, subst, arith}
+use Rattle.std.proofs.Common.{◌≡◌, ◌⊎◌, inl, inr, ℕ, zero, suc, ◌<◌, ◌≤◌, List, [], ◌∷◌, ◌++◌, length, flat_map, Contains, Bool, Option, Some, None, Ordering, Less, Equal, nat_cmp, Bor, refl, sym, ap, ◌∙◌, subst, arith}
 use Rattle.std.proofs.lemmas.Cmp.{nat_cmp_total}
-use Rattle.std.proofs.lemmas.List.{length-map, length-append}
+use Rattle.std.proofs.lemmas.List.{length-append}
 use Rattle.std.specs.Cmp.{nat_cmp_is, tied_itself}
 use Rattle.std.specs.List.{AllByRecursion, AllZip, slice_get}
 use Rattle.std.specs.List.Sorted.{IsStrictlySortedBy}
@@ -9,15 +9,15 @@ use Rattle.std.specs.Ordering.{ordering_then}
 use Rattle.nextest_tree.specs.Node.{Node}
 use Rattle.nextest_tree.specs.declared.tree.Tree.{Tree}
 use Rattle.nextest_documents.specs.Shown.{Path}
-use Rattle.config_grounds.specs.Entries.{Leaf, HasLeaf, IsLeaf, IsWanted, path_cmp, leaf_cmp, AreEntries}
-use Rattle.config_grounds.specs.Layers.{layer_view, layers_view}
+use Rattle.config_grounds.specs.Entries.{Leaf, IsLeaf, IsWanted, path_cmp, leaf_cmp, AreEntries}
+use Rattle.config_grounds.specs.Layers.{layers_view}
 use Rattle.config_grounds.specs.Sections.{Region, of_profile, beside, regions_behind, regions, region_cmp, base_path}
-use Rattle.config_grounds.specs.Writers.{countdown, writers_in, writers, IsEntry, IsFound, somes, AddsFound, AreAllFound, at_none, at_more}
+use Rattle.config_grounds.specs.Writers.{countdown, writers_in, writers, IsEntry, IsFound, somes, AreAllFound, at_none, at_more}
 use Rattle.config_grounds.proofs.Finding.{one_entry}
 use Rattle.config_grounds.proofs.KeySets.{path_tied}
 use Rattle.config_grounds.proofs.Lists.{In, here, there, here_at, in_front, in_back, in_either, in_map, in_contained, contains_in, all_at, all_from, all_append, middle}
 use Rattle.config_grounds.proofs.Showing.{leaf_is}
-use Rattle.config_grounds.proofs.Writing.{Writers, HasPaths}
+use Rattle.config_grounds.proofs.Writing.{HasPaths}
 
 -- writers stand by their regions, and those of one region by their layers, the highest first
 abbrev writer_cmp : Region × ℕ → Region × ℕ → Ordering
@@ -65,7 +65,8 @@ before_regions r n count (s ∷ rs) all =
     (before_layers r s n count all.0) (before_regions r n count rs all.1)
 
 all_before : (r : Region) (m count : ℕ) (rs : List Region) → AllByRecursion (λ s. region_cmp r s ≡ Less) rs
-    → AllByRecursion (λ x. AllByRecursion (λ w. writer_cmp x w ≡ Less) (flat_map (writers_in count) rs)) (writers_in m r)
+    → AllByRecursion (λ x. AllByRecursion (λ w. writer_cmp x w ≡ Less) (flat_map (writers_in count) rs))
+    (writers_in m r)
 all_before r zero count rs all = tt
 all_before r (suc m) count rs all = (before_regions r m count rs all, all_before r m count rs all)
 
@@ -102,7 +103,8 @@ in_countdown (suc n) i h = elim (last_or n i (omega arith)) [
   | inr less ↦ there (in_countdown n i less)
 ]
 
-writer_in : (r : Region) (i count : ℕ) (rs : List Region) → In r rs → i < count → In (r, i) (flat_map (writers_in count) rs)
+writer_in : (r : Region) (i count : ℕ) (rs : List Region) → In r rs → i < count
+    → In (r, i) (flat_map (writers_in count) rs)
 writer_in r i count l (here {xs = rs}) h =
     in_front (r, i) (writers_in count r) (flat_map (writers_in count) rs)
     (in_map (λ (layer : ℕ). (r, layer)) i (countdown count) (in_countdown count i h))
@@ -139,7 +141,8 @@ last_apart (q ∷ ps) p sorted =
       (middle (λ r. path_cmp q r ≡ Less) p ps [] sorted.0, below),
     )
 
-layer_within : (ls : List (Option (Bor Tree))) (i : ℕ) (n : Node) → slice_get (layers_view ls) i ≡ Some n → i < length ls
+layer_within : (ls : List (Option (Bor Tree))) (i : ℕ) (n : Node) → slice_get (layers_view ls) i ≡ Some n
+    → i < length ls
 layer_within [] i n at = cc
 layer_within (l ∷ ls) zero n at = omega arith
 layer_within (l ∷ ls) (suc i) n at = let less = layer_within ls i n at in omega (arith, less)

@@ -6,7 +6,7 @@ use Rattle.nextest_tree.specs.Node.{Node}
 use Rattle.nextest_tree.specs.declared.tree.Tree.{Tree}
 use Rattle.nextest_documents.specs.Shown.{Path}
 use Rattle.config_grounds.specs.Along.{leaf_in}
-use Rattle.config_grounds.specs.Entries.{Leaf, HasLeaf, Counts, IsLeaf, IsWanted}
+use Rattle.config_grounds.specs.Entries.{Leaf, HasLeaf, Counts}
 use Rattle.config_grounds.specs.Layers.{layers_view}
 use Rattle.config_grounds.specs.Sections.{Region, base_path}
 use Rattle.config_grounds.specs.Writers.{writer_view, IsToldAndAsked, IsAt, IsEntry, somes, AddsFound}
@@ -116,7 +116,8 @@ module _ (ls : List (Option (Bor Tree))) (p : Path) (w : Region × ℕ) where
       (subst (Counts (layers_view ls) w.0 p w.1) value (counts_at a x.at (x.leaf_is.shown.0 h)))))
       (λ h. x.leaf_is.shown.1 (back_at a x.at
       (subst (Counts (layers_view ls) w.0 p w.1) (sym value) (counts_at b y.at (y.leaf_is.shown.0 h))))) in
-      same_leaf a b (x.at.path ∙ sym y.at.path) value (x.at.region ∙ sym y.at.region) (x.at.layer ∙ sym y.at.layer) hidden
+      same_leaf a b (x.at.path ∙ sym y.at.path) value (x.at.region ∙ sym y.at.region)
+      (x.at.layer ∙ sym y.at.layer) hidden
 
 zip_push : {A B : Type 0} (R : A → B → Type 0) (xs : List A) (ys : List B) (x : A) (y : B) → AllZip R xs ys → R x y
     → AllZip R (xs ++ x ∷ []) (ys ++ y ∷ [])
@@ -142,7 +143,8 @@ found_more one ws w old so_far new o adds is added = record {
 }
 
 pub found_taken : (one : Region × ℕ → Option Leaf → Type 0) (ws : List Writer) (i : ℕ) (d : Writer)
-    (old so_far new : List Leaf) (o : Option Leaf) → i < length ws → AddsFound one (take i (map writer_view ws)) old so_far
+    (old so_far new : List Leaf) (o : Option Leaf) → i < length ws
+    → AddsFound one (take i (map writer_view ws)) old so_far
     → one (writer_view (get_or ws i d)) o → new ≡ so_far ++ somes (o ∷ [])
     → AddsFound one (take (i + 1) (map writer_view ws)) old new
 found_taken one ws i d old so_far new o within adds is added =

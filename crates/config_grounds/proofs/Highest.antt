@@ -1,5 +1,5 @@
 -- The highest layer that shows something at a path.
-use Rattle.std.proofs.Common.{◌≡◌, ℕ, zero, suc, ◌<◌, ◌≤◌, ◌+◌, List, [], ◌∷◌, ◌++◌, length, get_or, take, drop, map, Option, Some, None, MatchOption, is_some, Bor, refl, sym, ap, ◌∙◌, subst, arith, false}
+use Rattle.std.proofs.Common.{◌≡◌, ℕ, suc, ◌<◌, List, [], ◌∷◌, ◌++◌, length, get_or, take, drop, Option, Some, None, MatchOption, is_some, Bor, refl, sym, ap, ◌∙◌, subst, arith, false}
 use Rattle.std.proofs.Math.Seq.{drop-cons}
 use Rattle.std.proofs.lemmas.List.{length-map, length-take-le, map-append, take-append-drop}
 use Rattle.std.specs.List.{AllByRecursion}
@@ -9,7 +9,7 @@ use Rattle.nextest_documents.specs.Merge.{merged}
 use Rattle.nextest_documents.specs.Shown.{Path, Kind, node_at, Hides, IsShown}
 use Rattle.nextest_documents.proofs.Shown.{has_shown}
 use Rattle.config_grounds.specs.Along.{lost, blocked, whole, way_along}
-use Rattle.config_grounds.specs.Layers.{layer_view, layers_view, Stands, IsShownBy, IsHighest}
+use Rattle.config_grounds.specs.Layers.{layer_view, layers_view, Stands, IsHighest}
 use Rattle.config_grounds.proofs.Lists.{all_map, middle, not_behind, no_split}
 use Rattle.config_grounds.proofs.Ways.{lost_none, lost_hides, blocked_none, blocked_hides, whole_some}
 
@@ -43,7 +43,8 @@ whole_under p below above x all is =
       };
       highest = λ other position s.
           let shown = s.shown in
-          let bound = not_behind (IsLost p) x shown.layer above shown.above all (no_node p shown.layer other shown.there)
+          let bound = not_behind (IsLost p) x shown.layer above shown.above all
+          (no_node p shown.layer other shown.there)
           below shown.below shown.splits in
           let same = s.position_is in
           omega (arith, bound, same);

@@ -1,5 +1,5 @@
 -- A set of paths, as the keys that it shows.
-use Rattle.std.proofs.Common.{◌≡◌, ◌⊎◌, inl, inr, ℕ, List, [], ◌∷◌, map, Contains, Ordering, Less, Equal, Greater, Vec, Bor, Global, refl, sym, ap, ◌∙◌, nat_cmp}
+use Rattle.std.proofs.Common.{◌≡◌, ℕ, List, [], ◌∷◌, Contains, Ordering, Less, Equal, Greater, Vec, Bor, Global, refl, sym, ap, ◌∙◌, nat_cmp}
 use Rattle.std.specs.BTreeSet.{insert_key}
 use Rattle.std.specs.Cmp.Lexicographic.{slice_cmp}
 use Rattle.std.specs.List.{AllByRecursion}
@@ -52,7 +52,8 @@ unfolding IsStrictlySortedBy
 paths_ascend [] sorted = tt
 paths_ascend (x ∷ xs) sorted = (all_above x xs sorted.0, paths_ascend xs sorted.1)
 
-kept_at : (p : Path) (k x : Keys) (xs inner : List Keys) (o : Ordering) → (In p (paths_view xs) → In p (paths_view inner))
+kept_at : (p : Path) (k x : Keys) (xs inner : List Keys) (o : Ordering)
+    → (In p (paths_view xs) → In p (paths_view inner))
     → In p (keys_view x.items ∷ paths_view xs)
     → In p (paths_view (match_ordering o (k ∷ x ∷ xs) (x ∷ xs) (x ∷ inner)))
 kept_at p k x xs inner Less deeper i = there i

@@ -1,15 +1,15 @@
 -- The paths of leaves.
-use Rattle.std.proofs.Common.{◌≡◌, ◌⊎◌, inl, inr, ℕ, List, [], ◌∷◌, ◌++◌, map, Option, Some, None, option_and_then, String, Global, string_bytes, Ordering, Less, Equal, Greater, nat_cmp, refl, sym, ap, ◌∙◌, append_assoc}
+use Rattle.std.proofs.Common.{◌≡◌, ℕ, List, [], ◌∷◌, ◌++◌, map, Some, option_and_then, String, Global, string_bytes, Ordering, Less, Equal, Greater, nat_cmp, refl, sym, ap, ◌∙◌, append_assoc}
 use Rattle.std.proofs.lemmas.List.{append-nil, map-append}
 use Rattle.std.proofs.lemmas.Map.Lookups.{exact_bytes}
 use Rattle.std.specs.Cmp.Lexicographic.{slice_cmp}
 use Rattle.std.specs.Ordering.{match_ordering}
-use Rattle.nextest_tree.specs.Node.{Node, table, array, text, int, bool, opaque, Entries, no_entries, entry, get}
+use Rattle.nextest_tree.specs.Node.{Node, table, Entries, no_entries, entry, get}
 use Rattle.nextest_tree.specs.View.{tree_view, entries_view}
 use Rattle.nextest_tree.specs.declared.tree.Tree.{Tree}
 use Rattle.nextest_documents.specs.Shown.{Path, a_leaf, node_at}
 use Rattle.config_grounds.specs.Leaves.{leaf_paths, member_paths}
-use Rattle.config_grounds.proofs.Lists.{In, here, there, in_front, in_back, in_map}
+use Rattle.config_grounds.proofs.Lists.{In, here, in_front, in_back, in_map}
 
 abbrev pub Entry : Type 0
 Entry = String Global × Tree
@@ -21,7 +21,8 @@ pub member_paths-last : (done : List Entry) (e : Entry)
 member_paths-last [] e = append-nil (map (λ p. string_bytes e.0 ∷ p) (leaf_paths (tree_view e.1)))
 member_paths-last (d ∷ done) e =
     ap (λ ps. map (λ p. string_bytes d.0 ∷ p) (leaf_paths (tree_view d.1)) ++ ps) (member_paths-last done e)
-    ∙ sym (append_assoc (map (λ p. string_bytes d.0 ∷ p) (leaf_paths (tree_view d.1))) (member_paths (entries_view done))
+    ∙ sym (append_assoc (map (λ p. string_bytes d.0 ∷ p) (leaf_paths (tree_view d.1)))
+    (member_paths (entries_view done))
     (map (λ p. string_bytes e.0 ∷ p) (leaf_paths (tree_view e.1))))
 
 -- paths behind a path that is one key longer
@@ -45,8 +46,10 @@ one_more front longer e done old so_far new long is added =
     ∙ ap (λ ps. ps ++ map (λ p. longer ++ p) more) is
     ∙ ap (λ l. (old ++ map front_of (member_paths (entries_view done))) ++ map (λ p. l ++ p) more) long
     ∙ ap (λ ps. (old ++ map front_of (member_paths (entries_view done))) ++ ps) (behind front (string_bytes e.0) more)
-    ∙ append_assoc old (map front_of (member_paths (entries_view done))) (map front_of (map (λ p. string_bytes e.0 ∷ p) more))
-    ∙ ap (λ ps. old ++ ps) (sym (map-append front_of (member_paths (entries_view done)) (map (λ p. string_bytes e.0 ∷ p) more)))
+    ∙ append_assoc old (map front_of (member_paths (entries_view done)))
+    (map front_of (map (λ p. string_bytes e.0 ∷ p) more))
+    ∙ ap (λ ps. old ++ ps) (sym
+    (map-append front_of (member_paths (entries_view done)) (map (λ p. string_bytes e.0 ∷ p) more)))
     ∙ ap (λ ps. old ++ map front_of ps) (sym (member_paths-last done e))
 
 -- each leaf has its path among them

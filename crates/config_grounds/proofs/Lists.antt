@@ -49,7 +49,8 @@ all_map P Q [] turn all = tt
 all_map P Q (x ∷ xs) turn all = (turn x all.0, all_map P Q xs turn all.1)
 
 -- that of an element in the middle
-pub middle : {X : Type 0} (P : X → Type 0) (y : X) (front others : List X) → AllByRecursion P (front ++ y ∷ others) → P y
+pub middle : {X : Type 0} (P : X → Type 0) (y : X) (front others : List X)
+    → AllByRecursion P (front ++ y ∷ others) → P y
 middle P y [] others all = all.0
 middle P y (z ∷ front) others all = middle P y front others all.1
 
@@ -96,7 +97,8 @@ module _ {X Y : Type 0} (f : X → Y) (xs : List X) (i : ℕ) (d : X) (within : 
 
   pub all_taken : (P : Y → Type 0) → AllByRecursion P (take i (map f xs)) → P (f (get_or xs i d))
       → AllByRecursion P (take (i + 1) (map f xs))
-  all_taken P all one = subst (AllByRecursion P) (sym taken) (all_push P (take i (map f xs)) (f (get_or xs i d)) all one)
+  all_taken P all one = subst (AllByRecursion P) (sym taken)
+      (all_push P (take i (map f xs)) (f (get_or xs i d)) all one)
 
 pub never : {X : Type 0} → false ≡ true → X
 never e = cc

@@ -1,5 +1,5 @@
 -- The nearest profile that writes a key.
-use Rattle.std.proofs.Common.{◌≡◌, ℕ, suc, ◌<◌, List, ◌∷◌, ◌++◌, length, get_or, take, drop, map, Option, Some, None, MatchOption, is_none, Bor, refl, sym, ap, ◌∙◌, subst, true, false, arith}
+use Rattle.std.proofs.Common.{◌≡◌, ℕ, suc, ◌<◌, List, ◌∷◌, ◌++◌, length, get_or, take, drop, Option, Some, None, MatchOption, is_none, Bor, sym, ap, ◌∙◌, true, false, arith}
 use Rattle.std.proofs.Math.Seq.{drop-cons}
 use Rattle.std.proofs.lemmas.List.{get_or-map, length-map, length-take-le, take-append-drop}
 use Rattle.std.specs.List.{AllByRecursion}

@@ -1,5 +1,5 @@
 -- Facts of results.
-use Rattle.std.proofs.Common.{◌≡◌, ◌↔◌, ℕ, List, Option, Some, None, Result, Ok, Err, IfOk, OnOk, MatchOption, Bool, true, false, is_some, refl, sym, ◌∙◌, subst}
+use Rattle.std.proofs.Common.{◌≡◌, ◌↔◌, ℕ, List, Option, Some, None, Result, Ok, Err, IfOk, OnOk, MatchOption, Bool, true, false, is_some, sym, ◌∙◌, subst}
 use Rattle.std.specs.List.{AllByRecursion}
 use Rattle.nextest_tree.specs.Node.{Node}
 use Rattle.nextest_documents.specs.Shown.{Path}

@@ -1,12 +1,12 @@
 -- The leaf that a layer shows at a path.
-use Rattle.std.proofs.Common.{◌≡◌, ℕ, zero, suc, ◌<◌, ◌≤◌, true, List, [], ◌∷◌, ◌++◌, length, map, Option, Some, None, option_map, option_and_then, is_some, Bor, refl, sym, ap, ◌∙◌, subst, arith}
+use Rattle.std.proofs.Common.{◌≡◌, ℕ, ◌≤◌, true, List, [], ◌∷◌, ◌++◌, length, map, Option, Some, None, option_map, option_and_then, is_some, Bor, refl, sym, ap, ◌∙◌, subst, arith}
 use Rattle.std.proofs.lemmas.List.{append-nil}
 use Rattle.std.proofs.lemmas.Option.{slice_get-map}
 use Rattle.std.specs.List.{AllByRecursion, slice_get}
 use Rattle.nextest_tree.specs.Node.{Node, table, no_entries, get}
 use Rattle.nextest_tree.specs.View.{tree_view}
 use Rattle.nextest_tree.specs.declared.tree.Tree.{Tree}
-use Rattle.nextest_documents.specs.Shown.{Path, Kind, a_table, a_leaf, kind_of, node_at, Hides, by_leaf, by_table, HasLeafAlong}
+use Rattle.nextest_documents.specs.Shown.{Path, Kind, a_table, a_leaf, node_at, Hides, by_leaf, by_table}
 use Rattle.config_grounds.specs.Along.{node_along, node_in, leaf_of, leaf_in}
 use Rattle.config_grounds.specs.Grounds.{ShowsLeaf, ShowsLeafBelow}
 use Rattle.config_grounds.specs.Leaves.{leaf_paths}
@@ -93,7 +93,8 @@ shown_there layers i p v highest (n, at, leaf) =
 -- what stands at the very path of a leaf hides it
 hides_leaf : (p : Path) (n v : Node) (k : Kind) → node_at p n ≡ Some k → Hides n p (a_leaf v)
 hides_leaf p n v a_table at = by_table at
-hides_leaf p n v (a_leaf w) at = by_leaf (record { front = p; rest = []; value = w; splits = sym (append-nil p); leaf = at })
+hides_leaf p n v (a_leaf w) at =
+    by_leaf (record { front = p; rest = []; value = w; splits = sym (append-nil p); leaf = at })
 
 -- no layer above one that shows a leaf shows anything there
 pub none_above : (layers : List Node) (i j : ℕ) (p : Path) (v : Node) (k : Kind) → IsShownBy layers p (a_leaf v) i

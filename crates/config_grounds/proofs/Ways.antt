@@ -1,9 +1,9 @@
 -- Where ways end, and what is hidden.
 use Rattle.std.proofs.Common.{◌≡◌, ◌==◌, ℕ, ◌<◌, false, List, [], ◌∷◌, ◌++◌, length, Option, Some, None, option_map, option_and_then, Bor, refl, sym, ap, ◌∙◌, arith}
 use Rattle.std.specs.Option.{option_map_or}
-use Rattle.nextest_tree.specs.Node.{Node, table, array, text, int, bool, opaque, Entries, get, as_table}
+use Rattle.nextest_tree.specs.Node.{Node, table, Entries, get, as_table}
 use Rattle.nextest_documents.specs.Shown.{Path, Kind, a_table, a_leaf, kind_of, node_at, HasLeafAlong, Hides, by_leaf, by_table}
-use Rattle.config_grounds.specs.Along.{Ending, lost, blocked, whole, way_along, node_along, leaf_of}
+use Rattle.config_grounds.specs.Along.{lost, blocked, whole, way_along, node_along, leaf_of}
 use Rattle.config_grounds.specs.Layers.{keys_view, layer_view}
 use Rattle.nextest_tree.specs.declared.tree.Tree.{Tree}
 
@@ -52,7 +52,8 @@ lost_here [] n v is at = cc
 lost_here (k ∷ ks) (table es) v is at = cc
 lost_here (k ∷ ks) n v is at = cc
 
-lost_along : (front rest : Path) (n v : Node) → way_along (front ++ rest) n ≡ lost → node_at front n ≡ Some (a_leaf v) → ⊥
+lost_along : (front rest : Path) (n v : Node) → way_along (front ++ rest) n ≡ lost
+    → node_at front n ≡ Some (a_leaf v) → ⊥
 lost_along [] rest n v is at = lost_here rest n v is at
 lost_along (k ∷ ks) rest (table es) v is at = lost_along_at ks rest v (get k es) is (λ n. lost_along ks rest n v) at
 lost_along (k ∷ ks) rest n v is at = cc
@@ -99,12 +100,14 @@ kinds (k ∷ ks) (table es) = kinds_at ks (get k es) (kinds ks)
 kinds (k ∷ ks) n = refl
 
 -- the leaf at a path, by its kind
-pub leaf_kind : (o : Option Node) (v : Node) → option_and_then leaf_of o ≡ Some v → option_map kind_of o ≡ Some (a_leaf v)
+pub leaf_kind : (o : Option Node) (v : Node) → option_and_then leaf_of o ≡ Some v
+    → option_map kind_of o ≡ Some (a_leaf v)
 leaf_kind None v is = cc
 leaf_kind (Some (table es)) v is = cc
 leaf_kind (Some n) v is = let same : n ≡ v = cc in ap (λ m. Some (a_leaf m)) same
 
-pub kind_leaf : (o : Option Node) (v : Node) → option_map kind_of o ≡ Some (a_leaf v) → option_and_then leaf_of o ≡ Some v
+pub kind_leaf : (o : Option Node) (v : Node) → option_map kind_of o ≡ Some (a_leaf v)
+    → option_and_then leaf_of o ≡ Some v
 kind_leaf None v is = cc
 kind_leaf (Some (table es)) v is = cc
 kind_leaf (Some n) v is = let same : n ≡ v = cc in ap Some same

@@ -1,5 +1,5 @@
 -- Regions of layers, in order.
-use Rattle.std.proofs.Common.{◌≡◌, ℕ, zero, suc, ◌<◌, ◌≤◌, ◌+◌, add-one, List, [], ◌∷◌, ◌++◌, length, get_or, take, drop, map, flat_map, Contains, Option, Some, Bor, refl, sym, ap, ◌∙◌, subst, append_assoc, arith}
+use Rattle.std.proofs.Common.{◌≡◌, ℕ, suc, ◌<◌, ◌≤◌, ◌+◌, add-one, List, [], ◌∷◌, ◌++◌, length, get_or, take, drop, flat_map, Contains, Option, Some, Bor, sym, ap, ◌∙◌, append_assoc}
 use Rattle.std.proofs.Math.Seq.{drop-cons}
 use Rattle.std.proofs.lemmas.List.{append-nil, get_or-map, length-map, drop_all}
 use Rattle.nextest_tree.specs.Node.{Node}
@@ -8,7 +8,7 @@ use Rattle.nextest_documents.specs.Shown.{Path}
 use Rattle.config_grounds.specs.Along.{leaf_in}
 use Rattle.config_grounds.specs.Layers.{keys_view}
 use Rattle.config_grounds.specs.Sections.{Region, of_profile, beside, base_path, regions_behind}
-use Rattle.config_grounds.specs.Writers.{countdown, writers_in, writers}
+use Rattle.config_grounds.specs.Writers.{writers_in, writers}
 use Rattle.config_grounds.proofs.Lists.{taken}
 
 abbrev pub Writers : Type 0
@@ -39,12 +39,14 @@ one_profile count chain i d so_far new within is added =
     let here : i < length names = rw (length-map chain (λ (key : Bor (List ℕ)). key.now)) within in
     let read : get_or names i d.now ≡ name = get_or-map (λ (key : Bor (List ℕ)). key.now) chain i d d.now within in
     let region = of_profile (take i names) name in
-    let next : take (i + 1) names ≡ take i names ++ name ∷ [] = taken (λ (key : Bor (List ℕ)). key.now) chain i d within in
+    let next : take (i + 1) names ≡ take i names ++ name ∷ [] =
+    taken (λ (key : Bor (List ℕ)). key.now) chain i d within in
     let rest : drop i names ≡ name ∷ drop (i + 1) names =
     rw add-one (drop-cons names i d.now here ∙ ap (λ n. n ∷ drop (suc i) names) read) in
     let step : left count chain i ≡ writers_in count region ++ left count chain (i + 1) =
     ap (λ l. flat_map (writers_in count) (regions_behind (take i names) l)) rest
-    ∙ ap (λ l. writers_in count region ++ flat_map (writers_in count) (regions_behind l (drop (i + 1) names))) (sym next) in
+    ∙ ap (λ l. writers_in count region ++ flat_map (writers_in count) (regions_behind l (drop (i + 1) names)))
+    (sym next) in
     ap (λ l. l ++ left count chain (i + 1)) added
     ∙ append_assoc so_far (writers_in count region) (left count chain (i + 1))
     ∙ ap (λ l. so_far ++ l) (sym step) ∙ is

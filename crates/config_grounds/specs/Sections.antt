@@ -1,5 +1,5 @@
 -- The sections of layers whose leaves are told: the tables of profiles, and the tables beside them.
-use Rattle.std.specs.Prelude.{ℕ, ◌==◌, ◌&&◌, ◌||◌, List, [], ◌∷◌, ◌++◌, Bool, true, false, not, length, take, codes, if◌then◌else◌}
+use Rattle.std.specs.Prelude.{ℕ, ◌==◌, ◌&&◌, ◌||◌, List, [], ◌∷◌, ◌++◌, Bool, false, not, length, take, codes, if◌then◌else◌}
 use Rattle.std.specs.Ordering.{nat_cmp}
 use Rattle.std.specs.declared.cmp.Ordering.{Ordering}
 use Rattle.std.specs.declared.cmp.Ordering.TheVariants.{Less, Equal, Greater}
@@ -41,7 +41,8 @@ regions chain = regions_behind [] chain
 
 -- nearer profiles stand before others, and all of them before the tables beside them
 abbrev pub region_cmp : Region → Region → Ordering
-region_cmp (of_profile nearer name) (of_profile others other) = nat_cmp (length nearer) (length others)
+region_cmp (of_profile nearer name) (of_profile others other) =
+    nat_cmp (length nearer) (length others)
 region_cmp (of_profile nearer name) beside = Less
 region_cmp beside (of_profile others other) = Greater
 region_cmp beside beside = Equal

@@ -279,9 +279,10 @@ fn entries_at<'t>(
     writers: &[Writer<'t>],
     paths: &BTreeSet<Vec<&'t str>>,
 ) -> Result<Vec<Entry<'t>>, AllocError>
-    ensures found { IfOk result (λ entries. AreAllFound (IsFound (layers_view query.entry.layers.now)
-        (keys_view query.entry.keys.now) query.entry.with_hidden) (map writer_view writers.now)
-        (paths_view paths.now.keys) (map leaf_view entries.items)) }
+    ensures found { IfOk result (λ entries. AreAllFound
+        (IsFound (layers_view query.entry.layers.now) (keys_view query.entry.keys.now)
+        query.entry.with_hidden) (map writer_view writers.now) (paths_view paths.now.keys)
+        (map leaf_view entries.items)) }
     ensures ascend { OnOk result (IsStrictlySortedBy path_cmp (paths_view paths.now.keys)) }
 {
     let mut entries = Vec::new(alloc);
@@ -294,10 +295,10 @@ fn entries_at<'t>(
 /// The leaves that layers write in the profiles of a chain, the nearest first, and in the tables
 /// `scripts`, `store` and `test-groups`: those that count, and with `with_hidden` all.
 ///
-/// Where keys are given, a leaf is told if the keys of its path up to one of them, with dots between
-/// them, spell one of these. The rules of profiles are not told, and the parent of a profile is told
-/// of the nearest one alone. Leaves stand by their paths; what counts stands before what it hides at
-/// the same path.
+/// Where keys are given, a leaf is told if the keys of its path up to one of them, with dots
+/// between them, spell one of these. The rules of profiles are not told, and the parent of a profile
+/// is told of the nearest one alone. Leaves stand by their paths, and those of one path from the
+/// nearest profile and the highest layer on.
 pub fn entries_of<'t>(
     alloc: Global,
     layers: &'t [Option<&'t Tree>],

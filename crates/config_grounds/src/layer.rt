@@ -11,7 +11,8 @@ use nextest_tree::Tree;
 /// The position of the highest layer that shows something at a path.
 fn highest_layer(layers: &[Option<&Tree>], path: &[&str]) -> Option<usize>
     ensures { let all = layers_view layers.now in
-        MatchOption result (¬ Stands all (keys_view path.now)) (IsHighest all (keys_view path.now)) }
+        MatchOption result (¬ Stands all (keys_view path.now))
+        (IsHighest all (keys_view path.now)) }
 {
     let count = layers.len();
     'down: for back in 0..count {
@@ -30,8 +31,10 @@ fn highest_layer(layers: &[Option<&Tree>], path: &[&str]) -> Option<usize>
 /// There is none exactly where the layers, laid over one another, have nothing at the path.
 pub fn layer_of(layers: &[Option<&Tree>], path: &[&str]) -> Option<usize>
     ensures shown { let all = layers_view layers.now in
-        MatchOption result (¬ Stands all (keys_view path.now)) (IsHighest all (keys_view path.now)) }
-    ensures merged { (lowest : Node) (higher : List Node) → layers_view layers.now ≡ lowest ∷ higher
+        MatchOption result (¬ Stands all (keys_view path.now))
+        (IsHighest all (keys_view path.now)) }
+    ensures merged { (lowest : Node) (higher : List Node)
+        → layers_view layers.now ≡ lowest ∷ higher
         → is_some result ≡ is_some (node_at (keys_view path.now) (merged lowest higher)) }
 {
     highest_layer(layers, path)

@@ -6,4 +6,5 @@ use Rattle.config_grounds.proofs.along.node_along.Given as goal
 
 abbrev pub invariant-loop-key : goal.invariant-loop-key
 invariant-loop-key l =
-    node_along (keys_view (drop l.key-index l.path)) (tree_view l.node) ≡ node_along (keys_view l.path) (tree_view l.tree)
+    node_along (keys_view (drop l.key-index l.path)) (tree_view l.node)
+    ≡ node_along (keys_view l.path) (tree_view l.tree)

@@ -1,7 +1,7 @@
-use Rattle.std.proofs.Common.{◌≡◌, ◌<◌, ◌∙◌, None, length, drop, option_map, rules, arith, sym}
+use Rattle.std.proofs.Common.{◌≡◌, ◌<◌, ◌∙◌, None, length, drop, rules, arith, sym}
 use Rattle.std.proofs.lemmas.List.{length-drop}
 use Rattle.nextest_tree.specs.Node.{as_table}
-use Rattle.nextest_tree.specs.View.{tree_view, entries_view}
+use Rattle.nextest_tree.specs.View.{tree_view}
 use Rattle.config_grounds.proofs.Ways.{blocked_off}
 use Rattle.config_grounds.proofs.along.way_in.Goals as goal
 

@@ -1,4 +1,4 @@
-use Rattle.std.proofs.Common.{rules, ◌≡◌, [], ◌∷◌, ◌++◌, None, map, option_map, refl, sym, ap, ◌∙◌}
+use Rattle.std.proofs.Common.{rules, ◌≡◌, [], ◌∷◌, ◌++◌, map, option_map, sym, ap, ◌∙◌}
 use Rattle.std.proofs.lemmas.List.{append-nil, map-append}
 use Rattle.config_grounds.specs.Entries.{leaf_view}
 use Rattle.config_grounds.specs.Layers.{layers_view, keys_view}
@@ -17,7 +17,8 @@ loop-writer-preserved c =
     let added : new ≡ so_far ++ somes (option_map leaf_view found ∷ []) =
     elim c.match-branch-2.branch [
       | in-Some+in_ok-push w ↦
-          let items : c.match-branch-2.entries.items ≡ c.loop-writer.entries.items ++ w.in-Some.entry ∷ [] = search rules in
+          let items : c.match-branch-2.entries.items ≡ c.loop-writer.entries.items ++ w.in-Some.entry ∷ [] =
+          search rules in
           ap (map leaf_view) items ∙ map-append leaf_view c.loop-writer.entries.items (w.in-Some.entry ∷ [])
           ∙ ap (λ o. so_far ++ somes (option_map leaf_view o ∷ [])) (sym w.in-Some.is)
       | in_default w ↦

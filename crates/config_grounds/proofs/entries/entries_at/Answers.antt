@@ -1,8 +1,7 @@
-use Rattle.std.proofs.Common.{◌≡◌, [], ◌∷◌, ◌++◌, map, sym, ap, ◌∙◌, subst, append_assoc}
+use Rattle.std.proofs.Common.{[], ◌∷◌, ◌++◌, map, sym, ap, ◌∙◌, subst, append_assoc}
 use Rattle.std.proofs.lemmas.List.{map-append}
 use Rattle.config_grounds.specs.Entries.{leaf_view}
 use Rattle.config_grounds.specs.Layers.{layers_view, keys_view}
-use Rattle.config_grounds.specs.Leaves.{paths_view}
 use Rattle.config_grounds.specs.Writers.{writer_view, IsFound, AddsFound, AreAllFound, at_none, at_more}
 use Rattle.config_grounds.proofs.KeySets.{Keys, paths_ascend}
 use Rattle.config_grounds.proofs.entries.entries_at.Goals as goal

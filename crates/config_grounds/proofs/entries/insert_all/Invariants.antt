@@ -1,4 +1,4 @@
-use Rattle.std.proofs.Common.{List, take, Contains}
+use Rattle.std.proofs.Common.{take, Contains}
 use Rattle.nextest_documents.specs.Shown.{Path}
 use Rattle.config_grounds.specs.Leaves.{paths_view}
 use Rattle.config_grounds.proofs.entries.insert_all.Given as goal

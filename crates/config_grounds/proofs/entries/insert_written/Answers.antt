@@ -1,9 +1,8 @@
-use Rattle.std.proofs.Common.{◌≡◌, ◌++◌, Some, None, Contains, map, sym, ap, ◌∙◌, subst}
+use Rattle.std.proofs.Common.{◌≡◌, ◌++◌, Some, None, map, sym, ap, ◌∙◌, subst}
 use Rattle.std.proofs.lemmas.List.{append-nil}
 use Rattle.nextest_documents.specs.Shown.{Path}
-use Rattle.nextest_tree.specs.Node.{Node}
 use Rattle.nextest_tree.specs.View.{tree_view}
-use Rattle.config_grounds.specs.Along.{leaf_in, node_in}
+use Rattle.config_grounds.specs.Along.{node_in}
 use Rattle.config_grounds.specs.Layers.{keys_view}
 use Rattle.config_grounds.specs.Leaves.{paths_view, leaf_paths}
 use Rattle.config_grounds.specs.Sections.{section_view, base_path}

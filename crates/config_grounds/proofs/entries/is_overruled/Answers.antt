@@ -1,8 +1,7 @@
-use Rattle.std.proofs.Common.{◌≡◌, ◌↔◌, false, sym, ap, ◌∙◌, subst}
+use Rattle.std.proofs.Common.{◌≡◌, ◌↔◌, false, subst}
 use Rattle.std.specs.List.{AllByRecursion}
 use Rattle.config_grounds.specs.Grounds.{Writes}
 use Rattle.config_grounds.specs.Layers.{layers_view, keys_view}
-use Rattle.config_grounds.specs.Sections.{section_view, nearer_than, value_path}
 use Rattle.config_grounds.proofs.Results.{overruled}
 use Rattle.config_grounds.proofs.entries.is_overruled.Goals as goal
 

@@ -1,8 +1,7 @@
-use Rattle.std.proofs.Common.{◌≡◌, ◌++◌, get_or, take, map, ap, ◌∙◌, sym}
+use Rattle.std.proofs.Common.{◌≡◌, take, map, ap, ◌∙◌, sym}
 use Rattle.std.proofs.lemmas.List.{take-map}
 use Rattle.config_grounds.specs.Layers.{keys_view}
-use Rattle.config_grounds.specs.Sections.{of_profile}
-use Rattle.config_grounds.specs.Writers.{writer_view, writers_in}
+use Rattle.config_grounds.specs.Writers.{writer_view}
 use Rattle.config_grounds.proofs.Writing.{one_profile}
 use Rattle.config_grounds.proofs.entries.writers_of.Goals as goal
 

@@ -1,9 +1,6 @@
-use Rattle.std.proofs.Common.{◌≡◌, ◌++◌, Some, Contains, take, map}
+use Rattle.std.proofs.Common.{take, map}
 use Rattle.std.specs.List.{AllByRecursion}
-use Rattle.nextest_documents.specs.Shown.{Path}
-use Rattle.config_grounds.specs.Along.{leaf_in}
 use Rattle.config_grounds.specs.Leaves.{paths_view}
-use Rattle.config_grounds.specs.Sections.{base_path}
 use Rattle.config_grounds.specs.Writers.{writer_view}
 use Rattle.config_grounds.proofs.Writing.{HasPaths}
 use Rattle.config_grounds.proofs.entries.written_paths.Given as goal

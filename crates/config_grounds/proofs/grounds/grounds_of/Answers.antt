@@ -1,4 +1,4 @@
-use Rattle.std.proofs.Common.{Bor, refl}
+use Rattle.std.proofs.Common.{refl}
 use Rattle.config_grounds.specs.Grounds.{Writes}
 use Rattle.config_grounds.specs.Layers.{layers_view, keys_view}
 use Rattle.config_grounds.proofs.Lists.{all_taken}

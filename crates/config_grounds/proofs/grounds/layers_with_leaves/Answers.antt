@@ -1,4 +1,4 @@
-use Rattle.std.proofs.Common.{rules, ◌≡◌, ◌-◌, ◌+◌, suc, length, false, true, sym, ◌∙◌, arith}
+use Rattle.std.proofs.Common.{rules, ◌≡◌, ◌-◌, ◌+◌, suc, length, sym, ◌∙◌, arith}
 use Rattle.std.proofs.lemmas.Bool.{true≢false}
 use Rattle.config_grounds.specs.Layers.{layers_view, keys_view}
 use Rattle.config_grounds.proofs.Descending.{begins, goes_on, passes, finish}
@@ -19,10 +19,12 @@ down-preserved c =
     let after : length ls - (c.down.back + 1) ≡ at = omega (arith, c.down-test.true) in
     elim c.if-branch.branch [
       | then-branch+in_ok-push w ↦
-          goes_on (layers_view ls) p _ _ at c.down.positions.items c.if-branch.positions.items c.down.invariant before after
+          goes_on (layers_view ls) p _ _ at c.down.positions.items c.if-branch.positions.items
+          c.down.invariant before after
           (search rules) (c.in_ok-shows_leaf_below.ensures.0 w.if-branch.true)
       | else-branch w ↦
-          passes (layers_view ls) p _ _ at c.down.positions.items c.if-branch.positions.items c.down.invariant before after
+          passes (layers_view ls) p _ _ at c.down.positions.items c.if-branch.positions.items c.down.invariant
+          before after
           (search rules)
           (λ shows. true≢false (sym (c.in_ok-shows_leaf_below.ensures.1 shows) ∙ w.if-branch.false))
     ]

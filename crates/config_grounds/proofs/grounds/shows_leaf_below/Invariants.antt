@@ -7,4 +7,5 @@ use Rattle.config_grounds.proofs.grounds.shows_leaf_below.Given as goal
 
 abbrev pub invariant-loop-leaf : goal.invariant-loop-leaf
 invariant-loop-leaf l =
-    AllByRecursion (λ p. ShowsLeaf (layers_view l.layers) p l.position → ⊥) (take l.leaf-index (paths_view l.leaf-items))
+    AllByRecursion (λ p. ShowsLeaf (layers_view l.layers) p l.position → ⊥)
+    (take l.leaf-index (paths_view l.leaf-items))

@@ -1,6 +1,6 @@
-use Rattle.std.proofs.Common.{◌≡◌, true, refl, sym, ◌∙◌}
+use Rattle.std.proofs.Common.{refl, sym, ◌∙◌}
 use Rattle.std.proofs.lemmas.Bool.{true≢false}
-use Rattle.config_grounds.specs.Entries.{IsBelow, IsAsked, by_key}
+use Rattle.config_grounds.specs.Entries.{IsBelow, by_key}
 use Rattle.config_grounds.specs.Layers.{keys_view}
 use Rattle.config_grounds.proofs.Lists.{all_taken, contains_at}
 use Rattle.config_grounds.proofs.spelling.is_asked.Goals as goal

@@ -1,4 +1,4 @@
-use Rattle.std.proofs.Common.{◌≡◌, ◌<◌, ◌+◌, suc, take, length, string_bytes, refl, sym, ap, ◌∙◌, add-one, below_more}
+use Rattle.std.proofs.Common.{◌≡◌, suc, take, refl, sym, ap, ◌∙◌, add-one, below_more}
 use Rattle.std.proofs.lemmas.Bool.{true≢false}
 use Rattle.std.proofs.lemmas.List.{length-map, take-map}
 use Rattle.std.proofs.lemmas.Slice.Eq.{bytes_eq-Decides}
@@ -11,7 +11,8 @@ returns-then-eq c =
     let path = c.args.path.now in
     let last = c.loop-last.last in
     let keys : keys_view c.front.result.now ≡ take (suc last) (keys_view path) =
-    ap keys_view (c.front.ensures ∙ ap (λ n. take n path) (add-one last)) ∙ sym (take-map (λ key. key.now) (suc last) path) in
+    ap keys_view (c.front.ensures ∙ ap (λ n. take n path) (add-one last))
+    ∙ sym (take-map (λ key. key.now) (suc last) path) in
     let text : c.as_str.result.now ≡ dotted (take (suc last) (keys_view path)) =
     c.as_str.ensures.value ∙ c.in_ok-text.ensures ∙ ap dotted keys in
     let same : c.as_str.result.now ≡ c.args.key.now =
@@ -29,7 +30,8 @@ loop-last-preserved c =
     let path = c.args.path.now in
     let last = c.loop-last.last in
     let keys : keys_view c.front.result.now ≡ take (suc last) (keys_view path) =
-    ap keys_view (c.front.ensures ∙ ap (λ n. take n path) (add-one last)) ∙ sym (take-map (λ key. key.now) (suc last) path) in
+    ap keys_view (c.front.ensures ∙ ap (λ n. take n path) (add-one last))
+    ∙ sym (take-map (λ key. key.now) (suc last) path) in
     let text : c.as_str.result.now ≡ dotted (take (suc last) (keys_view path)) =
     c.as_str.ensures.value ∙ c.in_ok-text.ensures ∙ ap dotted keys in
     below_more _ _ c.loop-last.invariant
