@@ -3,7 +3,7 @@ ghost use Rattle.std.specs.Prelude.{◌≡◌, IfOk, IfSome, string_bytes};
 ghost use Rattle.config_grounds.specs.Entries.{dotted};
 ghost use Rattle.config_grounds.specs.Layers.{keys_view};
 
-use crate::told_value::told_value;
+use crate::leaf_value::told_value;
 use config_grounds::{Entry, Section, key_text};
 use config_places::Step;
 use rinqebo_report::{Origin, Part, Place, Written};
