@@ -1,0 +1,13 @@
+pub mod Lists
+pub mod Ways
+pub mod Highest
+pub mod LeafPaths
+pub mod Descending
+pub mod Showing
+pub mod Nearest
+pub mod JoinedKeys
+pub mod KeySets
+pub mod Writing
+pub mod Results
+pub mod Finding
+pub mod Concluding
