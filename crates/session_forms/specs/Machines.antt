@@ -1,5 +1,5 @@
 -- The engines of a request: its filters and its platforms.
-use Rattle.std.specs.Prelude.{◌≡◌, ℕ, List, Option, None, Some, option_map, string_bytes, Ok, Err}
+use Rattle.std.specs.Prelude.{◌≡◌, ◌⊎◌, ℕ, List, Option, None, Some, option_map, string_bytes, Ok, Err}
 use Rattle.nextest_engines.specs.declared.queries.BuildPlatforms.{BuildPlatforms}
 use Rattle.nextest_filters.specs.declared.engine.NextestFilters.{NextestFilters}
 use Rattle.package_graph.specs.Graph.{Graph}
@@ -59,6 +59,15 @@ IsMachineRefused machine (refused.Metadata fault) = ⊥
 IsMachineRefused machine (refused.Platform triple fault) =
     (string_bytes triple ≡ machine.triple) × IsPlatformFault machine fault
 IsMachineRefused machine refused.Memory = Unit {0}
+
+-- the machine that is built for is refused
+abbrev pub IsTargetRefused : Option MachineText → EngineFault → Type 0
+IsTargetRefused (Some machine) fault = IsMachineRefused machine fault
+IsTargetRefused None fault = ⊥
+
+-- a machine of a build is refused: the one that builds, or the one that is built for
+abbrev pub IsBuildRefused : MachineText → Option MachineText → EngineFault → Type 0
+IsBuildRefused host target fault = IsMachineRefused host fault ⊎ IsTargetRefused target fault
 
 -- the platform that is built for is that of a machine, where one is asked for; else there is none
 abbrev pub IsTargetFor : Option MachineText → Option Platform → Type 0

@@ -1,6 +1,6 @@
 //! The language of filters and the platforms of a build, as a request names them.
 ghost use Rattle.std.specs.Prelude.{IfOk, IfErr, option_map, string_bytes};
-ghost use Rattle.session_forms.specs.Machines.{AreFiltersFor, IsMetadataFault, IsPlatformFor, IsPlatformFault, ArePlatformsFor, IsMachineRefused};
+ghost use Rattle.session_forms.specs.Machines.{AreFiltersFor, IsMetadataFault, IsPlatformFor, IsPlatformFault, ArePlatformsFor, IsMachineRefused, IsBuildRefused};
 ghost use Rattle.session_forms.specs.Requests.{machine_view};
 
 use crate::request::{LoadRequest, Machine};
@@ -78,7 +78,9 @@ pub fn platforms_of(
     alloc: Global,
     request: &LoadRequest,
 ) -> Result<BuildPlatforms<Platform>, EngineFault>
-    ensures { IfOk result (ArePlatformsFor (machine_view request.now.host)
+    ensures ok { IfOk result (ArePlatformsFor (machine_view request.now.host)
+        (option_map machine_view request.now.target)) }
+    ensures err { IfErr result (IsBuildRefused (machine_view request.now.host)
         (option_map machine_view request.now.target)) }
 {
     let target = match &request.target {
