@@ -1,5 +1,5 @@
 -- What is asked of a profile, and what it answers.
-use Rattle.std.specs.Prelude.{◌≡◌, ◌≢◌, ◌⊎◌, ℕ, List, Bool, Option, None, Some, option_map, length, map, position, unwrap_or, string_bytes, Result, Ok, Err}
+use Rattle.std.specs.Prelude.{◌≡◌, ◌≢◌, ◌⊎◌, ℕ, List, Bool, Option, None, Some, option_map, length, map, position, unwrap_or, string_bytes, Result, Ok, Err, ◌==◌, if◌then◌else◌}
 use Rattle.std.specs.Str.{IsUtf8, bytes_eq}
 use Rattle.nextest_elements.specs.TestGroup.{custom_group_text}
 use Rattle.nextest_elements.specs.declared.run_mode.NextestRunMode.{NextestRunMode}
@@ -21,15 +21,11 @@ fault_status UnknownNumber = UNKNOWN_NUMBER
 
 -- the platform of a number
 abbrev pub platform_numbered : ℕ → Option BuildPlatform
-platform_numbered 0 = Some Host
-platform_numbered 1 = Some Target
-platform_numbered _ = None
+platform_numbered n = if n == 0 then Some Host else (if n == 1 then Some Target else None)
 
 -- the mode of a number
 abbrev pub mode_numbered : ℕ → Option NextestRunMode
-mode_numbered 0 = Some in_test
-mode_numbered 1 = Some in_benchmark
-mode_numbered _ = None
+mode_numbered n = if n == 0 then Some in_test else (if n == 1 then Some in_benchmark else None)
 
 -- the binary of a test, on a platform
 abbrev pub binary_of : AskedTest → BuildPlatform → Binary

@@ -5,3 +5,5 @@ pub mod Loading
 pub mod Sessions
 pub mod Opening
 pub mod Asking
+pub mod Answering
+pub mod Texts

@@ -13,6 +13,8 @@ mod session;
 mod settings;
 pub mod status;
 mod test;
+#[cfg(test)]
+mod tests;
 
 pub use failure::{Failure, OpenFailure};
 pub use loading::{Config, Loaded};
