@@ -13,8 +13,6 @@ mod session;
 mod settings;
 pub mod status;
 mod test;
-#[cfg(test)]
-mod tests;
 
 pub use failure::{Failure, OpenFailure};
 pub use loading::{Config, Loaded};
