@@ -1,0 +1,179 @@
+// Loads the request of a file and asks for the settings of some tests, or checks the calls by themselves.
+//
+//   example                          checks each call, and exits with the number of the first that fails
+//   example REQUEST PROFILE BINARY TEST..   prints the settings of tests of a binary
+#include "rinqebo.h"
+#include <inttypes.h>
+#include <stdio.h>
+#include <stdlib.h>
+#include <string.h>
+
+static struct rinqebo_bytes bytes_of(const char *text) {
+    struct rinqebo_bytes bytes = {(const uint8_t *)text, strlen(text)};
+    return bytes;
+}
+
+static struct rinqebo_test test_of(const char *binary, const char *name) {
+    struct rinqebo_test test = {bytes_of(""), bytes_of(binary), bytes_of("lib"), bytes_of(binary), bytes_of(name), 1, 0};
+    return test;
+}
+
+// The session of a request, or NULL where there is no memory for it.
+static struct rinqebo_session *load(const char *request) {
+    struct rinqebo_session *session = malloc(rinqebo_session_size());
+    if (session != NULL) {
+        rinqebo_session_load((const uint8_t *)request, strlen(request), session);
+    }
+    return session;
+}
+
+static void end(struct rinqebo_session *session) {
+    rinqebo_session_free(session);
+    free(session);
+}
+
+static struct rinqebo_profile *open_profile(const struct rinqebo_session *session, const char *name) {
+    struct rinqebo_profile *profile = malloc(rinqebo_profile_size());
+    if (profile != NULL) {
+        rinqebo_profile_open(session, (const uint8_t *)name, strlen(name), profile);
+    }
+    return profile;
+}
+
+static void end_profile(struct rinqebo_profile *profile) {
+    rinqebo_profile_free(profile);
+    free(profile);
+}
+
+static int has_text(const struct rinqebo_profile *profile, uint32_t kind, size_t index, const char *text) {
+    uint8_t out[64];
+    size_t needed = 0;
+    return rinqebo_profile_text(profile, kind, index, out, sizeof out, &needed) == RINQEBO_DONE &&
+           needed == strlen(text) && memcmp(out, text, needed) == 0;
+}
+
+static const char *REQUEST =
+    "{\"root\": \"/w\", \"file\": {\"path\": \"/w/.config/nextest.toml\", \"text\":"
+    " \"[profile.ci]\\nretries = 1\\n[test-groups.db]\\nmax-threads = 2\\n[[profile.ci.overrides]]\\n"
+    "filter = 'test(/^db::/)'\\ntest-group = 'db'\\nthreads-required = 4\\nslow-timeout = '20s'\\npriority = 50\\n\"},"
+    " \"tools\": [], \"features\": {\"setup-scripts\": false, \"wrapper-scripts\": false}, \"metadata\": null,"
+    " \"host\": {\"triple\": \"x86_64-unknown-linux-gnu\", \"cfg\": null}, \"target\": null}";
+
+// Settings of one profile. 0, or the number of the first check that fails.
+static int check_settings(const struct rinqebo_profile *profile) {
+    struct rinqebo_settings settings = rinqebo_profile_ask(profile, test_of("api", "db::reads"));
+    if (settings.status != RINQEBO_DONE) return 10;
+    if (settings.priority != 50 || settings.threads_required.kind != 0 || settings.threads_required.count != 4) return 11;
+    if (settings.retries.backoff != 0 || settings.retries.count != 1) return 12;
+    if (settings.slow_timeout.period.low != UINT64_C(20000000000) || settings.slow_timeout.period.high != 0) return 13;
+    if (settings.test_group != 0 || settings.group_threads.kind != 0 || settings.group_threads.count != 2) return 14;
+    if (settings.run_wrapper != RINQEBO_NO_NAME || settings.run_extra_args != 0) return 15;
+    if (settings.in_default_filter != 1) return 16;
+    if (!has_text(profile, RINQEBO_GROUP, settings.test_group, "db")) return 17;
+    if (!has_text(profile, RINQEBO_REASON, 0, "")) return 18;
+    settings = rinqebo_profile_ask(profile, test_of("api", "quick"));
+    if (settings.test_group != RINQEBO_NO_NAME || settings.group_threads.kind != 2 || settings.priority != 0) return 19;
+    if (rinqebo_profile_ask(profile, test_of("api", "\xff")).status != RINQEBO_NOT_TEXT) return 20;
+    struct rinqebo_test test = test_of("", "");
+    if (rinqebo_profile_ask(profile, test).status != RINQEBO_DONE) return 21;
+    test.mode = 2;
+    if (rinqebo_profile_ask(profile, test).status != RINQEBO_UNKNOWN_NUMBER) return 22;
+    return 0;
+}
+
+// The buffer of a text. 0, or the number of the first check that fails.
+static int check_buffer(const struct rinqebo_profile *profile) {
+    uint8_t out[2] = {'x', 'y'};
+    size_t needed = 0;
+    if (rinqebo_profile_text(profile, RINQEBO_GROUP, 0, out, 1, &needed) != RINQEBO_SMALL) return 30;
+    if (needed != 2 || out[0] != 'x') return 31;
+    if (rinqebo_profile_text(profile, RINQEBO_GROUP, 0, out, 0, &needed) != RINQEBO_SMALL || needed != 2) return 32;
+    if (rinqebo_profile_text(profile, RINQEBO_GROUP, 0, out, needed, &needed) != RINQEBO_DONE || out[0] != 'd') return 33;
+    if (rinqebo_profile_text(profile, RINQEBO_GROUP, 1, out, 2, &needed) != RINQEBO_UNKNOWN_NUMBER) return 34;
+    if (rinqebo_profile_text(profile, 3, 0, out, 2, &needed) != RINQEBO_UNKNOWN_NUMBER || needed != 0) return 35;
+    return 0;
+}
+
+// A request that is refused, and what may still be asked. 0, or the number of the check that fails.
+static int check_refused(const char *request, uint32_t status) {
+    struct rinqebo_session *session = load(request);
+    if (session == NULL) return 40;
+    if (rinqebo_session_status(session) != status) return 41;
+    uint8_t reason[256];
+    size_t needed = 0;
+    if (rinqebo_session_reason(session, reason, sizeof reason, &needed) != RINQEBO_DONE || needed == 0) return 42;
+    struct rinqebo_profile *profile = open_profile(session, "ci");
+    if (profile == NULL || rinqebo_profile_status(profile) != RINQEBO_NOT_LOADED) return 43;
+    if (rinqebo_profile_ask(profile, test_of("a", "b")).status != RINQEBO_NOT_LOADED) return 44;
+    end_profile(profile);
+    end(session);
+    return 0;
+}
+
+static int check(void) {
+    struct rinqebo_session *session = load(REQUEST);
+    if (session == NULL) return 1;
+    if (rinqebo_session_status(session) != RINQEBO_DONE) return 2;
+    struct rinqebo_profile *profile = open_profile(session, "ci");
+    if (profile == NULL || rinqebo_profile_status(profile) != RINQEBO_DONE) return 3;
+    int failed = check_settings(profile);
+    if (failed == 0) failed = check_buffer(profile);
+    end_profile(profile);
+    if (failed != 0) return failed;
+    profile = open_profile(session, "cj");
+    if (profile == NULL || rinqebo_profile_status(profile) != RINQEBO_NO_PROFILE) return 4;
+    end_profile(profile);
+    profile = open_profile(session, "\xff");
+    if (profile == NULL || rinqebo_profile_status(profile) != RINQEBO_NOT_TEXT) return 5;
+    end_profile(profile);
+    end(session);
+    failed = check_refused("", RINQEBO_NOT_UNDERSTOOD);
+    if (failed == 0) failed = check_refused("{}", RINQEBO_NOT_UNDERSTOOD);
+    if (failed == 0) failed = check_refused("\xff", RINQEBO_NOT_TEXT);
+    return failed;
+}
+
+// The text of a file, ended by a zero, or NULL.
+static char *text_of(const char *path) {
+    FILE *file = fopen(path, "rb");
+    if (file == NULL) return NULL;
+    char *text = NULL;
+    if (fseek(file, 0, SEEK_END) == 0) {
+        long length = ftell(file);
+        rewind(file);
+        text = length < 0 ? NULL : malloc((size_t)length + 1);
+        if (text != NULL) text[fread(text, 1, (size_t)length, file)] = 0;
+    }
+    fclose(file);
+    return text;
+}
+
+static void print_settings(const struct rinqebo_profile *profile, const char *binary, const char *name) {
+    struct rinqebo_settings settings = rinqebo_profile_ask(profile, test_of(binary, name));
+    uint8_t group[256] = "@global";
+    size_t length = 7;
+    if (settings.test_group != RINQEBO_NO_NAME) {
+        rinqebo_profile_text(profile, RINQEBO_GROUP, settings.test_group, group, sizeof group, &length);
+    }
+    printf("%s %s: priority %" PRId32 ", retries %" PRIu32 ", group %.*s\n", binary, name, settings.priority,
+           settings.retries.count, (int)length, (const char *)group);
+}
+
+int main(int count, char **words) {
+    if (count < 5) {
+        int failed = check();
+        puts(failed == 0 ? "ok" : "failed");
+        return failed;
+    }
+    char *request = text_of(words[1]);
+    if (request == NULL) return 1;
+    struct rinqebo_session *session = load(request);
+    free(request);
+    if (session == NULL || rinqebo_session_status(session) != RINQEBO_DONE) return 2;
+    struct rinqebo_profile *profile = open_profile(session, words[2]);
+    if (profile == NULL || rinqebo_profile_status(profile) != RINQEBO_DONE) return 3;
+    for (int i = 4; i < count; i++) print_settings(profile, words[3], words[i]);
+    end_profile(profile);
+    end(session);
+    return 0;
+}

@@ -1,0 +1,169 @@
+//! The exports. A session and its profiles lie in room of the caller's, who never looks inside.
+ghost use Rattle.std.specs.Prelude.{◌≡◌, [], ℕ, List, string_bytes};
+ghost use Rattle.std.specs.Mem.{type_size};
+ghost use base.Fml.{Share, flft};
+ghost use base.Fraction.{full_share};
+ghost use contract.BorrowLft.{◌⊑◌};
+ghost use denote.RawPtr.{lies_at, room_at};
+ghost use types.Logic.{sem};
+ghost use Rattle.rinqebo_session.specs.Answering.{Answers};
+ghost use Rattle.rinqebo_session.specs.Copies.{IsCopiedOut};
+ghost use Rattle.rinqebo_session.specs.Sessions.{session_status};
+ghost use Rattle.rinqebo_session.specs.Texts.{profile_status, IsTextCopied};
+ghost use Rattle.rinqebo_session.specs.contracts.session.Session.{the_row};
+ghost use Rattle.rinqebo_session.specs.declared.profile.Profile.{Profile};
+ghost use Rattle.rinqebo_session.specs.declared.session.Session.{Session};
+ghost use Rattle.rinqebo_c.specs.Handles.{loaded, lent, profile_row, opened, lent_profile};
+
+use rinqebo_session::{AskedTest, Profile, Session, SettingNumbers};
+use std::alloc::Global;
+use std::mem::size_of;
+
+/// The bytes of a session.
+#[unsafe(no_mangle)]
+pub extern "C" fn rinqebo_session_size() -> usize
+    ensures { result ≡ type_size the_row }
+{
+    size_of::<Session>()
+}
+
+/// Loads a request in JSON into room for a session. It always leaves a session there, whose status
+/// says how it went.
+#[unsafe(no_mangle)]
+pub unsafe extern "C" fn rinqebo_session_load(alloc: Global, request: &[u8], room: *mut u8)
+    // The room has the size and the alignment of a session, and holds none.
+    requires* { sem 𝓛 (room_at the_row room) }
+    ensures* { sem 𝓛 (loaded request.now room) }
+{
+    (room as *mut Session).write(Session::load(alloc, request));
+}
+
+/// How a load went.
+#[unsafe(no_mangle)]
+pub unsafe extern "C" fn rinqebo_session_status(session: *const u8) -> u32
+    ghost g: { List ℕ × Share × Session }
+    // A session lies there, and nothing writes it during the call.
+    requires* { sem 𝓛 (lent g.0 g.1 session g.2) }
+    ensures* { sem 𝓛 (lent g.0 g.1 session g.2) ∗ ⌜ result ≡ session_status g.2 ⌝ }
+{
+    Session::status(&*(session as *const Session))
+}
+
+/// Copies out why a session has no configuration; it is empty where it has one.
+#[unsafe(no_mangle)]
+pub unsafe extern "C" fn rinqebo_session_reason(
+    session: *const u8,
+    out: &mut [u8],
+    needed: &mut usize,
+) -> u32
+    ghost g: { List ℕ × Share × Session }
+    // A session lies there, and nothing writes it during the call.
+    requires* { sem 𝓛 (lent g.0 g.1 session g.2) }
+    ensures* { sem 𝓛 (lent g.0 g.1 session g.2)
+        ∗ ⌜ IsCopiedOut (string_bytes g.2.reason) out.old out.new needed.new result ⌝ }
+{
+    Session::copy_reason(&*(session as *const Session), out, needed)
+}
+
+/// Frees what a session owns. The room is the caller's again.
+#[unsafe(no_mangle)]
+pub unsafe extern "C" fn rinqebo_session_free(session: *mut u8)
+    ghost value: { Session }
+    // A session lies there, and no profile of it is left: else that one would read what is freed.
+    requires* { sem 𝓛 (lies_at the_row full_share session value) }
+    ensures* { sem 𝓛 (room_at the_row session) }
+{
+    close_session((session as *mut Session).read());
+}
+
+/// The bytes of a profile.
+#[unsafe(no_mangle)]
+pub extern "C" fn rinqebo_profile_size() -> usize
+    ensures { result ≡ type_size (profile_row []) }
+{
+    size_of::<Profile<'static>>()
+}
+
+/// Opens a profile of a session, by its name, in room for a profile. It always leaves a profile
+/// there, whose status says how it went.
+#[unsafe(no_mangle)]
+pub unsafe extern "C" fn rinqebo_profile_open(
+    alloc: Global,
+    session: *const u8,
+    name: &[u8],
+    room: *mut u8,
+)
+    ghost g: { List ℕ × Share × Session }
+    // A session lies there, and stays as long as the profile; the room has the size and the
+    // alignment of a profile, and holds none.
+    requires* { sem 𝓛 (lent g.0 g.1 session g.2) ∗ sem 𝓛 (room_at (profile_row g.0) room) }
+    ensures* { sem 𝓛 (lent g.0 g.1 session g.2) ∗ sem 𝓛 (opened g.0 g.2 name.now room) }
+{
+    (room as *mut Profile<'_>).write(Profile::open(alloc, &*(session as *const Session), name));
+}
+
+/// How an opening went.
+#[unsafe(no_mangle)]
+pub unsafe extern "C" fn rinqebo_profile_status(profile: *const u8) -> u32
+    ghost g: { List ℕ × List ℕ × Share × Share × Profile }
+    // A profile lies there, its session is still loaded, and nothing writes either during the call.
+    requires* loan { sem 𝓛 (lent_profile g.0 g.1 g.2 g.3 profile g.4) }
+    requires within { g.0 ⊑ g.1 }
+    ensures* { sem 𝓛 (lent_profile g.0 g.1 g.2 g.3 profile g.4)
+        ∗ ⌜ result ≡ profile_status g.4 ⌝ }
+{
+    Profile::status(&*(profile as *const Profile<'_>))
+}
+
+/// The settings that a profile gives to a test, as numbers. It takes no memory.
+#[unsafe(no_mangle)]
+pub unsafe extern "C" fn rinqebo_profile_ask(
+    profile: *const u8,
+    test: AskedTest<'_>,
+) -> SettingNumbers
+    ghost g: { List ℕ × List ℕ × Share × Share × Profile }
+    // A profile lies there, its session is still loaded, and nothing writes either during the call.
+    requires* loan { sem 𝓛 (lent_profile g.0 g.1 g.2 g.3 profile g.4) }
+    requires within { g.0 ⊑ g.1 }
+    ensures* { sem 𝓛 (lent_profile g.0 g.1 g.2 g.3 profile g.4)
+        ∗ ⌜ Answers g.4 test.entry result ⌝ }
+{
+    Profile::ask(&*(profile as *const Profile<'_>), test)
+}
+
+/// Copies out a text of a profile: of kind 0 why it is not open, of kind 1 the name of the group of
+/// an index, of kind 2 the id of the wrapper of an index.
+#[unsafe(no_mangle)]
+pub unsafe extern "C" fn rinqebo_profile_text(
+    profile: *const u8,
+    kind: u32,
+    index: usize,
+    out: &mut [u8],
+    needed: &mut usize,
+) -> u32
+    ghost g: { List ℕ × List ℕ × Share × Share × Profile }
+    // A profile lies there, its session is still loaded, and nothing writes either during the call.
+    requires* loan { sem 𝓛 (lent_profile g.0 g.1 g.2 g.3 profile g.4) }
+    requires within { g.0 ⊑ g.1 }
+    ensures* { sem 𝓛 (lent_profile g.0 g.1 g.2 g.3 profile g.4)
+        ∗ ⌜ IsTextCopied g.4 kind index out.old out.new needed.new result ⌝ }
+{
+    Profile::copy_text(&*(profile as *const Profile<'_>), kind, index, out, needed)
+}
+
+/// Frees what a profile owns. The room is the caller's again.
+#[unsafe(no_mangle)]
+pub unsafe extern "C" fn rinqebo_profile_free(profile: *mut u8)
+    ghost g: { List ℕ × Share × Profile }
+    // A profile lies there, and its session is still loaded.
+    requires* { sem 𝓛 (flft g.0 g.1) ∗ sem 𝓛 (lies_at (profile_row g.0) full_share profile g.2) }
+    ensures* { sem 𝓛 (flft g.0 g.1) ∗ sem 𝓛 (room_at (profile_row g.0) profile) }
+{
+    close_profile((profile as *mut Profile<'_>).read());
+}
+
+/// Drops a session.
+fn close_session(_session: Session) {}
+
+/// Drops a profile.
+fn close_profile(_profile: Profile<'_>) {}

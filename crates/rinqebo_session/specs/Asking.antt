@@ -1,0 +1,63 @@
+-- What is asked of a profile, and what it answers.
+use Rattle.std.specs.Prelude.{◌≡◌, ◌≢◌, ◌⊎◌, ℕ, List, Bool, Option, None, Some, option_map, length, map, position, unwrap_or, string_bytes, Result, Ok, Err, ◌==◌, if◌then◌else◌}
+use Rattle.std.specs.Str.{IsUtf8, bytes_eq}
+use Rattle.nextest_elements.specs.TestGroup.{custom_group_text}
+use Rattle.nextest_elements.specs.declared.run_mode.NextestRunMode.{NextestRunMode}
+use Rattle.nextest_elements.specs.declared.run_mode.NextestRunMode.TheVariants.{Test as in_test, Benchmark as in_benchmark}
+use Rattle.nextest_elements.specs.declared.test_group.TestGroup.{TestGroup}
+use Rattle.nextest_elements.specs.declared.test_group.TestGroup.TheVariants as groups
+use Rattle.nextest_engines.specs.Engines.{Binary, Test}
+use Rattle.nextest_engines.specs.declared.queries.BuildPlatform.{BuildPlatform}
+use Rattle.nextest_engines.specs.declared.queries.BuildPlatform.TheVariants.{Host, Target}
+use Rattle.rinqebo_session.specs.declared.status.TheConstants.{NOT_TEXT, UNKNOWN_NUMBER}
+use Rattle.rinqebo_session.specs.declared.test.AskedTest.{AskedTest}
+use Rattle.rinqebo_session.specs.declared.test.TestFault.{TestFault}
+use Rattle.rinqebo_session.specs.declared.test.TestFault.TheVariants.{NotText, UnknownNumber}
+
+-- the number of what is not understood of a test
+abbrev pub fault_status : TestFault → ℕ
+fault_status NotText = NOT_TEXT
+fault_status UnknownNumber = UNKNOWN_NUMBER
+
+-- the platform of a number
+abbrev pub platform_numbered : ℕ → Option BuildPlatform
+platform_numbered n = if n == 0 then Some Host else (if n == 1 then Some Target else None)
+
+-- the mode of a number
+abbrev pub mode_numbered : ℕ → Option NextestRunMode
+mode_numbered n = if n == 0 then Some in_test else (if n == 1 then Some in_benchmark else None)
+
+-- the binary of a test, on a platform
+abbrev pub binary_of : AskedTest → BuildPlatform → Binary
+binary_of asked platform = record {
+  package_id = asked.package.now;
+  binary_id = asked.binary.now;
+  kind = asked.kind.now;
+  binary_name = asked.target.now;
+  platform = platform;
+}
+
+-- A test is the one that is asked of, in a mode: its bytes are the texts, and its numbers stand for
+-- the platform and the mode.
+pub record IsTestOf (asked : AskedTest) (test : Test) (mode : NextestRunMode) : Type 0 where
+  pub platform : platform_numbered asked.platform ≡ Some test.binary.platform
+  pub in_mode : mode_numbered asked.mode ≡ Some mode
+  pub binary : test.binary ≡ binary_of asked test.binary.platform
+  pub name : test.name ≡ asked.name.now
+
+-- bytes are no text, and that is the fault
+abbrev pub IsNoText : List ℕ → TestFault → Type 0
+IsNoText bytes fault = (fault ≡ NotText) × (¬ IsUtf8 bytes)
+
+-- some bytes of a test's binary are no text, and that is the fault
+abbrev pub IsBytesFault : AskedTest → TestFault → Type 0
+IsBytesFault asked fault =
+    IsNoText asked.package.now fault ⊎ IsNoText asked.binary.now fault
+    ⊎ IsNoText asked.kind.now fault ⊎ IsNoText asked.target.now fault
+
+-- a test is not understood: a number of it stands for nothing, or some bytes of it are no text
+abbrev pub IsTestFault : AskedTest → TestFault → Type 0
+IsTestFault asked UnknownNumber =
+    (platform_numbered asked.platform ≡ None) ⊎ (mode_numbered asked.mode ≡ None)
+IsTestFault asked NotText =
+    IsBytesFault asked NotText ⊎ IsNoText asked.name.now NotText

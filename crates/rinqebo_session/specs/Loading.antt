@@ -1,0 +1,105 @@
+-- What a request's files denote.
+use Rattle.std.specs.Prelude.{◌≡◌, ◌≢◌, ◌⊎◌, ℕ, List, [], Bool, Option, None, Some, Result, Ok, Err}
+use Rattle.std.specs.Str.{IsUtf8}
+use Rattle.filter_language.specs.declared.filterset.Filterset.{Filterset}
+use Rattle.nextest_config.specs.ConfigView.{KeptConfig, loaded_by}
+use Rattle.nextest_elements.specs.declared.experimental.ConfigExperimental.{ConfigExperimental}
+use Rattle.nextest_elements.specs.declared.experimental.ConfigExperimental.TheVariants.{SetupScripts, WrapperScripts}
+use Rattle.nextest_engines.specs.Readings.{Readings}
+use Rattle.nextest_filters.specs.Engine.{Filter}
+use Rattle.nextest_filters.specs.declared.compiling.FieldMatcher.{FieldMatcher}
+use Rattle.nextest_filters.specs.declared.engine.NextestFilters.{NextestFilters}
+use Rattle.nextest_load.specs.Load.{IsLoad}
+use Rattle.nextest_rules.specs.Definitions.{Features}
+use Rattle.nextest_sources.specs.Inputs.{LoadInputs}
+use Rattle.nextest_sources.specs.Warnings.{Warning}
+use Rattle.nextest_sources.specs.declared.error.ConfigParseError.{ConfigParseError}
+use Rattle.target_language.specs.Expressions.{Spec, spec_view}
+use Rattle.target_language.specs.declared.expression.TargetSpec.{TargetSpec}
+use Rattle.target_platforms.specs.declared.Platform.{Platform}
+use Rattle.session_forms.specs.Machines.{AreFiltersFor, IsMetadataFault, ArePlatformsFor, IsBuildRefused}
+use Rattle.session_forms.specs.Requests.{RequestText, request_of}
+use Rattle.session_forms.specs.declared.fault.RequestFault.TheVariants.{Memory as request_memory}
+use Rattle.session_forms.specs.declared.machines.EngineFault.{EngineFault}
+use Rattle.session_forms.specs.declared.request.Switches.{Switches}
+use Rattle.rinqebo_session.specs.Readings.{filter_meaning, readings}
+use Rattle.rinqebo_session.specs.declared.failure.Failure.{Failure}
+use Rattle.rinqebo_session.specs.declared.failure.Failure.TheVariants as failures
+use Rattle.rinqebo_session.specs.declared.loading.Loaded.{Loaded}
+
+-- whether a feature is switched on
+abbrev pub is_on : Switches → ConfigExperimental → Bool
+is_on switches SetupScripts = switches.setup_scripts
+is_on switches WrapperScripts = switches.wrapper_scripts
+
+-- the files of a request
+abbrev pub files_of : RequestText → LoadInputs
+files_of asked = record {
+  shared = asked.shared;
+  explicit = None;
+  organisation = None;
+  tools = asked.tools;
+}
+
+-- What a load answers for a request, by engines and features: all that a load promises, over the
+-- request's files; and a configuration has the request's root.
+pub record LoadsBy (engines : Readings Filter Spec Platform) (features : Features)
+    (asked : RequestText)
+    (answer : Result (KeptConfig (Filterset FieldMatcher) TargetSpec) ConfigParseError) : Type 0
+  where
+    pub warnings : List Warning
+    pub loads : IsLoad (loaded_by filter_meaning spec_view) engines features (files_of asked) []
+        warnings answer
+    pub root : (config : KeptConfig (Filterset FieldMatcher) TargetSpec) → answer ≡ Ok config
+        → config.root ≡ asked.root
+
+-- The engines and the features with which a request is loaded: the filters of its metadata, and the
+-- features that it switches on.
+pub record LoadsWith (asked : RequestText)
+    (answer : Result (KeptConfig (Filterset FieldMatcher) TargetSpec) ConfigParseError) : Type 0
+  where
+    pub filters : NextestFilters
+    pub are_filters : AreFiltersFor asked.metadata filters
+    pub features : Features
+    pub are_features : (feature : ConfigExperimental)
+        → features feature ≡ is_on asked.features feature
+    pub loads : LoadsBy (readings filters) features asked answer
+
+-- What was loaded is what a request asks for: the load of its files answers the configuration, and
+-- the platforms are those of its machines.
+pub record IsLoadedBy (asked : RequestText) (loaded : Loaded) : Type 0 where
+  pub loads : LoadsWith asked (Ok loaded.config)
+  pub platforms : ArePlatformsFor asked.host asked.target loaded.platforms
+
+-- a request has no engines for this fault: of its metadata, of its host or of its target
+abbrev pub IsEngineFault : RequestText → EngineFault → Type 0
+IsEngineFault asked fault =
+    IsMetadataFault asked.metadata fault ⊎ IsBuildRefused asked.host asked.target fault
+
+-- why a request that is understood has no configuration
+abbrev pub IsFailureBy : RequestText → Failure → Type 0
+IsFailureBy asked failures.NotText = ⊥
+IsFailureBy asked (failures.Request fault) = ⊥
+IsFailureBy asked (failures.Engines fault) = IsEngineFault asked fault
+IsFailureBy asked (failures.Refused error) = LoadsWith asked (Err error)
+IsFailureBy asked failures.Memory = Unit {0}
+
+-- What was loaded is what the bytes of a request ask for.
+pub record IsLoadedFrom (request : List ℕ) (loaded : Loaded) : Type 0 where
+  pub asked : RequestText
+  pub reads : request_of request ≡ Some asked
+  pub is_loaded : IsLoadedBy asked loaded
+
+-- a request that is understood fails for this
+abbrev pub FailsUnderstood : List ℕ → Failure → Type 0
+FailsUnderstood request failure =
+    (asked : RequestText) × (request_of request ≡ Some asked) × IsFailureBy asked failure
+
+-- why the bytes of a request give no configuration: they are no UTF-8, they are not understood, or
+-- what they ask for fails; want of memory aside
+abbrev pub IsFailureOf : List ℕ → Failure → Type 0
+IsFailureOf request failures.NotText = ¬ IsUtf8 request
+IsFailureOf request (failures.Request fault) = fault ≢ request_memory → request_of request ≡ None
+IsFailureOf request (failures.Engines fault) = FailsUnderstood request (failures.Engines fault)
+IsFailureOf request (failures.Refused error) = FailsUnderstood request (failures.Refused error)
+IsFailureOf request failures.Memory = Unit {0}

@@ -1,0 +1,84 @@
+-- Profiles of a session.
+use Rattle.std.specs.Prelude.{◌≡◌, ℕ, List, Option, Some, map, Result, Ok, Err, MatchResult}
+use Rattle.std.specs.Str.{IsUtf8}
+use Rattle.nextest_config.specs.ConfigView.{configured_in}
+use Rattle.nextest_config.specs.ProfileError.{TellsMissing}
+use Rattle.nextest_config.specs.declared.profile_error.ProfileError.{ProfileError}
+use Rattle.nextest_config.specs.declared.profile_error.ProfileError.TheVariants as errors
+use Rattle.nextest_elements.specs.declared.test_group.TestGroupConfig.{TestGroupConfig}
+use Rattle.nextest_inheritance.specs.Parents.{parents_in, IsChain}
+use Rattle.nextest_load.specs.Config.{config_parents}
+use Rattle.nextest_profiles.specs.Meaning.{configured_meaning, profile_meaning}
+use Rattle.nextest_settings.specs.Profile.{profile_of, profile_on}
+use Rattle.nextest_tables.specs.FileTexts.{names_in, IsIn}
+use Rattle.nextest_tables.specs.Written.{Name}
+use Rattle.target_language.specs.Expressions.{spec_view}
+use Rattle.rinqebo_session.specs.Readings.{filter_meaning, holds_on}
+use Rattle.rinqebo_session.specs.declared.failure.Failure.{Failure}
+use Rattle.rinqebo_session.specs.declared.failure.OpenFailure.{OpenFailure}
+use Rattle.rinqebo_session.specs.declared.failure.OpenFailure.TheVariants as opens
+use Rattle.rinqebo_session.specs.declared.loading.Loaded.{Loaded}
+use Rattle.rinqebo_session.specs.declared.profile.Group.{Group}
+use Rattle.rinqebo_session.specs.declared.profile.Opened.{Opened}
+use Rattle.rinqebo_session.specs.declared.profile.Profile.{Profile}
+use Rattle.rinqebo_session.specs.declared.session.Session.{Session}
+
+-- why a profile of a configuration is not given
+abbrev pub open_failure : ProfileError → OpenFailure
+open_failure (errors.NotFound missing) = opens.NotFound missing
+open_failure errors.Memory = opens.Memory
+
+-- a group by its name
+abbrev pub group_entry : Group → Name × Option TestGroupConfig
+group_entry group = (group.name.now, Some (record { max_threads = group.threads }))
+
+-- A profile of a configuration is open: it is the one of the name, by its chain, on the platforms
+-- of the build, by what its rules mean; and its groups and wrappers are those that are defined.
+pub record IsOpened (loaded : Loaded) (name : Name) (opened : Opened) : Type 0 where
+  pub known : IsIn (names_in loaded.config.config.profiles) name
+  pub chain : List Name
+  pub is_chain : IsChain (parents_in (config_parents loaded.config.config)) name chain
+  pub is_profile : profile_meaning filter_meaning opened.profile
+      ≡ profile_on holds_on loaded.platforms (profile_of
+      (configured_meaning filter_meaning spec_view (configured_in loaded.config)) name chain)
+  pub groups : map group_entry opened.groups.items ≡ opened.profile.facts.groups
+  pub wrappers : map (λ id. id.now) opened.wrappers.items
+      ≡ names_in opened.profile.facts.scripts.wrapper
+
+-- why a configuration has no profile of a name: it is none of its profiles; want of memory aside
+abbrev pub IsNotOpened : Loaded → Name → OpenFailure → Type 0
+IsNotOpened loaded name opens.NotLoaded = ⊥
+IsNotOpened loaded name opens.NotText = ⊥
+IsNotOpened loaded name (opens.NotFound missing) =
+    TellsMissing (names_in loaded.config.config.profiles) name missing
+IsNotOpened loaded name opens.Memory = Unit {0}
+
+-- a fact of what was loaded, where something was
+abbrev pub IfLoaded : Result Loaded Failure → (Loaded → Type 0) → Type 0
+IfLoaded (Ok loaded) P = P loaded
+IfLoaded (Err failure) P = ⊥
+
+-- nothing was loaded
+abbrev pub IsEmpty : Result Loaded Failure → Type 0
+IsEmpty (Ok loaded) = ⊥
+IsEmpty (Err failure) = Unit {0}
+
+-- why a session gives no profile: it is empty, the name is no text, or there is none of the name;
+-- want of memory aside
+abbrev pub IsOpenFailure : Session → Name → OpenFailure → Type 0
+IsOpenFailure session name opens.NotLoaded = IsEmpty session.outcome
+IsOpenFailure session name opens.NotText = ¬ IsUtf8 name
+IsOpenFailure session name (opens.NotFound missing) = IfLoaded session.outcome
+    (λ loaded. TellsMissing (names_in loaded.config.config.profiles) name missing)
+IsOpenFailure session name opens.Memory = Unit {0}
+
+-- A profile of a name is opened in a session, or it is not for this reason.
+abbrev pub IsOpenedIn : Session → Name → Result Opened OpenFailure → Type 0
+IsOpenedIn session name outcome =
+    MatchResult outcome
+    (λ opened. IfLoaded session.outcome (λ loaded. IsOpened loaded name opened))
+    (IsOpenFailure session name)
+
+-- a profile is that of a name in a session: it is open, or it holds why it is not
+abbrev pub IsProfileIn : Session → Name → Profile → Type 0
+IsProfileIn session name profile = IsOpenedIn session name profile.outcome

@@ -1,0 +1,35 @@
+-- What nextest's languages make of texts.
+use Rattle.std.specs.Prelude.{Bool, Option}
+use Rattle.filter_language.specs.Filtersets.{marks_view}
+use Rattle.filter_language.specs.Leaves.{leaves}
+use Rattle.filter_language.specs.declared.filterset.Filterset.{Filterset}
+use Rattle.nextest_engines.specs.Readings.{Readings}
+use Rattle.nextest_filters.specs.Engine.{Filter, read_filter, everything, filter_holds, filter_holds_binary}
+use Rattle.nextest_filters.specs.declared.engine.NextestFilters.{NextestFilters}
+use Rattle.nextest_filters.specs.Compiling.{names_of}
+use Rattle.nextest_filters.specs.declared.compiling.FieldMatcher.{FieldMatcher}
+use Rattle.target_language.specs.Expressions.{Spec, spec_view}
+use Rattle.target_language.specs.Messages.{spec_read}
+use Rattle.target_language.specs.Values.{spec_value}
+use Rattle.target_platforms.specs.Platforms.{platform_view}
+use Rattle.target_platforms.specs.declared.Platform.{Platform}
+
+-- what a filter means
+abbrev pub filter_meaning : Filterset FieldMatcher → Filter
+filter_meaning = marks_view names_of
+
+-- whether what platforms say holds on a platform, if it can be told
+abbrev pub holds_on : Spec → Platform → Option Bool
+holds_on spec platform = spec_value (platform_view platform) spec
+
+-- what the languages make of texts
+abbrev pub readings : NextestFilters → Readings Filter Spec Platform
+readings filters = record {
+  read_filter = read_filter filters;
+  read_spec = spec_read;
+  match_all = everything;
+  matches_test = filter_holds;
+  matches_binary = filter_holds_binary;
+  leaves = leaves;
+  meets = holds_on;
+}

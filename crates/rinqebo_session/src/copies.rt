@@ -1,0 +1,17 @@
+//! Texts that are copied into a caller's buffer.
+ghost use Rattle.rinqebo_session.specs.Copies.{IsCopiedOut};
+
+use crate::status::{DONE, SMALL};
+
+/// Writes a text at the start of a buffer, or says how long it is.
+pub fn copy_out(text: &[u8], out: &mut [u8], needed: &mut usize) -> u32
+    ensures { IsCopiedOut text.now out.old out.new needed.new result }
+{
+    let length = text.len();
+    *needed = length;
+    if out.len() < length {
+        return SMALL;
+    }
+    out[..length].copy_from_slice(text);
+    DONE
+}

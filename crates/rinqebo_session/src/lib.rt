@@ -1,0 +1,22 @@
+//! A configuration that is loaded once and asked often: the session of a runner.
+//!
+//! A [`Session`] holds what a request's files denote. A [`Profile`] is made of it, and answers the
+//! settings of each test as numbers, with no memory of its own.
+#![tactic(auto)]
+
+mod copies;
+mod failure;
+mod features;
+mod loading;
+mod profile;
+mod session;
+mod settings;
+pub mod status;
+mod test;
+
+pub use failure::{Failure, OpenFailure};
+pub use loading::{Config, Loaded};
+pub use profile::{Group, Opened, Profile};
+pub use session::Session;
+pub use settings::SettingNumbers;
+pub use test::{AskedTest, TestFault};

@@ -1,0 +1,79 @@
+//! What a request's files denote.
+ghost use Rattle.std.specs.Prelude.{◌≡◌, IfErr, IfOk};
+ghost use Rattle.nextest_rules.specs.KnownView.{features_view};
+ghost use Rattle.session_forms.specs.Requests.{request_view};
+ghost use Rattle.rinqebo_session.specs.Loading.{LoadsBy, IsLoadedBy, IsFailureBy, IsLoadedFrom, IsFailureOf};
+ghost use Rattle.rinqebo_session.specs.Readings.{readings};
+
+use crate::failure::Failure;
+use crate::features::features_of;
+use nextest_config::{
+    BuildPlatforms, ConfigExperimental, ConfigParseError, NextestConfig, ParseContext,
+};
+use nextest_filters::NextestFilters;
+use session_forms::{LoadRequest, filters_of, platforms_of};
+use std::alloc::Global;
+use std::collections::BTreeSet;
+use target_language::TargetSpecs;
+use target_platforms::Platform;
+
+/// A configuration whose filters and platforms are written in nextest's languages.
+pub type Config = NextestConfig<NextestFilters, TargetSpecs>;
+
+/// A configuration, and the machines of a build.
+#[derive(Drop)]
+pub struct Loaded {
+    pub config: Config,
+    pub platforms: BuildPlatforms<Platform>,
+}
+
+/// The configuration of a request's files.
+fn config_of(
+    alloc: Global,
+    filters: &NextestFilters,
+    features: &BTreeSet<ConfigExperimental>,
+    asked: &LoadRequest,
+) -> Result<Config, ConfigParseError>
+    ensures { LoadsBy (readings filters.now) (features_view features.now)
+        (request_view asked.now) result }
+{
+    let engines = ParseContext {
+        filters,
+        specs: &TargetSpecs,
+    };
+    NextestConfig::from_sources(
+        alloc,
+        asked.paths.workspace_root.as_str(),
+        &asked.paths.shared,
+        &engines,
+        None,
+        &asked.tools,
+        features,
+    )
+}
+
+/// What the files of a request denote, with its engines.
+fn loaded_by(alloc: Global, asked: &LoadRequest) -> Result<Loaded, Failure>
+    ensures ok { IfOk result (IsLoadedBy (request_view asked.now)) }
+    ensures err { IfErr result (IsFailureBy (request_view asked.now)) }
+{
+    let filters = filters_of(alloc, &asked.metadata)?;
+    let platforms = platforms_of(alloc, asked)?;
+    let features = features_of(alloc, asked.features)?;
+    match config_of(alloc, &filters, &features, asked) {
+        Ok(config) => Ok(Loaded { config, platforms }),
+        Err(error) => Err(Failure::Refused(error)),
+    }
+}
+
+/// What a request denotes.
+pub fn loaded_from(alloc: Global, request: &[u8]) -> Result<Loaded, Failure>
+    ensures ok { IfOk result (IsLoadedFrom request.now) }
+    ensures err { IfErr result (IsFailureOf request.now) }
+{
+    let Ok(text) = std::str::from_utf8(request) else {
+        return Err(Failure::NotText);
+    };
+    let asked = LoadRequest::read(alloc, text)?;
+    loaded_by(alloc, &asked)
+}

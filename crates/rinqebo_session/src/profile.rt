@@ -1,0 +1,243 @@
+//! Profiles of a session, and what they answer.
+ghost use Rattle.std.specs.Prelude.{◌≡◌, IfOk, IfErr, map, option_map};
+ghost use Rattle.nextest_load.specs.ConfigView.{groups_view};
+ghost use Rattle.nextest_scripts.specs.ScriptId.{script_text};
+ghost use Rattle.rinqebo_session.specs.Answering.{Answers, AnswersTest};
+ghost use Rattle.rinqebo_session.specs.Opening.{group_entry, IsOpened, IsNotOpened, IsProfileIn, IsOpenedIn};
+ghost use Rattle.nextest_engines.specs.Engines.{test_view};
+ghost use Rattle.nextest_filters.specs.Engine.{filter_holds};
+ghost use Rattle.rinqebo_session.specs.Readings.{filter_meaning};
+ghost use Rattle.rinqebo_session.specs.Texts.{MayNotOpenFor, profile_status, name_at, text_at, IsTextCopied};
+
+use crate::copies::copy_out;
+use crate::failure::OpenFailure;
+use crate::loading::Loaded;
+use crate::session::Session;
+use crate::settings::{SettingNumbers, numbers_of};
+use crate::status::{DONE, UNKNOWN_NUMBER};
+use crate::test::{Asked, AskedTest};
+use indexmap::IndexMap;
+use nextest_config::{
+    CustomTestGroup, EvaluatableProfile, Filters, ScriptId, TestGroupConfig, TestThreads,
+    WrapperScriptConfig,
+};
+use nextest_filters::{NextestFilters, NextestTally};
+use std::alloc::{AllocError, Global};
+use std::collections::BTreeMap;
+use target_language::TargetSpecs;
+
+/// A group that a configuration defines.
+#[derive(Clone, Copy, Debug, Drop)]
+pub struct Group<'a> {
+    /// Its name.
+    pub name: &'a str,
+    /// How many of its tests run at a time.
+    pub threads: TestThreads,
+}
+
+/// A profile on the platforms of a build, with the names that its settings give.
+#[derive(Drop)]
+pub struct Opened<'a> {
+    /// The profile.
+    pub profile: EvaluatableProfile<'a, NextestFilters, TargetSpecs>,
+    /// The groups that the configuration defines.
+    pub groups: Vec<Group<'a>>,
+    /// The ids of the wrapper scripts that it defines.
+    pub wrappers: Vec<&'a str>,
+}
+
+/// A profile that was opened, or why it is not open.
+#[derive(Drop)]
+pub struct Profile<'a> {
+    /// What was opened.
+    pub outcome: Result<Opened<'a>, OpenFailure>,
+    /// Why it is not open; empty where it is.
+    pub reason: String,
+}
+
+/// The groups of a table.
+fn groups_of<'a>(
+    alloc: Global,
+    table: &'a BTreeMap<CustomTestGroup, TestGroupConfig>,
+) -> Result<Vec<Group<'a>>, AllocError>
+    ensures { IfOk result (λ groups. map group_entry groups.items
+        ≡ groups_view table.now.entries) }
+{
+    let mut groups = Vec::new(alloc);
+    for (group, config) in table.iter() {
+        groups.push(Group {
+            name: group.as_str(),
+            threads: config.max_threads,
+        })?;
+    }
+    Ok(groups)
+}
+
+/// The ids of the scripts of a table.
+fn ids_of<'a>(
+    alloc: Global,
+    table: &'a IndexMap<ScriptId, WrapperScriptConfig>,
+) -> Result<Vec<&'a str>, AllocError>
+    ensures { IfOk result (λ ids. map (λ id. id.now) ids.items
+        ≡ map (λ e. script_text e.0) table.now.entries) }
+{
+    let mut ids = Vec::new(alloc);
+    for id in table.keys() {
+        ids.push(id.as_identifier().as_str())?;
+    }
+    Ok(ids)
+}
+
+/// The profile of a name in a configuration.
+fn opened_of<'a>(alloc: Global, loaded: &'a Loaded, name: &str) -> Result<Opened<'a>, OpenFailure>
+    ensures ok { IfOk result (IsOpened loaded.now name.now) }
+    ensures err { IfErr result (IsNotOpened loaded.now name.now) }
+{
+    let early = loaded.config.profile(alloc, name)?;
+    let Ok(profile) = early.apply_build_platforms(alloc, &loaded.platforms) else {
+        return Err(OpenFailure::Memory);
+    };
+    let groups = groups_of(alloc, profile.test_group_config())?;
+    let wrappers = ids_of(alloc, &profile.script_config().wrapper)?;
+    Ok(Opened {
+        profile,
+        groups,
+        wrappers,
+    })
+}
+
+/// The profile of a name in a session.
+fn opened_in<'a>(
+    alloc: Global,
+    session: &'a Session,
+    name: &[u8],
+) -> Result<Opened<'a>, OpenFailure>
+    ensures { IsOpenedIn session.now name.now result }
+{
+    let Ok(loaded) = &session.outcome else {
+        return Err(OpenFailure::NotLoaded);
+    };
+    let Ok(name) = std::str::from_utf8(name) else {
+        return Err(OpenFailure::NotText);
+    };
+    opened_of(alloc, loaded, name)
+}
+
+/// The profile that says why it is not open.
+fn not_opened<'a>(alloc: Global, failure: OpenFailure) -> Profile<'a>
+    ensures { MayNotOpenFor failure result }
+{
+    match format!(in alloc; "{failure}") {
+        Ok(reason) => Profile {
+            outcome: Err(failure),
+            reason,
+        },
+        Err(_) => Profile {
+            outcome: Err(OpenFailure::Memory),
+            reason: String::new(alloc),
+        },
+    }
+}
+
+impl Opened<'_> {
+    /// Whether the profile's default filter matches a test.
+    fn is_in_default_filter(&self, asked: &Asked<'_>) -> bool
+        ensures { let filter = filter_meaning self.now.profile.default_filter.filter in
+            result ≡ filter_holds filter (test_view asked.now.query) filter }
+    {
+        let cx = self.profile.filterset_ecx();
+        let mut tally = NextestTally::new();
+        NextestFilters::matches_test(cx.default_filter, 0, &asked.query, &cx, &mut tally)
+    }
+
+    /// The settings of a test, as numbers.
+    fn answer(&self, test: &AskedTest<'_>) -> SettingNumbers
+        ensures { AnswersTest self.now test.now result }
+    {
+        let asked = match test.read() {
+            Ok(asked) => asked,
+            Err(fault) => return SettingNumbers::refused(fault.status()),
+        };
+        let mut tally = NextestTally::new();
+        let settings = self
+            .profile
+            .settings_for(asked.mode, &asked.query, &mut tally);
+        let in_default_filter = self.is_in_default_filter(&asked);
+        numbers_of(&self.groups, &self.wrappers, &settings, in_default_filter)
+    }
+
+    /// The name of a group or of a wrapper: of kind 1 those of groups, of kind 2 those of wrappers.
+    fn name(&self, kind: u32, index: usize) -> Option<&str>
+        ensures { option_map (λ name. name.now) result ≡ name_at self.now kind index }
+    {
+        match kind {
+            1 => self.groups.get(index).map(|group| group.name),
+            2 => self.wrappers.get(index).copied(),
+            _ => None,
+        }
+    }
+}
+
+impl<'a> Profile<'a> {
+    /// The profile of a name in a session. It is always answered: where it is not open, its status
+    /// says why, and its reason tells it.
+    pub fn open(alloc: Global, session: &'a Session, name: &[u8]) -> Profile<'a>
+        ensures { IsProfileIn session.now name.now result }
+    {
+        match opened_in(alloc, session, name) {
+            Ok(opened) => Profile {
+                outcome: Ok(opened),
+                reason: String::new(alloc),
+            },
+            Err(failure) => not_opened(alloc, failure),
+        }
+    }
+
+    /// How the opening went.
+    pub fn status(&self) -> u32
+        ensures { result ≡ profile_status self.now }
+    {
+        match &self.outcome {
+            Ok(_) => DONE,
+            Err(failure) => failure.status(),
+        }
+    }
+
+    /// The settings of a test, as numbers. It takes no memory.
+    pub fn ask(&self, test: AskedTest<'_>) -> SettingNumbers
+        ensures { Answers self.now test.entry result }
+    {
+        match &self.outcome {
+            Ok(opened) => opened.answer(&test),
+            Err(failure) => SettingNumbers::refused(failure.status()),
+        }
+    }
+
+    /// The text of a kind and an index: of kind 0 why the profile is not open, of kind 1 the name of
+    /// a group, of kind 2 the id of a wrapper.
+    fn text(&self, kind: u32, index: usize) -> Option<&str>
+        ensures { option_map (λ text. text.now) result ≡ text_at self.now kind index }
+    {
+        if kind == 0 {
+            return Some(self.reason.as_str());
+        }
+        match &self.outcome {
+            Ok(opened) => opened.name(kind, index),
+            Err(_) => None,
+        }
+    }
+
+    /// Copies out the text of a kind and an index: why the profile is not open, the name of a group,
+    /// or the id of a wrapper.
+    pub fn copy_text(&self, kind: u32, index: usize, out: &mut [u8], needed: &mut usize) -> u32
+        ensures { IsTextCopied self.now kind index out.old out.new needed.new result }
+    {
+        match self.text(kind, index) {
+            Some(text) => copy_out(text.as_bytes(), out, needed),
+            None => {
+                *needed = 0;
+                UNKNOWN_NUMBER
+            }
+        }
+    }
+}

@@ -1,0 +1,22 @@
+//! The numbers that calls answer for how they went.
+
+/// The call did what it is for.
+pub const DONE: u32 = 0;
+/// The configuration is refused.
+pub const REFUSED: u32 = 1;
+/// The buffer is too small.
+pub const SMALL: u32 = 2;
+/// Bytes are no UTF-8.
+pub const NOT_TEXT: u32 = 3;
+/// Memory was refused.
+pub const MEMORY: u32 = 4;
+/// The request is no JSON, or not of its form.
+pub const NOT_UNDERSTOOD: u32 = 5;
+/// The metadata or a machine of the request is not understood.
+pub const NO_ENGINES: u32 = 6;
+/// There is no such profile.
+pub const NO_PROFILE: u32 = 7;
+/// The session holds no configuration.
+pub const NOT_LOADED: u32 = 8;
+/// A number stands for nothing: a platform, a mode, a kind of text or an index.
+pub const UNKNOWN_NUMBER: u32 = 9;

@@ -1,0 +1,129 @@
+-- What a request in JSON says.
+use Rattle.std.specs.Prelude.{ℕ, List, [], ◌∷◌, Option, None, Some, codes, option_and_then, option_map, map, string_bytes, if◌then◌else◌}
+use Rattle.serde_json.specs.Data.{Data}
+use Rattle.serde_json.specs.Read.{read}
+use Rattle.nextest_sources.specs.Sources.{Outcome, text, not_found, InputFile, file_view, ToolFile, tool_file_view}
+use Rattle.nextest_texts.specs.Identifier.{is_part}
+use Rattle.session_forms.specs.Parts.{text_at, optional_text_at, flag_at, list_at, object_at, optional_object_at}
+use Rattle.session_forms.specs.declared.request.Machine.{Machine}
+use Rattle.session_forms.specs.declared.request.Switches.{Switches}
+use Rattle.session_forms.specs.declared.request.LoadRequest.{LoadRequest}
+
+-- A machine: its triple, and what the compiler prints for it, if that is given.
+pub record MachineText : Type 0 where
+  pub triple : List ℕ
+  pub cfg : Option (List ℕ)
+
+-- What a session is made of, as texts.
+pub record RequestText : Type 0 where
+  pub root : List ℕ
+  pub shared : InputFile
+  pub tools : List ToolFile
+  pub features : Switches
+  pub metadata : Option (List ℕ)
+  pub host : MachineText
+  pub target : Option MachineText
+
+-- what contracts see of a machine
+abbrev pub machine_view : Machine → MachineText
+machine_view m = record { triple = string_bytes m.triple; cfg = option_map string_bytes m.cfg }
+
+-- what contracts see of a request
+abbrev pub request_view : LoadRequest → RequestText
+request_view r = record {
+  root = string_bytes r.paths.workspace_root;
+  shared = file_view r.paths.shared;
+  tools = map tool_file_view r.tools.items;
+  features = r.features;
+  metadata = option_map string_bytes r.metadata;
+  host = machine_view r.host;
+  target = option_map machine_view r.target;
+}
+
+-- ---- parts of a request
+
+-- what came of reading a file of this text; without one there is no file
+abbrev pub outcome_of : Option (List ℕ) → Outcome
+outcome_of None = not_found
+outcome_of (Some t) = text t
+
+-- the file that an object says, by `path` and `text`
+abbrev pub file_in : Data → Option InputFile
+file_in value =
+    option_and_then (λ path. option_map (λ t. record { path = path; outcome = outcome_of t })
+    (optional_text_at (codes "text") value)) (text_at (codes "path") value)
+
+-- the name of a tool that an object says
+abbrev pub tool_name_in : Data → Option (List ℕ)
+tool_name_in value =
+    option_and_then (λ name. if is_part name then Some name else None)
+    (text_at (codes "tool") value)
+
+-- the file of a tool that an object says
+abbrev pub tool_in : Data → Option ToolFile
+tool_in value =
+    option_and_then (λ tool. option_map (λ file. record { tool = tool; file = file })
+    (file_in value)) (tool_name_in value)
+
+-- what each element says, if each says something
+unfoldable pub all_said : {A B : Type 0} → (A → Option B) → List A → Option (List B)
+all_said f [] = Some []
+all_said f (x ∷ xs) = option_and_then (λ y. option_map (λ ys. y ∷ ys) (all_said f xs)) (f x)
+
+-- the files of tools that a list says
+abbrev pub tools_in : List Data → Option (List ToolFile)
+tools_in = all_said tool_in
+
+-- the machine that an object says, by `triple` and `cfg`
+abbrev pub machine_in : Data → Option MachineText
+machine_in value =
+    option_and_then (λ triple. option_map (λ cfg. record { triple = triple; cfg = cfg })
+    (optional_text_at (codes "cfg") value)) (text_at (codes "triple") value)
+
+-- the machine of an object, or none where there is no object
+abbrev pub machine_if : Option Data → Option (Option MachineText)
+machine_if None = Some None
+machine_if (Some value) = option_map Some (machine_in value)
+
+-- the machine that is built for: the object under `target`, or none where `null` stands there
+abbrev pub target_in : Data → Option (Option MachineText)
+target_in value = option_and_then machine_if (optional_object_at (codes "target") value)
+
+-- the features that an object switches on
+abbrev pub switches_in : Data → Option Switches
+switches_in value =
+    option_and_then (λ setup. option_map (λ wrapper. record {
+      setup_scripts = setup;
+      wrapper_scripts = wrapper;
+    }) (flag_at (codes "wrapper-scripts") value)) (flag_at (codes "setup-scripts") value)
+
+-- ---- the request
+
+-- what a value says: its `root`, `file`, `tools`, `features`, `metadata`, `host` and `target`
+unfoldable pub request_in : Data → Option RequestText
+request_in value =
+    option_and_then (λ root.
+    option_and_then (λ shared.
+    option_and_then (λ tools.
+    option_and_then (λ features.
+    option_and_then (λ metadata.
+    option_and_then (λ host.
+    option_map (λ target. record {
+      root = root;
+      shared = shared;
+      tools = tools;
+      features = features;
+      metadata = metadata;
+      host = host;
+      target = target;
+    }) (target_in value))
+    (option_and_then machine_in (object_at (codes "host") value)))
+    (optional_text_at (codes "metadata") value))
+    (option_and_then switches_in (object_at (codes "features") value)))
+    (option_and_then tools_in (list_at (codes "tools") value)))
+    (option_and_then file_in (object_at (codes "file") value)))
+    (text_at (codes "root") value)
+
+-- what a text says in JSON
+abbrev pub request_of : List ℕ → Option RequestText
+request_of t = option_and_then request_in (read t)

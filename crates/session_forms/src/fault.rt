@@ -1,0 +1,118 @@
+//! Why a request is not understood.
+use std::alloc::{AllocError, AllocFailed};
+use std::fmt;
+use thiserror::Error;
+
+/// What a part of a request stands in.
+#[derive(Clone, Copy, Debug, PartialEq, Eq, Drop)]
+pub enum Holder {
+    /// The request itself.
+    Request,
+    /// The repository's file.
+    File,
+    /// The file of a tool, by its place.
+    Tool(usize),
+    /// The experimental features.
+    Features,
+    /// The machine that builds.
+    Host,
+    /// The machine that is built for.
+    Target,
+}
+
+impl fmt::Display for Holder {
+    fn fmt<W: fmt::Write>(&self, f: &mut fmt::Formatter<W>) -> fmt::Result {
+        match self {
+            Holder::Request => Ok(()),
+            Holder::File => f.write_str("file."),
+            Holder::Tool(place) => write!(f, "tools[{place}]."),
+            Holder::Features => f.write_str("features."),
+            Holder::Host => f.write_str("host."),
+            Holder::Target => f.write_str("target."),
+        }
+    }
+}
+
+/// A part of a request: what stands under a key.
+#[derive(Clone, Copy, Debug, PartialEq, Eq, Drop)]
+pub struct Place {
+    /// What has the key.
+    pub holder: Holder,
+    /// The key.
+    pub key: &'static str,
+}
+
+impl fmt::Display for Place {
+    fn fmt<W: fmt::Write>(&self, f: &mut fmt::Formatter<W>) -> fmt::Result {
+        write!(f, "{}{}", self.holder, self.key)
+    }
+}
+
+/// What is to stand at a place.
+#[derive(Clone, Copy, Debug, PartialEq, Eq, Drop)]
+pub enum Wanted {
+    /// A text.
+    Text,
+    /// A text or `null`.
+    TextOrNull,
+    /// `true` or `false`.
+    Flag,
+    /// A list.
+    List,
+    /// An object.
+    Object,
+    /// An object or `null`.
+    ObjectOrNull,
+    /// The name of a tool.
+    ToolName,
+}
+
+impl fmt::Display for Wanted {
+    fn fmt<W: fmt::Write>(&self, f: &mut fmt::Formatter<W>) -> fmt::Result {
+        f.write_str(match self {
+            Wanted::Text => "a text",
+            Wanted::TextOrNull => "a text or null",
+            Wanted::Flag => "true or false",
+            Wanted::List => "a list",
+            Wanted::Object => "an object",
+            Wanted::ObjectOrNull => "an object or null",
+            Wanted::ToolName => "the name of a tool",
+        })
+    }
+}
+
+/// Why a request is not understood.
+#[derive(Clone, Copy, Debug, PartialEq, Eq, Drop, Error)]
+pub enum RequestFault {
+    /// The text is no JSON.
+    #[error("the request is no JSON")]
+    NotJson,
+    /// Something else stands at the place, or nothing.
+    #[error("expected {0} at `{1}`")]
+    Expected(Wanted, Place),
+    /// Want of memory.
+    #[error("out of memory")]
+    Memory,
+}
+
+impl From<AllocError> for RequestFault {
+    ghost use Rattle.std.specs.Prelude.{◌≡◌};
+    ghost use Rattle.session_forms.specs.declared.fault.RequestFault.TheVariants.{Memory};
+
+    ghost from_gives = { λ _ e. e ≡ Memory };
+
+    fn from(_error: AllocError) -> Self {
+        RequestFault::Memory
+    }
+}
+
+impl<T: Drop> From<AllocFailed<T>> for RequestFault {
+    ghost use Rattle.std.specs.Prelude.{◌≡◌};
+    ghost use Rattle.session_forms.specs.declared.fault.RequestFault.TheVariants.{Memory};
+
+    ghost from_gives = { λ _ e. e ≡ Memory };
+
+    fn from(_error: AllocFailed<T>) -> Self {
+        RequestFault::Memory
+    }
+}

@@ -1,0 +1,18 @@
+//! The forms in which a session is asked for and answers: a request in JSON, the machines that it
+//! names, and settings as numbers.
+#![tactic(auto)]
+
+mod fault;
+mod machines;
+mod numbers;
+mod request;
+mod values;
+
+pub use fault::{Holder, Place, RequestFault, Wanted};
+pub use machines::{EngineFault, filters_of, platforms_of};
+pub use numbers::{
+    Duration, GroupThreads, LeakNumbers, RetryNumbers, SlowNumbers, ThreadNumbers, duration_parts,
+    flaky_number, group_threads, leak_numbers, output_number, report_number, retry_numbers,
+    slow_numbers, status_number, thread_numbers,
+};
+pub use request::{LoadRequest, Machine, Switches};

@@ -1,0 +1,166 @@
+// Rinqebo as a library: a nextest configuration that is loaded once and asked often.
+//
+// Names, types and the order of parameters are those of crates/rinqebo_c; nothing compares the two.
+// docs/LIBRARY.md says what each call does, and what is proved of it.
+//
+// What a caller keeps, which no call checks:
+// - No pointer is null, also at length 0, and none lies past its block. A length is below 2^63.
+// - An output overlaps no other argument. What is read is read during the call alone.
+// - A session lies in room of rinqebo_session_size() bytes, and a profile in room of
+//   rinqebo_profile_size() bytes, both aligned to 16. The caller never reads or writes them, and does
+//   not move them between the call that fills the room and the one that frees it.
+// - Each is filled once before it is freed once. A profile is freed before its session.
+// - One call at a time has a session or a profile of it. They may go to another thread together, by
+//   a lock, or by that thread's start or join.
+// - malloc, realloc and free are of one allocator. No call is made from a signal handler, or in the
+//   forked child of a process with threads.
+#ifndef RINQEBO_H
+#define RINQEBO_H
+#include <stddef.h>
+#include <stdint.h>
+#ifdef __cplusplus
+extern "C" {
+#endif
+
+enum rinqebo_status {
+    RINQEBO_DONE = 0,           // the call did what it is for
+    RINQEBO_REFUSED = 1,        // the configuration is refused
+    RINQEBO_SMALL = 2,          // the buffer is too small: it is left as it was, and *needed says what it takes
+    RINQEBO_NOT_TEXT = 3,       // bytes are no UTF-8
+    RINQEBO_MEMORY = 4,         // malloc gave nothing
+    RINQEBO_NOT_UNDERSTOOD = 5, // the request is no JSON, or not of its form
+    RINQEBO_NO_ENGINES = 6,     // the metadata or a machine of the request is not understood
+    RINQEBO_NO_PROFILE = 7,     // there is no such profile
+    RINQEBO_NOT_LOADED = 8,     // the session holds no configuration
+    RINQEBO_UNKNOWN_NUMBER = 9  // a number stands for nothing: a platform, a mode, a kind of text, an index
+};
+
+// An index of no name: of the global group, or of no wrapper.
+#define RINQEBO_NO_NAME SIZE_MAX
+
+// ---- sessions
+
+// A session owns all that it was loaded from: the request may go as soon as it is loaded.
+struct rinqebo_session;
+size_t rinqebo_session_size(void);
+
+// Fills the room, always: rinqebo_session_status says how it went. The request is JSON:
+//   {"root": TEXT, "file": {"path": TEXT, "text": TEXT or null},
+//    "tools": [{"tool": TEXT, "path": TEXT, "text": TEXT or null}, ..],
+//    "features": {"setup-scripts": BOOL, "wrapper-scripts": BOOL}, "metadata": TEXT or null,
+//    "host": {"triple": TEXT, "cfg": TEXT or null}, "target": the same or null}
+// Its status is DONE, REFUSED, NOT_TEXT, MEMORY, NOT_UNDERSTOOD or NO_ENGINES.
+void rinqebo_session_load(const uint8_t *request, size_t request_len, struct rinqebo_session *room);
+void rinqebo_session_free(struct rinqebo_session *session);
+uint32_t rinqebo_session_status(const struct rinqebo_session *session);
+
+// Writes why there is no configuration, or nothing where there is one. DONE or SMALL.
+uint32_t rinqebo_session_reason(const struct rinqebo_session *session, uint8_t *out, size_t out_len, size_t *needed);
+
+// ---- profiles
+
+// A profile reads its session: that one stays loaded, in its place, until the profile is freed.
+struct rinqebo_profile;
+size_t rinqebo_profile_size(void);
+
+// Opens the profile of a name, and fills the room, always: rinqebo_profile_status says how it went.
+// Its status is DONE, NOT_TEXT, MEMORY, NO_PROFILE or NOT_LOADED.
+void rinqebo_profile_open(const struct rinqebo_session *session, const uint8_t *name, size_t name_len,
+                          struct rinqebo_profile *room);
+void rinqebo_profile_free(struct rinqebo_profile *profile);
+uint32_t rinqebo_profile_status(const struct rinqebo_profile *profile);
+
+// Kinds of text.
+enum rinqebo_text {
+    RINQEBO_REASON = 0, // why the profile is not open; of any index
+    RINQEBO_GROUP = 1,  // the name of the test group of an index
+    RINQEBO_WRAPPER = 2 // the id of the wrapper script of an index
+};
+
+// Writes a text. DONE, SMALL, or UNKNOWN_NUMBER where there is none of that kind and index.
+uint32_t rinqebo_profile_text(const struct rinqebo_profile *profile, uint32_t kind, size_t index, uint8_t *out,
+                              size_t out_len, size_t *needed);
+
+// ---- tests
+
+struct rinqebo_bytes {
+    const uint8_t *at;
+    size_t length;
+};
+
+// A test, and what is known of its binary, each as nextest lists it. What filters do not ask may be empty.
+struct rinqebo_test {
+    struct rinqebo_bytes package; // the id of the binary's package
+    struct rinqebo_bytes binary;  // the id of the binary, as `db` or `db::integration`
+    struct rinqebo_bytes kind;    // the kind of its target, as `lib` or `test`
+    struct rinqebo_bytes target;  // the name of its target
+    struct rinqebo_bytes name;    // the name of the test
+    uint32_t platform;            // 0 where the binary is built for the host, 1 for the target
+    uint32_t mode;                // 0 for tests, 1 for benchmarks
+};
+
+// Nanoseconds: high times 2^64, and low.
+struct rinqebo_duration {
+    uint64_t low, high;
+};
+
+struct rinqebo_retries {
+    uint32_t backoff; // 0: every delay is the same; 1: each is longer than the one before
+    uint32_t count;   // how often the test is tried again
+    struct rinqebo_duration delay;
+    uint32_t jitter;        // 1 where a delay is cut short at random
+    uint32_t has_max_delay; // 1 where max_delay is given
+    struct rinqebo_duration max_delay;
+};
+
+struct rinqebo_threads {
+    uint32_t kind;  // 0: count; 1: as many as there are processors; 2: as many as test threads
+    uint64_t count; // or 0
+};
+
+struct rinqebo_slow_timeout {
+    struct rinqebo_duration period;
+    uint64_t terminate_after; // after how many periods the test is ended, or 0 where it runs on
+    struct rinqebo_duration grace_period;
+    uint32_t on_timeout; // 0: a test that is ended fails; 1: it passes
+};
+
+struct rinqebo_leak_timeout {
+    struct rinqebo_duration period;
+    uint32_t result; // 0: a leaky test passes still; 1: it fails
+};
+
+struct rinqebo_group_threads {
+    uint32_t kind; // 0: count; 1: as many as there are processors; 2: no group but the global one
+    int64_t count; // or, where negative, so many fewer than there are processors; else 0
+};
+
+// The fifteen settings of a test. Where the status is not DONE, all others mean nothing.
+struct rinqebo_settings {
+    uint32_t status;            // DONE, NOT_TEXT, UNKNOWN_NUMBER, or that of a profile that is not open
+    int32_t priority;           // a higher one runs earlier
+    uint32_t in_default_filter; // 1 where the profile's default filter matches the test
+    uint32_t flaky_result;      // 0: a test that passes at a later try passes; 1: it fails
+    uint32_t success_output;    // 0: as soon as it ends; 1: then and at the end; 2: at the end; 3: never
+    uint32_t failure_output;    // the same
+    uint32_t junit_store_success_output; // 1 or 0
+    uint32_t junit_store_failure_output; // 1 or 0
+    uint32_t junit_report_skipped;       // 0: none; 1: all
+    uint32_t junit_flaky_fail_status;    // 0: failure; 1: success
+    struct rinqebo_threads threads_required;
+    struct rinqebo_retries retries;
+    struct rinqebo_slow_timeout slow_timeout;
+    struct rinqebo_leak_timeout leak_timeout;
+    size_t test_group; // an index of RINQEBO_GROUP, or RINQEBO_NO_NAME
+    struct rinqebo_group_threads group_threads;
+    size_t run_wrapper;    // an index of RINQEBO_WRAPPER, or RINQEBO_NO_NAME
+    size_t run_extra_args; // how many arguments the test is given
+};
+
+// The settings that a profile gives to a test. It takes no memory.
+struct rinqebo_settings rinqebo_profile_ask(const struct rinqebo_profile *profile, struct rinqebo_test test);
+
+#ifdef __cplusplus
+}
+#endif
+#endif
