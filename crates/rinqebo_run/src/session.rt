@@ -1,4 +1,4 @@
-//! What all commands begin with: engines, features, and the layers of the files.
+//! What all commands begin with: a list of tests, engines, features, and the layers of the files.
 ghost use Rattle.std.specs.Prelude.{◌≡◌, IfOk, IfErr, None, option_map};
 ghost use Rattle.nextest_rules.specs.KnownView.{features_view};
 ghost use Rattle.nextest_sources.specs.Inputs.{load_inputs_view};
@@ -9,6 +9,7 @@ ghost use Rattle.rinqebo_run.specs.Statuses.{IsBeginningFailure};
 
 use crate::answer::Failure;
 use crate::engines::Engines;
+use crate::triples::{Triples, listed_tests, triples_for};
 use nextest_config::run::Inputs;
 use nextest_config::{
     ConfigExperimental, ConfigFileSelection, ConfigParseError, DefaultConfigWarnings, LoadedConfig,
@@ -17,10 +18,11 @@ use nextest_config::{
 use nextest_filters::NextestFilters;
 use nextest_sources::ConfigInputs;
 use rinqebo_files::{Gathered, Layer, features_of, layers_of};
-use rinqebo_request::Request;
+use rinqebo_request::{ListFile, Request};
 use std::alloc::Global;
 use std::collections::BTreeSet;
 use target_language::TargetSpecs;
+use test_lists::ListedTests;
 
 /// A loaded configuration.
 pub type Config = LoadedConfig<NextestFilters, TargetSpecs>;
@@ -29,6 +31,10 @@ pub type Config = LoadedConfig<NextestFilters, TargetSpecs>;
 #[derive(Drop)]
 pub struct Session<'g> {
     pub gathered: &'g Gathered,
+    /// The tests of the list that is asked about. Without a list there are none.
+    pub tests: ListedTests,
+    /// The triples of the build.
+    pub triples: Triples,
     pub engines: Engines,
     pub features: BTreeSet<ConfigExperimental>,
     /// The sources, the lowest first.
@@ -45,11 +51,16 @@ impl<'g> Session<'g> {
         ensures begun { IfOk result (IsSessionOf request.now gathered.now) }
         ensures err { IfErr result IsBeginningFailure }
     {
+        let path = request.list().map_or("", ListFile::path);
+        let tests = listed_tests(alloc, path, gathered)?;
+        let triples = triples_for(alloc, &request.engines, &tests)?;
         Ok(Session {
             gathered,
-            engines: Engines::new(alloc, &request.engines, gathered)?,
+            engines: Engines::new(alloc, &triples, gathered)?,
             features: features_of(alloc, &request.features, gathered)?,
             layers: layers_of(alloc, gathered)?,
+            tests,
+            triples,
         })
     }
 
