@@ -1,11 +1,10 @@
 //! The rules of a chain of profiles, as lists take them.
-ghost use Rattle.std.specs.Prelude.{◌≡◌, IfOk, map};
+ghost use Rattle.std.specs.Prelude.{◌≡◌, ◌++◌, IfOk, map};
 ghost use Rattle.nextest_inheritance.specs.View.{borrowed_view};
-ghost use Rattle.nextest_settings.specs.Chains.{overrides_of};
 ghost use Rattle.nextest_rules.specs.View.{override_rule_view};
+ghost use Rattle.nextest_settings.specs.View.{override_ref_view};
 ghost use Rattle.rinqebo_list.specs.RuleViews.{list_rule_view};
-ghost use Rattle.rinqebo_run.specs.ListRules.{placed_view, placed_override, bare, AreRulesOf};
-ghost use Rattle.rinqebo_run.specs.RuleViews.{setting_rule_view};
+ghost use Rattle.rinqebo_run.specs.ListRules.{placed_view, placed_override, listed_script, AreRulesOf};
 
 use crate::chain_rules::{SettingRule, script_rules};
 use crate::rule_places::RulePlace;
@@ -31,17 +30,16 @@ fn override_rule(rule: &CompiledOverride<NextestFilters, TargetSpecs>) -> Rule<'
     }
 }
 
-/// The overrides of a chain, in order.
+/// Overrides, as lists take them.
 fn override_rules<'c>(
     alloc: Global,
-    config: &'c Config,
-    chain: &[&'c str],
+    overrides: &[&'c CompiledOverride<NextestFilters, TargetSpecs>],
 ) -> Result<Vec<Rule<'c>>, AllocError>
     ensures { IfOk result (λ rules. map placed_view (map list_rule_view rules.items)
-        ≡ map placed_override (overrides_of config.now.config.layers (borrowed_view chain.now))) }
+        ≡ map placed_override (map override_ref_view overrides.now)) }
 {
     let mut rules = Vec::new(alloc);
-    for rule in &rules_of(alloc, config.layers(), chain)?.overrides {
+    for rule in overrides {
         rules.push(override_rule(*rule))?;
     }
     Ok(rules)
@@ -49,7 +47,7 @@ fn override_rules<'c>(
 
 /// A script rule, as lists take it.
 fn script_rule<'c>(rule: &SettingRule<'c>) -> Rule<'c>
-    ensures { bare (list_rule_view result) ≡ bare (setting_rule_view rule.now) }
+    ensures { list_rule_view result ≡ listed_script rule.now }
 {
     ListRule {
         platforms: rule.platforms,
@@ -58,16 +56,19 @@ fn script_rule<'c>(rule: &SettingRule<'c>) -> Rule<'c>
     }
 }
 
-/// Script rules, as lists take them.
-fn list_rules<'c>(alloc: Global, rules: &[SettingRule<'c>]) -> Result<Vec<Rule<'c>>, AllocError>
-    ensures { IfOk result (λ listed. map bare (map list_rule_view listed.items)
-        ≡ map bare (map setting_rule_view rules.now)) }
+/// The rules that were found, and then these script rules.
+fn with_script_rules<'c>(
+    found: Vec<Rule<'c>>,
+    scripts: &[SettingRule<'c>],
+) -> Result<Vec<Rule<'c>>, AllocError>
+    ensures { IfOk result (λ more. map list_rule_view more.items
+        ≡ map list_rule_view found.entry.items ++ map listed_script scripts.now) }
 {
-    let mut listed = Vec::new(alloc);
-    for rule in rules {
-        listed.push(script_rule(rule))?;
+    let mut found = found;
+    for rule in scripts {
+        found.push(script_rule(rule))?;
     }
-    Ok(listed)
+    Ok(found)
 }
 
 /// The script rules of a chain that name a run wrapper, in order.
@@ -94,10 +95,9 @@ pub fn all_rules<'c>(
     ensures { IfOk result (λ rules. AreRulesOf config.now.config.layers (borrowed_view chain.now)
         (map placed_view (map list_rule_view rules.items))) }
 {
-    let mut rules = override_rules(alloc, config, chain)?;
-    let scripts = script_rules(alloc, config.layers(), chain)?;
-    for rule in list_rules(alloc, &scripts)? {
-        rules.push(rule)?;
-    }
-    Ok(rules)
+    let layers = config.layers();
+    let found = rules_of(alloc, layers, chain)?;
+    let overrides = override_rules(alloc, &found.overrides)?;
+    let scripts = script_rules(alloc, layers, chain)?;
+    with_script_rules(overrides, &scripts)
 }
