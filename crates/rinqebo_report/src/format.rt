@@ -85,7 +85,15 @@ fn add_grouped_content(
     match &report.content {
         Content::List { tests, unused, .. } => {
             let sources = report.sources.as_slice();
-            add_grouped(alloc, out, colour, report.root.as_str(), sources, tests, unused)
+            add_grouped(
+                alloc,
+                out,
+                colour,
+                report.root.as_str(),
+                sources,
+                tests,
+                unused,
+            )
         }
         Content::Explain { .. }
         | Content::Why { .. }
