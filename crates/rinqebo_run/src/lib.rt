@@ -4,6 +4,7 @@
 //! test of a list, the rules of a setting, or what is wrong with the files.
 #![tactic(auto)]
 
+mod above;
 mod answer;
 mod binary;
 mod chain_rules;
