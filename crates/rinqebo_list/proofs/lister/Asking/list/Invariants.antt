@@ -13,11 +13,14 @@ use Rattle.rinqebo_list.proofs.lister.Asking.list.Given as goal
 -- The tests so far are told, and each rule is marked that holds for one of them.
 abbrev pub invariant-loop-query : goal.invariant-loop-query
 invariant-loop-query g l =
-    let f = g.F.Filters.meaning in
-    let profile = profile_meaning f l.self.profile.now in
-    AllZip (λ query. IsTestTold (query_in g.F.Filters.holds profile (test_view query)) l.self.mode profile
-    l.self.asked.now (test_view query)) (take l.query-index l.queries) l.tests.items
-    × (rules_in l.uses.rules ≡ map (rule_on (meets_by g.S.Specs) l.platforms) (map list_rule_view l.rules))
-    × (l.uses.default_filter ≡ l.self.profile.now.default_filter.filter)
-    × AreMarked f (map (λ query. query_in g.F.Filters.holds profile (test_view query)) (take l.query-index l.queries))
-    l.uses.rules
+    let F = g.F.Filters in
+    let profile = profile_meaning F.meaning l.self.profile.now in
+    let queries = take l.query-index l.queries in
+    record {
+      told : AllZip (λ query. IsTestTold (query_in F.holds profile (test_view query)) l.self.mode profile
+          l.self.asked.now (test_view query)) queries l.tests.items;
+      rules : rules_in l.uses.rules
+          ≡ map (rule_on (meets_by g.S.Specs) l.platforms) (map list_rule_view l.rules);
+      default_filter : l.uses.default_filter ≡ l.self.profile.now.default_filter.filter;
+      marks : AreMarked F.meaning (map (λ query. query_in F.holds profile (test_view query)) queries) l.uses.rules;
+    }
