@@ -5,3 +5,9 @@ pub mod Nodes
 pub mod Keeping
 pub mod Steps
 pub mod Placing
+pub mod Standings
+pub mod Turns
+pub mod Tight
+pub mod Walking
+pub mod Aiming
+pub mod Indexed

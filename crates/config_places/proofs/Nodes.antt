@@ -40,7 +40,7 @@ inside : (path : List Step) (o : Option Data)
 inside path None same = refl
 inside path (Some d) same = same d
 
-at_path : (path : List Step) (d : Data) → has_path path (from_data d) ≡ is_some (value_at path d)
+pub at_path : (path : List Step) (d : Data) → has_path path (from_data d) ≡ is_some (value_at path d)
 at_path [] d = refl
 at_path (step ∷ path) d = rw (step_is step d) (inside path (step_in step d) (λ e. at_path path e))
 

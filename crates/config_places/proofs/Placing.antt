@@ -7,15 +7,15 @@ use Rattle.nextest_documents.specs.Text.{tree_of}
 use Rattle.nextest_script_order.specs.Lines.{first_lines, line_count}
 use Rattle.nextest_script_order.specs.Search.{IsDocument, NoDocumentBetween}
 use Rattle.nextest_script_order.proofs.Keeping.{all_lines}
-use Rattle.nextest_script_order.proofs.Sections.{empty_is, some_of}
+use Rattle.nextest_script_order.proofs.Sections.{some_of}
 use Rattle.config_places.specs.declared.step.Step.{Step}
 use Rattle.config_places.specs.declared.step.Step.TheVariants.{Key, Position}
 use Rattle.config_places.specs.Path.{has_path}
 use Rattle.config_places.specs.Place.{HasNoPlace, IsPlaceOfPath, is_there_by}
-use Rattle.config_places.specs.Search.{ComesBetween, IsFoundBetween, IsLongest}
+use Rattle.config_places.specs.Search.{IsLongest}
 use Rattle.config_places.proofs.Keeping.{in_empty, there_later}
 
-cases_le : (m n : ℕ) → (m ≤ n) ⊎ (n < m)
+pub cases_le : (m n : ℕ) → (m ≤ n) ⊎ (n < m)
 cases_le zero n = inl (omega arith)
 cases_le (suc m) zero = inr (omega arith)
 cases_le (suc m) (suc n) = elim (cases_le m n) [ inl h ↦ inl (omega arith) | inr h ↦ inr (omega arith) ]
@@ -27,7 +27,7 @@ not_at_start (Position i ∷ path) some text = in_empty (Position i ∷ path)
 
 module _ (path : List Step) (text : List ℕ) where
   -- of lines that are a document
-  told : (n : ℕ) (document : Node) → tree_of (first_lines n text) ≡ Some document
+  pub told : (n : ℕ) (document : Node) → tree_of (first_lines n text) ≡ Some document
       → is_there_by path text n ≡ has_path path document
   told n document is = rw is refl
 
@@ -43,51 +43,26 @@ module _ (path : List Step) (text : List ℕ) where
         | inr none ↦ none
       ]
 
-  -- the two numbers are those of the place where no document is between them
-  pub place_is : (low high : ℕ) → ComesBetween path text low high → NoDocumentBetween text low high
+  -- two numbers of lines are those of the place where the path is there by the second one and not by
+  -- the first, which is a document, and none is between them
+  pub place_is : (low high : ℕ) → low < high → IsDocument text low → is_there_by path text low ≡ false
+      → is_there_by path text high ≡ true → NoDocumentBetween text low high
       → IsPlaceOfPath path text (record { first = low + 1; last = high })
-  place_is low high between none =
-      let (document, is) = some_of (tree_of (first_lines low text)) between.front in
-      let lacks = sym (told low document is) ∙ between.missing in
+  place_is low high order front missing there none =
+      let (document, is) = some_of (tree_of (first_lines low text)) front in
+      let lacks = sym (told low document is) ∙ missing in
       record {
-        there = between.there;
+        there = there;
         least = λ n h. elim (cases_le n low) [
           | inl before ↦ not_before low document is lacks n before
           | inr after ↦ untold n (none n after h)
         ];
         shorter = low;
-        below = between.order;
-        document = between.front;
+        below = order;
+        document = front;
         longest = none;
         first = add-one low;
       }
-
-  is_document : (n : ℕ) (document : Node) → tree_of (first_lines n text) ≡ Some document → IsDocument text n
-  is_document n document is = rw is refl
-
-  module _ (low high n : ℕ) (document : Node) (found : IsFoundBetween text low high n document) where
-    -- a document that has the path comes after its place's end
-    pub comes_below : ComesBetween path text low high → has_path path document ≡ true → ComesBetween path text low n
-    comes_below between has =
-        let below = found.below in
-        let within = between.within in
-        record {
-          order = found.above;
-          within = omega (arith, below, within);
-          front = between.front;
-          missing = between.missing;
-          there = told n document found.is ∙ has;
-        }
-
-    -- one that lacks it comes before
-    pub comes_above : ComesBetween path text low high → has_path path document ≡ false → ComesBetween path text n high
-    comes_above between lacks = record {
-      order = found.below;
-      within = between.within;
-      front = is_document n document found.is;
-      missing = told n document found.is ∙ lacks;
-      there = between.there;
-    }
 
   -- more lines than there are
   beyond : (n : ℕ) → line_count text ≤ n → is_there_by path text n ≡ is_there_by path text (line_count text)
@@ -118,13 +93,3 @@ module _ (path : List Step) (text : List ℕ) where
         | inl before ↦ not_before n document found.is lacks m before
         | inr after ↦ untold m (found.longest m after (omega arith))
       ]))
-
-      -- the longest document has the path
-      pub comes : has_path path document ≡ true → ComesBetween path text 0 n
-      comes has = record {
-        order = found.above;
-        within = found.within;
-        front = empty_is text;
-        missing = not_at_start path some text;
-        there = told n document found.is ∙ has;
-      }

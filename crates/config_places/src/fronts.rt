@@ -1,11 +1,13 @@
 //! The first lines of a text.
-ghost use Rattle.std.specs.Prelude.{◌≡◌, ◌≤◌, List, ℕ, suc, IfOk, MatchOption, length, option_map};
+ghost use Rattle.std.specs.Prelude.{◌≡◌, ◌<◌, ◌≤◌, List, ℕ, suc, IfOk, MatchOption, length, option_map};
 ghost use Rattle.nextest_tree.specs.View.{tree_view};
 ghost use Rattle.nextest_documents.specs.Text.{tree_of};
 ghost use Rattle.nextest_script_order.specs.Lines.{first_lines, line_count, line_ends};
 ghost use Rattle.nextest_script_order.specs.Search.{NoDocumentBetween};
-ghost use Rattle.config_places.specs.Search.{IsFoundBetween, IsLongest};
+ghost use Rattle.config_places.specs.Index.{AreFronts};
+ghost use Rattle.config_places.specs.Search.{IsLongest};
 
+use crate::place::Lines;
 use nextest_documents::{TextFault, tree_from_text};
 use nextest_tree::Tree;
 use std::alloc::{AllocError, Global};
@@ -107,30 +109,43 @@ pub(crate) fn longest_document(
     Ok(None)
 }
 
-/// A number of lines between two that is a document, with that document: the first from the middle
-/// on, or else the last before it.
-pub(crate) fn document_between(
+/// The first lines of a text that are a document, with that document.
+#[derive(Drop)]
+pub(crate) struct Front {
+    /// The lines behind the document before it.
+    pub(crate) lines: Lines,
+    pub(crate) document: Tree,
+}
+
+/// The documents that the fronts of a text are which have more than `low` lines, without the text
+/// itself, and the lines behind them, if there are some.
+pub(crate) fn fronts_behind(
     alloc: Global,
     fronts: &Fronts,
     low: usize,
-    high: usize,
-) -> Result<Option<(usize, Tree)>, AllocError>
-    requires order { low ≤ high }
-    requires within { high ≤ line_count fronts.now }
-    ensures { IfOk result (λ found. MatchOption found (NoDocumentBetween fronts.now low high)
-        (λ at. IsFoundBetween fronts.now low high at.0 (tree_view at.1))) }
+) -> Result<(Vec<Front>, Option<Lines>), AllocError>
+    requires { low ≤ line_count fronts.now }
+    ensures { IfOk result (λ found. AreFronts fronts.now low found.0.items found.1) }
 {
-    let middle = low + (high - low).div_ceil(2);
-    'up: for count in middle..high {
-        if let Some(document) = document_of(alloc, fronts.front(count))? {
-            return Ok(Some((count, document)));
+    let count = fronts.count();
+    let mut found = Vec::new(alloc);
+    if low == count {
+        return Ok((found, None));
+    }
+    let mut high = low;
+    'up: for last in low + 1..count {
+        if let Some(document) = document_of(alloc, fronts.front(last))? {
+            let lines = Lines {
+                first: high + 1,
+                last,
+            };
+            found.push(Front { lines, document })?;
+            high = last;
         }
     }
-    'down: for back in 1..middle - low {
-        let count = middle - back;
-        if let Some(document) = document_of(alloc, fronts.front(count))? {
-            return Ok(Some((count, document)));
-        }
-    }
-    Ok(None)
+    let rest = Lines {
+        first: high + 1,
+        last: count,
+    };
+    Ok((found, Some(rest)))
 }

@@ -1,11 +1,13 @@
-//! The place of a path in a text.
-ghost use Rattle.std.specs.Prelude.{IfOk, MatchOption};
+//! The places of paths in a text.
+ghost use Rattle.std.specs.Prelude.{◌≡◌, List, ℕ, IfOk, MatchOption};
+ghost use Rattle.config_places.specs.Index.{IsIndexed};
 ghost use Rattle.config_places.specs.Place.{HasNoPlace, IsPlaceOfPath};
-ghost use Rattle.config_places.specs.Search.{ComesBetween};
 
-use crate::fronts::{Fronts, document_between, longest_document};
+use crate::fronts::{Fronts, longest_document};
+use crate::index::{Index, lines_by_entries, lines_by_fronts};
 use crate::step::{Step, has_path};
 use std::alloc::{AllocError, Global};
+use std::marker::Model;
 
 /// Some lines of a text, counted from 1.
 #[derive(Clone, Copy, Debug, PartialEq, Eq)]
@@ -16,56 +18,57 @@ pub struct Lines {
     pub last: usize,
 }
 
-/// The place of a path in a text: the lines that bring what stands at the path.
+/// The places of the paths of a text: the lines that bring what stands at each.
 ///
 /// These are the last of the first lines that are the shortest document with the path, from the
 /// end of the document before it on: the whole of a value that goes over several lines, and of a
 /// table the header that first names it. The text itself need not be a document.
-///
-/// A text that is a document is read once. If it has the path, as many of its fronts are read as
-/// its number of lines can be halved, and more where a value goes over many lines.
-pub fn place_of(alloc: Global, text: &str, path: &[Step]) -> Result<Option<Lines>, AllocError>
-    ensures { IfOk result (λ place.
-        MatchOption place (HasNoPlace path.now text.now) (IsPlaceOfPath path.now text.now)) }
-{
-    if path.is_empty() {
-        return Ok(None);
-    }
-    let fronts = Fronts::of(alloc, text)?;
-    let Some((count, document)) = longest_document(alloc, &fronts)? else {
-        return Ok(None);
-    };
-    if !has_path(&document, path) {
-        return Ok(None);
-    }
-    let place = place_between(alloc, &fronts, path, 0, count)?;
-    Ok(Some(place))
+#[derive(Drop)]
+pub struct Places<'a> {
+    text: &'a str,
+    index: Option<Index>,
 }
 
-/// The place of a path that comes between two numbers of lines, found by halves.
-fn place_between(
-    alloc: Global,
-    fronts: &Fronts,
-    path: &[Step],
-    low: usize,
-    high: usize,
-) -> Result<Lines, AllocError>
-    requires { ComesBetween path.now fronts.now low high }
-    ensures { IfOk result (λ place. IsPlaceOfPath path.now fronts.now place) }
-{
-    let mut low = low;
-    let mut high = high;
-    'halves: loop {
-        let Some((count, document)) = document_between(alloc, fronts, low, high)? else {
-            return Ok(Lines {
-                first: low + 1,
-                last: high,
-            });
+impl<'a> Model for Places<'a> {
+    ghost Value = { List ℕ };
+
+    ghost view = { λ places. places.text.now };
+
+    ghost invariant = { λ places. IsIndexed places.text.now places.index };
+}
+
+impl<'a> Places<'a> {
+    /// The places of a text. One that is a document is read once as a whole, and once more
+    /// expression by expression. Of any other its longest front that is a document is so read, and
+    /// to find it each longer one. Where the last line has no newline, the fronts that end within
+    /// the last expression are read too.
+    pub fn of(alloc: Global, text: &'a str) -> Result<Places<'a>, AllocError>
+        ensures { IfOk result (λ places. places ≡ text.now) }
+    {
+        let fronts = Fronts::of(alloc, text)?;
+        let index = match longest_document(alloc, &fronts)? {
+            Some((count, document)) => Some(Index::of(alloc, fronts.front(count), document)?),
+            None => None,
         };
-        if has_path(&document, path) {
-            high = count;
-        } else {
-            low = count;
+        Ok(Places { text, index })
+    }
+
+    /// The lines that bring what stands at a path. Nothing is read for it.
+    pub fn lines_at(&self, path: &[Step]) -> Option<Lines>
+        ensures { MatchOption result (HasNoPlace path.now self.now)
+            (IsPlaceOfPath path.now self.now) }
+    {
+        if path.is_empty() {
+            return None;
         }
+        let index = self.index.as_ref()?;
+        if !has_path(&index.document, path) {
+            return None;
+        }
+        if let Some(lines) = lines_by_entries(&index.entries, path) {
+            return Some(lines);
+        }
+        let rest = index.rest?;
+        Some(lines_by_fronts(&index.fronts, path).unwrap_or(rest))
     }
 }

@@ -46,7 +46,7 @@ away j k l here other =
       | inr apart ↦ apart
     ]
 
-get_insert : (j k : List ℕ) (x : Node) (ns : Nodes) → get_node k ns ≡ None
+pub get_insert : (j k : List ℕ) (x : Node) (ns : Nodes) → get_node k ns ≡ None
     → get_node j (insert k x ns) ≡ cond (same_key j k) (Some x) (get_node j ns)
 get_insert j k x no_nodes none = refl
 get_insert j k x (node l y ns) none =
@@ -63,7 +63,7 @@ get_insert j k x (node l y ns) none =
       ]
     ]
 
-get_replace : (j k : List ℕ) (y : Node) (ns : Nodes) (x : Node) → get_node k ns ≡ Some x
+pub get_replace : (j k : List ℕ) (y : Node) (ns : Nodes) (x : Node) → get_node k ns ≡ Some x
     → get_node j (replace k y ns) ≡ cond (same_key j k) (Some y) (get_node j ns)
 get_replace j k y no_nodes x found = absurd (none-some x found)
 get_replace j k y (node l z ns) x found =

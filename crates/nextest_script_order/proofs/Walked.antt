@@ -43,7 +43,7 @@ pub document_run : (text : List ℕ) → is_some (tree_of text) ≡ true → (do
 unfolding parse_document
 document_run text h = ran_some (run text) h
 
-start_run : (doc : Document) → run [] ≡ Some doc → start ≡ doc
+pub start_run : (doc : Document) → run [] ≡ Some doc → start ≡ doc
 unfolding toml_on_literals
 start_run doc h = same_Some start doc h
 
@@ -69,15 +69,15 @@ after_both (suc n) k (c ∷ cs) =
     ]
 
 -- the next lines of a document, and how it goes on over them: `here` is what is read of them
-record Ahead (text : List ℕ) (low count : ℕ) (doc last : Document) : Type 0 where
-  here : List ℕ
-  more : List ℕ
-  is_here : here ≡ read_lines (low == 0) (first_lines count (after_lines low text))
-  goes : GoesOn (after_lines count (after_lines low text)) here more
-  turns : ℕ
-  on : lines turns doc more ≡ Some last
-  room : ℕ
-  joins : (next : Document) → lines (suc (suc room)) doc here ≡ Some next
+pub record Ahead (text : List ℕ) (low count : ℕ) (doc last : Document) : Type 0 where
+  pub here : List ℕ
+  pub more : List ℕ
+  pub is_here : here ≡ read_lines (low == 0) (first_lines count (after_lines low text))
+  pub goes : GoesOn (after_lines count (after_lines low text)) here more
+  pub turns : ℕ
+  pub on : lines turns doc more ≡ Some last
+  pub room : ℕ
+  pub joins : (next : Document) → lines (suc (suc room)) doc here ≡ Some next
       → run (first_lines (low + count) text) ≡ Some next
 
 ahead_first : (text c d : List ℕ) (count : ℕ) (doc last : Document) → run [] ≡ Some doc → run text ≡ Some last
@@ -125,7 +125,7 @@ ahead_next text a c d l count doc last front all front_is lines_are rest_is is =
           (bom_grown _ _ (grown_from a (c ++ 10 ∷ []))) front_run h);
     }
 
-ahead : (text : List ℕ) (low count : ℕ) (doc last : Document) → run (first_lines low text) ≡ Some doc
+pub ahead : (text : List ℕ) (low count : ℕ) (doc last : Document) → run (first_lines low text) ≡ Some doc
     → run text ≡ Some last → 0 < count → low + count < line_count text → Ahead text low count doc last
 ahead text low zero doc last front all some room = absurd (omega (arith, some))
 ahead text zero (suc m) doc last front all some room =
@@ -144,7 +144,7 @@ ahead text (suc l) (suc m) doc last front all some room =
     ∙ ap (λ t. a ++ 10 ∷ t) rest_is in
     ahead_next text a c d l (suc m) doc last front all front_is is refl whole
 
-blank_turn : (n : ℕ) (doc : Document) (x : List ℕ) → skip_blank x ≡ [] → lines (suc n) doc x ≡ Some doc
+pub blank_turn : (n : ℕ) (doc : Document) (x : List ℕ) → skip_blank x ≡ [] → lines (suc n) doc x ≡ Some doc
 unfolding lines
 blank_turn n doc x h = rw h refl
 
@@ -169,13 +169,13 @@ pub record GoesOver (text : List ℕ) (low count : ℕ) (doc last : Document) (k
   pub behind : List ℕ
   pub on : lines turns next behind ≡ Some last
 
-one_turn : (n : ℕ) (doc next : Document) (x rest : List ℕ) (e : Expression) → (length (skip_blank x) == 0) ≡ false
+pub one_turn : (n : ℕ) (doc next : Document) (x rest : List ℕ) (e : Expression) → (length (skip_blank x) == 0) ≡ false
     → line (skip_blank x) ≡ Some (e, rest) → define doc e ≡ Some next → skip_blank rest ≡ []
     → lines (suc (suc n)) doc x ≡ Some next
 unfolding lines
 one_turn n doc next x rest e some is made over = rw (some, is, made, over) refl
 
-long_turn : (n : ℕ) (doc last : Document) (y : List ℕ) → (length (skip_blank y) == 0) ≡ false
+pub long_turn : (n : ℕ) (doc last : Document) (y : List ℕ) → (length (skip_blank y) == 0) ≡ false
     → lines n doc y ≡ Some last
     → (e : Expression × List ℕ) × (next : Document) × (k : ℕ) × (line (skip_blank y) ≡ Some e)
     × (define doc e.0 ≡ Some next) × (lines k next e.1 ≡ Some last)

@@ -13,15 +13,16 @@ use toml_parser::{
 
 /// A key that an expression defines.
 #[derive(Drop)]
-pub(crate) struct Definition {
-    pub(crate) key: Key,
+pub struct Definition {
+    /// The key, as it is written.
+    pub key: Key,
     /// Whether a header has the key, or else a pair.
-    pub(crate) is_header: bool,
+    pub is_header: bool,
 }
 
 /// What whole lines hold.
 #[derive(Drop)]
-pub(crate) enum Content {
+pub enum Content {
     /// White space and comments.
     Blank,
     /// One expression.
@@ -31,7 +32,7 @@ pub(crate) enum Content {
 }
 
 /// What some whole lines hold.
-pub(crate) fn content_of(alloc: Global, lines: &str) -> Result<Content, AllocError>
+pub fn content_of(alloc: Global, lines: &str) -> Result<Content, AllocError>
     ensures { IfOk result (Holds lines.now) }
 {
     let start = skip_blank(lines, true);
@@ -50,7 +51,7 @@ pub(crate) fn content_of(alloc: Global, lines: &str) -> Result<Content, AllocErr
 
 /// A guess at how many lines the expression at the front of a text takes, the blank ones before it
 /// among them. Whether these lines are one expression by themselves shows when they are read.
-pub(crate) fn line_count_of(alloc: Global, text: &str) -> Result<usize, AllocError>
+pub fn line_count_of(alloc: Global, text: &str) -> Result<usize, AllocError>
     ensures { IfOk result (λ count. 0 < count) }
 {
     match read_definition(alloc, skip_blank(text, true)) {

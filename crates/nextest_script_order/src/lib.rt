@@ -12,5 +12,8 @@ mod lines;
 mod order;
 mod walk;
 
+pub use expression::{Content, Definition, content_of, line_count_of};
 pub use law::law_longer_documents_keep;
+pub use lines::split_lines;
 pub use order::ids_in_order;
+pub use walk::without_mark;

@@ -72,7 +72,7 @@ fn ends_of(alloc: Global, text: &str) -> Result<Vec<usize>, AllocError>
 }
 
 /// The first `count` lines of a text, and what follows them.
-pub(crate) fn split_lines(text: &str, count: usize) -> (&str, &str)
+pub fn split_lines(text: &str, count: usize) -> (&str, &str)
     ensures front { result.0.now ≡ first_lines count text.now }
     ensures rest { result.1.now ≡ after_lines count text.now }
 {

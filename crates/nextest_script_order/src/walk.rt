@@ -110,7 +110,7 @@ fn step_of<'a>(
 }
 
 /// Lines without a byte order mark, which may stand at the start of a document.
-fn without_mark(lines: &str, is_start: bool) -> &str
+pub fn without_mark(lines: &str, is_start: bool) -> &str
     ensures { result.now ≡ read_lines is_start lines.now }
 {
     if is_start && first(lines) == 0xEF && byte_at(lines, 1) == 0xBB && byte_at(lines, 2) == 0xBF {

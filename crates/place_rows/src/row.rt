@@ -1,5 +1,5 @@
 //! A line: a text and a path.
-use config_places::{Step, place_of};
+use config_places::{Places, Step};
 use std::alloc::{AllocError, AllocFailed, Global};
 
 /// Why a line has no answer.
@@ -28,7 +28,7 @@ pub(crate) fn answer_to(alloc: Global, line: &str) -> Result<String, RowError> {
     let (escaped, words) = line.split_once('\t').ok_or(RowError::NoRow)?;
     let text = text_of(alloc, escaped)?;
     let path = path_of(alloc, words)?;
-    match place_of(alloc, text.as_str(), &path)? {
+    match Places::of(alloc, text.as_str())?.lines_at(&path) {
         Some(place) => Ok(format!(in alloc; "{}\t{}", place.first, place.last)?),
         None => Ok(format!(in alloc; "none")?),
     }

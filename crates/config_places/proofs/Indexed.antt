@@ -1,0 +1,151 @@
+-- The places that an index of a text tells.
+use Rattle.std.proofs.Common.{◌≡◌, ℕ, zero, suc, ◌+◌, ◌<◌, ◌≤◌, true, false, ◌==◌, List, [], ◌∷◌, ◌++◌, length, Option, Some, None, MatchOption, unwrap_or, refl, sym, ap, ◌∙◌, subst, inl, inr, arith, add-one}
+use Rattle.std.proofs.lemmas.Bool.{cases_Bool, cases_lt, true≢false}
+use Rattle.nextest_tree.specs.View.{tree_view}
+use Rattle.nextest_documents.specs.Text.{tree_of}
+use Rattle.nextest_script_order.specs.Lines.{first_lines, line_count}
+use Rattle.nextest_script_order.specs.Search.{IsDocument, NoDocumentBetween}
+use Rattle.nextest_script_order.proofs.Keeping.{all_lines}
+use Rattle.config_places.specs.declared.fronts.Front.{Front}
+use Rattle.config_places.specs.declared.index.Index.{Index}
+use Rattle.config_places.specs.declared.place.Lines.{Lines}
+use Rattle.config_places.specs.declared.step.Step.{Step}
+use Rattle.config_places.specs.Entries.{IsWaiting, Outcome, found, scan, waits}
+use Rattle.config_places.specs.Index.{IsIndexed, IsRight, LeadToEnd, LeadsTo, first_with}
+use Rattle.config_places.specs.Marks.{fresh}
+use Rattle.config_places.specs.Path.{has_path}
+use Rattle.config_places.specs.Place.{IsPlaceOfPath, is_there_by, text_has}
+use Rattle.config_places.proofs.Placing.{cases_le, place_is, told}
+
+-- lines of some lines
+lines_of_lines : (k n : ℕ) (text : List ℕ) → k ≤ n → first_lines k (first_lines n text) ≡ first_lines k text
+lines_of_lines zero n text h = refl
+lines_of_lines (suc k) zero text h = absurd (omega (arith, h))
+lines_of_lines (suc k) (suc n) [] h = refl
+lines_of_lines (suc k) (suc n) (c ∷ cs) h =
+    elim (cases_Bool (c == 10)) [
+      | inl lf ↦ rw lf (ap (λ t. c ∷ t) (lines_of_lines k n cs (omega (arith, h))))
+      | inr other ↦ rw other (ap (λ t. c ∷ t) (lines_of_lines (suc k) (suc n) cs h))
+    ]
+
+-- one more front
+pub leads_more : (text : List ℕ) (low : ℕ) (fronts : List Front) (high : ℕ) (front : Front)
+    → LeadsTo text low fronts high → front.lines.first ≡ suc high → high < front.lines.last
+    → NoDocumentBetween text high front.lines.last
+    → tree_of (first_lines front.lines.last text) ≡ Some (tree_view front.document)
+    → LeadsTo text low (fronts ++ front ∷ []) front.lines.last
+leads_more text low [] high front is first less none document =
+    rw is (first, less, none, document, refl)
+leads_more text low (f ∷ fronts) high front (a, b, c, d, leads) first less none document =
+    (a, b, c, d, leads_more text f.lines.last fronts high front leads first less none document)
+
+pub none_further : (text : List ℕ) (low high : ℕ) → NoDocumentBetween text low high
+    → tree_of (first_lines high text) ≡ None
+    → NoDocumentBetween text low (high + 1)
+none_further text low high none here n more less =
+    elim (cases_lt n high) [
+      | inl before ↦ none n more before
+      | inr last ↦ let same : n ≡ high = omega (arith, last, less) in rw same here
+    ]
+
+pub none_yet : (text : List ℕ) (low : ℕ) → NoDocumentBetween text low (low + 1)
+none_yet text low n more less = absurd (omega (arith, more, less))
+
+module _ (path : List Step) (text : List ℕ) where
+  -- a front that brings what stands at the path
+  front_brings : (low : ℕ) (lines : Lines) → lines.first ≡ suc low → low < lines.last → IsDocument text low
+      → is_there_by path text low ≡ false → is_there_by path text lines.last ≡ true
+      → NoDocumentBetween text low lines.last → IsPlaceOfPath path text lines
+  front_brings low lines first less document missing there none =
+      let is : low + 1 ≡ lines.first = add-one low ∙ sym first in
+      subst (λ n. IsPlaceOfPath path text (record { first = n; last = lines.last })) is
+      (place_is path text low lines.last less document missing there none)
+
+  by_fronts : (low : ℕ) (fronts : List Front) (high : ℕ) → LeadsTo text low fronts high → IsDocument text low
+      → is_there_by path text low ≡ false
+      → MatchOption (first_with path fronts) (IsDocument text high × (is_there_by path text high ≡ false))
+      (IsPlaceOfPath path text)
+  by_fronts low [] high leads document missing = rw (← leads) (document, missing)
+  by_fronts low (front ∷ fronts) high (first, less, none, is, leads) document missing =
+      let here = told path text front.lines.last (tree_view front.document) is in
+      elim (cases_Bool (has_path path (tree_view front.document))) [
+        | inl has ↦ rw has (front_brings low front.lines first less document missing (here ∙ has) none)
+        | inr lacks ↦ rw lacks (by_fronts front.lines.last fronts high leads (rw is refl) (here ∙ lacks))
+      ]
+
+  in_rest : (o : Option Lines) (high : ℕ) (rest : Lines) → rest.first ≡ suc high → high < rest.last
+      → NoDocumentBetween text high rest.last → is_there_by path text rest.last ≡ true
+      → MatchOption o (IsDocument text high × (is_there_by path text high ≡ false)) (IsPlaceOfPath path text)
+      → IsPlaceOfPath path text (unwrap_or o rest)
+  in_rest None high rest first less none there (document, missing) =
+      front_brings high rest first less document missing there none
+  in_rest (Some lines) high rest first less none there place = place
+
+  behind_entries : (low : ℕ) (fronts : List Front) (rest : Lines) → LeadToEnd text low fronts rest
+      → IsDocument text low → is_there_by path text low ≡ false → text_has path text ≡ true
+      → IsPlaceOfPath path text (unwrap_or (first_with path fronts) rest)
+  behind_entries low fronts rest are document missing has =
+      let whole : is_there_by path text rest.last ≡ true =
+      ap (is_there_by path text) are.whole
+      ∙ ap (text_has path) (all_lines text 0 (line_count text) (omega arith)) ∙ has in
+      in_rest (first_with path fronts) are.high rest are.first are.below are.none whole
+      (by_fronts low fronts are.high are.leads document missing)
+
+-- a place in a front of a text is one in the text
+whole_place : (path : List Step) (text : List ℕ) (n : ℕ) (place : Lines) → text_has path (first_lines n text) ≡ true
+    → IsPlaceOfPath path (first_lines n text) place → IsPlaceOfPath path text place
+whole_place path text n place has is =
+    elim (cases_le place.last n) [
+      | inr beyond ↦
+          let same : first_lines n (first_lines n text) ≡ first_lines n text = lines_of_lines n n text (omega arith) in
+          absurd (true≢false (sym (ap (text_has path) same ∙ has) ∙ is.least n beyond))
+      | inl within ↦
+          let below = is.below in
+          let keeps : (k : ℕ) → k ≤ place.last → first_lines k (first_lines n text) ≡ first_lines k text =
+          λ k h. lines_of_lines k n text (omega (arith, h, within)) in
+          record {
+            there = ap (text_has path) (sym (keeps place.last (omega arith))) ∙ is.there;
+            least = λ m less. ap (text_has path) (sym (keeps m (omega (arith, less)))) ∙ is.least m less;
+            shorter = is.shorter;
+            below = is.below;
+            document = rw (keeps is.shorter (omega (arith, below))) at is.document;
+            longest = λ m more less. ap tree_of (sym (keeps m (omega (arith, less)))) ∙ is.longest m more less;
+            first = is.first;
+          }
+    ]
+
+module _ (path : List Step) (some : (length path == 0) ≡ false) (text : List ℕ) (index : Index)
+    (is : IsIndexed text (Some index)) (has : has_path path (tree_view index.document) ≡ true) where
+  has_whole : text_has path (first_lines is.0 text) ≡ true
+  has_whole = rw is.2.document has
+
+  pub place_by_entries : (lines : Lines) → scan index.entries.items (waits (fresh path)) ≡ found lines
+      → IsPlaceOfPath path text lines
+  place_by_entries lines found_is =
+      whole_place path text is.0 lines has_whole
+      (rw found_is at (is.2.walked.right path some has_whole))
+
+  waiting : (o : Outcome) → IsWaiting o → IsRight path (first_lines is.0 text) is.2.low o
+      → is_there_by path (first_lines is.0 text) is.2.low ≡ false
+  waiting (found lines) none right = absurd none
+  waiting (waits ms) none right = right
+
+  not_there : IsWaiting (scan index.entries.items (waits (fresh path)))
+      → is_there_by path (first_lines is.0 text) is.2.low ≡ false
+  not_there none =
+      waiting (scan index.entries.items (waits (fresh path))) none (is.2.walked.right path some has_whole)
+
+  pub place_by_fronts : IsWaiting (scan index.entries.items (waits (fresh path))) → (rest : Lines)
+      → index.rest ≡ Some rest → IsPlaceOfPath path text (unwrap_or (first_with path index.fronts.items) rest)
+  place_by_fronts none rest left =
+      whole_place path text is.0 (unwrap_or (first_with path index.fronts.items) rest) has_whole
+      (behind_entries path (first_lines is.0 text) is.2.low index.fronts.items rest
+      (rw left at is.2.fronts) is.2.walked.front (not_there none) has_whole)
+
+  -- where no lines are left, an entry brings what stands at the path
+  pub none_left : IsWaiting (scan index.entries.items (waits (fresh path))) → index.rest ≡ None → ⊥
+  none_left none over =
+      let whole = first_lines is.0 text in
+      let low : is.2.low ≡ line_count whole = rw over at is.2.fronts in
+      let all : first_lines (line_count whole) whole ≡ whole = all_lines whole 0 (line_count whole) (omega arith) in
+      true≢false (sym (ap (is_there_by path whole) low ∙ ap (text_has path) all ∙ has_whole) ∙ not_there none)
