@@ -86,15 +86,15 @@ rules_of_chain layers names overrides all scripts placed same are =
       same_scripts = bare_scripts scripts ∙ same;
     }
 
-both : {A B X : Type 0} (g : B → X) (f : A → B) (as : List A) → map g (map f as) ≡ map (λ a. g (f a)) as
+both : {A B X : Type 0} (g : B → X) (f : A → B) (xs : List A) → map g (map f xs) ≡ map (λ a. g (f a)) xs
 both g f [] = refl
-both g f (a ∷ as) = ap (λ rest. g (f a) ∷ rest) (both g f as)
+both g f (x ∷ xs) = ap (λ rest. g (f x) ∷ rest) (both g f xs)
 
-kept_alike : {A B X : Type 0} (f : A → X) (g : B → X) (used : Bool) (a : A) (b : B) (as : List A) (bs : List B)
-    → f a ≡ g b → map f as ≡ map g bs
-    → map f (cond (not used) (a ∷ as) as) ≡ map g (cond (not used) (b ∷ bs) bs)
-kept_alike f g true a b as bs same rest = rest
-kept_alike f g false a b as bs same rest = λ i. same i ∷ rest i
+kept_alike : {A B X : Type 0} (f : A → X) (g : B → X) (used : Bool) (x : A) (y : B) (xs : List A) (ys : List B)
+    → f x ≡ g y → map f xs ≡ map g ys
+    → map f (cond (not used) (x ∷ xs) xs) ≡ map g (cond (not used) (y ∷ ys) ys)
+kept_alike f g true x y xs ys same rest = rest
+kept_alike f g false x y xs ys same rest = λ i. same i ∷ rest i
 
 module _ {E N M K P : Type 0} (f : E → M) (g : N → K) (meets : K → P → Option Bool)
     (platforms : BuildPlatforms P) where

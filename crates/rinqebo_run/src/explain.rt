@@ -28,8 +28,8 @@ use std::alloc::{AllocError, Global};
 /// What a row's settings are told with: the layers, the chain of the profile, and where the script
 /// rule stands that wraps the run of the test.
 #[derive(Drop)]
-struct Grounds<'g> {
-    layers: &'g [Layer<'g>],
+struct Grounds<'g, 't> {
+    layers: &'g [Layer<'t>],
     chain: &'g [&'g str],
     wrapping: Option<RulePlace<'g>>,
 }
@@ -37,7 +37,7 @@ struct Grounds<'g> {
 /// Where the run wrapper comes from.
 fn wrapping_origins(
     alloc: Global,
-    grounds: &Grounds<'_>,
+    grounds: &Grounds<'_, '_>,
     key: SettingKey,
 ) -> Result<Vec<Origin>, AllocError> {
     match grounds.wrapping {
@@ -49,7 +49,7 @@ fn wrapping_origins(
 /// Where the value of a setting comes from.
 fn origins_of(
     alloc: Global,
-    grounds: &Grounds<'_>,
+    grounds: &Grounds<'_, '_>,
     source: Option<&PlainSource>,
     key: SettingKey,
 ) -> Result<Vec<Origin>, AllocError> {
@@ -79,7 +79,7 @@ fn origins_of(
 /// A setting of a row.
 fn setting_row(
     alloc: Global,
-    grounds: &Grounds<'_>,
+    grounds: &Grounds<'_, '_>,
     row: &TestRow,
     setting: Setting,
     mode: NextestRunMode,
@@ -97,7 +97,7 @@ fn setting_row(
 /// Settings of a row, in the order in which they are asked for.
 fn setting_rows(
     alloc: Global,
-    grounds: &Grounds<'_>,
+    grounds: &Grounds<'_, '_>,
     row: &TestRow,
     settings: &[Setting],
     mode: NextestRunMode,
@@ -114,7 +114,7 @@ fn setting_rows(
 /// Settings of the first row, if there is one.
 fn first_settings(
     alloc: Global,
-    grounds: &Grounds<'_>,
+    grounds: &Grounds<'_, '_>,
     rows: &[TestRow],
     settings: &[Setting],
     mode: NextestRunMode,
@@ -194,7 +194,7 @@ fn row_of_test(
 /// The settings of a test, as they are reported.
 fn test_rows(
     alloc: Global,
-    grounds: &Grounds<'_>,
+    grounds: &Grounds<'_, '_>,
     rows: &[TestRow],
     test: &TestName<'_>,
     settings: &[Setting],

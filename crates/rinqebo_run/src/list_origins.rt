@@ -85,15 +85,15 @@ fn all_copied(alloc: Global, origins: &[Origin]) -> Result<Vec<Origin>, AllocErr
 
 /// What is known so far of where settings come from.
 #[derive(Drop)]
-pub struct Origins<'l> {
-    layers: &'l [Layer<'l>],
+pub struct Origins<'l, 't> {
+    layers: &'l [Layer<'t>],
     chain: &'l [&'l str],
     known: Vec<KnownOrigins>,
 }
 
-impl<'l> Origins<'l> {
+impl<'l, 't> Origins<'l, 't> {
     /// Nothing is known yet of the settings of a chain of profiles.
-    pub fn new(alloc: Global, layers: &'l [Layer<'l>], chain: &'l [&'l str]) -> Origins<'l> {
+    pub fn new(alloc: Global, layers: &'l [Layer<'t>], chain: &'l [&'l str]) -> Origins<'l, 't> {
         Origins {
             layers,
             chain,
@@ -137,7 +137,7 @@ impl<'l> Origins<'l> {
     }
 }
 
-impl<'c> OriginTeller<RulePlace<'c>> for Origins<'_> {
+impl<'c> OriginTeller<RulePlace<'c>> for Origins<'_, '_> {
     fn origins(
         &mut self,
         alloc: Global,
