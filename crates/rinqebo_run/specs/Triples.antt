@@ -2,7 +2,7 @@
 use Rattle.std.specs.Prelude.{◌≡◌, ℕ, List, [], Option, None, Some, is_some, option_map, unwrap_or, String, string_bytes, if◌then◌else◌}
 use Rattle.std.specs.Option.{option_or}
 use Rattle.std.specs.declared.alloc.Global.{Global}
-use Rattle.rinqebo_request.specs.declared.TheConstants.{HOST}
+use Rattle.rinqebo_request.specs.declared.request.TheConstants.{HOST}
 use Rattle.rinqebo_request.specs.declared.request.EngineOptions.{EngineOptions}
 use Rattle.test_lists.specs.ListView.{list_view}
 use Rattle.test_lists.specs.Lists.{TestList}
