@@ -59,6 +59,11 @@ zip_mapped f R [] (y ∷ ys) all = absurd all
 zip_mapped f R (x ∷ xs) [] all = absurd all
 zip_mapped f R (x ∷ xs) (y ∷ ys) all = (all.0, zip_mapped f R xs ys all.1)
 
+-- origins tell the same rules by another name
+pub told_of : (rules others : List RulePlace) (origins : List Origin) → rules ≡ others
+    → AllZip IsOriginOf (map place_view rules) origins → AllZip IsOriginOf (map place_view others) origins
+told_of rules others origins same told = subst (λ rs. AllZip IsOriginOf (map place_view rs) origins) same told
+
 -- script rules as lists take them are those with the run wrappers that they name, but for what they write
 pub bare_scripts : (rules : List SettingRule)
     → map bare (map placed_view (map listed_script rules)) ≡ map bare (map setting_rule_view rules)

@@ -129,7 +129,7 @@ pub fn list(
 {
     let mut warnings = DefaultConfigWarnings::new(alloc);
     let config = config_with(alloc, session, profile, &mut warnings)?;
-    let content = listed(alloc, session, &config, profile, mode, asked)?;
+    let content = listed(alloc, &*session, &config, profile, mode, asked)?;
     let findings = warning_findings(alloc, &session.layers, &warnings)?;
     let report = report_of(alloc, session, findings, Vec::new(alloc), content)?;
     Ok(report)

@@ -277,7 +277,7 @@ pub fn why(
 {
     let mut warnings = DefaultConfigWarnings::new(alloc);
     let config = config_with(alloc, session, profile, &mut warnings)?;
-    let content = reasons(alloc, session, &config, profile, test, setting)?;
+    let content = reasons(alloc, &*session, &config, profile, test, setting)?;
     let findings = warning_findings(alloc, &session.layers, &warnings)?;
     let report = report_of(alloc, session, findings, Vec::new(alloc), content)?;
     Ok(report)

@@ -5,7 +5,7 @@ use Rattle.rinqebo_run.proofs.list.profile_on.Goals as goal
 
 pub returns-in-Ok : goal.returns-in-Ok
 returns-in-Ok c =
-    let early = rw c.as_str.ensures.value at c.in_ok-early.ensures in
+    let early = rw c.as_str-root.ensures.value at c.in_ok-early.ensures in
     record {
       chain = early.chain;
       is_chain = early.is_chain;
