@@ -7,4 +7,3 @@ pub mod Pairs
 pub mod InOrder
 pub mod Meant
 pub mod Gathering
-pub mod Listing

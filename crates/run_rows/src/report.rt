@@ -3,8 +3,8 @@ use crate::case::Case;
 use nextest_config::ReadOutcome;
 use nextest_explain::FileReader;
 use rinqebo_files::gather;
-use rinqebo_request::{Command, parse};
-use rinqebo_run::{perform, print_schema, refuse_gathering, refuse_words};
+use rinqebo_request::parse;
+use rinqebo_run::{perform, refuse_gathering, refuse_words};
 use std::alloc::{AllocError, Global};
 
 /// Runs over the files of a case, and answers the status.
@@ -16,8 +16,7 @@ fn run(
     err: &mut Vec<u8>,
 ) -> Result<u8, AllocError> {
     let request = match parse(alloc, words, &case.environment) {
-        Ok(Command::Answer(request)) => request,
-        Ok(Command::Schema) => return Ok(print_schema(alloc, out, err)),
+        Ok(request) => request,
         Err(stop) => return Ok(refuse_words(&stop, out, err)),
     };
     let input = if request.reads_input() {

@@ -1,4 +1,0 @@
-pub mod Listing
-pub mod Marks
-pub mod RowsMore
-pub mod Selecting
