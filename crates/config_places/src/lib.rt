@@ -11,5 +11,5 @@ mod step;
 mod walk;
 
 pub use law::law_longer_documents_keep_paths;
-pub use place::{Lines, Places, place_of};
+pub use place::{Lines, Places};
 pub use step::Step;

@@ -72,12 +72,3 @@ impl<'a> Places<'a> {
         Some(lines_by_fronts(&index.fronts, path).unwrap_or(rest))
     }
 }
-
-/// The place of a path in a text. Where more than one path is asked for, [`Places`] reads the text once.
-pub fn place_of(alloc: Global, text: &str, path: &[Step]) -> Result<Option<Lines>, AllocError>
-    ensures { IfOk result (λ place.
-        MatchOption place (HasNoPlace path.now text.now) (IsPlaceOfPath path.now text.now)) }
-{
-    let places = Places::of(alloc, text)?;
-    Ok(places.lines_at(path))
-}

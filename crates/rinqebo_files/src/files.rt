@@ -7,7 +7,7 @@ use nextest_config::{
     CONFIG_PATH, ConfigPath, ConfigPaths, FileInput, ReadOutcome, ToolConfigFile, join_paths,
 };
 use nextest_explain::FileReader;
-use rinqebo_request::{ConfigFile, Environment, FileOptions, Request, ToolFile};
+use rinqebo_request::{ConfigFile, Environment, FileOptions, ListFile, Request, ToolFile};
 use std::alloc::{AllocError, Global};
 use thiserror::Error;
 
@@ -26,6 +26,8 @@ pub struct Gathered {
     pub target_cfg: Option<String>,
     /// What `cargo metadata` prints, if it is given.
     pub metadata: Option<String>,
+    /// What `cargo nextest list` prints, if it is asked about.
+    pub list: Option<String>,
 }
 
 /// Why the files of a request were not read.
@@ -133,22 +135,44 @@ fn unreadable(alloc: Global, path: &str, reason: &str) -> Result<GatherFault, Al
     ))
 }
 
+/// The text that was read at a path.
+fn text_of(alloc: Global, path: &str, outcome: ReadOutcome) -> Result<String, GatherFault> {
+    let fault = match outcome {
+        ReadOutcome::Text(text) => return Ok(text),
+        ReadOutcome::NotFound => unreadable(alloc, path, "no such file")?,
+        ReadOutcome::NotADirectory => unreadable(alloc, path, "a part of it is no folder")?,
+        ReadOutcome::Failed(message) => unreadable(alloc, path, message.as_str())?,
+    };
+    Err(fault)
+}
+
 /// The text of the file at the path that an option names, if it is given.
 fn text_at<R: FileReader>(
     alloc: Global,
     path: Option<&str>,
     files: &R,
 ) -> Result<Option<String>, GatherFault> {
-    let Some(path) = path else {
-        return Ok(None);
-    };
-    let fault = match files.read(alloc, path)? {
-        ReadOutcome::Text(text) => return Ok(Some(text)),
-        ReadOutcome::NotFound => unreadable(alloc, path, "no such file")?,
-        ReadOutcome::NotADirectory => unreadable(alloc, path, "a part of it is no folder")?,
-        ReadOutcome::Failed(message) => unreadable(alloc, path, message.as_str())?,
-    };
-    Err(fault)
+    match path {
+        Some(path) => Ok(Some(text_of(alloc, path, files.read(alloc, path)?)?)),
+        None => Ok(None),
+    }
+}
+
+/// The text of the list of tests, if a request is about one, and what is left of standard input.
+fn list_text<R: FileReader>(
+    alloc: Global,
+    list: Option<ListFile<'_>>,
+    input: ReadOutcome,
+    files: &R,
+) -> Result<(Option<String>, ReadOutcome), GatherFault> {
+    match list {
+        Some(ListFile::Named(path)) => Ok((text_at(alloc, Some(path), files)?, input)),
+        Some(ListFile::Input) => {
+            let text = text_of(alloc, ListFile::Input.path(), input)?;
+            Ok((Some(text), ReadOutcome::NotFound))
+        }
+        None => Ok((None, input)),
+    }
 }
 
 /// Reads the files that a request names. Where it reads standard input, that is what came of it.
@@ -165,6 +189,7 @@ pub fn gather<R: FileReader>(
     let options = &request.files;
     let root = root_of(alloc, options, environment, files)?;
     let shared = shared_file(alloc, root.as_str(), options.config_file, files)?;
+    let (list, input) = list_text(alloc, request.list(), input, files)?;
     Ok(Gathered {
         paths: ConfigPaths {
             workspace_root: root,
@@ -175,5 +200,6 @@ pub fn gather<R: FileReader>(
         host_cfg: text_at(alloc, request.engines.host_cfg, files)?,
         target_cfg: text_at(alloc, request.engines.target_cfg, files)?,
         metadata: text_at(alloc, request.engines.metadata, files)?,
+        list,
     })
 }

@@ -5,6 +5,7 @@ ghost use Rattle.nextest_tree.specs.View.{tree_view};
 ghost use Rattle.rinqebo_files.specs.Features.{tree_read};
 
 use crate::files::Gathered;
+use config_places::Places;
 use nextest_config::{
     ConfigPath, ConfigSource, ConfigSourceKind, DEFAULT_CONFIG, FileInput, ReadOutcome, ToolName,
     Tree,
@@ -12,6 +13,7 @@ use nextest_config::{
 use nextest_documents::{TextFault, tree_from_text};
 use rinqebo_report::{Source, SourceKind};
 use std::alloc::{AllocError, Global};
+use std::cell::OnceCell;
 
 /// A source.
 #[derive(Drop)]
@@ -21,6 +23,19 @@ pub struct Layer<'t> {
     pub text: Option<&'t str>,
     /// The tree of its text, if that is a document.
     pub tree: Option<Tree>,
+    /// The places in its text, once one was asked for.
+    places: OnceCell<Places<'t>>,
+}
+
+impl<'t> Layer<'t> {
+    /// The places in its text, if it has one. The text is read for them once.
+    pub(crate) fn places(&self, alloc: Global) -> Result<Option<&Places<'t>>, AllocError> {
+        let Some(text) = self.text else {
+            return Ok(None);
+        };
+        let places = self.places.get_or_try_init(|| Places::of(alloc, text))?;
+        Ok(Some(places))
+    }
 }
 
 /// The tree of a text, if it is a document.
@@ -65,6 +80,7 @@ fn layer_of<'t>(
         },
         text: text_of(&file.outcome),
         tree: tree_of(alloc, &file.outcome)?,
+        places: OnceCell::new(),
     })
 }
 
@@ -77,6 +93,7 @@ fn default_layer<'t>(alloc: Global) -> Result<Layer<'t>, AllocError> {
         },
         text: None,
         tree: tree_of_text(alloc, DEFAULT_CONFIG)?,
+        places: OnceCell::new(),
     })
 }
 

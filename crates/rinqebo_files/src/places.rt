@@ -1,25 +1,20 @@
 //! The lines of files that bring what stands at a path.
 use crate::layers::Layer;
-use config_places::{Step, place_of};
+use config_places::Step;
 use nextest_config::Tree;
 use rinqebo_report::{Lines, Place};
 use std::alloc::{AllocError, Global};
 use std::collections::BTreeMap;
 
-/// The lines of a text that bring what stands at a path, as they are reported.
-fn lines_in(alloc: Global, text: &str, path: &[Step]) -> Result<Option<Lines>, AllocError> {
-    match place_of(alloc, text, path)? {
-        Some(lines) => Ok(Some(Lines {
-            first: lines.first as u64,
-            last: lines.last as u64,
-        })),
-        None => Ok(None),
-    }
-}
-
-/// The text of the layer at a position, if it has one.
-fn text_in<'t>(layers: &[Layer<'t>], source: usize) -> Option<&'t str> {
-    layers.get(source)?.text
+/// The lines of a layer that bring what stands at a path, as they are reported.
+fn lines_in(alloc: Global, layer: &Layer, path: &[Step]) -> Result<Option<Lines>, AllocError> {
+    let Some(places) = layer.places(alloc)? else {
+        return Ok(None);
+    };
+    Ok(places.lines_at(path).map(|lines| Lines {
+        first: lines.first as u64,
+        last: lines.last as u64,
+    }))
 }
 
 /// The place of what stands at a path in the layer at a position.
@@ -29,8 +24,8 @@ pub fn path_place(
     source: usize,
     path: &[Step],
 ) -> Result<Place, AllocError> {
-    let lines = match text_in(layers, source) {
-        Some(text) => lines_in(alloc, text, path)?,
+    let lines = match layers.get(source) {
+        Some(layer) => lines_in(alloc, layer, path)?,
         None => None,
     };
     Ok(Place { source, lines })
@@ -153,12 +148,12 @@ fn earlier(one: Option<Lines>, other: Option<Lines>) -> Option<Lines> {
 
 /// The lines of a layer that bring what stands at a path that is told as text.
 fn spelled_lines(alloc: Global, layer: &Layer, path: &str) -> Result<Option<Lines>, AllocError> {
-    let (Some(text), Some(tree)) = (layer.text, &layer.tree) else {
+    let Some(tree) = &layer.tree else {
         return Ok(None);
     };
     let mut lines = None;
     for way in ways_of(alloc, tree, path)? {
-        lines = earlier(lines, lines_in(alloc, text, &way.steps)?);
+        lines = earlier(lines, lines_in(alloc, layer, &way.steps)?);
     }
     Ok(lines)
 }

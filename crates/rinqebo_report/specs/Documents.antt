@@ -208,6 +208,32 @@ abbrev pub expression_span_data : Option Expression → Data
 expression_span_data None = null
 expression_span_data (Some expression) = span_data expression.span
 
+-- members, with what is wrong
+abbrev pub with_fault : Finding → Members → Members
+with_fault finding members =
+    put (codes "message") (text_data finding.message) (put (codes "level")
+    (string (level_word finding.level)) (put (codes "code") (text_data finding.code) members))
+
+-- members, with where it stands
+abbrev pub with_site : Finding → Members → Members
+with_site finding members =
+    put (codes "source") (place_source_data finding.place)
+    (put (codes "path") (optional_text_data finding.path)
+    (put (codes "lines") (place_lines_data finding.place)
+    (put (codes "column") (optional_count_data finding.column) members)))
+
+-- members, with the expression that it is about
+abbrev pub with_expression : Finding → Members → Members
+with_expression finding members =
+    put (codes "span") (expression_span_data finding.expression)
+    (put (codes "expression") (expression_data finding.expression) members)
+
+-- members, with what to do
+abbrev pub with_advice : Finding → Members → Members
+with_advice finding members =
+    put (codes "help") (optional_text_data finding.help)
+    (put (codes "expected") (optional_text_data finding.expected) members)
+
 -- a finding
 abbrev pub finding_data : Finding → Data
 finding_data finding =

@@ -6,6 +6,7 @@ pub mod Pages
 pub mod Pieces
 pub mod PieceView
 pub mod Github
+pub mod Groups
 pub mod Rendered
 pub mod Documents
 pub mod Document

@@ -148,7 +148,12 @@ pub(crate) fn add_valued<'x>(
 }
 
 /// Writes that a setting has no value.
-fn add_absent(alloc: Global, out: &mut String, colour: Colour, key: &str) -> Result<(), AllocError>
+pub(crate) fn add_absent(
+    alloc: Global,
+    out: &mut String,
+    colour: Colour,
+    key: &str,
+) -> Result<(), AllocError>
     ensures { OnOk result (string_bytes out.new ≡ string_bytes out.old
         ++ page_text colour (absent_runs key.now)) }
 {

@@ -1,5 +1,6 @@
 //! A report as a text.
 ghost use Rattle.std.specs.Prelude.{◌≡◌, ◌++◌, OnOk, IfOk, string_bytes};
+ghost use Rattle.rinqebo_report.specs.Groups.{grouped_content_runs};
 ghost use Rattle.rinqebo_report.specs.Pages.{content_runs, findings_runs, concise_runs};
 ghost use Rattle.rinqebo_report.specs.Pieces.{page_text};
 ghost use Rattle.rinqebo_report.specs.Rendered.{rendered};
@@ -8,6 +9,7 @@ use crate::check_page::{add_check, add_findings, add_heads};
 use crate::config_page::add_config;
 use crate::explain_page::add_explain;
 use crate::github::github_text;
+use crate::group_page::add_grouped;
 use crate::json_document::render_json;
 use crate::list_page::add_list;
 use crate::piece::Colour;
@@ -20,6 +22,8 @@ use std::alloc::{AllocError, Global};
 pub enum Format<'a> {
     /// The page of what a command answers.
     Text,
+    /// The same with the tests of a list in groups: below what is told of them.
+    Grouped,
     /// One document of JSON, on a line.
     Json,
     /// The first lines of the findings.
@@ -68,6 +72,46 @@ fn content_text(alloc: Global, report: &Report, colour: Colour) -> Result<String
     Ok(text)
 }
 
+/// Writes the page of what a command answers, with the tests of a list in groups.
+fn add_grouped_content(
+    alloc: Global,
+    out: &mut String,
+    colour: Colour,
+    report: &Report,
+) -> Result<(), AllocError>
+    ensures { OnOk result (string_bytes out.new ≡ string_bytes out.old
+        ++ page_text colour (grouped_content_runs report.now report.now.content)) }
+{
+    match &report.content {
+        Content::List { tests, unused, .. } => {
+            let sources = report.sources.as_slice();
+            add_grouped(
+                alloc,
+                out,
+                colour,
+                report.root.as_str(),
+                sources,
+                tests,
+                unused,
+            )
+        }
+        Content::Explain { .. }
+        | Content::Why { .. }
+        | Content::ShowConfig { .. }
+        | Content::Check => add_content(alloc, out, colour, report),
+    }
+}
+
+/// The page of what a command answers, with the tests of a list in groups.
+fn grouped_text(alloc: Global, report: &Report, colour: Colour) -> Result<String, AllocError>
+    ensures { IfOk result (λ text. string_bytes text
+        ≡ page_text colour (grouped_content_runs report.now report.now.content)) }
+{
+    let mut text = String::new(alloc);
+    add_grouped_content(alloc, &mut text, colour, report)?;
+    Ok(text)
+}
+
 /// The first lines of the findings.
 fn concise_text(alloc: Global, report: &Report, colour: Colour) -> Result<String, AllocError>
     ensures { IfOk result (λ text. string_bytes text ≡ page_text colour (concise_runs report.now)) }
@@ -98,6 +142,7 @@ pub fn render(
 {
     match format {
         Format::Text => content_text(alloc, report, colour),
+        Format::Grouped => grouped_text(alloc, report, colour),
         Format::Json => render_json(alloc, report),
         Format::Concise => concise_text(alloc, report, colour),
         Format::Github(workspace) => github_text(alloc, workspace, report),

@@ -1,15 +1,15 @@
 //! Parts of a report as JSON.
-ghost use Rattle.std.specs.Prelude.{◌≡◌, IfOk, fold};
+ghost use Rattle.std.specs.Prelude.{◌≡◌, IfOk, OnOk, fold};
 ghost use Rattle.serde_json.specs.Data.{null, object, no_members};
-ghost use Rattle.serde_json.specs.View.{view};
-ghost use Rattle.rinqebo_report.specs.Documents.{count_data, text_data, optional_text_data, optional_count_data, list_data, lines_data, scalar_data, with_field, value_data, optional_value_data, part_word, part_data, kind_data, origin_data, setting_data, with_setting, test_data, entry_data, answer_word, rule_data, kind_word, tool_data, source_data, unreached_data, place_source_data, place_lines_data, span_data, expression_data, expression_span_data, finding_data};
+ghost use Rattle.serde_json.specs.View.{members_view, view};
+ghost use Rattle.rinqebo_report.specs.Documents.{count_data, text_data, optional_text_data, optional_count_data, list_data, lines_data, scalar_data, with_field, value_data, optional_value_data, part_word, part_data, kind_data, origin_data, setting_data, with_setting, test_data, entry_data, answer_word, rule_data, kind_word, tool_data, source_data, unreached_data, place_source_data, place_lines_data, span_data, expression_data, expression_span_data, with_fault, with_site, with_expression, with_advice, finding_data};
 
 use crate::duration::add_duration;
 use crate::finding::{Expression, Finding, Span};
 use crate::origin::{Lines, Origin, Part, Place, Source, SourceKind, Written};
 use crate::report::{ConditionAnswer, Entry, Rule, SettingRow, TestRows, Unreached};
 use crate::value::{Field, Scalar, Value as SettingValue};
-use serde_json::{Map, Value, json};
+use serde_json::{Map, Value, json, put};
 use std::alloc::{AllocError, Global};
 
 /// A text, or null.
@@ -77,7 +77,7 @@ fn fields_json(alloc: Global, fields: &[Field]) -> Result<Value, AllocError>
     let mut members = Map::new(alloc);
     for field in fields {
         let value = scalar_json(alloc, &field.value)?;
-        serde_json::put(&mut members, alloc, field.key.as_str(), value)?;
+        put(&mut members, alloc, field.key.as_str(), value)?;
     }
     Ok(Value::Object(members))
 }
@@ -188,7 +188,7 @@ fn settings_json(alloc: Global, rows: &[SettingRow]) -> Result<Value, AllocError
     let mut members = Map::new(alloc);
     for row in rows {
         let value = setting_json(alloc, row)?;
-        serde_json::put(&mut members, alloc, row.key.as_str(), value)?;
+        put(&mut members, alloc, row.key.as_str(), value)?;
     }
     Ok(Value::Object(members))
 }
@@ -397,29 +397,85 @@ fn expression_span_json(alloc: Global, expression: &Option<Expression>) -> Resul
     }
 }
 
+/// Puts what is wrong among members.
+fn put_fault(
+    members: &mut Map<String, Value>,
+    alloc: Global,
+    finding: &Finding,
+) -> Result<(), AllocError>
+    ensures { OnOk result (members_view members.new.entries
+        ≡ with_fault finding.now (members_view members.old.entries)) }
+{
+    let code = Value::try_from_str(alloc, finding.code.as_str())?;
+    put(members, alloc, "code", code)?;
+    let level = Value::try_from_str(alloc, finding.level.word())?;
+    put(members, alloc, "level", level)?;
+    let message = Value::try_from_str(alloc, finding.message.as_str())?;
+    put(members, alloc, "message", message)
+}
+
+/// Puts where it stands among members.
+fn put_site(
+    members: &mut Map<String, Value>,
+    alloc: Global,
+    finding: &Finding,
+) -> Result<(), AllocError>
+    ensures { OnOk result (members_view members.new.entries
+        ≡ with_site finding.now (members_view members.old.entries)) }
+{
+    put(
+        members,
+        alloc,
+        "column",
+        optional_count_json(finding.column),
+    )?;
+    let lines = place_lines_json(alloc, finding.place)?;
+    put(members, alloc, "lines", lines)?;
+    let path = optional_text_json(alloc, &finding.path)?;
+    put(members, alloc, "path", path)?;
+    put(members, alloc, "source", place_source_json(finding.place))
+}
+
+/// Puts the expression that it is about among members.
+fn put_expression(
+    members: &mut Map<String, Value>,
+    alloc: Global,
+    finding: &Finding,
+) -> Result<(), AllocError>
+    ensures { OnOk result (members_view members.new.entries
+        ≡ with_expression finding.now (members_view members.old.entries)) }
+{
+    let expression = expression_json(alloc, &finding.expression)?;
+    put(members, alloc, "expression", expression)?;
+    let span = expression_span_json(alloc, &finding.expression)?;
+    put(members, alloc, "span", span)
+}
+
+/// Puts what to do among members.
+fn put_advice(
+    members: &mut Map<String, Value>,
+    alloc: Global,
+    finding: &Finding,
+) -> Result<(), AllocError>
+    ensures { OnOk result (members_view members.new.entries
+        ≡ with_advice finding.now (members_view members.old.entries)) }
+{
+    let expected = optional_text_json(alloc, &finding.expected)?;
+    put(members, alloc, "expected", expected)?;
+    let help = optional_text_json(alloc, &finding.help)?;
+    put(members, alloc, "help", help)
+}
+
 /// A finding.
 fn finding_json(alloc: Global, finding: &Finding) -> Result<Value, AllocError>
     ensures { IfOk result (λ value. view value ≡ finding_data finding.now) }
 {
-    let expected = optional_text_json(alloc, &finding.expected)?;
-    let expression = expression_json(alloc, &finding.expression)?;
-    let help = optional_text_json(alloc, &finding.help)?;
-    let lines = place_lines_json(alloc, finding.place)?;
-    let path = optional_text_json(alloc, &finding.path)?;
-    let span = expression_span_json(alloc, &finding.expression)?;
-    json!(in alloc; {
-        "code": finding.code.as_str(),
-        "column": optional_count_json(finding.column),
-        "expected": expected,
-        "expression": expression,
-        "help": help,
-        "level": finding.level.word(),
-        "lines": lines,
-        "message": finding.message.as_str(),
-        "path": path,
-        "source": place_source_json(finding.place),
-        "span": span
-    })
+    let mut members = Map::new(alloc);
+    put_fault(&mut members, alloc, finding)?;
+    put_site(&mut members, alloc, finding)?;
+    put_expression(&mut members, alloc, finding)?;
+    put_advice(&mut members, alloc, finding)?;
+    Ok(Value::Object(members))
 }
 
 /// Findings.

@@ -10,6 +10,7 @@ mod explain_page;
 mod finding;
 mod format;
 mod github;
+mod group_page;
 mod hint;
 mod json_document;
 mod json_parts;

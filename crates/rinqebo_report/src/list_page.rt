@@ -11,7 +11,7 @@ use crate::report::{SettingRow, TestRows};
 use std::alloc::{AllocError, Global};
 
 /// Writes the names of a test.
-fn add_test_line<'x>(
+pub(crate) fn add_test_line<'x>(
     out: &mut String,
     colour: Colour,
     binary: &'x str,
@@ -86,7 +86,7 @@ fn add_unused_line(out: &mut String, colour: Colour, origin: &str) -> Result<(),
 }
 
 /// Writes the rules that hold for no test.
-fn add_unused(
+pub(crate) fn add_unused(
     alloc: Global,
     out: &mut String,
     colour: Colour,
@@ -105,7 +105,7 @@ fn add_unused(
 }
 
 /// Writes how many tests there are.
-fn add_count(out: &mut String, colour: Colour, count: u64) -> Result<(), AllocError>
+pub(crate) fn add_count(out: &mut String, colour: Colour, count: u64) -> Result<(), AllocError>
     ensures { OnOk result (string_bytes out.new ≡ string_bytes out.old
         ++ page_text colour (count_runs count)) }
 {

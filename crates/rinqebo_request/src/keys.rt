@@ -8,7 +8,7 @@ use nextest_config::{NextestRunMode, Setting};
 use std::alloc::{AllocError, Global};
 
 /// Where a profile or a rule writes a setting: the table within it, if there is one, and the key.
-#[derive(Clone, Copy)]
+#[derive(Clone, Copy, PartialEq, Eq)]
 pub struct SettingKey {
     /// The table, as `junit`. Without it, the key stands in the profile or the rule itself.
     pub table: Option<&'static str>,

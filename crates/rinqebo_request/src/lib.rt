@@ -15,5 +15,8 @@ pub use features::{FEATURES, feature_name, feature_of, law_all_features};
 pub use hints::{name_hint, text_hint};
 pub use keys::{SettingKey, all_keys, setting_of};
 pub use notes::notes_of;
-pub use request::{ConfigFile, EngineOptions, FileOptions, Question, Request, TestName, ToolFile};
+pub use request::{
+    AskedSettings, Command, ConfigFile, EngineOptions, FileOptions, HOST, ListFile, Question,
+    Request, TestName, ToolFile,
+};
 pub use words::{ParseStop, parse};

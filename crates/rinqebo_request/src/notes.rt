@@ -1,6 +1,6 @@
 //! Notes on variables that stand above all files.
 use crate::environment::{Environment, set};
-use crate::request::{Question, Request};
+use crate::request::{AskedSettings, Question, Request};
 use nextest_config::Setting;
 use std::alloc::{AllocError, Global};
 
@@ -9,6 +9,11 @@ fn asks_for(question: &Question<'_>, setting: Setting) -> bool {
     match question {
         Question::Explain { settings, .. } => settings.iter().any(|asked| *asked == setting),
         Question::Why { setting: asked, .. } => *asked == setting,
+        Question::List {
+            asked: AskedSettings::These(settings),
+            ..
+        } => settings.iter().any(|asked| *asked == setting),
+        Question::List { .. } => true,
         Question::Check { .. } => false,
     }
 }

@@ -104,21 +104,16 @@ fn with_output<'a>(
         ))
 }
 
-/// The options that say on what tests run.
-fn with_platforms<'a>(alloc: Global, command: Command<'a>) -> Result<Command<'a>, AllocError> {
+/// The options that say on what tests run, with what counts without the triples.
+fn with_platforms<'a>(
+    alloc: Global,
+    command: Command<'a>,
+    host: &'a str,
+    target: &'a str,
+) -> Result<Command<'a>, AllocError> {
     command
-        .arg(option(
-            alloc,
-            "host",
-            "T",
-            "The triple of the host [default: x86_64-unknown-linux-gnu]",
-        ))?
-        .arg(option(
-            alloc,
-            "target",
-            "T",
-            "The triple of the target [default: CARGO_BUILD_TARGET, else the host]",
-        ))?
+        .arg(option(alloc, "host", "T", host))?
+        .arg(option(alloc, "target", "T", target))?
         .arg(option(
             alloc,
             "host-cfg",
@@ -130,43 +125,95 @@ fn with_platforms<'a>(alloc: Global, command: Command<'a>) -> Result<Command<'a>
             "target-cfg",
             "F",
             "A file with what `rustc --print cfg --target T` prints [default: the table]",
-        ))?
-        .arg(flag(
-            alloc,
-            "host-binary",
-            "The test's binary is built for the host, as that of a build script",
         ))
 }
 
-/// The command that explains the settings of a test.
-fn explain_command<'a>(alloc: Global) -> Result<Command<'a>, AllocError> {
-    let keys = Arg::new(alloc, "KEY")
+/// The settings that are named, and what counts without one.
+fn keys<'a>(alloc: Global, help: &'a str) -> Arg<'a> {
+    Arg::new(alloc, "KEY")
         .value_name("KEY")
         .num_args(0..)
         .action(ArgAction::Append)
-        .help("Settings, as files spell them [default: all]");
+        .help(help)
+}
+
+/// The options that say which profile counts, and for what tests run.
+fn with_profile<'a>(alloc: Global, command: Command<'a>) -> Result<Command<'a>, AllocError> {
     let profile = option(
         alloc,
         "profile",
         "P",
         "The profile [default: NEXTEST_PROFILE, else default]",
     );
+    command
+        .arg(profile.short('P'))?
+        .arg(choice(alloc, "mode", "M", MODES, "For what the test runs").default_value("test"))
+}
+
+/// The command that explains the settings of a test.
+fn explain_command<'a>(alloc: Global) -> Result<Command<'a>, AllocError> {
     let command = Command::new(alloc, "explain")
         .about("Tells the settings of a test, and what decides each")
         .arg(word(alloc, "BINARY", "The id of the test's binary").required(true))?
         .arg(word(alloc, "TEST", "The name of the test").required(true))?
-        .arg(keys)?
+        .arg(keys(alloc, "Settings, as files spell them [default: all]"))?
         .arg(option(
             alloc,
             "why",
             "KEY",
             "Tells each rule of this setting with its verdict, instead of settings",
-        ))?
-        .arg(profile.short('P'))?
-        .arg(choice(alloc, "mode", "M", MODES, "For what the test runs").default_value("test"))?;
+        ))?;
+    let command = with_profile(alloc, command)?;
     let command = with_files(alloc, command)?;
-    let command = with_platforms(alloc, command)?;
+    let command = with_platforms(
+        alloc,
+        command,
+        "The triple of the host [default: x86_64-unknown-linux-gnu]",
+        "The triple of the target [default: CARGO_BUILD_TARGET, else the host]",
+    )?
+    .arg(flag(
+        alloc,
+        "host-binary",
+        "The test's binary is built for the host, as that of a build script",
+    ))?;
     with_output(alloc, command, ANSWER_FORMATS)
+}
+
+/// The command that lists the tests of a workspace with their settings.
+fn list_command<'a>(alloc: Global) -> Result<Command<'a>, AllocError> {
+    let list = word(
+        alloc,
+        "LIST",
+        "A file with what `cargo nextest list --message-format json` prints, or -",
+    );
+    let command = Command::new(alloc, "list")
+        .about("Tells the settings of each test of a list, and the rules that hold for none")
+        .arg(list.required(true))?
+        .arg(keys(
+            alloc,
+            "Settings, as files spell them [default: those that rules decide]",
+        ))?
+        .arg(flag(alloc, "all", "Tells all settings of each test"))?
+        .arg(option(
+            alloc,
+            "by",
+            "KEY",
+            "Puts the tests of each value of this setting together, instead of settings",
+        ))?;
+    let command = with_profile(alloc, command)?;
+    let command = with_files(alloc, command)?;
+    let command = with_platforms(
+        alloc,
+        command,
+        "The triple of the host [default: that of LIST, else x86_64-unknown-linux-gnu]",
+        "The triple of the target [default: that of LIST, else CARGO_BUILD_TARGET or the host]",
+    )?;
+    with_output(alloc, command, ANSWER_FORMATS)
+}
+
+/// The command that prints the schema of a file.
+fn schema_command<'a>(alloc: Global) -> Command<'a> {
+    Command::new(alloc, "schema").about("Prints the JSON schema of a file, for editors")
 }
 
 /// The command that checks files.
@@ -196,5 +243,7 @@ pub fn program<'a>(alloc: Global) -> Result<Command<'a>, AllocError> {
         .about("Tells what a configuration of nextest gives to tests")
         .subcommand_required(true)
         .subcommand(explain_command(alloc)?)?
-        .subcommand(check_command(alloc)?)
+        .subcommand(check_command(alloc)?)?
+        .subcommand(list_command(alloc)?)?
+        .subcommand(schema_command(alloc))
 }

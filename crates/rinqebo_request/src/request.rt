@@ -16,6 +16,34 @@ pub struct TestName<'a> {
     pub mode: NextestRunMode,
 }
 
+/// The list of tests that a command is about.
+#[derive(Clone, Copy)]
+pub enum ListFile<'a> {
+    /// The one at this path.
+    Named(&'a str),
+    /// Standard input.
+    Input,
+}
+
+impl<'a> ListFile<'a> {
+    /// Its path, as messages show it.
+    pub fn path(self) -> &'a str {
+        match self {
+            ListFile::Named(path) => path,
+            ListFile::Input => "-",
+        }
+    }
+}
+
+/// Which settings are told of each test of a list.
+#[derive(Drop)]
+pub enum AskedSettings {
+    /// Those that rules decide, in the order of all settings.
+    Decided,
+    /// These, in this order, whatever decides them.
+    These(Vec<Setting>),
+}
+
 /// What a command asks.
 #[derive(Drop)]
 pub enum Question<'a> {
@@ -36,6 +64,17 @@ pub enum Question<'a> {
         test: TestName<'a>,
         /// The setting whose rules are told.
         setting: Setting,
+    },
+    /// The settings of each test of a list.
+    List {
+        /// The name of the profile.
+        profile: &'a str,
+        /// For what the tests are run.
+        mode: NextestRunMode,
+        /// Where the list is read.
+        list: ListFile<'a>,
+        /// The settings that are told.
+        asked: AskedSettings,
     },
     /// What is wrong with the files.
     Check {
@@ -75,13 +114,19 @@ pub struct FileOptions<'a> {
     pub tools: Vec<ToolFile<'a>>,
 }
 
+/// The triple of the host where nothing else says it.
+pub const HOST: &str = "x86_64-unknown-linux-gnu";
+
 /// What the languages of filters and platforms know.
 #[derive(Clone, Copy)]
 pub struct EngineOptions<'a> {
-    /// The triple of the host.
-    pub host: &'a str,
-    /// The triple of the target. Without it, what is built for the target runs on the host.
+    /// The triple of the host. Without it, a list of tests may say it, and else it is [`HOST`].
+    pub host: Option<&'a str>,
+    /// The triple of the target. Without it, a list of tests may say it.
     pub target: Option<&'a str>,
+    /// The triple of the target where neither words nor a list say it. Without it, what is built for
+    /// the target runs on the host.
+    pub build_target: Option<&'a str>,
     /// The path of what the compiler prints for the host. Without it, a table knows the triple.
     pub host_cfg: Option<&'a str>,
     /// The path of what the compiler prints for the target. Without it, a table knows the triple.
@@ -107,9 +152,27 @@ pub struct Request<'a> {
     pub colour: Colour,
 }
 
-impl Request<'_> {
+impl<'a> Request<'a> {
+    /// The list of tests that it is about, if it is about one.
+    pub fn list(&self) -> Option<ListFile<'a>> {
+        match &self.question {
+            Question::List { list, .. } => Some(*list),
+            Question::Explain { .. } | Question::Why { .. } | Question::Check { .. } => None,
+        }
+    }
+
     /// Whether standard input is read.
     pub fn reads_input(&self) -> bool {
         matches!(self.files.config_file, ConfigFile::Input(_))
+            || matches!(self.list(), Some(ListFile::Input))
     }
+}
+
+/// What words ask for.
+#[derive(Drop)]
+pub enum Command<'a> {
+    /// The JSON schema of a file. Nothing is read for it.
+    Schema,
+    /// What a request is answered.
+    Answer(Request<'a>),
 }

@@ -5,7 +5,8 @@ use crate::hints::{key_hint, name_hint};
 use crate::keys::setting_of;
 use crate::options::program;
 use crate::request::{
-    ConfigFile, EngineOptions, FileOptions, Question, Request, TestName, ToolFile,
+    AskedSettings, Command, ConfigFile, EngineOptions, FileOptions, ListFile, Question, Request,
+    TestName, ToolFile,
 };
 use clap::ArgMatches;
 use clap::error::ErrorKind;
@@ -15,9 +16,6 @@ use nextest_config::{
 use rinqebo_report::{Colour, Format};
 use std::alloc::{AllocError, Global};
 use std::collections::BTreeSet;
-
-/// The triple of the host where none is named.
-const HOST: &str = "x86_64-unknown-linux-gnu";
 
 /// Why words are no request.
 #[derive(Debug, Drop)]
@@ -155,30 +153,25 @@ fn checked_file<'a>(alloc: Global, matches: &ArgMatches<'a>) -> Result<ConfigFil
     }
 }
 
-/// What the languages of filters and platforms know.
-fn engines<'a>(
-    alloc: Global,
-    matches: &ArgMatches<'a>,
-    environment: &'a Environment,
-) -> Result<EngineOptions<'a>, ParseStop> {
-    let target = matches.get_str("target").or(set(&environment.target));
-    if target.is_none() && matches.contains_id("target-cfg") {
-        return Err(usage(alloc, "`--target-cfg` goes with `--target`", None)?);
-    }
-    Ok(EngineOptions {
-        host: matches.get_str("host").unwrap_or(HOST),
-        target,
+/// What the languages of filters and platforms know. For a list of tests that may say the target it
+/// is told later whether there is one.
+fn engines<'a>(matches: &ArgMatches<'a>, environment: &'a Environment) -> EngineOptions<'a> {
+    EngineOptions {
+        host: matches.get_str("host"),
+        target: matches.get_str("target"),
+        build_target: set(&environment.target),
         host_cfg: matches.get_str("host-cfg"),
         target_cfg: matches.get_str("target-cfg"),
         metadata: matches.get_str("metadata"),
-    })
+    }
 }
 
 /// The languages of a check, which runs no test.
 fn check_engines<'a>(matches: &ArgMatches<'a>) -> EngineOptions<'a> {
     EngineOptions {
-        host: HOST,
+        host: None,
         target: None,
+        build_target: None,
         host_cfg: None,
         target_cfg: None,
         metadata: matches.get_str("metadata"),
@@ -223,8 +216,8 @@ fn setting(alloc: Global, key: &str, mode: NextestRunMode) -> Result<Setting, Pa
     Err(usage(alloc, message.as_str(), hint)?)
 }
 
-/// The settings that are asked for: all, where none is named.
-fn settings(
+/// The settings that are named.
+fn named_settings(
     alloc: Global,
     matches: &ArgMatches<'_>,
     mode: NextestRunMode,
@@ -235,12 +228,29 @@ fn settings(
             .push(setting(alloc, *key, mode)?)
             .map_err(AllocError::from)?;
     }
-    if settings.is_empty() {
-        for setting in Setting::ALL.iter() {
-            settings.push(*setting).map_err(AllocError::from)?;
-        }
+    Ok(settings)
+}
+
+/// All settings.
+fn all_settings(alloc: Global) -> Result<Vec<Setting>, AllocError> {
+    let mut settings = Vec::new(alloc);
+    for setting in Setting::ALL.iter() {
+        settings.push(*setting)?;
     }
     Ok(settings)
+}
+
+/// The settings that are asked for: all, where none is named.
+fn settings(
+    alloc: Global,
+    matches: &ArgMatches<'_>,
+    mode: NextestRunMode,
+) -> Result<Vec<Setting>, ParseStop> {
+    let named = named_settings(alloc, matches, mode)?;
+    if named.is_empty() {
+        return Ok(all_settings(alloc)?);
+    }
+    Ok(named)
 }
 
 /// The mode that is asked for.
@@ -266,6 +276,14 @@ fn test_name<'a>(matches: &ArgMatches<'a>) -> TestName<'a> {
     }
 }
 
+/// The profile that is asked for.
+fn profile<'a>(matches: &ArgMatches<'a>, environment: &'a Environment) -> &'a str {
+    matches
+        .get_str("profile")
+        .or(set(&environment.profile))
+        .unwrap_or("default")
+}
+
 /// What is asked about a test.
 fn explain_question<'a>(
     alloc: Global,
@@ -273,10 +291,7 @@ fn explain_question<'a>(
     environment: &'a Environment,
 ) -> Result<Question<'a>, ParseStop> {
     let test = test_name(matches);
-    let profile = matches
-        .get_str("profile")
-        .or(set(&environment.profile))
-        .unwrap_or("default");
+    let profile = profile(matches, environment);
     let Some(key) = matches.get_str("why") else {
         return Ok(Question::Explain {
             profile,
@@ -300,12 +315,87 @@ fn explain_request<'a>(
     matches: &ArgMatches<'a>,
     environment: &'a Environment,
 ) -> Result<Request<'a>, ParseStop> {
+    let engines = engines(matches, environment);
+    if engines.target.or(engines.build_target).is_none() && engines.target_cfg.is_some() {
+        return Err(usage(alloc, "`--target-cfg` goes with `--target`", None)?);
+    }
     Ok(Request {
         question: explain_question(alloc, matches, environment)?,
         files: files(alloc, matches, named_file(matches))?,
-        engines: engines(alloc, matches, environment)?,
+        engines,
         features: features(alloc, matches, environment)?,
         format: format(matches, environment),
+        colour: colour(matches, environment),
+    })
+}
+
+/// The settings of each test that are asked for: without a word, those that rules decide.
+fn asked_settings(
+    alloc: Global,
+    matches: &ArgMatches<'_>,
+    mode: NextestRunMode,
+) -> Result<AskedSettings, ParseStop> {
+    let mut asked = named_settings(alloc, matches, mode)?;
+    let is_all = matches.get_flag("all");
+    if is_all && !asked.is_empty() {
+        return Err(usage(alloc, "`--all` stands in place of settings", None)?);
+    }
+    if let Some(key) = matches.get_str("by") {
+        if is_all || !asked.is_empty() {
+            return Err(usage(alloc, "`--by` stands in place of settings", None)?);
+        }
+        asked
+            .push(setting(alloc, key, mode)?)
+            .map_err(AllocError::from)?;
+    }
+    if is_all {
+        return Ok(AskedSettings::These(all_settings(alloc)?));
+    }
+    if asked.is_empty() {
+        return Ok(AskedSettings::Decided);
+    }
+    Ok(AskedSettings::These(asked))
+}
+
+/// What is asked about a list of tests.
+fn list_question<'a>(
+    alloc: Global,
+    matches: &ArgMatches<'a>,
+    environment: &'a Environment,
+) -> Result<Question<'a>, ParseStop> {
+    let mode = mode(matches);
+    let list = match matches.get_str("LIST") {
+        Some("-") | None => ListFile::Input,
+        Some(path) => ListFile::Named(path),
+    };
+    Ok(Question::List {
+        profile: profile(matches, environment),
+        mode,
+        list,
+        asked: asked_settings(alloc, matches, mode)?,
+    })
+}
+
+/// How a list is written.
+fn list_format<'a>(matches: &ArgMatches<'a>, environment: &'a Environment) -> Format<'a> {
+    match format(matches, environment) {
+        Format::Text if matches.contains_id("by") => Format::Grouped,
+        format => format,
+    }
+}
+
+/// The request of the command `list`.
+fn list_request<'a>(
+    alloc: Global,
+    matches: &ArgMatches<'a>,
+    environment: &'a Environment,
+) -> Result<Request<'a>, ParseStop> {
+    Ok(Request {
+        question: list_question(alloc, matches, environment)?,
+        files: files(alloc, matches, named_file(matches))?,
+        engines: engines(matches, environment),
+        features: features(alloc, matches, environment)?,
+        format: list_format(matches, environment),
         colour: colour(matches, environment),
     })
 }
@@ -333,14 +423,17 @@ pub fn parse<'a>(
     alloc: Global,
     words: &'a [String],
     environment: &'a Environment,
-) -> Result<Request<'a>, ParseStop> {
+) -> Result<Command<'a>, ParseStop> {
     let matches = match program(alloc)?.try_get_matches_from(words) {
         Ok(matches) => matches,
         Err(error) => return Err(stop_of(alloc, &error)?),
     };
-    match matches.subcommand() {
-        Some(("explain", matches)) => explain_request(alloc, matches, environment),
-        Some((_, matches)) => check_request(alloc, matches, environment),
-        None => Err(usage(alloc, "no command", None)?),
-    }
+    let request = match matches.subcommand() {
+        Some(("explain", matches)) => explain_request(alloc, matches, environment)?,
+        Some(("list", matches)) => list_request(alloc, matches, environment)?,
+        Some(("schema", _)) => return Ok(Command::Schema),
+        Some((_, matches)) => check_request(alloc, matches, environment)?,
+        None => return Err(usage(alloc, "no command", None)?),
+    };
+    Ok(Command::Answer(request))
 }

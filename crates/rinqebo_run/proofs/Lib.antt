@@ -7,3 +7,4 @@ pub mod Pairs
 pub mod InOrder
 pub mod Meant
 pub mod Gathering
+pub mod Listing

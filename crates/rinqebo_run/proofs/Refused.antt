@@ -144,6 +144,9 @@ refused_in (questions.Explain profile test settings) session report n answers th
 refused_in (questions.Why profile test setting) session report n answers three =
     let zero : n ≡ 0 = answers.0 in
     absurd (omega arith)
+refused_in (questions.List profile mode list asked) session report n answers three =
+    let zero : n ≡ 0 = answers.0 in
+    absurd (omega arith)
 refused_in (questions.Check deny_warnings) session report n answers three = answers.refused three
 
 -- a check has no status 4
@@ -159,6 +162,9 @@ lacking_in (questions.Explain profile test settings) session report n answers fo
     let zero : n ≡ 0 = answers.0 in
     absurd (omega arith)
 lacking_in (questions.Why profile test setting) session report n answers four =
+    let zero : n ≡ 0 = answers.0 in
+    absurd (omega arith)
+lacking_in (questions.List profile mode list asked) session report n answers four =
     let zero : n ≡ 0 = answers.0 in
     absurd (omega arith)
 lacking_in (questions.Check deny_warnings) session report n answers four = no_four n answers.is_status four
@@ -188,6 +194,7 @@ broken_in : (q : Question) (session : Session) (report : Report) → IsFailureIn
     → ¬ AreAccepted session
 broken_in (questions.Explain profile test settings) session report cause = cause
 broken_in (questions.Why profile test setting) session report cause = cause
+broken_in (questions.List profile mode list asked) session report cause = cause
 broken_in (questions.Check deny_warnings) session report cause = absurd cause
 
 -- files lack the profile for which a question is not answered
@@ -195,6 +202,7 @@ lacks_in : (q : Question) (session : Session) (report : Report) → IsFailureIn 
     → LacksProfileOf session q
 lacks_in (questions.Explain profile test settings) session report cause = cause
 lacks_in (questions.Why profile test setting) session report cause = cause
+lacks_in (questions.List profile mode list asked) session report cause = cause
 lacks_in (questions.Check deny_warnings) session report cause = cause
 
 -- a failure of status 3 tells that files are refused

@@ -20,6 +20,7 @@ use Rattle.rinqebo_run.specs.declared.session.Session.{Session}
 no_five : (q : Question) → IsAnswerStatus q 5 → ⊥
 no_five (questions.Explain profile test settings) is = omega arith
 no_five (questions.Why profile test setting) is = omega arith
+no_five (questions.List profile mode list asked) is = omega arith
 no_five (questions.Check deny_warnings) (inl is) = omega arith
 no_five (questions.Check deny_warnings) (inr (inl is)) = omega arith
 no_five (questions.Check deny_warnings) (inr (inr is)) = omega arith
@@ -28,6 +29,7 @@ no_five (questions.Check deny_warnings) (inr (inr is)) = omega arith
 no_six : (q : Question) → IsAnswerStatus q 6 → ⊥
 no_six (questions.Explain profile test settings) is = omega arith
 no_six (questions.Why profile test setting) is = omega arith
+no_six (questions.List profile mode list asked) is = omega arith
 no_six (questions.Check deny_warnings) (inl is) = omega arith
 no_six (questions.Check deny_warnings) (inr (inl is)) = omega arith
 no_six (questions.Check deny_warnings) (inr (inr is)) = omega arith
@@ -36,6 +38,7 @@ no_six (questions.Check deny_warnings) (inr (inr is)) = omega arith
 no_two : (q : Question) → IsAnswerStatus q 2 → ⊥
 no_two (questions.Explain profile test settings) is = omega arith
 no_two (questions.Why profile test setting) is = omega arith
+no_two (questions.List profile mode list asked) is = omega arith
 no_two (questions.Check deny_warnings) (inl is) = omega arith
 no_two (questions.Check deny_warnings) (inr (inl is)) = omega arith
 no_two (questions.Check deny_warnings) (inr (inr is)) = omega arith
@@ -44,6 +47,7 @@ no_two (questions.Check deny_warnings) (inr (inr is)) = omega arith
 no_four : (q : Question) → IsAnswerStatus q 4 → ⊥
 no_four (questions.Explain profile test settings) is = omega arith
 no_four (questions.Why profile test setting) is = omega arith
+no_four (questions.List profile mode list asked) is = omega arith
 no_four (questions.Check deny_warnings) (inl is) = omega arith
 no_four (questions.Check deny_warnings) (inr (inl is)) = omega arith
 no_four (questions.Check deny_warnings) (inr (inr is)) = omega arith
@@ -53,6 +57,7 @@ no_three : (q : Question) (session : Session) (report : Report) → IsFailureIn 
     → IsAnswerStatus q 3 → ⊥
 no_three (questions.Explain profile test settings) session report cause is = omega arith
 no_three (questions.Why profile test setting) session report cause is = omega arith
+no_three (questions.List profile mode list asked) session report cause is = omega arith
 no_three (questions.Check deny_warnings) session report cause is = cause
 
 -- a failure is no answer

@@ -5,6 +5,7 @@ use Rattle.rinqebo_report.specs.Rendered.{rendered}
 use Rattle.rinqebo_report.specs.declared.report.Report.{Report}
 use Rattle.rinqebo_run.specs.Checked.{IsCheckStatus}
 use Rattle.rinqebo_run.specs.Explained.{Explains}
+use Rattle.rinqebo_run.specs.Listed.{TellsTests}
 use Rattle.rinqebo_run.specs.SessionOf.{IsSessionOf}
 use Rattle.rinqebo_run.specs.TellsReasons.{TellsReasons}
 use Rattle.rinqebo_files.specs.declared.files.Gathered.{Gathered}
@@ -19,6 +20,8 @@ AnswersQuestion (questions.Explain profile test settings) session report status 
     (status ≡ 0) × Explains session profile.now test settings.items report
 AnswersQuestion (questions.Why profile test setting) session report status =
     (status ≡ 0) × TellsReasons session profile.now test setting report
+AnswersQuestion (questions.List profile mode list asked) session report status =
+    (status ≡ 0) × TellsTests session profile.now mode asked report
 AnswersQuestion (questions.Check deny_warnings) session report status =
     IsCheckStatus session status
 

@@ -4,10 +4,15 @@ pub mod Explained
 pub mod Checked
 pub mod Answered
 pub mod Refused
+pub mod Triples
 pub mod Engines
 pub mod SessionOf
 pub mod Conditions
 pub mod SettingRules
+pub mod RulePlaces
+pub mod ListRules
 pub mod RuleViews
 pub mod Reasons
 pub mod TellsReasons
+pub mod Listed
+pub mod ListedBy

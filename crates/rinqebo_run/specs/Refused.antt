@@ -61,6 +61,8 @@ IsFailureIn session (questions.Explain profile test settings) failure =
     IsFailureAbout session profile.now failure
 IsFailureIn session (questions.Why profile test setting) failure =
     IsFailureAbout session profile.now failure
+IsFailureIn session (questions.List profile mode list asked) failure =
+    IsFailureAbout session profile.now failure
 IsFailureIn session (questions.Check deny_warnings) failure = IsBeginningFailure failure
 
 -- A session of a request does not answer it.
@@ -85,6 +87,7 @@ pub record AreRefusedFor (request : Request) (gathered : Gathered) : Type 0 wher
 abbrev pub LacksProfileOf : Session → Question → Type 0
 LacksProfileOf session (questions.Explain profile test settings) = LacksProfile session profile.now
 LacksProfileOf session (questions.Why profile test setting) = LacksProfile session profile.now
+LacksProfileOf session (questions.List profile mode list asked) = LacksProfile session profile.now
 LacksProfileOf session (questions.Check deny_warnings) = ⊥
 
 -- The files of a request lack the profile that it names.

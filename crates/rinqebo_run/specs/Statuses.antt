@@ -6,7 +6,7 @@ use Rattle.rinqebo_request.specs.declared.request.Question.{Question}
 use Rattle.rinqebo_request.specs.declared.request.Question.TheVariants as questions
 
 -- The exit status of a run: 0 with an answer; 1 for warnings that are denied; 2 for words,
--- platforms or metadata that are not understood; 3 where files are refused; 4 where there is no such
+-- a list of tests, platforms or metadata that are not understood; 3 where files are refused; 4 where there is no such
 -- profile; 5 for want of memory; 6 where a write failed.
 abbrev pub IsStatus : ℕ → Type 0
 IsStatus n = n ≤ 6
@@ -23,6 +23,7 @@ failure_status failures.Memory = 5
 abbrev pub IsAnswerStatus : Question → ℕ → Type 0
 IsAnswerStatus (questions.Explain profile test settings) n = n ≡ 0
 IsAnswerStatus (questions.Why profile test setting) n = n ≡ 0
+IsAnswerStatus (questions.List profile mode list asked) n = n ≡ 0
 IsAnswerStatus (questions.Check deny_warnings) n = (n ≡ 0) ⊎ (n ≡ 1) ⊎ (n ≡ 3)
 
 -- A failure of what all commands begin with: the engines, or want of memory.

@@ -46,14 +46,8 @@ fn override_rule(rule: &Override, setting: Setting, mode: NextestRunMode) -> Set
     ensures { setting_rule_view result
         ≡ for_setting (override_writes setting mode) (override_rule_view rule.now) }
 {
-    let id = rule.id();
     SettingRule {
-        place: RulePlace {
-            source: &id.config_source,
-            profile: id.profile_name.as_str(),
-            kind: RuleKind::Override,
-            index: id.index,
-        },
+        place: RulePlace::of_override(rule.id()),
         platforms: rule.platforms(),
         filter: rule.filter(),
         value: written_value(rule.settings(), setting, mode),

@@ -5,6 +5,7 @@ ghost use Rattle.rinqebo_run.specs.Checked.{IsCheckStatus};
 ghost use Rattle.rinqebo_run.specs.Refused.{IsLoadFailure, IsProfileFailure, IsRunFailure};
 ghost use Rattle.rinqebo_run.specs.Statuses.{IsBeginningFailure};
 
+use crate::above::add_refusals_above;
 use crate::answer::{Answer, Failure};
 use crate::findings::{SourceAt, finding, warning_findings};
 use crate::refusals::{add_refusal, refused_place};
@@ -13,7 +14,7 @@ use nextest_config::run::ResolveFault;
 use nextest_config::{
     ConfigParseError, ConfigParseErrorKind, DefaultConfigWarnings, InheritsError, ProfileNotFound,
 };
-use rinqebo_files::sources_of;
+use rinqebo_files::{Layer, sources_of};
 use rinqebo_report::{Content, Finding, Level, Report, Unreached};
 use rinqebo_request::text_hint;
 use std::alloc::{AllocError, Global};
@@ -57,38 +58,55 @@ fn has_cycle(kind: &ConfigParseErrorKind) -> bool {
 
 /// Whether all files together are refused, and none by itself: for an element or a cycle that the
 /// repository's file does not have without the files of tools.
-fn is_of_all_files(alloc: Global, session: &Session<'_>, error: &ConfigParseError) -> bool {
+fn is_of_all_files(
+    alloc: Global,
+    session: &Session<'_>,
+    error: &ConfigParseError,
+) -> Result<bool, AllocError> {
     let last = session.layers.len().saturating_sub(1);
     let is_last = refused_place(&session.layers, error) == Some(last);
     let is_element = error.kind().number() == 4;
     if !is_last || !(is_element || has_cycle(error.kind())) {
-        return false;
+        return Ok(false);
     }
-    match session.refusal_alone(alloc) {
-        Some(alone) if is_element => alone.kind().number() != 4,
-        Some(alone) => !has_cycle(alone.kind()),
-        None => true,
+    let mut warnings = DefaultConfigWarnings::new(alloc);
+    match session.refusal_alone(alloc, last, &mut warnings)? {
+        Some(alone) if is_element => Ok(alone.kind().number() != 4),
+        Some(alone) => Ok(!has_cycle(alone.kind())),
+        None => Ok(true),
     }
 }
 
 /// The checks of the refused source that were not reached.
+pub fn unreached_at(
+    alloc: Global,
+    layers: &[Layer],
+    error: &ConfigParseError,
+) -> Result<Option<Unreached>, AllocError> {
+    let Some(source) = refused_place(layers, error) else {
+        return Ok(None);
+    };
+    let mut checks = Vec::new(alloc);
+    for check in CHECKS.iter().skip(checks_done(error.kind().number())) {
+        checks.push(String::from_str(alloc, *check)?)?;
+    }
+    Ok(Some(Unreached { source, checks }))
+}
+
+/// The checks of the refused source that were not reached: none, where all files together are
+/// refused.
 fn unreached_of(
     alloc: Global,
     session: &Session<'_>,
     error: &ConfigParseError,
 ) -> Result<Vec<Unreached>, AllocError> {
     let mut unreached = Vec::new(alloc);
-    let Some(source) = refused_place(&session.layers, error) else {
-        return Ok(unreached);
-    };
-    if is_of_all_files(alloc, session, error) {
+    if is_of_all_files(alloc, session, error)? {
         return Ok(unreached);
     }
-    let mut checks = Vec::new(alloc);
-    for check in CHECKS.iter().skip(checks_done(error.kind().number())) {
-        checks.push(String::from_str(alloc, *check)?)?;
+    if let Some(checks) = unreached_at(alloc, &session.layers, error)? {
+        unreached.push(checks)?;
     }
-    unreached.push(Unreached { source, checks })?;
     Ok(unreached)
 }
 
@@ -111,7 +129,8 @@ pub fn report_of(
     })
 }
 
-/// The report of a refused load: its warnings, and all that the refusal tells.
+/// The report of a refused load: its warnings, all that the refusal tells, and what is wrong with the
+/// files above by themselves.
 fn report_of_refusal(
     alloc: Global,
     session: &Session<'_>,
@@ -120,7 +139,8 @@ fn report_of_refusal(
 ) -> Result<Report, AllocError> {
     let mut findings = warning_findings(alloc, &session.layers, warnings)?;
     add_refusal(alloc, session, error, &mut findings)?;
-    let unreached = unreached_of(alloc, session, error)?;
+    let mut unreached = unreached_of(alloc, session, error)?;
+    add_refusals_above(alloc, session, error, &mut findings, &mut unreached)?;
     report_of(alloc, session, findings, unreached, Content::Check)
 }
 

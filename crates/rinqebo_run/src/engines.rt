@@ -1,13 +1,14 @@
 //! The languages of filters and platforms, as a request has them.
-ghost use Rattle.std.specs.Prelude.{IfOk};
-ghost use Rattle.rinqebo_run.specs.Engines.{ArePlatformsFor, IsPlatformFor, IsTargetFor};
+ghost use Rattle.std.specs.Prelude.{IfOk, option_map, string_bytes};
+ghost use Rattle.rinqebo_run.specs.Engines.{ArePlatformsOf, IsPlatformFor, IsTargetFor};
 
+use crate::triples::Triples;
 use nextest_config::BuildPlatforms;
 use nextest_filters::{MetadataFault, NextestFilters, PackageGraph};
 use rinqebo_files::Gathered;
-use rinqebo_request::EngineOptions;
 use std::alloc::{AllocError, Global};
 use target_platforms::{Platform, PlatformFault};
+use test_lists::ListFault;
 use thiserror::Error;
 
 /// The language of filters, and the platforms of a build.
@@ -20,12 +21,18 @@ pub struct Engines {
 /// Why there are no engines.
 #[derive(Debug, Drop, Error)]
 pub enum EngineFault {
+    /// What was read at a path is no list of tests, which would say the platforms of the build.
+    #[error("no list of tests in `{0}`: {1}")]
+    List(String, ListFault),
     /// The metadata say no graph of packages.
     #[error("{0}")]
     Metadata(MetadataFault),
     /// No platform is known for a triple.
     #[error("platform `{0}`: {1}")]
     Platform(String, PlatformFault),
+    /// What the compiler prints for a target is given, and there is no target.
+    #[error("`--target-cfg` goes with a target, and there is none")]
+    NoTarget,
     /// Want of memory.
     #[error("out of memory")]
     Memory,
@@ -77,13 +84,14 @@ fn platform_of(alloc: Global, triple: &str, cfg: &Option<String>) -> Result<Plat
 /// The platform that is built for, if one is asked for.
 fn target_of(
     alloc: Global,
-    triple: Option<&str>,
+    triple: &Option<String>,
     cfg: &Option<String>,
 ) -> Result<Option<Platform>, EngineFault>
-    ensures { IfOk result (IsTargetFor triple.entry cfg.now) }
+    ensures { IfOk result (IsTargetFor (option_map string_bytes triple.now) cfg.now) }
 {
     match triple {
-        Some(triple) => Ok(Some(platform_of(alloc, triple, cfg)?)),
+        Some(triple) => Ok(Some(platform_of(alloc, triple.as_str(), cfg)?)),
+        None if cfg.is_some() => Err(EngineFault::NoTarget),
         None => Ok(None),
     }
 }
@@ -91,31 +99,32 @@ fn target_of(
 /// The platforms of a build.
 fn platforms_of(
     alloc: Global,
-    options: &EngineOptions<'_>,
+    triples: &Triples,
     gathered: &Gathered,
 ) -> Result<BuildPlatforms<Platform>, EngineFault>
-    ensures { IfOk result (ArePlatformsFor options.now gathered.now) }
+    ensures { IfOk result (ArePlatformsOf (string_bytes triples.now.host)
+        (option_map string_bytes triples.now.target) gathered.now) }
 {
-    let target = target_of(alloc, options.target, &gathered.target_cfg)?;
+    let target = target_of(alloc, &triples.target, &gathered.target_cfg)?;
     Ok(BuildPlatforms {
-        host: platform_of(alloc, options.host, &gathered.host_cfg)?,
+        host: platform_of(alloc, triples.host.as_str(), &gathered.host_cfg)?,
         target,
     })
 }
 
 impl Engines {
-    /// The engines of a request, over the files that it names.
+    /// The engines for triples, over the files of a request.
     pub fn new(
         alloc: Global,
-        options: &EngineOptions<'_>,
+        triples: &Triples,
         gathered: &Gathered,
     ) -> Result<Engines, EngineFault>
-        ensures { IfOk result (λ engines.
-            ArePlatformsFor options.now gathered.now engines.platforms) }
+        ensures { IfOk result (λ engines. ArePlatformsOf (string_bytes triples.now.host)
+            (option_map string_bytes triples.now.target) gathered.now engines.platforms) }
     {
         Ok(Engines {
             filters: filters_of(alloc, &gathered.metadata)?,
-            platforms: platforms_of(alloc, options, gathered)?,
+            platforms: platforms_of(alloc, triples, gathered)?,
         })
     }
 }

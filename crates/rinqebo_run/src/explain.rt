@@ -11,7 +11,7 @@ use crate::answer::Failure;
 use crate::binary::query_of;
 use crate::check::{failure_of_load, failure_of_run, report_of};
 use crate::findings::warning_findings;
-use crate::grounds::{built_in, profile_grounds, setting_path};
+use crate::grounds::{built_in, profile_grounds};
 use crate::rule_places::{RuleKind, RulePlace};
 use crate::rules::{chain_of_profile, copied_names};
 use crate::session::{Config, Session};
@@ -21,40 +21,27 @@ use nextest_config::{BuildPlatform, DefaultConfigWarnings, NextestRunMode, Setti
 use nextest_filters::NextestTally;
 use rinqebo_files::Layer;
 use rinqebo_report::{Asked, Content, Origin, Platform, Report, RunMode, SettingRow, TestRows};
-use rinqebo_request::{Request, SettingKey, TestName};
+use rinqebo_request::{SettingKey, TestName};
 use rinqebo_values::{reported_if_set, value_in_row};
 use std::alloc::{AllocError, Global};
 
 /// What a row's settings are told with: the layers, the chain of the profile, and where the script
 /// rule stands that wraps the run of the test.
 #[derive(Drop)]
-struct Grounds<'g> {
-    layers: &'g [Layer<'g>],
+struct Grounds<'g, 't> {
+    layers: &'g [Layer<'t>],
     chain: &'g [&'g str],
     wrapping: Option<RulePlace<'g>>,
-}
-
-/// Where a rule writes a setting.
-fn rule_origins(
-    alloc: Global,
-    layers: &[Layer],
-    rule: RulePlace<'_>,
-    key: SettingKey,
-) -> Result<Vec<Origin>, AllocError> {
-    let path = setting_path(alloc, &rule.path(), key)?;
-    let mut origins = Vec::new(alloc);
-    origins.push(rule.origin_at(alloc, layers, &path)?)?;
-    Ok(origins)
 }
 
 /// Where the run wrapper comes from.
 fn wrapping_origins(
     alloc: Global,
-    grounds: &Grounds<'_>,
+    grounds: &Grounds<'_, '_>,
     key: SettingKey,
 ) -> Result<Vec<Origin>, AllocError> {
     match grounds.wrapping {
-        Some(rule) => rule_origins(alloc, grounds.layers, rule, key),
+        Some(rule) => rule.origins_at_key(alloc, grounds.layers, key),
         None => Ok(Vec::new(alloc)),
     }
 }
@@ -62,7 +49,7 @@ fn wrapping_origins(
 /// Where the value of a setting comes from.
 fn origins_of(
     alloc: Global,
-    grounds: &Grounds<'_>,
+    grounds: &Grounds<'_, '_>,
     source: Option<&PlainSource>,
     key: SettingKey,
 ) -> Result<Vec<Origin>, AllocError> {
@@ -84,7 +71,7 @@ fn origins_of(
                 kind: RuleKind::Override,
                 index: *index,
             };
-            rule_origins(alloc, grounds.layers, rule, key)
+            rule.origins_at_key(alloc, grounds.layers, key)
         }
     }
 }
@@ -92,7 +79,7 @@ fn origins_of(
 /// A setting of a row.
 fn setting_row(
     alloc: Global,
-    grounds: &Grounds<'_>,
+    grounds: &Grounds<'_, '_>,
     row: &TestRow,
     setting: Setting,
     mode: NextestRunMode,
@@ -110,7 +97,7 @@ fn setting_row(
 /// Settings of a row, in the order in which they are asked for.
 fn setting_rows(
     alloc: Global,
-    grounds: &Grounds<'_>,
+    grounds: &Grounds<'_, '_>,
     row: &TestRow,
     settings: &[Setting],
     mode: NextestRunMode,
@@ -127,7 +114,7 @@ fn setting_rows(
 /// Settings of the first row, if there is one.
 fn first_settings(
     alloc: Global,
-    grounds: &Grounds<'_>,
+    grounds: &Grounds<'_, '_>,
     rows: &[TestRow],
     settings: &[Setting],
     mode: NextestRunMode,
@@ -161,21 +148,17 @@ fn reported_mode(mode: NextestRunMode) -> RunMode {
 /// What is asked about.
 pub fn asked_of(
     alloc: Global,
-    request: &Request<'_>,
+    session: &Session<'_>,
     profile: &str,
     chain: &[&str],
     mode: NextestRunMode,
 ) -> Result<Asked, AllocError> {
-    let target = match request.engines.target {
-        Some(target) => Some(String::from_str(alloc, target)?),
-        None => None,
-    };
     Ok(Asked {
         profile: String::from_str(alloc, profile)?,
         chain: copied_names(alloc, chain)?,
         mode: reported_mode(mode),
-        host: String::from_str(alloc, request.engines.host)?,
-        target,
+        host: session.triples.host.clone()?,
+        target: session.triples.target.clone()?,
     })
 }
 
@@ -211,7 +194,7 @@ fn row_of_test(
 /// The settings of a test, as they are reported.
 fn test_rows(
     alloc: Global,
-    grounds: &Grounds<'_>,
+    grounds: &Grounds<'_, '_>,
     rows: &[TestRow],
     test: &TestName<'_>,
     settings: &[Setting],
@@ -242,7 +225,6 @@ fn load_again(alloc: Global, session: &Session<'_>) -> Result<Config, Failure>
 /// The settings of a test, by its rows.
 fn explained(
     alloc: Global,
-    request: &Request<'_>,
     session: &Session<'_>,
     profile: &str,
     test: &TestName<'_>,
@@ -262,7 +244,7 @@ fn explained(
         wrapping: wrapping_place(alloc, session, &config, &chain, test)?,
     };
     Ok(Content::Explain {
-        asked: asked_of(alloc, request, profile, &chain, test.mode)?,
+        asked: asked_of(alloc, session, profile, &chain, test.mode)?,
         test: test_rows(alloc, &grounds, rows, test, settings)?,
     })
 }
@@ -270,7 +252,6 @@ fn explained(
 /// The settings of a test.
 pub fn explain(
     alloc: Global,
-    request: &Request<'_>,
     session: &Session<'_>,
     profile: &str,
     test: &TestName<'_>,
@@ -281,7 +262,7 @@ pub fn explain(
 {
     let mut warnings = DefaultConfigWarnings::new(alloc);
     let rows = row_of_test(alloc, session, profile, test, &mut warnings)?;
-    let content = explained(alloc, request, session, profile, test, settings, &rows)?;
+    let content = explained(alloc, session, profile, test, settings, &rows)?;
     let findings = warning_findings(alloc, &session.layers, &warnings)?;
     let report = report_of(alloc, session, findings, Vec::new(alloc), content)?;
     Ok(report)

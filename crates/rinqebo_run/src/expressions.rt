@@ -31,7 +31,7 @@ fn expression(
 
 /// Adds what is wrong with a filter at a path, if something is.
 fn add_filter(
-    refused: &mut Refused<'_>,
+    refused: &mut Refused<'_, '_>,
     path: String,
     text: &str,
     kind: FiltersetKind,
@@ -54,7 +54,7 @@ fn add_filter(
 }
 
 /// Adds what is wrong with a platform at a path, if something is.
-fn add_spec(refused: &mut Refused<'_>, path: String, text: &str) -> Result<(), AllocError> {
+fn add_spec(refused: &mut Refused<'_, '_>, path: String, text: &str) -> Result<(), AllocError> {
     let alloc = refused.alloc;
     match TargetSpec::parse(alloc, text) {
         Ok(_) => Ok(()),
@@ -76,7 +76,7 @@ struct Section<'s> {
 
 /// Adds what is wrong with the filter of a section at a key.
 fn add_filter_at(
-    refused: &mut Refused<'_>,
+    refused: &mut Refused<'_, '_>,
     section: Section<'_>,
     key: &str,
     kind: FiltersetKind,
@@ -98,7 +98,7 @@ fn target_key(rule: Option<&Tree>) -> &'static str {
 }
 
 /// Adds what is wrong with the platforms of a section.
-fn add_platforms(refused: &mut Refused<'_>, section: Section<'_>) -> Result<(), AllocError> {
+fn add_platforms(refused: &mut Refused<'_, '_>, section: Section<'_>) -> Result<(), AllocError> {
     let base = section.path;
     if let Some(text) = host_text(section.table) {
         let path = format!(in refused.alloc; "{base}.platform.host")?;
@@ -115,7 +115,7 @@ fn add_platforms(refused: &mut Refused<'_>, section: Section<'_>) -> Result<(), 
 /// Adds what is wrong with the texts of a rule: of its host, its target, its filter, which is of a
 /// kind, and its default filter.
 fn add_rule_texts(
-    refused: &mut Refused<'_>,
+    refused: &mut Refused<'_, '_>,
     section: Section<'_>,
     kind: FiltersetKind,
 ) -> Result<(), AllocError> {
@@ -131,7 +131,7 @@ fn add_rule_texts(
 
 /// Adds what is wrong with the texts of a section of a profile.
 pub fn add_refused_texts(
-    refused: &mut Refused<'_>,
+    refused: &mut Refused<'_, '_>,
     profile: &str,
     section: ConfigCompileSection,
 ) -> Result<(), AllocError> {

@@ -7,12 +7,12 @@ use std::alloc::{AllocError, Global};
 
 /// A source of a run, by its position among the layers, if it is known.
 #[derive(Clone, Copy)]
-pub struct SourceAt<'l> {
-    pub layers: &'l [Layer<'l>],
+pub struct SourceAt<'l, 't> {
+    pub layers: &'l [Layer<'t>],
     pub position: Option<usize>,
 }
 
-impl<'l> SourceAt<'l> {
+impl<'l, 't> SourceAt<'l, 't> {
     /// The tree of the source, if its text is a document.
     pub fn tree(self) -> Option<&'l Tree> {
         self.layers.get(self.position?)?.tree.as_ref()
@@ -38,7 +38,7 @@ pub fn finding(
     alloc: Global,
     level: Level,
     code: &str,
-    source: SourceAt<'_>,
+    source: SourceAt<'_, '_>,
     path: Option<String>,
     message: String,
 ) -> Result<Finding, AllocError> {
@@ -56,7 +56,7 @@ pub fn finding(
 }
 
 /// Warns of a key without effect.
-fn unknown_key(alloc: Global, source: SourceAt<'_>, path: &str) -> Result<Finding, AllocError> {
+fn unknown_key(alloc: Global, source: SourceAt<'_, '_>, path: &str) -> Result<Finding, AllocError> {
     let message = format!(in alloc; "{path} has no effect")?;
     let at = Some(String::from_str(alloc, path)?);
     let mut found = finding(
@@ -74,7 +74,7 @@ fn unknown_key(alloc: Global, source: SourceAt<'_>, path: &str) -> Result<Findin
 /// Warns of a profile whose name is reserved.
 fn reserved_profile(
     alloc: Global,
-    source: SourceAt<'_>,
+    source: SourceAt<'_, '_>,
     name: &str,
 ) -> Result<Finding, AllocError> {
     let path = format!(in alloc; "profile.{name}")?;
@@ -92,7 +92,7 @@ fn reserved_profile(
 }
 
 /// Warns of scripts under the old key.
-fn old_scripts(alloc: Global, source: SourceAt<'_>) -> Result<Finding, AllocError> {
+fn old_scripts(alloc: Global, source: SourceAt<'_, '_>) -> Result<Finding, AllocError> {
     let path = Some(String::from_str(alloc, "script")?);
     let message = String::from_str(
         alloc,
@@ -113,7 +113,7 @@ fn old_scripts(alloc: Global, source: SourceAt<'_>) -> Result<Finding, AllocErro
 /// Warns of script rules that name no script.
 fn empty_rules(
     alloc: Global,
-    source: SourceAt<'_>,
+    source: SourceAt<'_, '_>,
     profile: &str,
     count: usize,
 ) -> Result<Finding, AllocError> {

@@ -33,7 +33,7 @@ fn kind_words(tree: &Tree) -> &'static str {
 
 /// The kind of what stands at a path in a source, in words. A source that does not write the path is
 /// refused for what stands below it: the highest one counts that does.
-pub fn given_at(source: SourceAt<'_>, path: &str) -> Option<&'static str> {
+pub fn given_at(source: SourceAt<'_, '_>, path: &str) -> Option<&'static str> {
     if let Some(found) = tree_at(source.tree()?, path) {
         return Some(kind_words(found));
     }

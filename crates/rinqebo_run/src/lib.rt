@@ -1,9 +1,10 @@
 //! What the program `rinqebo` does, over words, files and writers of a caller's choosing.
 //!
-//! [`perform`] answers a request over the files that it names: with the settings of a test, the rules
-//! of a setting, or what is wrong with the files.
+//! [`perform`] answers a request over the files that it names: with the settings of a test or of each
+//! test of a list, the rules of a setting, or what is wrong with the files.
 #![tactic(auto)]
 
+mod above;
 mod answer;
 mod binary;
 mod chain_rules;
@@ -19,13 +20,18 @@ mod findings;
 mod given;
 mod grounds;
 mod hints;
+mod list;
+mod list_origins;
+mod list_rules;
+mod loading;
 mod refusals;
 mod rule_places;
 mod rules;
 mod run;
 mod session;
+mod triples;
 mod unknown_names;
 mod why;
 mod wrappers;
 
-pub use run::{perform, refuse_gathering, refuse_words};
+pub use run::{perform, print_schema, refuse_gathering, refuse_words};

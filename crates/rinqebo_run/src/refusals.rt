@@ -20,15 +20,15 @@ use std::collections::BTreeSet;
 
 /// What is refused: the source, and the name of what is wrong. Findings go behind the others.
 #[derive(Drop)]
-pub struct Refused<'r> {
+pub struct Refused<'r, 't> {
     pub alloc: Global,
     pub filters: &'r NextestFilters,
-    pub source: SourceAt<'r>,
+    pub source: SourceAt<'r, 't>,
     pub code: &'static str,
     pub findings: &'r mut Vec<Finding>,
 }
 
-impl Refused<'_> {
+impl Refused<'_, '_> {
     /// Adds a finding with more than a message.
     pub fn add_finding(&mut self, found: Finding) -> Result<(), AllocError> {
         self.findings.push(found)?;
@@ -81,7 +81,7 @@ impl Refused<'_> {
 }
 
 /// What came of reading a file.
-fn add_outcome(refused: &mut Refused<'_>, outcome: &ReadOutcome) -> Result<(), AllocError> {
+fn add_outcome(refused: &mut Refused<'_, '_>, outcome: &ReadOutcome) -> Result<(), AllocError> {
     match outcome {
         ReadOutcome::Text(_) => Ok(()),
         ReadOutcome::NotFound => refused.add_whole("no such file"),
@@ -111,7 +111,7 @@ fn on_one_line(alloc: Global, text: &str) -> Result<String, AllocError> {
 
 /// The text is no document: the first line of the reader's message has the place, and the others
 /// say why.
-fn add_no_document(refused: &mut Refused<'_>, message: &str) -> Result<(), AllocError> {
+fn add_no_document(refused: &mut Refused<'_, '_>, message: &str) -> Result<(), AllocError> {
     let alloc = refused.alloc;
     let (first, reason) = message.split_once('\n').unwrap_or((message, ""));
     let Some((line, column)) = told_spot(first) else {
@@ -130,7 +130,7 @@ fn add_no_document(refused: &mut Refused<'_>, message: &str) -> Result<(), Alloc
 }
 
 /// What is wrong with a value of a wrong kind: the kind that it has.
-fn wrong_kind(alloc: Global, source: SourceAt<'_>, path: &str) -> Result<String, AllocError> {
+fn wrong_kind(alloc: Global, source: SourceAt<'_, '_>, path: &str) -> Result<String, AllocError> {
     match given_at(source, path) {
         Some(given) => format!(in alloc; "a value of the wrong kind: {given}"),
         None => String::from_str(alloc, "a value of the wrong kind"),
@@ -140,7 +140,7 @@ fn wrong_kind(alloc: Global, source: SourceAt<'_>, path: &str) -> Result<String,
 /// What is wrong with a value, but for texts that are not taken.
 fn wrong_element(
     alloc: Global,
-    source: SourceAt<'_>,
+    source: SourceAt<'_, '_>,
     cause: &ElementCause,
     path: &str,
 ) -> Result<String, AllocError> {
@@ -151,7 +151,7 @@ fn wrong_element(
 }
 
 /// A value that may not stand where it does.
-fn add_element(refused: &mut Refused<'_>, fault: &ElementFault) -> Result<(), AllocError> {
+fn add_element(refused: &mut Refused<'_, '_>, fault: &ElementFault) -> Result<(), AllocError> {
     let alloc = refused.alloc;
     let path = fault.path.clone()?;
     match &fault.cause {
@@ -174,7 +174,7 @@ fn add_element(refused: &mut Refused<'_>, fault: &ElementFault) -> Result<(), Al
 
 /// Groups that a source may not define.
 fn add_groups(
-    refused: &mut Refused<'_>,
+    refused: &mut Refused<'_, '_>,
     groups: &BTreeSet<CustomTestGroup>,
     wrong: &str,
 ) -> Result<(), AllocError> {
@@ -207,7 +207,7 @@ fn script_table(tree: Option<&Tree>, name: &str) -> &'static str {
 
 /// Scripts that a source may not define.
 fn add_scripts(
-    refused: &mut Refused<'_>,
+    refused: &mut Refused<'_, '_>,
     scripts: &BTreeSet<ScriptId>,
     wrong: &str,
 ) -> Result<(), AllocError> {
@@ -231,7 +231,7 @@ fn scripts_key(tree: Option<&Tree>) -> &'static str {
 
 /// Features that are not switched on.
 fn add_features(
-    refused: &mut Refused<'_>,
+    refused: &mut Refused<'_, '_>,
     features: &[ConfigExperimental],
 ) -> Result<(), AllocError> {
     let alloc = refused.alloc;
@@ -272,7 +272,7 @@ fn first_of(cycles: &[Vec<String>]) -> Option<&String> {
 }
 
 /// What is wrong with a parent.
-fn add_parent(refused: &mut Refused<'_>, error: &InheritsError) -> Result<(), AllocError> {
+fn add_parent(refused: &mut Refused<'_, '_>, error: &InheritsError) -> Result<(), AllocError> {
     let alloc = refused.alloc;
     let wrong = error.to_string(alloc)?;
     match error {
@@ -298,7 +298,10 @@ fn add_parent(refused: &mut Refused<'_>, error: &InheritsError) -> Result<(), Al
 }
 
 /// What does not compile: each text that is refused, or else the whole section.
-fn add_compile(refused: &mut Refused<'_>, error: &ConfigCompileError) -> Result<(), AllocError> {
+fn add_compile(
+    refused: &mut Refused<'_, '_>,
+    error: &ConfigCompileError,
+) -> Result<(), AllocError> {
     let alloc = refused.alloc;
     let profile = error.profile_name.as_str();
     let section = error.section;
@@ -315,7 +318,7 @@ fn add_compile(refused: &mut Refused<'_>, error: &ConfigCompileError) -> Result<
 }
 
 /// Adds what the kind of a refusal tells.
-fn add_kind(refused: &mut Refused<'_>, kind: &ConfigParseErrorKind) -> Result<(), AllocError> {
+fn add_kind(refused: &mut Refused<'_, '_>, kind: &ConfigParseErrorKind) -> Result<(), AllocError> {
     match kind {
         ConfigParseErrorKind::DuplicateToolConfigFile { tool, first } => {
             let wrong = format!(in refused.alloc; "the tool `{tool}` provides `{first}`, too")?;
@@ -336,7 +339,10 @@ fn add_kind(refused: &mut Refused<'_>, kind: &ConfigParseErrorKind) -> Result<()
 }
 
 /// Adds what a refusal of the names that a source defines tells.
-fn add_name_kind(refused: &mut Refused<'_>, kind: &ConfigParseErrorKind) -> Result<(), AllocError> {
+fn add_name_kind(
+    refused: &mut Refused<'_, '_>,
+    kind: &ConfigParseErrorKind,
+) -> Result<(), AllocError> {
     match kind {
         ConfigParseErrorKind::InvalidTestGroupsDefined(groups) => {
             add_groups(
@@ -372,7 +378,10 @@ fn add_name_kind(refused: &mut Refused<'_>, kind: &ConfigParseErrorKind) -> Resu
 }
 
 /// Adds what a refusal of the rules of a source tells.
-fn add_rule_kind(refused: &mut Refused<'_>, kind: &ConfigParseErrorKind) -> Result<(), AllocError> {
+fn add_rule_kind(
+    refused: &mut Refused<'_, '_>,
+    kind: &ConfigParseErrorKind,
+) -> Result<(), AllocError> {
     match kind {
         ConfigParseErrorKind::InheritanceErrors(errors) => {
             for error in errors {

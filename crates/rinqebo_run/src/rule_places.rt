@@ -1,12 +1,18 @@
 //! Where rules stand.
+ghost use Rattle.std.specs.Prelude.{◌≡◌, IfOk};
+ghost use Rattle.nextest_rules.specs.View.{id_view};
+ghost use Rattle.rinqebo_run.specs.RulePlaces.{part_of, place_view, id_place, IsOriginOf};
+
+use crate::grounds::setting_path;
 use config_places::Step;
-use nextest_config::{ConfigSource, Tree};
+use nextest_config::{ConfigSource, OverrideId, Tree};
 use rinqebo_files::{Layer, path_place, place_of, rule_at};
 use rinqebo_report::{Origin, Part, Written};
+use rinqebo_request::SettingKey;
 use std::alloc::{AllocError, Global};
 
 /// The kinds of rules.
-#[derive(Clone, Copy)]
+#[derive(Clone, Copy, PartialEq, Eq)]
 pub enum RuleKind {
     /// An override.
     Override,
@@ -24,7 +30,9 @@ impl RuleKind {
     }
 
     /// The rule of this kind at a position.
-    fn part(self, index: usize) -> Part {
+    fn part(self, index: usize) -> Part
+        ensures { result ≡ part_of self index }
+    {
         match self {
             RuleKind::Override => Part::Override(index),
             RuleKind::Script => Part::Script(index),
@@ -46,6 +54,18 @@ pub struct RulePlace<'c> {
 }
 
 impl<'c> RulePlace<'c> {
+    /// Where an override stands.
+    pub fn of_override(id: &'c OverrideId) -> RulePlace<'c>
+        ensures { place_view result ≡ id_place (id_view id.now) }
+    {
+        RulePlace {
+            source: &id.config_source,
+            profile: id.profile_name.as_str(),
+            kind: RuleKind::Override,
+            index: id.index,
+        }
+    }
+
     /// The path of the rule.
     pub fn path(&self) -> [Step<'c>; 4] {
         [
@@ -62,7 +82,9 @@ impl<'c> RulePlace<'c> {
         alloc: Global,
         layers: &[Layer],
         path: &[Step],
-    ) -> Result<Origin, AllocError> {
+    ) -> Result<Origin, AllocError>
+        ensures { IfOk result (IsOriginOf (place_view self.now)) }
+    {
         let Some(place) = place_of(layers, self.source) else {
             return Ok(Origin::BuiltIn);
         };
@@ -74,8 +96,23 @@ impl<'c> RulePlace<'c> {
     }
 
     /// The rule, as it is reported.
-    pub fn origin(&self, alloc: Global, layers: &[Layer]) -> Result<Origin, AllocError> {
+    pub fn origin(&self, alloc: Global, layers: &[Layer]) -> Result<Origin, AllocError>
+        ensures { IfOk result (IsOriginOf (place_view self.now)) }
+    {
         self.origin_at(alloc, layers, &self.path())
+    }
+
+    /// Where the rule writes a setting.
+    pub fn origins_at_key(
+        &self,
+        alloc: Global,
+        layers: &[Layer],
+        key: SettingKey,
+    ) -> Result<Vec<Origin>, AllocError> {
+        let path = setting_path(alloc, &self.path(), key)?;
+        let mut origins = Vec::new(alloc);
+        origins.push(self.origin_at(alloc, layers, &path)?)?;
+        Ok(origins)
     }
 
     /// The table of the rule in its file.

@@ -1,7 +1,10 @@
 //! Answers a request, and writes what it answers.
-ghost use Rattle.std.specs.Prelude.{◌≡◌, ◌⊎◌, IsOk, IfOk, IfErr};
+ghost use Rattle.std.specs.Prelude.{◌≡◌, ◌⊎◌, ◌++◌, [], ◌∷◌, IsOk, IfOk, IfErr};
 ghost use Rattle.std.specs.Io.KnownBytes.{Appends};
 ghost use Rattle.std.specs.Result.{result_map_both};
+ghost use Rattle.config_shape.specs.FileForm.{file_form};
+ghost use Rattle.config_shape.specs.Page.{schema_data};
+ghost use Rattle.serde_json.specs.Written.{compact_text};
 ghost use Rattle.rinqebo_report.specs.Rendered.{rendered};
 ghost use Rattle.rinqebo_run.specs.Answered.{AnswersQuestion, IsAnswer, Tells};
 ghost use Rattle.rinqebo_run.specs.Refused.{Fails, IsFailureIn, IsToldBy};
@@ -10,8 +13,10 @@ ghost use Rattle.rinqebo_run.specs.Statuses.{IsStatus, IsAnswerStatus, failure_s
 use crate::answer::{Answer, Failure};
 use crate::check::check;
 use crate::explain::explain;
+use crate::list::list;
 use crate::session::Session;
 use crate::why::why;
+use config_shape::schema_page;
 use nextest_explain::refuse_for_memory;
 use rinqebo_files::{GatherFault, Gathered};
 use rinqebo_report::{Colour, Content, Format, Report, render, render_findings};
@@ -52,12 +57,18 @@ fn answer_in(alloc: Global, request: &Request<'_>, session: &Session<'_>) -> Res
             profile,
             test,
             settings,
-        } => answered(explain(alloc, request, session, *profile, test, settings)),
+        } => answered(explain(alloc, session, *profile, test, settings)),
         Question::Why {
             profile,
             test,
             setting,
-        } => answered(why(alloc, request, session, *profile, test, *setting)),
+        } => answered(why(alloc, session, *profile, test, *setting)),
+        Question::List {
+            profile,
+            mode,
+            asked,
+            ..
+        } => answered(list(alloc, session, *profile, *mode, asked)),
         Question::Check { deny_warnings } => check(alloc, session, *deny_warnings),
     }
 }
@@ -183,6 +194,19 @@ pub fn perform<O: Write, E: Write>(
     match answer_of(alloc, request, gathered) {
         Ok(answer) => tell_answer(alloc, request, &answer, out, err),
         Err(failure) => refuse(alloc, &failure, request.colour, err),
+    }
+}
+
+/// Writes the JSON schema of a file, and answers the exit status. Nothing is read for it.
+pub fn print_schema<O: Write, E: Write>(alloc: Global, out: &mut O, err: &mut E) -> u8
+    ensures status { (result ≡ 0) ⊎ (result ≡ 5) ⊎ (result ≡ 6) }
+    ensures page { result ≡ 0 → Appends (O.contents out.old) (O.contents out.new)
+        (compact_text (schema_data file_form) ++ 10 ∷ []) }
+    ensures quiet { result ≡ 5 → O.contents out.new ≡ O.contents out.old }
+{
+    match schema_page(alloc) {
+        Ok(text) => tell(text.as_str(), 0, out),
+        Err(_) => refuse_for_memory(err),
     }
 }
 

@@ -1,4 +1,4 @@
-//! What all commands begin with: engines, features, and the layers of the files.
+//! What all commands begin with: a list of tests, engines, features, and the layers of the files.
 ghost use Rattle.std.specs.Prelude.{◌≡◌, IfOk, IfErr, None, option_map};
 ghost use Rattle.nextest_rules.specs.KnownView.{features_view};
 ghost use Rattle.nextest_sources.specs.Inputs.{load_inputs_view};
@@ -9,18 +9,20 @@ ghost use Rattle.rinqebo_run.specs.Statuses.{IsBeginningFailure};
 
 use crate::answer::Failure;
 use crate::engines::Engines;
+use crate::triples::{Triples, listed_tests, triples_for};
 use nextest_config::run::Inputs;
 use nextest_config::{
-    ConfigExperimental, ConfigFileSelection, ConfigParseError, DefaultConfigWarnings, LoadedConfig,
-    ParseContext,
+    ConfigExperimental, ConfigFileSelection, ConfigParseError, ConfigPath, DefaultConfigWarnings,
+    FileInput, LoadedConfig, ParseContext, ReadOutcome, ToolConfigFile,
 };
 use nextest_filters::NextestFilters;
 use nextest_sources::ConfigInputs;
 use rinqebo_files::{Gathered, Layer, features_of, layers_of};
-use rinqebo_request::Request;
-use std::alloc::Global;
+use rinqebo_request::{ListFile, Request};
+use std::alloc::{AllocError, Global};
 use std::collections::BTreeSet;
 use target_language::TargetSpecs;
+use test_lists::ListedTests;
 
 /// A loaded configuration.
 pub type Config = LoadedConfig<NextestFilters, TargetSpecs>;
@@ -29,6 +31,10 @@ pub type Config = LoadedConfig<NextestFilters, TargetSpecs>;
 #[derive(Drop)]
 pub struct Session<'g> {
     pub gathered: &'g Gathered,
+    /// The tests of the list that is asked about. Without a list there are none.
+    pub tests: ListedTests,
+    /// The triples of the build.
+    pub triples: Triples,
     pub engines: Engines,
     pub features: BTreeSet<ConfigExperimental>,
     /// The sources, the lowest first.
@@ -45,11 +51,16 @@ impl<'g> Session<'g> {
         ensures begun { IfOk result (IsSessionOf request.now gathered.now) }
         ensures err { IfErr result IsBeginningFailure }
     {
+        let path = request.list().map_or("", ListFile::path);
+        let tests = listed_tests(alloc, path, gathered)?;
+        let triples = triples_for(alloc, &request.engines, &tests)?;
         Ok(Session {
             gathered,
-            engines: Engines::new(alloc, &request.engines, gathered)?,
+            engines: Engines::new(alloc, &triples, gathered)?,
             features: features_of(alloc, &request.features, gathered)?,
             layers: layers_of(alloc, gathered)?,
+            tests,
+            triples,
         })
     }
 
@@ -111,18 +122,49 @@ impl<'g> Session<'g> {
         }
     }
 
-    /// Why the repository's file is refused without the files of tools, if it is.
-    pub fn refusal_alone(&self, alloc: Global) -> Option<ConfigParseError> {
+    /// Why files are refused, if they are: the repository's, and those of tools.
+    fn refusal_of(
+        &self,
+        alloc: Global,
+        shared: &FileInput,
+        selection: ConfigFileSelection<'_>,
+        tools: &[ToolConfigFile],
+        warnings: &mut DefaultConfigWarnings,
+    ) -> Option<ConfigParseError> {
         let inputs = ConfigInputs {
-            shared: &self.gathered.paths.shared,
-            selection: self.selection(),
-            tools: &[],
+            shared,
+            selection,
+            tools,
             features: &self.features,
         };
-        let mut warnings = DefaultConfigWarnings::new(alloc);
-        match LoadedConfig::load(alloc, &inputs, &self.parse_context(), &mut warnings) {
+        match LoadedConfig::load(alloc, &inputs, &self.parse_context(), warnings) {
             Ok(_) => None,
             Err(error) => Some(error),
         }
+    }
+
+    /// Why the file at a place among the layers is refused without the other files, if it is.
+    /// Warnings are told as they are met.
+    pub fn refusal_alone(
+        &self,
+        alloc: Global,
+        place: usize,
+        warnings: &mut DefaultConfigWarnings,
+    ) -> Result<Option<ConfigParseError>, AllocError> {
+        let shared = &self.gathered.paths.shared;
+        let tools = self.gathered.tools.as_slice();
+        let Some(index) = tools.len().checked_sub(place) else {
+            return Ok(self.refusal_of(alloc, shared, self.selection(), &[], warnings));
+        };
+        if index >= tools.len() {
+            return Ok(None);
+        }
+        let absent = FileInput {
+            path: ConfigPath::new(alloc, shared.path.absolute_path())?,
+            outcome: ReadOutcome::NotFound,
+        };
+        let tool = &tools[index..index + 1];
+        let selection = ConfigFileSelection::new(None);
+        Ok(self.refusal_of(alloc, &absent, selection, tool, warnings))
     }
 }

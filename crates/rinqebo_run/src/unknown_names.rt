@@ -43,7 +43,7 @@ fn first_naming<'k>(
 /// The path at which the first rule of a list of a profile has a name at one of some keys. It is
 /// that of the list where none does.
 fn naming_path(
-    refused: &Refused<'_>,
+    refused: &Refused<'_, '_>,
     profile: &str,
     list: &str,
     keys: &[&str],
@@ -58,7 +58,7 @@ fn naming_path(
 
 /// Adds that a group is not known.
 pub fn add_unknown_group(
-    refused: &mut Refused<'_>,
+    refused: &mut Refused<'_, '_>,
     error: &UnknownTestGroupError,
     known: &BTreeSet<String>,
 ) -> Result<(), AllocError> {
@@ -73,7 +73,7 @@ pub fn add_unknown_group(
 
 /// Adds what is wrong with a script that a rule of a profile names at one of some keys.
 fn add_script(
-    refused: &mut Refused<'_>,
+    refused: &mut Refused<'_, '_>,
     profile: &str,
     name: &str,
     keys: &[&str],
@@ -85,7 +85,7 @@ fn add_script(
 
 /// Adds the scripts that are not known.
 fn add_unknown_scripts(
-    refused: &mut Refused<'_>,
+    refused: &mut Refused<'_, '_>,
     errors: &ProfileScriptErrors,
     known: &BTreeSet<String>,
 ) -> Result<(), AllocError> {
@@ -103,7 +103,7 @@ fn add_unknown_scripts(
 
 /// Adds what is wrong with the scripts that rules name.
 pub fn add_script_errors(
-    refused: &mut Refused<'_>,
+    refused: &mut Refused<'_, '_>,
     errors: &ProfileScriptErrors,
     known: &BTreeSet<String>,
 ) -> Result<(), AllocError> {

@@ -19,18 +19,19 @@ ghost use Rattle.target_language.specs.declared.expression.TargetSpec.{TargetSpe
 use crate::answer::Failure;
 use crate::binary::query_of;
 use crate::chain_rules::{SettingRule, rules_for};
-use crate::check::{failure_of_load, failure_of_profile, report_of};
+use crate::check::report_of;
 use crate::conditions::{Answers, Asking, answers_of, default_filter};
 use crate::explain::asked_of;
 use crate::fallback::fallback_value;
 use crate::findings::warning_findings;
 use crate::grounds::{built_in, profile_grounds};
-use crate::rules::{chain_of_profile, has_profile, missing_profile};
+use crate::loading::config_with;
+use crate::rules::chain_of_profile;
 use crate::session::{Config, Session};
 use nextest_config::{DefaultConfigWarnings, NextestRunMode, Setting};
 use rinqebo_files::{Layer, host_text, target_text, text_at};
 use rinqebo_report::{Condition, ConditionAnswer, Content, Origin, Report, Rule, Verdict};
-use rinqebo_request::{Request, SettingKey, TestName};
+use rinqebo_request::{SettingKey, TestName};
 use rinqebo_values::reported_if_set;
 use rule_verdicts::{RuleFacts, verdicts_of};
 use std::alloc::{AllocError, Global};
@@ -242,7 +243,6 @@ fn rules_and_fallback<'c>(
 /// The rules of a setting, by a configuration.
 fn reasons<'c>(
     alloc: Global,
-    request: &Request<'_>,
     session: &'c Session<'_>,
     config: &'c Config,
     profile: &'c str,
@@ -258,7 +258,7 @@ fn reasons<'c>(
         profile.now test.now setting rules)) }
 {
     let chain = chain_of_profile(alloc, config, profile)?;
-    let asked = asked_of(alloc, request, profile, &chain, test.mode)?;
+    let asked = asked_of(alloc, session, profile, &chain, test.mode)?;
     let key = SettingKey::of(setting, test.mode).text(alloc)?;
     let rules = rules_and_fallback(alloc, session, config, &chain, test, setting)?;
     Ok(Content::Why { asked, key, rules })
@@ -267,7 +267,6 @@ fn reasons<'c>(
 /// The rules of a setting, and what comes of each.
 pub fn why(
     alloc: Global,
-    request: &Request<'_>,
     session: &Session<'_>,
     profile: &str,
     test: &TestName<'_>,
@@ -277,15 +276,8 @@ pub fn why(
     ensures err { IfErr result (IsFailureAbout session.now profile.now) }
 {
     let mut warnings = DefaultConfigWarnings::new(alloc);
-    let config = match session.load(alloc, &mut warnings) {
-        Ok(config) => config,
-        Err(error) => return Err(failure_of_load(alloc, session, &warnings, &error)?),
-    };
-    if !has_profile(&config, profile) {
-        let missing = missing_profile(alloc, &config, profile)?;
-        return Err(failure_of_profile(alloc, session, &warnings, &missing)?);
-    }
-    let content = reasons(alloc, request, session, &config, profile, test, setting)?;
+    let config = config_with(alloc, session, profile, &mut warnings)?;
+    let content = reasons(alloc, &*session, &config, profile, test, setting)?;
     let findings = warning_findings(alloc, &session.layers, &warnings)?;
     let report = report_of(alloc, session, findings, Vec::new(alloc), content)?;
     Ok(report)

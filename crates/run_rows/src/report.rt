@@ -3,8 +3,8 @@ use crate::case::Case;
 use nextest_config::ReadOutcome;
 use nextest_explain::FileReader;
 use rinqebo_files::gather;
-use rinqebo_request::parse;
-use rinqebo_run::{perform, refuse_gathering, refuse_words};
+use rinqebo_request::{Command, parse};
+use rinqebo_run::{perform, print_schema, refuse_gathering, refuse_words};
 use std::alloc::{AllocError, Global};
 
 /// Runs over the files of a case, and answers the status.
@@ -16,7 +16,8 @@ fn run(
     err: &mut Vec<u8>,
 ) -> Result<u8, AllocError> {
     let request = match parse(alloc, words, &case.environment) {
-        Ok(request) => request,
+        Ok(Command::Answer(request)) => request,
+        Ok(Command::Schema) => return Ok(print_schema(alloc, out, err)),
         Err(stop) => return Ok(refuse_words(&stop, out, err)),
     };
     let input = if request.reads_input() {

@@ -5,5 +5,6 @@ pub returns-clause-begun : goal.returns-clause-begun
 returns-clause-begun c = record {
   read = refl;
   features = c.in_ok-features_of.ensures;
-  platforms = c.in_ok-new.ensures;
+  tests = c.in_ok-tests.ensures;
+  platforms = rw (c.in_ok-triples.ensures.host, c.in_ok-triples.ensures.target) at c.in_ok-new.ensures;
 }

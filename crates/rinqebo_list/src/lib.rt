@@ -1,0 +1,20 @@
+//! What a profile gives to each test of a list: the settings that are told, and the rules that hold
+//! for no test.
+//!
+//! A configuration is loaded once, by the caller. Its profile on the platforms of the build answers
+//! the settings of one test after another, and beside them only one flag is kept for each rule.
+#![tactic(auto)]
+
+mod judged;
+mod laws;
+mod lister;
+mod origins;
+mod rows;
+mod rule_use;
+mod values;
+
+pub use judged::ListRule;
+pub use laws::law_unused;
+pub use lister::{Asking, ListedRows};
+pub use origins::{Decider, OriginTeller};
+pub use rule_use::RuleUse;

@@ -1,0 +1,72 @@
+-- Pages on which tests are put together where the same is told of them.
+use Rattle.std.specs.Prelude.{ℕ, List, [], ◌∷◌, ◌++◌, Bool, Option, None, Some, option_map, length, filter, flat_map, fold, codes, string_bytes, if◌then◌else◌}
+use Rattle.std.specs.List.{list_any}
+use Rattle.std.specs.Str.{bytes_eq}
+use Rattle.rinqebo_report.specs.declared.origin.Origin.{Origin}
+use Rattle.rinqebo_report.specs.declared.origin.Source.{Source}
+use Rattle.rinqebo_report.specs.declared.piece.Colour.TheVariants as colours
+use Rattle.rinqebo_report.specs.declared.piece.Style.TheVariants as styles
+use Rattle.rinqebo_report.specs.declared.report.Content.{Content}
+use Rattle.rinqebo_report.specs.declared.report.Content.TheVariants as contents
+use Rattle.rinqebo_report.specs.declared.report.Report.{Report}
+use Rattle.rinqebo_report.specs.declared.report.SettingRow.{SettingRow}
+use Rattle.rinqebo_report.specs.declared.report.TestRows.{TestRows}
+use Rattle.rinqebo_report.specs.Pages.{plain, absent_runs, test_line_runs, count_runs, unused_runs, content_runs}
+use Rattle.rinqebo_report.specs.Pieces.{Run, styled, ending, page_text}
+use Rattle.rinqebo_report.specs.TomlText.{value_text}
+
+-- a setting and its value, or that it has none
+abbrev pub told_line_runs : List ℕ → Option (List ℕ) → List Run
+told_line_runs key (Some value) =
+    styled styles.Key key ∷ plain (codes " = ") ∷ plain value ∷ ending ∷ []
+told_line_runs key None = absent_runs key
+
+-- what is told of a setting
+abbrev pub told_row_runs : SettingRow → List Run
+told_row_runs row = told_line_runs (string_bytes row.key) (option_map value_text row.value)
+
+-- what is told of a test, a line for each setting
+abbrev pub told_runs : TestRows → List Run
+told_runs test = flat_map told_row_runs test.settings.items
+
+-- what is told of a test, as a text
+abbrev pub told_text : TestRows → List ℕ
+told_text test = page_text colours.Plain (told_runs test)
+
+-- whether a text is told of a test
+abbrev pub has_told : List ℕ → TestRows → Bool
+has_told text test = bytes_eq (told_text test) text
+
+-- tests, and another one, if what is told of it is told of none of them
+abbrev pub with_first : List TestRows → TestRows → List TestRows
+with_first found test =
+    if list_any (has_told (told_text test)) found then found else found ++ test ∷ []
+
+-- of tests those that are the first of which something is told, in their order
+abbrev pub firsts : List TestRows → List TestRows
+firsts tests = fold with_first [] tests
+
+-- a test of a group, behind four spaces
+abbrev pub grouped_test_runs : TestRows → List Run
+grouped_test_runs test =
+    plain (codes "    ") ∷ test_line_runs (string_bytes test.binary) (string_bytes test.name)
+
+-- the group of a test: what is told of it, and all tests of which the same is told
+abbrev pub group_runs : List TestRows → TestRows → List Run
+group_runs tests first =
+    told_runs first ++ flat_map grouped_test_runs (filter (has_told (told_text first)) tests)
+
+-- tests in groups, in the order of the first test of each
+abbrev pub groups_runs : List TestRows → List Run
+groups_runs tests = flat_map (group_runs tests) (firsts tests)
+
+-- tests in groups, how many tests there are, and the rules that hold for none
+abbrev pub grouped_runs : List ℕ → List Source → List TestRows → List Origin → List Run
+grouped_runs root sources tests unused =
+    groups_runs tests ++ (count_runs (length tests) ++ flat_map (unused_runs root sources) unused)
+
+-- the page of what a command answers, with the tests of a list in groups
+abbrev pub grouped_content_runs : Report → Content → List Run
+grouped_content_runs report (contents.List asked tests unused) =
+    grouped_runs (string_bytes report.root) report.sources.items tests.items unused.items
+grouped_content_runs report content = content_runs report content

@@ -1,0 +1,193 @@
+//! The page of groups: tests, put together where the same is told of them.
+ghost use Rattle.std.specs.Prelude.{◌≡◌, ◌++◌, Some, IfOk, OnOk, filter, flat_map, map, string_bytes};
+ghost use Rattle.std.specs.List.{list_any};
+ghost use Rattle.rinqebo_report.specs.Groups.{told_line_runs, told_row_runs, told_runs, told_text, has_told, firsts, grouped_test_runs, group_runs, groups_runs, grouped_runs};
+ghost use Rattle.rinqebo_report.specs.Pieces.{page_text};
+
+use crate::explain_page::add_absent;
+use crate::list_page::{add_count, add_test_line, add_unused};
+use crate::origin::{Origin, Source};
+use crate::piece::{Colour, Piece, Style, add_pieces};
+use crate::report::{SettingRow, TestRows};
+use crate::toml_text::value_text;
+use std::alloc::{AllocError, Global};
+
+/// Writes a setting and its value.
+fn add_told_value<'x>(
+    out: &mut String,
+    colour: Colour,
+    key: &'x str,
+    value: &'x str,
+) -> Result<(), AllocError>
+    ensures { OnOk result (string_bytes out.new ≡ string_bytes out.old
+        ++ page_text colour (told_line_runs key.now (Some value.now))) }
+{
+    add_pieces(
+        out,
+        colour,
+        &[
+            Piece::Text(Style::Key, key),
+            Piece::Text(Style::Plain, " = "),
+            Piece::Text(Style::Plain, value),
+            Piece::End,
+        ],
+    )
+}
+
+/// Writes what is told of a setting.
+fn add_told_row(
+    alloc: Global,
+    out: &mut String,
+    colour: Colour,
+    row: &SettingRow,
+) -> Result<(), AllocError>
+    ensures { OnOk result (string_bytes out.new ≡ string_bytes out.old
+        ++ page_text colour (told_row_runs row.now)) }
+{
+    let key = row.key.as_str();
+    match &row.value {
+        Some(value) => {
+            let value = value_text(alloc, value)?;
+            add_told_value(out, colour, key, value.as_str())
+        }
+        None => add_absent(alloc, out, colour, key),
+    }
+}
+
+/// Writes what is told of a test.
+fn add_told(
+    alloc: Global,
+    out: &mut String,
+    colour: Colour,
+    test: &TestRows,
+) -> Result<(), AllocError>
+    ensures { OnOk result (string_bytes out.new ≡ string_bytes out.old
+        ++ page_text colour (told_runs test.now)) }
+{
+    for row in &test.settings {
+        add_told_row(alloc, out, colour, row)?;
+    }
+    Ok(())
+}
+
+/// What is told of a test, as a text.
+fn told_text(alloc: Global, test: &TestRows) -> Result<String, AllocError>
+    ensures { IfOk result (λ text. string_bytes text ≡ told_text test.now) }
+{
+    let mut text = String::new(alloc);
+    add_told(alloc, &mut text, Colour::Plain, test)?;
+    Ok(text)
+}
+
+/// Whether a text is told of a test.
+fn has_told(alloc: Global, test: &TestRows, text: &str) -> Result<bool, AllocError>
+    ensures { IfOk result (λ has. has ≡ has_told text.now test.now) }
+{
+    let told = told_text(alloc, test)?;
+    Ok(told.as_str() == text)
+}
+
+/// Whether a text is told of one of some tests.
+fn is_told(alloc: Global, tests: &[&TestRows], text: &str) -> Result<bool, AllocError>
+    ensures { IfOk result (λ is. is
+        ≡ list_any (has_told text.now) (map (λ test. test.now) tests.now)) }
+{
+    for test in tests {
+        if has_told(alloc, *test, text)? {
+            return Ok(true);
+        }
+    }
+    Ok(false)
+}
+
+/// Of tests those that are the first of which something is told.
+fn firsts<'t>(alloc: Global, tests: &'t [TestRows]) -> Result<Vec<&'t TestRows>, AllocError>
+    ensures { IfOk result (λ found. map (λ test. test.now) found.items ≡ firsts tests.now) }
+{
+    let mut found: Vec<&'t TestRows> = Vec::new(alloc);
+    for test in tests {
+        let text = told_text(alloc, test)?;
+        if !is_told(alloc, &found, text.as_str())? {
+            found.push(test)?;
+        }
+    }
+    Ok(found)
+}
+
+/// Writes a test of a group.
+fn add_grouped_test(out: &mut String, colour: Colour, test: &TestRows) -> Result<(), AllocError>
+    ensures { OnOk result (string_bytes out.new ≡ string_bytes out.old
+        ++ page_text colour (grouped_test_runs test.now)) }
+{
+    add_pieces(out, colour, &[Piece::Text(Style::Plain, "    ")])?;
+    add_test_line(out, colour, test.binary.as_str(), test.name.as_str())
+}
+
+/// Writes the tests of which a text is told.
+fn add_grouped_tests(
+    alloc: Global,
+    out: &mut String,
+    colour: Colour,
+    tests: &[TestRows],
+    text: &str,
+) -> Result<(), AllocError>
+    ensures { OnOk result (string_bytes out.new ≡ string_bytes out.old ++ page_text colour
+        (flat_map grouped_test_runs (filter (has_told text.now) tests.now))) }
+{
+    for test in tests {
+        if has_told(alloc, test, text)? {
+            add_grouped_test(out, colour, test)?;
+        }
+    }
+    Ok(())
+}
+
+/// Writes the group of a test.
+fn add_group(
+    alloc: Global,
+    out: &mut String,
+    colour: Colour,
+    tests: &[TestRows],
+    first: &TestRows,
+) -> Result<(), AllocError>
+    ensures { OnOk result (string_bytes out.new ≡ string_bytes out.old
+        ++ page_text colour (group_runs tests.now first.now)) }
+{
+    let text = told_text(alloc, first)?;
+    add_told(alloc, out, colour, first)?;
+    add_grouped_tests(alloc, out, colour, tests, text.as_str())
+}
+
+/// Writes tests in groups.
+fn add_groups(
+    alloc: Global,
+    out: &mut String,
+    colour: Colour,
+    tests: &[TestRows],
+) -> Result<(), AllocError>
+    ensures { OnOk result (string_bytes out.new ≡ string_bytes out.old
+        ++ page_text colour (groups_runs tests.now)) }
+{
+    for first in &firsts(alloc, tests)? {
+        add_group(alloc, out, colour, tests, *first)?;
+    }
+    Ok(())
+}
+
+/// Writes the page of a list whose tests are put into groups.
+pub(crate) fn add_grouped(
+    alloc: Global,
+    out: &mut String,
+    colour: Colour,
+    root: &str,
+    sources: &[Source],
+    tests: &[TestRows],
+    unused: &[Origin],
+) -> Result<(), AllocError>
+    ensures { OnOk result (string_bytes out.new ≡ string_bytes out.old
+        ++ page_text colour (grouped_runs root.now sources.now tests.now unused.now)) }
+{
+    add_groups(alloc, out, colour, tests)?;
+    add_count(out, colour, tests.len() as u64)?;
+    add_unused(alloc, out, colour, root, sources, unused)
+}

@@ -1,0 +1,240 @@
+-- What is told of the tests of a list and of the rules that hold for none.
+use Rattle.std.proofs.Common.{◌≡◌, ◌∙◌, List, [], ◌∷◌, ◌++◌, Bool, true, false, cond, not, map, Option, ap, filter, refl, string_bytes, subst, sym}
+use Rattle.std.proofs.lemmas.List.{map-append}
+use Rattle.std.specs.List.{AllZip}
+use Rattle.filter_language.specs.Filtersets.{marks_view}
+use Rattle.filter_language.specs.declared.filterset.Filterset.{Filterset}
+use Rattle.nextest_elements.specs.declared.run_mode.NextestRunMode.{NextestRunMode}
+use Rattle.nextest_engines.specs.Engines.{Test}
+use Rattle.nextest_engines.specs.declared.queries.BuildPlatforms.{BuildPlatforms}
+use Rattle.nextest_filters.specs.Compiling.{names_of}
+use Rattle.nextest_filters.specs.Engine.{Filter}
+use Rattle.nextest_filters.specs.declared.compiling.FieldMatcher.{FieldMatcher}
+use Rattle.nextest_inheritance.proofs.Chains.{lead_default_one}
+use Rattle.nextest_inheritance.specs.Parents.{parents_in, with_default, IsChain}
+use Rattle.nextest_load.specs.Config.{ConfigModel, config_parents}
+use Rattle.nextest_load.specs.Load.{Loaded}
+use Rattle.nextest_profiles.proofs.MeaningOfTexts.{profile_means}
+use Rattle.nextest_profiles.specs.Meaning.{configured_meaning, profile_meaning}
+use Rattle.nextest_profiles.specs.Profiles.{IsChainAndDefault}
+use Rattle.nextest_rules.specs.Rules.{Compiled, Layer, OverrideUse}
+use Rattle.nextest_settings.specs.Chains.{in_order, overrides_of, script_rules_of}
+use Rattle.nextest_settings.specs.Deciding.{QueryContext}
+use Rattle.nextest_settings.specs.Platforms.{EvaluatedRule, rule_on}
+use Rattle.nextest_settings.specs.Profile.{Configured, EvaluatableModel, profile_of, profile_on}
+use Rattle.nextest_settings.specs.Queries.{query_in}
+use Rattle.nextest_settings.specs.View.{evaluated_override_meaning, evaluated_script_rule_meaning}
+use Rattle.nextest_tables.specs.FileTexts.{ScriptUse, names_in, IsIn}
+use Rattle.nextest_tables.specs.Written.{Name}
+use Rattle.rinqebo_list.specs.Rows.{AreTestsTold}
+use Rattle.rinqebo_list.specs.Unused.{is_used, unused_among}
+use Rattle.rinqebo_list.specs.Uses.{meant_on}
+use Rattle.rinqebo_report.specs.declared.origin.Origin.{Origin}
+use Rattle.rinqebo_report.specs.declared.report.Content.{Content}
+use Rattle.rinqebo_report.specs.declared.report.Report.{Report}
+use Rattle.rinqebo_report.specs.declared.report.TestRows.{TestRows}
+use Rattle.rinqebo_request.specs.declared.request.AskedSettings.{AskedSettings}
+use Rattle.target_language.specs.Expressions.{Spec, spec_view}
+use Rattle.target_language.specs.declared.expression.TargetSpec.{TargetSpec}
+use Rattle.test_lists.specs.ListView.{list_view}
+use Rattle.test_lists.specs.Lists.{all_tests}
+use Rattle.rinqebo_run.specs.Checked.{AreAccepted}
+use Rattle.rinqebo_run.specs.Conditions.{is_met_by}
+use Rattle.rinqebo_run.specs.ListRules.{bare, writing, placed_view, placed_override, listed_script, AreRulesOf}
+use Rattle.rinqebo_run.specs.Listed.{IsProfileOn, bare_on, placed_on, AreUnused, AreTestsOf, IfListed, TellsTests}
+use Rattle.rinqebo_run.specs.ListedBy.{read_by, listed_by, AreUnusedPlaces}
+use Rattle.rinqebo_run.specs.RulePlaces.{Place, place_view, IsOriginOf}
+use Rattle.rinqebo_run.specs.RuleViews.{setting_rule_view}
+use Rattle.rinqebo_run.specs.Sessions.{files_view, readings, IsLoadedFrom}
+use Rattle.rinqebo_run.specs.SettingRules.{for_setting, wrapper_written}
+use Rattle.rinqebo_run.specs.declared.chain_rules.SettingRule.{SettingRule}
+use Rattle.rinqebo_run.specs.declared.rule_places.RulePlace.{RulePlace}
+use Rattle.rinqebo_run.specs.declared.session.Session.{Session}
+
+-- what holds of each and what is told of it holds of what is made of each
+pub zip_mapped : {A B C : Type 0} (f : A → B) (R : B → C → Type 0) (xs : List A) (ys : List C)
+    → AllZip (λ x. R (f x)) xs ys → AllZip R (map f xs) ys
+zip_mapped f R [] [] all = tt
+zip_mapped f R [] (y ∷ ys) all = absurd all
+zip_mapped f R (x ∷ xs) [] all = absurd all
+zip_mapped f R (x ∷ xs) (y ∷ ys) all = (all.0, zip_mapped f R xs ys all.1)
+
+-- origins tell the same rules by another name
+pub told_of : (rules others : List RulePlace) (origins : List Origin) → rules ≡ others
+    → AllZip IsOriginOf (map place_view rules) origins → AllZip IsOriginOf (map place_view others) origins
+told_of rules others origins same told = subst (λ rs. AllZip IsOriginOf (map place_view rs) origins) same told
+
+-- script rules as lists take them are those with the run wrappers that they name, but for what they write
+pub bare_scripts : (rules : List SettingRule)
+    → map bare (map placed_view (map listed_script rules)) ≡ map bare (map setting_rule_view rules)
+bare_scripts [] = refl
+bare_scripts (rule ∷ rules) = ap (λ rest. bare (setting_rule_view rule) ∷ rest) (bare_scripts rules)
+
+-- what rules write does not matter where it is left out
+pub bare_wrappers : {M K : Type 0} (rules : List (Compiled M K ScriptUse))
+    → map bare (map (for_setting wrapper_written) rules) ≡ map bare rules
+bare_wrappers [] = refl
+bare_wrappers (rule ∷ rules) = ap (λ rest. bare rule ∷ rest) (bare_wrappers rules)
+
+-- all rules of a chain
+pub rules_of_chain : (layers : List (Layer (Filterset FieldMatcher) TargetSpec)) (names : List Name)
+    (overrides all : List (Compiled (Filterset FieldMatcher) TargetSpec RulePlace)) (scripts : List SettingRule)
+    → map placed_view overrides ≡ map placed_override (overrides_of layers names)
+    → map bare (map setting_rule_view scripts) ≡ map bare (script_rules_of layers names)
+    → all ≡ overrides ++ map listed_script scripts → AreRulesOf layers names (map placed_view all)
+rules_of_chain layers names overrides all scripts placed same are =
+    let there = map listed_script scripts in
+    record {
+      scripts = map placed_view there;
+      are = ap (map placed_view) are ∙ map-append placed_view overrides there
+          ∙ ap (λ front. front ++ map placed_view there) placed;
+      same_scripts = bare_scripts scripts ∙ same;
+    }
+
+both : {A B X : Type 0} (g : B → X) (f : A → B) (xs : List A) → map g (map f xs) ≡ map (λ a. g (f a)) xs
+both g f [] = refl
+both g f (x ∷ xs) = ap (λ rest. g (f x) ∷ rest) (both g f xs)
+
+kept_alike : {A B X : Type 0} (f : A → X) (g : B → X) (used : Bool) (x : A) (y : B) (xs : List A) (ys : List B)
+    → f x ≡ g y → map f xs ≡ map g ys
+    → map f (cond (not used) (x ∷ xs) xs) ≡ map g (cond (not used) (y ∷ ys) ys)
+kept_alike f g true x y xs ys same rest = rest
+kept_alike f g false x y xs ys same rest = λ i. same i ∷ rest i
+
+module _ {E N M K P : Type 0} (f : E → M) (g : N → K) (meets : K → P → Option Bool)
+    (platforms : BuildPlatforms P) where
+  -- whether a spec that was read is met
+  abbrev pub read_meets : N → P → Option Bool
+  read_meets spec platform = meets (g spec) platform
+
+  -- a rule that was read, by what it means on the platforms
+  abbrev pub meant_here : {W : Type 0} → Compiled E N W → EvaluatedRule M W
+  meant_here rule = meant_on f read_meets platforms rule
+
+  -- where the rules stand that hold for no test
+  pub places_unused : (tests : List (QueryContext M)) (rules : List (Compiled E N RulePlace))
+      → map place_view (map (λ rule. rule.writes) (unused_among tests (map meant_here rules)))
+      ≡ map (λ rule. rule.writes) (unused_among tests (map meant_here (map placed_view rules)))
+  places_unused tests [] = refl
+  places_unused tests (rule ∷ rules) =
+      let here = meant_here rule in
+      let there = meant_here (placed_view rule) in
+      let rest = unused_among tests (map meant_here rules) in
+      let others = unused_among tests (map meant_here (map placed_view rules)) in
+      let written : EvaluatedRule M RulePlace → RulePlace = λ r. r.writes in
+      both place_view written (unused_among tests (here ∷ map meant_here rules))
+      ∙ kept_alike (λ r. place_view r.writes) (λ r. r.writes) (is_used tests here) here there rest others refl
+      (sym (both place_view written rest) ∙ places_unused tests rules)
+
+  overrides_placed : (rules : List (Compiled E N (OverrideUse E)))
+      → map meant_here (map placed_override rules)
+      ≡ map placed_on (map (evaluated_override_meaning f) (map (rule_on read_meets platforms) rules))
+  overrides_placed [] = refl
+  overrides_placed (rule ∷ rules) = ap (λ rest. meant_here (placed_override rule) ∷ rest) (overrides_placed rules)
+
+  bare_meant : {W : Type 0} (rules : List (Compiled E N W))
+      → map bare_on (map meant_here rules) ≡ map meant_here (map bare rules)
+  bare_meant [] = refl
+  bare_meant (rule ∷ rules) = ap (λ rest. meant_here (bare rule) ∷ rest) (bare_meant rules)
+
+  scripts_meant : (rules : List (Compiled E N ScriptUse))
+      → map bare_on (map (evaluated_script_rule_meaning f) (map (rule_on read_meets platforms) rules))
+      ≡ map meant_here (map bare rules)
+  scripts_meant [] = refl
+  scripts_meant (rule ∷ rules) = ap (λ rest. meant_here (bare rule) ∷ rest) (scripts_meant rules)
+
+  module _ (c : Configured E N) (name : Name) (on : EvaluatableModel E)
+      (is : IsProfileOn read_meets platforms c name on) where
+    -- what the profile of a name means
+    pub given_means : IsProfileOn meets platforms (configured_meaning f g c) name (profile_meaning f on)
+    given_means = record {
+      chain = is.chain;
+      is_chain = is.is_chain;
+      is_profile = ap (profile_meaning f) is.is_profile ∙ profile_means f g meets platforms c name is.chain;
+    }
+
+    -- the names of a chain are those of the profile
+    pub same_names : (names : List Name)
+        → IsChainAndDefault (parents_in (config_parents c.config)) name names → names ≡ with_default is.chain
+    same_names names chain =
+        chain.is
+        ∙ ap with_default (lead_default_one (parents_in (config_parents c.config)) name chain.chain is.chain
+        chain.is_chain.leads is.is_chain.leads)
+
+    -- the rules that hold for no test are told
+    pub unused_told : (names : List Name) (tests : List (QueryContext M)) (rules : List (Compiled E N Place))
+        (unused : List Origin) → names ≡ with_default is.chain → AreRulesOf c.config.layers names rules
+        → AllZip IsOriginOf (map (λ rule. rule.writes) (unused_among tests (map meant_here rules))) unused
+        → AreUnused tests (profile_meaning f on) unused
+    unused_told names tests rules unused same are told =
+        let chain = with_default is.chain in
+        let layers = c.config.layers in
+        let profile = profile_on read_meets platforms (profile_of c name is.chain) in
+        let scripts = map meant_here are.scripts in
+        let overrides : map meant_here (map placed_override (overrides_of layers names))
+        ≡ map placed_on (profile_meaning f on).overrides =
+        ap (λ ns. map meant_here (map placed_override (overrides_of layers ns))) same
+        ∙ overrides_placed (overrides_of layers chain)
+        ∙ ap (λ p. map placed_on (profile_meaning f p).overrides) (sym is.is_profile) in
+        let rules_meant : map meant_here rules ≡ map placed_on (profile_meaning f on).overrides ++ scripts =
+        ap (map meant_here) are.are
+        ∙ map-append meant_here (map placed_override (overrides_of layers names)) are.scripts
+        ∙ ap (λ front. front ++ scripts) overrides in
+        record {
+          scripts = scripts;
+          same_scripts = bare_meant are.scripts ∙ ap (map meant_here) are.same_scripts
+              ∙ ap (λ ns. map meant_here (map bare (script_rules_of layers ns))) same
+              ∙ sym (scripts_meant (script_rules_of layers chain))
+              ∙ ap (λ p. map bare_on (profile_meaning f p).script_rules) (sym is.is_profile);
+          told = subst (λ rs. AllZip IsOriginOf (map (λ rule. rule.writes) (unused_among tests rs)) unused)
+              rules_meant told;
+        }
+
+-- tests and rules are told by a configuration that was loaded
+pub listed_here : (session : Session) (loaded : Loaded (Filterset FieldMatcher) TargetSpec) (name : Name)
+    (mode : NextestRunMode) (asked : AskedSettings) (on : EvaluatableModel (Filterset FieldMatcher))
+    (names : List Name) (places : List Place) (tests : List TestRows) (unused : List Origin)
+    → IsProfileOn is_met_by session.engines.platforms (read_by session loaded) name on
+    → IsChainAndDefault (parents_in (config_parents loaded.config)) name names
+    → AreTestsTold (readings session.engines.filters).matches_test mode (profile_meaning (marks_view names_of) on)
+    asked (all_tests (list_view session.tests)) tests
+    → AreUnusedPlaces session.engines.platforms loaded.config.layers names (profile_meaning (marks_view names_of) on)
+    (all_tests (list_view session.tests)) places
+    → AllZip IsOriginOf places unused → listed_by session loaded name mode asked tests unused
+listed_here session loaded name mode asked on names places tests unused is chain told are origins =
+    let engines = readings session.engines.filters in
+    let platforms = session.engines.platforms in
+    let f = marks_view names_of in
+    let c = read_by session loaded in
+    record {
+      profile = profile_meaning f on;
+      is_profile = given_means f spec_view engines.meets platforms c name on is;
+      tests_told = told;
+      unused_told = unused_told f spec_view engines.meets platforms c name on is names _ are.rules unused
+          (same_names f spec_view engines.meets platforms c name on is names chain) are.are_rules
+          (subst (λ ps. AllZip IsOriginOf ps unused) are.are origins);
+    }
+
+-- a report tells the tests of a list by what was loaded
+pub tells_tests : (session : Session) (profile : Name) (mode : NextestRunMode) (asked : AskedSettings)
+    (report : Report) (content : Content) (loaded : Loaded (Filterset FieldMatcher) TargetSpec) → AreAccepted session
+    → IsLoadedFrom (readings session.engines.filters) (files_view session.gathered.now) loaded
+    → IsIn (names_in loaded.config.profiles) profile → report.content ≡ content
+    → IfListed content (listed_by session loaded profile mode asked) → TellsTests session profile mode asked report
+tells_tests session profile mode asked report content loaded accepted from there same is =
+    let engines = readings session.engines.filters in
+    let Listed : Content → ConfigModel Filter Spec → Type 0 =
+    λ content config. IfListed content (AreTestsOf engines.meets engines.matches_test session.engines.platforms
+    (record {
+      root = string_bytes session.gathered.now.paths.workspace_root;
+      config = config;
+      scripts = loaded.scripts;
+    }) profile mode asked (all_tests (list_view session.tests))) in
+    record {
+      acceptance = accepted;
+      scripts = loaded.scripts;
+      are_scripts = from.scripts;
+      known = subst (λ config. IsIn (names_in config.profiles) profile) from.means there;
+      told = subst (Listed report.content) from.means
+          (subst (λ content. IfListed content (listed_by session loaded profile mode asked)) (sym same) is);
+    }

@@ -1,0 +1,11 @@
+use Rattle.std.proofs.Common.{◌≡◌, map, take}
+use Rattle.nextest_settings.specs.View.{override_ref_view}
+use Rattle.rinqebo_list.specs.RuleViews.{list_rule_view}
+use Rattle.rinqebo_run.specs.ListRules.{placed_override, placed_view}
+use Rattle.rinqebo_run.proofs.list_rules.override_rules.Given as goal
+
+-- the rules so far
+abbrev pub invariant-loop-rule : goal.invariant-loop-rule
+invariant-loop-rule l =
+    map placed_view (map list_rule_view l.rules.items)
+    ≡ map placed_override (map override_ref_view (take l.rule-index l.overrides))

@@ -1,0 +1,103 @@
+-- What is told of the tests of a list, and of the rules that hold for none of them.
+use Rattle.std.specs.Prelude.{◌≡◌, ◌++◌, Bool, List, map, Option, string_bytes}
+use Rattle.std.specs.List.{AllZip}
+use Rattle.nextest_elements.specs.declared.run_mode.NextestRunMode.{NextestRunMode}
+use Rattle.nextest_engines.specs.Engines.{Test}
+use Rattle.nextest_engines.specs.declared.queries.BuildPlatforms.{BuildPlatforms}
+use Rattle.nextest_filters.specs.Engine.{Filter}
+use Rattle.nextest_inheritance.specs.Parents.{parents_in, IsChain}
+use Rattle.nextest_load.specs.Config.{ScriptTables, config_parents}
+use Rattle.nextest_load.specs.Scripts.{AreScriptsOf}
+use Rattle.nextest_rules.specs.Rules.{OverrideUse}
+use Rattle.nextest_settings.specs.Deciding.{QueryContext}
+use Rattle.nextest_settings.specs.Platforms.{EvaluatedRule}
+use Rattle.nextest_settings.specs.Profile.{Configured, EvaluatableModel, profile_of, profile_on}
+use Rattle.nextest_settings.specs.Queries.{query_in}
+use Rattle.nextest_sources.specs.Inputs.{sources_in}
+use Rattle.nextest_tables.specs.FileTexts.{names_in, IsIn}
+use Rattle.nextest_tables.specs.Written.{Name}
+use Rattle.rinqebo_list.specs.Rows.{AreTestsTold}
+use Rattle.rinqebo_list.specs.Unused.{unused_among}
+use Rattle.rinqebo_report.specs.declared.origin.Origin.{Origin}
+use Rattle.rinqebo_report.specs.declared.report.Content.{Content}
+use Rattle.rinqebo_report.specs.declared.report.Content.TheVariants as contents
+use Rattle.rinqebo_report.specs.declared.report.Report.{Report}
+use Rattle.rinqebo_report.specs.declared.report.TestRows.{TestRows}
+use Rattle.rinqebo_request.specs.declared.request.AskedSettings.{AskedSettings}
+use Rattle.target_language.specs.Expressions.{Spec}
+use Rattle.test_lists.specs.ListView.{list_view}
+use Rattle.test_lists.specs.Lists.{all_tests}
+use Rattle.rinqebo_run.specs.Checked.{AreAccepted}
+use Rattle.rinqebo_run.specs.RulePlaces.{Place, id_place, IsOriginOf}
+use Rattle.rinqebo_run.specs.Sessions.{files_view, readings}
+use Rattle.rinqebo_run.specs.TellsReasons.{configured_by}
+use Rattle.rinqebo_run.specs.declared.session.Session.{Session}
+
+-- A profile on the platforms of a build is that of a name: it is the one of the name's chain.
+pub record IsProfileOn {M K P : Type 0} (meets : K → P → Option Bool) (platforms : BuildPlatforms P)
+    (configured : Configured M K) (name : Name) (profile : EvaluatableModel M) : Type 0 where
+  pub chain : List Name
+  pub is_chain : IsChain (parents_in (config_parents configured.config)) name chain
+  pub is_profile : profile ≡ profile_on meets platforms (profile_of configured name chain)
+
+-- a rule on the platforms of a build, without what it writes
+abbrev pub bare_on : {M W : Type 0} → EvaluatedRule M W → EvaluatedRule M (Unit {0})
+bare_on rule = record {
+  filter = rule.filter;
+  for_host = rule.for_host;
+  for_target = rule.for_target;
+  writes = tt;
+}
+
+-- an override on the platforms of a build, with where it stands in place of what it writes
+abbrev pub placed_on : {M : Type 0} → EvaluatedRule M (OverrideUse M) → EvaluatedRule M Place
+placed_on rule = record {
+  filter = rule.filter;
+  for_host = rule.for_host;
+  for_target = rule.for_target;
+  writes = id_place rule.writes.id;
+}
+
+-- Origins tell the rules of a profile that hold for none of the tests, and no others: the overrides
+-- in order, and then the script rules in order.
+pub record AreUnused {M : Type 0} (tests : List (QueryContext M)) (profile : EvaluatableModel M)
+    (unused : List Origin) : Type 0 where
+  pub scripts : List (EvaluatedRule M Place)
+  pub same_scripts : map bare_on scripts ≡ map bare_on profile.script_rules
+  pub told : AllZip IsOriginOf
+      (map (λ rule. rule.writes)
+      (unused_among tests (map placed_on profile.overrides ++ scripts)))
+      unused
+
+-- Tests are told as the profile of a name gives them settings on the platforms of a build, and of
+-- its rules those that hold for none.
+pub record AreTestsOf {M K P : Type 0} (meets : K → P → Option Bool) (matches : M → Test → M → Bool)
+    (platforms : BuildPlatforms P) (configured : Configured M K) (name : Name)
+    (mode : NextestRunMode) (asked : AskedSettings) (list : List Test) (tests : List TestRows)
+    (unused : List Origin) : Type 0 where
+  pub profile : EvaluatableModel M
+  pub is_profile : IsProfileOn meets platforms configured name profile
+  pub tests_told : AreTestsTold matches mode profile asked list tests
+  pub unused_told : AreUnused (map (query_in matches profile) list) profile unused
+
+-- a fact of the tests and of the rules that a report lists
+abbrev pub IfListed : Content → (List TestRows → List Origin → Type 0) → Type 0
+IfListed (contents.List asked tests unused) P = P tests.items unused.items
+IfListed _ P = ⊥
+
+-- A report tells the tests of a list in a profile, by what the files mean.
+pub record TellsTests (session : Session) (profile : Name) (mode : NextestRunMode)
+    (asked : AskedSettings) (report : Report) : Type 0 where
+  -- Every written rule holds of the files.
+  pub acceptance : AreAccepted session
+  -- Their scripts are those that they define.
+  pub scripts : ScriptTables
+  pub are_scripts : AreScriptsOf (sources_in (files_view session.gathered.now)) scripts
+  -- They have the profile.
+  pub known : IsIn (names_in (configured_by session scripts).config.profiles) profile
+  -- The report tells each test of the list in order, with the values that the profile gives it, and
+  -- the rules of the profile that hold for none.
+  pub told : IfListed report.content
+      (AreTestsOf (readings session.engines.filters).meets
+      (readings session.engines.filters).matches_test session.engines.platforms
+      (configured_by session scripts) profile mode asked (all_tests (list_view session.tests)))

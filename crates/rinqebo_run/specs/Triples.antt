@@ -1,0 +1,32 @@
+-- The list of tests that a run is about, and the triples of its build.
+use Rattle.std.specs.Prelude.{◌≡◌, ℕ, List, [], Option, None, Some, is_some, option_map, unwrap_or, String, string_bytes, if◌then◌else◌}
+use Rattle.std.specs.Option.{option_or}
+use Rattle.std.specs.declared.alloc.Global.{Global}
+use Rattle.rinqebo_request.specs.declared.request.TheConstants.{HOST}
+use Rattle.rinqebo_request.specs.declared.request.EngineOptions.{EngineOptions}
+use Rattle.test_lists.specs.ListView.{list_view}
+use Rattle.test_lists.specs.Lists.{TestList}
+use Rattle.test_lists.specs.Reading.{IsListIn}
+use Rattle.test_lists.specs.declared.list.ListedTests.{ListedTests}
+
+-- a list without tests and triples
+abbrev pub no_list : TestList
+no_list = record { triples = record { host = None; target = None }; binaries = [] }
+
+-- tests are those that the text of a list says: without a text there are none
+abbrev pub IsListFor : Option (String Global) → ListedTests → Type 0
+IsListFor (Some text) tests = IsListIn (string_bytes text) (list_view tests)
+IsListFor None tests = list_view tests ≡ no_list
+
+-- The triple of the host: the one that words name, else that of the list, else that of no word.
+abbrev pub host_for : EngineOptions → TestList → List ℕ
+host_for options list =
+    unwrap_or (option_map (λ host. host.now) options.host) (unwrap_or list.triples.host HOST.now)
+
+-- The triple of the target: the one that words name, else that of the list where it says the
+-- platforms of the build, else that of the environment.
+abbrev pub target_for : EngineOptions → TestList → Option (List ℕ)
+target_for options list =
+    option_or (option_map (λ target. target.now) options.target)
+    (if is_some list.triples.host then list.triples.target
+    else option_map (λ target. target.now) options.build_target)

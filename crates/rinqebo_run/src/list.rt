@@ -1,0 +1,136 @@
+//! The settings of each test of a list, and the rules that hold for none.
+ghost use Rattle.std.specs.Prelude.{IfErr, IfOk, map};
+ghost use Rattle.filter_language.specs.Filtersets.{marks_view};
+ghost use Rattle.nextest_filters.specs.Compiling.{names_of};
+ghost use Rattle.nextest_filters.specs.Engine.{filter_holds};
+ghost use Rattle.nextest_inheritance.specs.View.{borrowed_view};
+ghost use Rattle.nextest_profiles.specs.Meaning.{profile_meaning};
+ghost use Rattle.nextest_tables.specs.FileTexts.{names_in, IsIn};
+ghost use Rattle.test_lists.specs.ListView.{list_view};
+ghost use Rattle.test_lists.specs.Lists.{all_tests};
+ghost use Rattle.rinqebo_list.specs.Rows.{AreTestsTold};
+ghost use Rattle.rinqebo_run.specs.Conditions.{is_met_by};
+ghost use Rattle.rinqebo_run.specs.Listed.{IfListed, IsProfileOn, TellsTests};
+ghost use Rattle.rinqebo_run.specs.ListedBy.{read_by, listed_by, AreUnusedPlaces};
+ghost use Rattle.rinqebo_run.specs.Refused.{IsFailureAbout};
+ghost use Rattle.rinqebo_run.specs.RulePlaces.{place_view};
+
+use crate::answer::Failure;
+use crate::check::report_of;
+use crate::explain::asked_of;
+use crate::findings::warning_findings;
+use crate::list_origins::{Origins, origins_of_rules};
+use crate::list_rules::{all_rules, wrapper_rules};
+use crate::loading::config_with;
+use crate::rule_places::RulePlace;
+use crate::rules::chain_of_profile;
+use crate::session::{Config, Session};
+use nextest_config::{DefaultConfigWarnings, EarlyProfile, EvaluatableProfile, NextestRunMode};
+use nextest_filters::{NextestFilters, NextestTally};
+use rinqebo_list::{Asking, ListedRows, RuleUse};
+use rinqebo_report::{Content, Report};
+use rinqebo_request::AskedSettings;
+use std::alloc::{AllocError, Global};
+use target_language::TargetSpecs;
+
+/// A profile on the platforms of a build.
+type Profile<'c> = EvaluatableProfile<'c, NextestFilters, TargetSpecs>;
+
+/// The rows of tests, with the places of the rules that hold for none.
+type Rows<'c> = ListedRows<RulePlace<'c>>;
+
+/// The profile of a name on the platforms of a session.
+fn profile_on<'c>(
+    alloc: Global,
+    session: &'c Session<'_>,
+    config: &'c Config,
+    profile: &'c str,
+) -> Result<Profile<'c>, AllocError>
+    requires { IsIn (names_in config.now.config.profiles) profile.now }
+    ensures { IfOk result (IsProfileOn is_met_by session.now.engines.platforms
+        (read_by session.now config.now) profile.now) }
+{
+    let root = session.gathered.paths.workspace_root.as_str();
+    let early = EarlyProfile::new(alloc, root, config, profile)?;
+    match early.apply_build_platforms(alloc, &session.engines.platforms) {
+        Ok(profile) => Ok(profile),
+        Err(_) => Err(AllocError),
+    }
+}
+
+/// What is told of the tests of a session, and which rules of a chain hold for none of them.
+fn listed_rows<'c>(
+    alloc: Global,
+    session: &'c Session<'_>,
+    config: &'c Config,
+    chain: &[&'c str],
+    profile: &Profile<'c>,
+    mode: NextestRunMode,
+    asked: &AskedSettings,
+) -> Result<Rows<'c>, AllocError>
+    ensures tests { IfOk result (λ rows. AreTestsTold filter_holds mode
+        (profile_meaning (marks_view names_of) profile.now) asked.now
+        (all_tests (list_view session.now.tests)) rows.tests.items) }
+    ensures unused { IfOk result (λ rows. AreUnusedPlaces session.now.engines.platforms
+        config.now.config.layers (borrowed_view chain.now)
+        (profile_meaning (marks_view names_of) profile.now)
+        (all_tests (list_view session.now.tests)) (map place_view rows.unused.items)) }
+{
+    let platforms = &session.engines.platforms;
+    let default_filter = profile.filterset_ecx().default_filter;
+    let wrappers = wrapper_rules(alloc, config, chain)?;
+    let wrappers = RuleUse::new(alloc, &wrappers, platforms, default_filter)?;
+    let asking = Asking {
+        profile,
+        mode,
+        asked,
+        wrappers: &wrappers,
+    };
+    let rules = all_rules(alloc, config, chain)?;
+    let queries = session.tests.queries(alloc)?;
+    let mut origins = Origins::new(alloc, &session.layers, chain);
+    let mut tally = NextestTally::new();
+    asking.list(alloc, &queries, &rules, platforms, &mut tally, &mut origins)
+}
+
+/// What is told of the tests of a session, by a configuration.
+fn listed<'c>(
+    alloc: Global,
+    session: &'c Session<'_>,
+    config: &'c Config,
+    profile: &'c str,
+    mode: NextestRunMode,
+    asked: &AskedSettings,
+) -> Result<Content, AllocError>
+    requires { IsIn (names_in config.now.config.profiles) profile.now }
+    ensures { IfOk result (λ content. IfListed content
+        (listed_by session.now config.now profile.now mode asked.now)) }
+{
+    let chain = chain_of_profile(alloc, config, profile)?;
+    let on = profile_on(alloc, session, config, profile)?;
+    let rows = listed_rows(alloc, session, config, &chain, &on, mode, asked)?;
+    Ok(Content::List {
+        asked: asked_of(alloc, session, profile, &chain, mode)?,
+        unused: origins_of_rules(alloc, &session.layers, &rows.unused)?,
+        tests: rows.tests,
+    })
+}
+
+/// The settings of each test of a list in a profile, and the rules that hold for none.
+pub fn list(
+    alloc: Global,
+    session: &Session<'_>,
+    profile: &str,
+    mode: NextestRunMode,
+    asked: &AskedSettings,
+) -> Result<Report, Failure>
+    ensures ok { IfOk result (TellsTests session.now profile.now mode asked.now) }
+    ensures err { IfErr result (IsFailureAbout session.now profile.now) }
+{
+    let mut warnings = DefaultConfigWarnings::new(alloc);
+    let config = config_with(alloc, session, profile, &mut warnings)?;
+    let content = listed(alloc, &*session, &config, profile, mode, asked)?;
+    let findings = warning_findings(alloc, &session.layers, &warnings)?;
+    let report = report_of(alloc, session, findings, Vec::new(alloc), content)?;
+    Ok(report)
+}

@@ -1,0 +1,171 @@
+//! Where the settings of the tests of a list come from. Each place is found once.
+ghost use Rattle.std.specs.Prelude.{IfOk, map};
+ghost use Rattle.std.specs.List.{AllZip};
+ghost use Rattle.rinqebo_run.specs.RulePlaces.{place_view, IsOriginOf};
+
+use crate::grounds::{built_in, profile_grounds};
+use crate::rule_places::{RuleKind, RulePlace};
+use nextest_config::ConfigSource;
+use rinqebo_files::Layer;
+use rinqebo_list::{Decider, OriginTeller};
+use rinqebo_report::{Origin, Written};
+use rinqebo_request::SettingKey;
+use std::alloc::{AllocError, Global};
+
+/// A rule that is known.
+#[derive(Drop)]
+struct KnownRule {
+    source: ConfigSource,
+    profile: String,
+    kind: RuleKind,
+    index: usize,
+}
+
+impl KnownRule {
+    /// The rule at a place.
+    fn at(alloc: Global, place: &RulePlace<'_>) -> Result<KnownRule, AllocError> {
+        Ok(KnownRule {
+            source: place.source.clone()?,
+            profile: String::from_str(alloc, place.profile)?,
+            kind: place.kind,
+            index: place.index,
+        })
+    }
+
+    /// Whether it stands at a place.
+    fn stands_at(&self, place: &RulePlace<'_>) -> bool {
+        self.kind == place.kind
+            && self.index == place.index
+            && self.profile.as_str() == place.profile
+            && self.source == *place.source
+    }
+}
+
+/// Where the value at a key comes from: from a rule, or from the profile.
+#[derive(Drop)]
+struct KnownOrigins {
+    rule: Option<KnownRule>,
+    key: SettingKey,
+    origins: Vec<Origin>,
+}
+
+impl KnownOrigins {
+    /// Whether they are those of a rule, or without one those of the profile, at a key.
+    fn are_of(&self, rule: Option<&RulePlace<'_>>, key: SettingKey) -> bool {
+        let is_ground = match (&self.rule, rule) {
+            (Some(known), Some(place)) => known.stands_at(place),
+            (None, None) => true,
+            (Some(_), None) | (None, Some(_)) => false,
+        };
+        is_ground && self.key == key
+    }
+}
+
+/// A copy of an origin.
+fn copied(origin: &Origin) -> Result<Origin, AllocError> {
+    match origin {
+        Origin::BuiltIn => Ok(Origin::BuiltIn),
+        Origin::DefaultTable => Ok(Origin::DefaultTable),
+        Origin::Written(written) => Ok(Origin::Written(Written {
+            place: written.place,
+            profile: written.profile.clone()?,
+            part: written.part,
+        })),
+    }
+}
+
+/// Copies of origins.
+fn all_copied(alloc: Global, origins: &[Origin]) -> Result<Vec<Origin>, AllocError> {
+    let mut copies = Vec::new(alloc);
+    for origin in origins {
+        copies.push(copied(origin)?)?;
+    }
+    Ok(copies)
+}
+
+/// What is known so far of where settings come from.
+#[derive(Drop)]
+pub struct Origins<'l, 't> {
+    layers: &'l [Layer<'t>],
+    chain: &'l [&'l str],
+    known: Vec<KnownOrigins>,
+}
+
+impl<'l, 't> Origins<'l, 't> {
+    /// Nothing is known yet of the settings of a chain of profiles.
+    pub fn new(alloc: Global, layers: &'l [Layer<'t>], chain: &'l [&'l str]) -> Origins<'l, 't> {
+        Origins {
+            layers,
+            chain,
+            known: Vec::new(alloc),
+        }
+    }
+
+    /// Where the value at a key comes from, looked up in the files.
+    fn found(
+        &self,
+        alloc: Global,
+        rule: Option<&RulePlace<'_>>,
+        key: SettingKey,
+    ) -> Result<Vec<Origin>, AllocError> {
+        match rule {
+            Some(place) => place.origins_at_key(alloc, self.layers, key),
+            None => profile_grounds(alloc, self.layers, self.chain, key),
+        }
+    }
+
+    /// Where the value at a key comes from. It is looked up the first time.
+    fn of(
+        &mut self,
+        alloc: Global,
+        rule: Option<&RulePlace<'_>>,
+        key: SettingKey,
+    ) -> Result<Vec<Origin>, AllocError> {
+        for known in &self.known {
+            if known.are_of(rule, key) {
+                return all_copied(alloc, &known.origins);
+            }
+        }
+        let origins = self.found(alloc, rule, key)?;
+        let copies = all_copied(alloc, &origins)?;
+        let rule = match rule {
+            Some(place) => Some(KnownRule::at(alloc, place)?),
+            None => None,
+        };
+        self.known.push(KnownOrigins { rule, key, origins })?;
+        Ok(copies)
+    }
+}
+
+impl<'c> OriginTeller<RulePlace<'c>> for Origins<'_, '_> {
+    fn origins(
+        &mut self,
+        alloc: Global,
+        decider: &Decider<'_, RulePlace<'c>>,
+        key: SettingKey,
+    ) -> Result<Vec<Origin>, AllocError> {
+        match decider {
+            Decider::BuiltIn => built_in(alloc),
+            Decider::Profile => self.of(alloc, None, key),
+            Decider::Override(id) => self.of(alloc, Some(&RulePlace::of_override(*id)), key),
+            Decider::Script(Some(place)) => self.of(alloc, Some(place), key),
+            Decider::Script(None) => Ok(Vec::new(alloc)),
+        }
+    }
+}
+
+/// Where rules stand, as it is reported.
+pub fn origins_of_rules(
+    alloc: Global,
+    layers: &[Layer],
+    rules: &[RulePlace<'_>],
+) -> Result<Vec<Origin>, AllocError>
+    ensures { IfOk result (λ origins.
+        AllZip IsOriginOf (map place_view rules.now) origins.items) }
+{
+    let mut origins = Vec::new(alloc);
+    for rule in rules {
+        origins.push(rule.origin(alloc, layers)?)?;
+    }
+    Ok(origins)
+}

@@ -1,0 +1,7 @@
+pub mod Kinds
+pub mod Demands
+pub mod Faults
+pub mod Lists
+pub mod ListView
+pub mod SuiteView
+pub mod Reading

@@ -1,0 +1,14 @@
+//! The tests of a workspace, as `cargo nextest list --message-format json` writes them.
+#![tactic(auto)]
+
+mod fault;
+mod list;
+mod place;
+mod platforms;
+mod suites;
+mod text;
+mod values;
+
+pub use fault::{Kind, ListFault};
+pub use list::{ListedBinary, ListedTests};
+pub use text::tests_of;
