@@ -15,6 +15,7 @@ use crate::check::check;
 use crate::explain::explain;
 use crate::list::list;
 use crate::session::Session;
+use crate::show::show;
 use crate::why::why;
 use config_shape::schema_page;
 use nextest_explain::refuse_for_memory;
@@ -69,6 +70,11 @@ fn answer_in(alloc: Global, request: &Request<'_>, session: &Session<'_>) -> Res
             asked,
             ..
         } => answered(list(alloc, session, *profile, *mode, asked)),
+        Question::ShowConfig {
+            profile,
+            keys,
+            with_hidden,
+        } => show(alloc, session, *profile, keys, *with_hidden),
         Question::Check { deny_warnings } => check(alloc, session, *deny_warnings),
     }
 }
@@ -174,7 +180,7 @@ fn refuse<E: Write>(alloc: Global, failure: &Failure, colour: Colour, err: &mut 
 }
 
 /// Answers a request over the files that it names, and answers the exit status: 0, or 1 for warnings
-/// that are denied, 2 for platforms and metadata that are not understood, 3 where the files are
+/// that are denied and where no leaf is found, 2 for platforms and metadata that are not understood, 3 where the files are
 /// refused, 4 where there is no such profile, 5 for want of memory, 6 where a write fails. Nothing
 /// goes to standard output where a run refuses, but for the findings of a check.
 pub fn perform<O: Write, E: Write>(
