@@ -145,9 +145,8 @@ fn with_profile<'a>(alloc: Global, command: Command<'a>) -> Result<Command<'a>, 
         "P",
         "The profile [default: NEXTEST_PROFILE, else default]",
     );
-    command
-        .arg(profile.short('P'))?
-        .arg(choice(alloc, "mode", "M", MODES, "For what the test runs").default_value("test"))
+    let mode = choice(alloc, "mode", "M", MODES, "For what the test runs").default_value("test");
+    command.arg(profile.short('P'))?.arg(mode)
 }
 
 /// The command that explains the settings of a test.

@@ -150,6 +150,8 @@ pub struct Request<'a> {
     pub format: Format<'a>,
     /// Whether the answer has colours.
     pub colour: Colour,
+    /// Whether standard error is told how far a list is.
+    pub shows_progress: bool,
 }
 
 impl<'a> Request<'a> {

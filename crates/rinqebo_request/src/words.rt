@@ -326,6 +326,7 @@ fn explain_request<'a>(
         features: features(alloc, matches, environment)?,
         format: format(matches, environment),
         colour: colour(matches, environment),
+        shows_progress: false,
     })
 }
 
@@ -397,6 +398,7 @@ fn list_request<'a>(
         features: features(alloc, matches, environment)?,
         format: list_format(matches, environment),
         colour: colour(matches, environment),
+        shows_progress: environment.is_error_terminal,
     })
 }
 
@@ -415,6 +417,7 @@ fn check_request<'a>(
         features: features(alloc, matches, environment)?,
         format: format(matches, environment),
         colour: colour(matches, environment),
+        shows_progress: false,
     })
 }
 

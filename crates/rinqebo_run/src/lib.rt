@@ -24,6 +24,7 @@ mod list;
 mod list_origins;
 mod list_rules;
 mod loading;
+mod progress;
 mod refusals;
 mod rule_places;
 mod rules;
