@@ -1,5 +1,5 @@
 //! Parts of a report as JSON.
-ghost use Rattle.std.specs.Prelude.{◌≡◌, IfOk, OnOk, fold};
+ghost use Rattle.std.specs.Prelude.{◌≡◌, IfOk, OnOk, codes, fold};
 ghost use Rattle.serde_json.specs.Data.{null, object, no_members};
 ghost use Rattle.serde_json.specs.View.{members_view, view};
 ghost use Rattle.rinqebo_report.specs.Documents.{count_data, text_data, optional_text_data, optional_count_data, list_data, lines_data, scalar_data, with_field, value_data, optional_value_data, part_word, part_data, kind_data, origin_data, setting_data, with_setting, test_data, entry_data, answer_word, rule_data, kind_word, tool_data, source_data, unreached_data, place_source_data, place_lines_data, span_data, expression_data, expression_span_data, with_fault, with_site, with_expression, with_advice, finding_data};
@@ -149,6 +149,21 @@ fn written_json(alloc: Global, written: &Written) -> Result<Value, AllocError>
     })
 }
 
+/// What is written in a file beside all profiles.
+fn beside_json(alloc: Global, place: Place) -> Result<Value, AllocError>
+    ensures { IfOk result (λ value. view value ≡ kind_data (codes "file") null
+        (lines_data place.lines) null (count_data place.source)) }
+{
+    let lines = lines_json(alloc, place.lines)?;
+    json!(in alloc; {
+        "kind": "file",
+        "profile": null,
+        "index": null,
+        "source": place.source,
+        "lines": lines
+    })
+}
+
 /// An origin.
 fn origin_json(alloc: Global, origin: &Origin) -> Result<Value, AllocError>
     ensures { IfOk result (λ value. view value ≡ origin_data origin.now) }
@@ -157,6 +172,7 @@ fn origin_json(alloc: Global, origin: &Origin) -> Result<Value, AllocError>
         Origin::BuiltIn => unwritten_json(alloc, "built-in"),
         Origin::DefaultTable => unwritten_json(alloc, "default-table"),
         Origin::Written(written) => written_json(alloc, written),
+        Origin::File(place) => beside_json(alloc, *place),
     }
 }
 
