@@ -150,7 +150,8 @@ pub struct Request<'a> {
     pub format: Format<'a>,
     /// Whether the answer has colours.
     pub colour: Colour,
-    /// Whether standard error is told how far a list is.
+    /// Whether standard error is told how far a list is: where it is a terminal, and standard output
+    /// is none.
     pub shows_progress: bool,
 }
 

@@ -398,7 +398,7 @@ fn list_request<'a>(
         features: features(alloc, matches, environment)?,
         format: list_format(matches, environment),
         colour: colour(matches, environment),
-        shows_progress: environment.is_error_terminal,
+        shows_progress: environment.is_error_terminal && !environment.is_terminal,
     })
 }
 

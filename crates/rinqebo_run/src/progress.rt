@@ -11,19 +11,26 @@ const STEP: usize = 1000;
 pub struct ProgressLine<'w, W: Write> {
     out: &'w mut W,
     is_shown: bool,
+    /// Whether it was written, and stands on the terminal.
+    stands: bool,
 }
 
 impl<'w, W: Write> ProgressLine<'w, W> {
-    /// A line that nothing was written to yet.
+    /// A line that was not written yet.
     pub fn new(out: &'w mut W, is_shown: bool) -> ProgressLine<'w, W> {
-        ProgressLine { out, is_shown }
+        ProgressLine {
+            out,
+            is_shown,
+            stands: false,
+        }
     }
 
-    /// Takes the line away.
+    /// Takes the line away, if it stands.
     pub fn clear(&mut self) {
-        if self.is_shown {
+        if self.stands {
             let _ = self.out.write_all(b"\r\x1b[K");
             let _ = self.out.flush();
+            self.stands = false;
         }
     }
 }
@@ -33,6 +40,7 @@ impl<W: Write> Progress for ProgressLine<'_, W> {
         if self.is_shown && (done % STEP == 0 || done == all) {
             let _ = write!(self.out, "\rasked {done} of {all} tests");
             let _ = self.out.flush();
+            self.stands = true;
         }
     }
 }
