@@ -16,6 +16,7 @@ use crate::explain::explain;
 use crate::list::list;
 use crate::progress::ProgressLine;
 use crate::session::Session;
+use crate::show::show;
 use crate::why::why;
 use config_shape::schema_page;
 use nextest_explain::refuse_for_memory;
@@ -81,6 +82,11 @@ fn answer_in<P: Progress>(
             asked,
             ..
         } => answered(list(alloc, session, *profile, *mode, asked, progress)),
+        Question::ShowConfig {
+            profile,
+            keys,
+            with_hidden,
+        } => show(alloc, session, *profile, keys, *with_hidden),
         Question::Check { deny_warnings } => check(alloc, session, *deny_warnings),
     }
 }
@@ -186,7 +192,7 @@ fn refuse<E: Write>(alloc: Global, failure: &Failure, colour: Colour, err: &mut 
 }
 
 /// Answers a request over the files that it names, and answers the exit status: 0, or 1 for warnings
-/// that are denied, 2 for platforms and metadata that are not understood, 3 where the files are
+/// that are denied and where no leaf is found, 2 for platforms and metadata that are not understood, 3 where the files are
 /// refused, 4 where there is no such profile, 5 for want of memory, 6 where a write fails. Nothing
 /// goes to standard output where a run refuses, but for the findings of a check. Where a request says
 /// so, standard error is told how far a list is, on a line of its own that is gone in the end.
