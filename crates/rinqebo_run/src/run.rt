@@ -36,8 +36,9 @@ fn answered(report: Result<Report, Failure>) -> Result<Answer, Failure>
     }
 }
 
-/// What a request is answered, over the files that it names.
-fn answer_of(alloc: Global, request: &Request<'_>, gathered: &Gathered) -> Result<Answer, Failure>
+/// What a request is answered, over the files that it names: a report with an exit status, or why
+/// there is none. Nothing is written.
+pub fn answer_of(alloc: Global, request: &Request<'_>, gathered: &Gathered) -> Result<Answer, Failure>
     ensures ok { IfOk result
         (λ answer. IsAnswer request.now gathered.now answer.report answer.status) }
     ensures err { IfErr result (Fails request.now gathered.now) }
