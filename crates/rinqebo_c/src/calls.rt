@@ -1,16 +1,17 @@
 //! The exports: one call for a whole run, and those of sessions. A session and its profiles lie in room
 //! of the caller's, who never looks inside.
-ghost use Rattle.std.specs.Prelude.{◌≡◌, [], ℕ, List, string_bytes};
+ghost use Rattle.std.specs.Prelude.{◌≡◌, [], ℕ, List, string_bytes, take};
 ghost use Rattle.std.specs.Mem.{type_size};
 ghost use base.Fml.{Share, flft};
 ghost use base.Fraction.{full_share};
 ghost use contract.BorrowLft.{◌⊑◌};
 ghost use denote.RawPtr.{lies_at, room_at};
 ghost use types.Logic.{sem};
-ghost use Rattle.rinqebo_resolve.specs.Endings.{IsResolved};
+ghost use Rattle.rinqebo_resolve.specs.Endings.{Answers, IsResolved, IsSilent};
 ghost use Rattle.rinqebo_session.specs.Answering.{Answers};
 ghost use Rattle.rinqebo_session.specs.Copies.{IsCopiedOut};
 ghost use Rattle.rinqebo_session.specs.Sessions.{session_status};
+ghost use Rattle.rinqebo_session.specs.declared.status.TheConstants.{DONE};
 ghost use Rattle.rinqebo_session.specs.Texts.{profile_status, IsTextCopied};
 ghost use Rattle.rinqebo_session.specs.contracts.session.Session.{the_row};
 ghost use Rattle.rinqebo_session.specs.declared.profile.Profile.{Profile};
@@ -32,7 +33,9 @@ pub extern "C" fn rinqebo_resolve(
     answer: &mut [u8],
     needed: &mut usize,
 ) -> u32
-    ensures { IsResolved request.now answer.old answer.new needed.new result }
+    ensures resolved { IsResolved request.now answer.old answer.new needed.new result }
+    ensures done { result ≡ DONE → Answers request.now (take needed.new answer.new) }
+    ensures kept { IsSilent result → answer.new ≡ answer.old }
 {
     resolve(alloc, request, answer, needed)
 }

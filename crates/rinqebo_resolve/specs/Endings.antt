@@ -1,5 +1,5 @@
 -- How a run ends, and what is told of it.
-use Rattle.std.specs.Prelude.{◌≡◌, ◌<◌, ◌≤◌, ◌++◌, ℕ, List, [], Option, None, Some, drop, length, string_bytes}
+use Rattle.std.specs.Prelude.{◌≡◌, ◌⊎◌, ◌<◌, ◌≤◌, ◌++◌, ℕ, List, [], Option, None, Some, drop, length, string_bytes}
 use Rattle.std.specs.Str.{IsUtf8}
 use Rattle.rinqebo_files.specs.declared.files.Gathered.{Gathered}
 use Rattle.rinqebo_report.specs.Rendered.{rendered}
@@ -119,3 +119,16 @@ pub record IsResolved (request old new : List ℕ) (needed status : ℕ) : Type 
   pub ending : Ending
   pub is_ending : IsEndingFor request ending
   pub is_told : IsTold ending old new needed status
+
+-- A text answers the bytes of a request: they are understood, and it is the document of the answer
+-- over the files that they say.
+pub record Answers (request text : List ℕ) : Type 0 where
+  pub run : RunText
+  pub reads : run_of request ≡ Some run
+  pub gathered : Gathered
+  pub are_files : AreFilesOf run gathered
+  pub is_answer : IsAnswerOf (asked_of run) gathered text
+
+-- a status beside which nothing is told
+abbrev pub IsSilent : ℕ → Type 0
+IsSilent status = (status ≡ SMALL) ⊎ (status ≡ NOT_TEXT) ⊎ (status ≡ MEMORY)

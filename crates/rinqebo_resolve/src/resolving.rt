@@ -1,11 +1,12 @@
 //! A request for a whole run, answered.
-ghost use Rattle.std.specs.Prelude.{◌≡◌, IfOk, string_bytes};
+ghost use Rattle.std.specs.Prelude.{◌≡◌, IfOk, string_bytes, take};
 ghost use Rattle.session_forms.specs.Runs.{run_view};
 ghost use Rattle.rinqebo_report.specs.Rendered.{rendered};
 ghost use Rattle.rinqebo_report.specs.declared.format.Format.TheVariants.{Json};
 ghost use Rattle.rinqebo_report.specs.declared.piece.Colour.TheVariants.{Plain};
+ghost use Rattle.rinqebo_session.specs.declared.status.TheConstants.{DONE};
 ghost use Rattle.rinqebo_resolve.specs.Asking.{asked_view};
-ghost use Rattle.rinqebo_resolve.specs.Endings.{IsEndingFor, IsEndingIn, IsEndingOf, IsResolved, TellsFailure};
+ghost use Rattle.rinqebo_resolve.specs.Endings.{Answers, IsSilent, IsEndingFor, IsEndingIn, IsEndingOf, IsResolved, TellsFailure};
 
 use crate::asking::{Asked, parted};
 use crate::ending::Ending;
@@ -53,8 +54,8 @@ fn ending_of(alloc: Global, run: RunRequest) -> Result<Ending, AllocError>
     ending_in(alloc, &asked, &gathered)
 }
 
-/// How the run ends that the bytes of a request ask for.
-fn ending_for(alloc: Global, request: &[u8]) -> Result<Ending, AllocError>
+/// How the run ends that the bytes of a request ask for, where memory suffices.
+fn ending_with_memory(alloc: Global, request: &[u8]) -> Result<Ending, AllocError>
     ensures { IfOk result (IsEndingFor request.now) }
 {
     let Ok(text) = std::str::from_utf8(request) else {
@@ -67,14 +68,23 @@ fn ending_for(alloc: Global, request: &[u8]) -> Result<Ending, AllocError>
     }
 }
 
+/// How the run ends that the bytes of a request ask for.
+fn ending_for(alloc: Global, request: &[u8]) -> Ending
+    ensures { IsEndingFor request.now result }
+{
+    match ending_with_memory(alloc, request) {
+        Ok(ending) => ending,
+        Err(_) => Ending::Memory,
+    }
+}
+
 /// Answers a request in JSON for a whole run: writes the document of the answer at the start of a
 /// buffer, or why there is none, and answers a number for which it is. Where the buffer is too small
 /// it stays as it was. Either way `needed` is the length of what is told.
 pub fn resolve(alloc: Global, request: &[u8], answer: &mut [u8], needed: &mut usize) -> u32
-    ensures { IsResolved request.now answer.old answer.new needed.new result }
+    ensures resolved { IsResolved request.now answer.old answer.new needed.new result }
+    ensures done { result ≡ DONE → Answers request.now (take needed.new answer.new) }
+    ensures kept { IsSilent result → answer.new ≡ answer.old }
 {
-    match ending_for(alloc, request) {
-        Ok(ending) => ending.tell(answer, needed),
-        Err(_) => Ending::Memory.tell(answer, needed),
-    }
+    ending_for(alloc, request).tell(answer, needed)
 }
