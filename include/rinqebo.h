@@ -49,9 +49,9 @@ enum rinqebo_status {
 //   NO_ENGINES       why the metadata, a machine or the list is not understood: a text that says where
 //   NOT_TEXT, MEMORY nothing
 //   SMALL            nothing: the buffer has less than *needed bytes, and is left as it was
-// *needed is the length of what is told, and with SMALL of what would be; so is 0 for NOT_TEXT and MEMORY.
-// What lies in the buffer behind it stays as it was. The features are those of the request, and those that
-// its file switches on. Without a target, that of the list counts. No state is left behind.
+// *needed is the length of what is told: 0 where that is nothing, and with SMALL the length of what would be told.
+// The buffer behind it stays as it was. The features are those of the request and those that its file switches on.
+// Without a target, the one that the list names counts, if it does. Nothing is kept: the same call tells the same.
 uint32_t rinqebo_resolve(const uint8_t *request, size_t request_len, uint8_t *answer, size_t answer_len, size_t *needed);
 
 // An index of no name: of the global group, or of no wrapper.

@@ -113,7 +113,7 @@ static int check_refused(const char *request, uint32_t status) {
 
 // What is told of a run, in a buffer that is made as large as it has to be; NULL where there is no memory for it.
 static uint8_t *run(const char *request, size_t length, uint32_t *status, size_t *needed) {
-    size_t room = 1;
+    size_t room = length + 1;
     uint8_t *answer = malloc(room);
     while (answer != NULL) {
         *status = rinqebo_resolve((const uint8_t *)request, length, answer, room, needed);
