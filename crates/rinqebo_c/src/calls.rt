@@ -7,7 +7,7 @@ ghost use base.Fraction.{full_share};
 ghost use contract.BorrowLft.{◌⊑◌};
 ghost use denote.RawPtr.{lies_at, room_at};
 ghost use types.Logic.{sem};
-ghost use Rattle.rinqebo_resolve.specs.Endings.{Answers, IsResolved, IsSilent};
+ghost use Rattle.rinqebo_resolve.specs.Endings.{IsAnswerTo, IsResolved, IsSilent};
 ghost use Rattle.rinqebo_session.specs.Answering.{Answers};
 ghost use Rattle.rinqebo_session.specs.Copies.{IsCopiedOut};
 ghost use Rattle.rinqebo_session.specs.Sessions.{session_status};
@@ -34,7 +34,7 @@ pub extern "C" fn rinqebo_resolve(
     needed: &mut usize,
 ) -> u32
     ensures resolved { IsResolved request.now answer.old answer.new needed.new result }
-    ensures done { result ≡ DONE → Answers request.now (take needed.new answer.new) }
+    ensures done { result ≡ DONE → IsAnswerTo request.now (take needed.new answer.new) }
     ensures kept { IsSilent result → answer.new ≡ answer.old }
 {
     resolve(alloc, request, answer, needed)

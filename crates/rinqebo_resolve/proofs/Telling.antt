@@ -18,7 +18,7 @@ use Rattle.rinqebo_run.specs.declared.session.Session.{Session}
 use Rattle.rinqebo_run.proofs.Refused.{failure_told}
 use Rattle.rinqebo_resolve.specs.Asking.{AskedText, AsksForAll, IsRequestFor}
 use Rattle.rinqebo_session.specs.declared.status.TheConstants.{DONE}
-use Rattle.rinqebo_resolve.specs.Endings.{Answers, IsAnswerOf, IsEndingFor, IsEndingIn, IsResolved, IsSilent, TellsFailure, ending_status, ending_text}
+use Rattle.rinqebo_resolve.specs.Endings.{IsAnswerTo, IsAnswerOf, IsEndingFor, IsEndingIn, IsResolved, IsSilent, TellsFailure, ending_status, ending_text}
 use Rattle.rinqebo_resolve.specs.declared.ending.Ending.{Ending}
 use Rattle.rinqebo_resolve.specs.declared.ending.Ending.TheVariants as ends
 
@@ -68,7 +68,7 @@ unanswered asked request gathered failure ending is_request fails tells = absurd
 
 -- an ending with status 0 answers the request
 answer_of : (request : List ℕ) (ending : Ending) → IsEndingFor request ending → ending_status ending ≡ DONE
-    → Answers request (ending_text ending)
+    → IsAnswerTo request (ending_text ending)
 answer_of request (ends.Answered text) is done = record {
   run = is.0;
   reads = is.1;
@@ -85,7 +85,7 @@ answer_of request ends.Memory is done = absurd (omega arith)
 
 answer_in : (request old new : List ℕ) (needed status : ℕ) (r : IsResolved request old new needed status)
     → (length old < length (ending_text r.ending)) ⊎ (length (ending_text r.ending) ≤ length old) → status ≡ DONE
-    → Answers request (take needed new)
+    → IsAnswerTo request (take needed new)
 answer_in request old new needed status r (inl less) done =
     let small = (r.is_told.small less).0 in
     absurd (omega arith)
@@ -95,11 +95,11 @@ answer_in request old new needed status r (inr room) done =
     let is : take needed new ≡ text =
     ap (λ n. take n new) r.is_told.told ∙ ap (take (length text)) told.1
     ∙ take-append_seam text (drop (length text) old) in
-    subst (Answers request) (sym is) (answer_of request r.ending r.is_ending (sym told.0 ∙ done))
+    subst (IsAnswerTo request) (sym is) (answer_of request r.ending r.is_ending (sym told.0 ∙ done))
 
 -- what is told with status 0 answers the request
 pub told_answer : (request old new : List ℕ) (needed status : ℕ) → IsResolved request old new needed status
-    → status ≡ DONE → Answers request (take needed new)
+    → status ≡ DONE → IsAnswerTo request (take needed new)
 told_answer request old new needed status r =
     answer_in request old new needed status r (cases_lt (length old) (length (ending_text r.ending)))
 

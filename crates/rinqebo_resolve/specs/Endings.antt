@@ -120,9 +120,9 @@ pub record IsResolved (request old new : List ℕ) (needed status : ℕ) : Type 
   pub is_ending : IsEndingFor request ending
   pub is_told : IsTold ending old new needed status
 
--- A text answers the bytes of a request: they are understood, and it is the document of the answer
+-- A text is the answer to the bytes of a request: they are understood, and it is the document of the answer
 -- over the files that they say.
-pub record Answers (request text : List ℕ) : Type 0 where
+pub record IsAnswerTo (request text : List ℕ) : Type 0 where
   pub run : RunText
   pub reads : run_of request ≡ Some run
   pub gathered : Gathered

@@ -6,7 +6,7 @@ ghost use Rattle.rinqebo_report.specs.declared.format.Format.TheVariants.{Json};
 ghost use Rattle.rinqebo_report.specs.declared.piece.Colour.TheVariants.{Plain};
 ghost use Rattle.rinqebo_session.specs.declared.status.TheConstants.{DONE};
 ghost use Rattle.rinqebo_resolve.specs.Asking.{asked_view};
-ghost use Rattle.rinqebo_resolve.specs.Endings.{Answers, IsSilent, IsEndingFor, IsEndingIn, IsEndingOf, IsResolved, TellsFailure};
+ghost use Rattle.rinqebo_resolve.specs.Endings.{IsAnswerTo, IsSilent, IsEndingFor, IsEndingIn, IsEndingOf, IsResolved, TellsFailure};
 
 use crate::asking::{Asked, parted};
 use crate::ending::Ending;
@@ -83,7 +83,7 @@ fn ending_for(alloc: Global, request: &[u8]) -> Ending
 /// it stays as it was. Either way `needed` is the length of what is told.
 pub fn resolve(alloc: Global, request: &[u8], answer: &mut [u8], needed: &mut usize) -> u32
     ensures resolved { IsResolved request.now answer.old answer.new needed.new result }
-    ensures done { result ≡ DONE → Answers request.now (take needed.new answer.new) }
+    ensures done { result ≡ DONE → IsAnswerTo request.now (take needed.new answer.new) }
     ensures kept { IsSilent result → answer.new ≡ answer.old }
 {
     ending_for(alloc, request).tell(answer, needed)
