@@ -39,8 +39,9 @@ fn answered(report: Result<Report, Failure>) -> Result<Answer, Failure>
     }
 }
 
-/// What a request is answered, over the files that it names. Of a list it is told how far it is.
-fn answer_of<P: Progress>(
+/// What a request is answered, over the files that it names: a report with an exit status, or why
+/// there is none. Nothing is written. Of a list it is told how far it is.
+pub fn answer_of<P: Progress>(
     alloc: Global,
     request: &Request<'_>,
     gathered: &Gathered,
