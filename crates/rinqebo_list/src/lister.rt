@@ -53,7 +53,7 @@ fn reported_platform(platform: BuildPlatform) -> Platform {
 
 impl<'l, 'c, F: Filters, S: Specs, T: Copy> Asking<'l, 'c, F, S, T> {
     /// The settings of a test that are told. It takes as much memory as they do, and loads nothing.
-    fn rows_of<O: OriginTeller<T>>(
+    pub fn rows_of<O: OriginTeller<T>>(
         &self,
         alloc: Global,
         query: &TestQuery<'_>,
