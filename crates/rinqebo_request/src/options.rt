@@ -150,13 +150,8 @@ fn profile<'a>(alloc: Global) -> Arg<'a> {
 
 /// The options that say which profile counts, and for what tests run.
 fn with_profile<'a>(alloc: Global, command: Command<'a>) -> Result<Command<'a>, AllocError> {
-    command.arg(profile(alloc))?.arg(choice(
-        alloc,
-        "mode",
-        "M",
-        MODES,
-        "For what the test runs",
-    ).default_value("test"))
+    let mode = choice(alloc, "mode", "M", MODES, "For what the test runs").default_value("test");
+    command.arg(profile(alloc))?.arg(mode)
 }
 
 /// The command that explains the settings of a test.

@@ -159,6 +159,9 @@ pub struct Request<'a> {
     pub format: Format<'a>,
     /// Whether the answer has colours.
     pub colour: Colour,
+    /// Whether standard error is told how far a list is: where it is a terminal, and standard output
+    /// is none.
+    pub shows_progress: bool,
 }
 
 impl<'a> Request<'a> {

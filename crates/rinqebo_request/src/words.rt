@@ -326,6 +326,7 @@ fn explain_request<'a>(
         features: features(alloc, matches, environment)?,
         format: format(matches, environment),
         colour: colour(matches, environment),
+        shows_progress: false,
     })
 }
 
@@ -397,6 +398,7 @@ fn list_request<'a>(
         features: features(alloc, matches, environment)?,
         format: list_format(matches, environment),
         colour: colour(matches, environment),
+        shows_progress: environment.is_error_terminal && !environment.is_terminal,
     })
 }
 
@@ -422,6 +424,7 @@ fn show_request<'a>(
         features: features(alloc, matches, environment)?,
         format: format(matches, environment),
         colour: colour(matches, environment),
+        shows_progress: false,
     })
 }
 
@@ -440,6 +443,7 @@ fn check_request<'a>(
         features: features(alloc, matches, environment)?,
         format: format(matches, environment),
         colour: colour(matches, environment),
+        shows_progress: false,
     })
 }
 

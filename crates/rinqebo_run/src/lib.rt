@@ -2,7 +2,7 @@
 //!
 //! [`perform`] answers a request over the files that it names: with the settings of a test or of each
 //! test of a list, the rules of a setting, the leaves of the configuration, or what is wrong with the
-//! files.
+//! files. [`answer_of`] gives the answer as a value.
 #![tactic(auto)]
 
 mod above;
@@ -25,6 +25,7 @@ mod list;
 mod list_origins;
 mod list_rules;
 mod loading;
+mod progress;
 mod refusals;
 mod rule_places;
 mod rules;
@@ -36,4 +37,6 @@ mod unknown_names;
 mod why;
 mod wrappers;
 
-pub use run::{perform, print_schema, refuse_gathering, refuse_words};
+pub use answer::{Answer, Failure};
+pub use engines::EngineFault;
+pub use run::{answer_of, perform, print_schema, refuse_gathering, refuse_words};
