@@ -1,5 +1,5 @@
 -- The layers of tools, from the last one on.
-use Rattle.std.proofs.Common.{◌≡◌, ◌<◌, ◌-◌, ◌+◌, ◌∙◌, ℕ, List, [], ◌∷◌, ◌++◌, Option, ap, append_assoc, arith, get_or, length, map, reverse, subst, sym, take}
+use Rattle.std.proofs.Common.{◌≡◌, ◌<◌, ◌-◌, ◌+◌, ◌∙◌, ℕ, List, [], ◌∷◌, ◌++◌, Option, ap, append_assoc, arith, get_or, length, map, reverse, sym, take}
 use Rattle.std.proofs.lemmas.List.{get_or-reverse, length-reverse, map-append, take_all, take_more}
 use Rattle.nextest_sources.specs.declared.sources.ToolConfigFile.{ToolConfigFile}
 use Rattle.nextest_tree.specs.Node.{Node}
