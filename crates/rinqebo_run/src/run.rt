@@ -193,10 +193,11 @@ fn refuse<E: Write>(alloc: Global, failure: &Failure, colour: Colour, err: &mut 
 }
 
 /// Answers a request over the files that it names, and answers the exit status: 0, or 1 for warnings
-/// that are denied and where no leaf is found, 2 for platforms and metadata that are not understood, 3 where the files are
-/// refused, 4 where there is no such profile, 5 for want of memory, 6 where a write fails. Nothing
-/// goes to standard output where a run refuses, but for the findings of a check. Where a request says
-/// so, standard error is told how far a list is, on a line of its own that is gone in the end.
+/// that are denied and where no leaf is found, 2 for platforms and metadata that are not understood,
+/// 3 where the files are refused, 4 where there is no such profile, 5 for want of memory, 6 where a
+/// write fails. Nothing goes to standard output where a run refuses, but for the findings of a check.
+/// Where a request says so, standard error is told how far a list is, on a line of its own that is
+/// gone in the end.
 pub fn perform<O: Write, E: Write>(
     alloc: Global,
     request: &Request<'_>,
