@@ -11,6 +11,7 @@ ghost use Rattle.rinqebo_list.specs.Uses.{meant_on};
 
 use crate::judged::ListRule;
 use crate::origins::OriginTeller;
+use crate::progress::Progress;
 use crate::rows::rows_of;
 use crate::rule_use::RuleUse;
 use nextest_elements::NextestRunMode;
@@ -52,7 +53,7 @@ fn reported_platform(platform: BuildPlatform) -> Platform {
 
 impl<'l, 'c, F: Filters, S: Specs, T: Copy> Asking<'l, 'c, F, S, T> {
     /// The settings of a test that are told. It takes as much memory as they do, and loads nothing.
-    fn rows_of<O: OriginTeller<T>>(
+    pub fn rows_of<O: OriginTeller<T>>(
         &self,
         alloc: Global,
         query: &TestQuery<'_>,
@@ -71,20 +72,14 @@ impl<'l, 'c, F: Filters, S: Specs, T: Copy> Asking<'l, 'c, F, S, T> {
             binary: String::from_str(alloc, query.binary_query.binary_id)?,
             name: String::from_str(alloc, query.test_name)?,
             platform: reported_platform(query.binary_query.platform),
-            settings: rows_of(
-                alloc,
-                &settings,
-                self.asked,
-                self.mode,
-                wrapper,
-                teller,
-            )?,
+            settings: rows_of(alloc, &settings, self.asked, self.mode, wrapper, teller)?,
         })
     }
 
     /// The settings of tests that are told, one test after another, and which of some rules on the
     /// platforms of the build hold for none of them. Beside the rows it takes a flag for each rule.
-    pub fn list<O: OriginTeller<T>>(
+    /// After each test it is told how far the list is.
+    pub fn list<O: OriginTeller<T>, P: Progress>(
         &self,
         alloc: Global,
         queries: &[TestQuery<'_>],
@@ -92,6 +87,7 @@ impl<'l, 'c, F: Filters, S: Specs, T: Copy> Asking<'l, 'c, F, S, T> {
         platforms: &BuildPlatforms<S::Platform>,
         tally: &mut F::Tally,
         teller: &mut O,
+        progress: &mut P,
     ) -> Result<ListedRows<T>, AllocError>
         ensures tests { let profile = profile_meaning F.meaning self.now.profile.now in
             IfOk result (λ listed. AreTestsTold F.holds self.now.mode profile self.now.asked.now
@@ -108,6 +104,7 @@ impl<'l, 'c, F: Filters, S: Specs, T: Copy> Asking<'l, 'c, F, S, T> {
         for query in queries {
             uses.see(query, tally);
             tests.push(self.rows_of(alloc, query, tally, teller)?)?;
+            progress.asked(tests.len(), queries.len());
         }
         Ok(ListedRows {
             tests,

@@ -104,6 +104,8 @@ origin origins.BuiltIn = kind 1 _ null null null null (exact_null 1) (exact_null
 origin origins.DefaultTable = kind 1 _ null null null null (exact_null 1) (exact_null 1) (exact_null 1) (exact_null 1)
 origin (origins.Written w) =
     kind 1 _ _ _ _ _ (part 1 w.part) (lines 0 w.place.lines) (text 1 w.profile) (count 1 w.place.source)
+origin (origins.File p) =
+    kind 1 _ null _ null _ (exact_null 1) (lines 0 p.lines) (exact_null 1) (count 1 p.source)
 
 setting : (row : SettingRow) → IsExact 4 (setting_data row)
 setting row =

@@ -110,6 +110,8 @@ origin_data origins.DefaultTable = kind_data (codes "default-table") null null n
 origin_data (origins.Written written) =
     kind_data (part_word written.part) (part_data written.part) (lines_data written.place.lines)
     (text_data written.profile) (count_data written.place.source)
+origin_data (origins.File place) =
+    kind_data (codes "file") null (lines_data place.lines) null (count_data place.source)
 
 -- a setting of a test
 abbrev pub setting_data : SettingRow → Data

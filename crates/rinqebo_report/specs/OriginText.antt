@@ -90,3 +90,4 @@ abbrev pub origin_text : List ℕ → List Source → Origin → List ℕ
 origin_text root sources origins.BuiltIn = codes "built in"
 origin_text root sources origins.DefaultTable = codes "default table"
 origin_text root sources (origins.Written written) = written_text root sources written
+origin_text root sources (origins.File place) = place_text root sources place

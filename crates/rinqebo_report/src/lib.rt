@@ -13,6 +13,7 @@ mod github;
 mod group_page;
 mod hint;
 mod json_document;
+mod json_findings;
 mod json_parts;
 mod laws;
 mod list_page;
@@ -29,6 +30,7 @@ pub use format::{Format, render, render_findings};
 pub use hint::nearest_name;
 pub use json_document::{document, render_json};
 pub use laws::{law_colours, law_durations};
+pub use list_page::{render_list_end, render_listed};
 pub use origin::{Lines, Origin, Part, Place, Source, SourceKind, Written};
 pub use piece::Colour;
 pub use report::{

@@ -1,5 +1,5 @@
 //! The page of a list: each test, what is set for it, and the rules that hold for none.
-ghost use Rattle.std.specs.Prelude.{◌≡◌, ◌++◌, OnOk, flat_map, string_bytes};
+ghost use Rattle.std.specs.Prelude.{◌≡◌, ◌++◌, IfOk, OnOk, flat_map, string_bytes};
 ghost use Rattle.rinqebo_report.specs.Pages.{widest, test_line_runs, indented_runs, listed_runs, unused_line_runs, unused_runs, count_runs, list_runs};
 ghost use Rattle.rinqebo_report.specs.Pieces.{page_text};
 
@@ -7,7 +7,7 @@ use crate::explain_page::{add_row, widest};
 use crate::origin::{Origin, Source};
 use crate::origin_text::origin_text;
 use crate::piece::{Colour, Piece, Style, add_pieces};
-use crate::report::{SettingRow, TestRows};
+use crate::report::{Report, SettingRow, TestRows};
 use std::alloc::{AllocError, Global};
 
 /// Writes the names of a test.
@@ -138,4 +138,41 @@ pub(crate) fn add_list(
     }
     add_count(out, colour, tests.len() as u64)?;
     add_unused(alloc, out, colour, root, sources, unused)
+}
+
+/// A test and its rows, as the page of a list shows them. The root and the sources are those of a
+/// report.
+pub fn render_listed(
+    alloc: Global,
+    report: &Report,
+    colour: Colour,
+    test: &TestRows,
+) -> Result<String, AllocError>
+    ensures { IfOk result (λ text. string_bytes text ≡ page_text colour
+        (listed_runs (string_bytes report.now.root) report.now.sources.items test.now)) }
+{
+    let (root, sources) = (report.root.as_str(), report.sources.as_slice());
+    let mut text = String::new(alloc);
+    add_listed(alloc, &mut text, colour, root, sources, test)?;
+    Ok(text)
+}
+
+/// What the page of a list shows behind its tests: how many there are, and the rules that hold for
+/// none. The root and the sources are those of a report.
+pub fn render_list_end(
+    alloc: Global,
+    report: &Report,
+    colour: Colour,
+    count: u64,
+    unused: &[Origin],
+) -> Result<String, AllocError>
+    ensures { IfOk result (λ text. string_bytes text ≡ page_text colour (count_runs count
+        ++ flat_map (unused_runs (string_bytes report.now.root) report.now.sources.items)
+        unused.now)) }
+{
+    let (root, sources) = (report.root.as_str(), report.sources.as_slice());
+    let mut text = String::new(alloc);
+    add_count(&mut text, colour, count)?;
+    add_unused(alloc, &mut text, colour, root, sources, unused)?;
+    Ok(text)
 }

@@ -69,6 +69,8 @@ pub enum Origin {
     BuiltIn,
     /// The defaults write it.
     DefaultTable,
-    /// A file writes it.
+    /// A file writes it, under a profile.
     Written(Written),
+    /// A file writes it beside all profiles.
+    File(Place),
 }

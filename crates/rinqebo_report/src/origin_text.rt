@@ -148,6 +148,7 @@ fn add_origin(
         Origin::BuiltIn => out.push_str("built in"),
         Origin::DefaultTable => out.push_str("default table"),
         Origin::Written(written) => add_written(out, root, sources, written),
+        Origin::File(place) => add_place(out, root, sources, *place),
     }
 }
 

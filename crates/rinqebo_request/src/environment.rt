@@ -38,6 +38,8 @@ pub struct Environment {
     pub run: RunVariables,
     /// Whether standard output is a terminal.
     pub is_terminal: bool,
+    /// Whether standard error is a terminal.
+    pub is_error_terminal: bool,
 }
 
 /// The text of a variable that is set, and not empty.

@@ -11,6 +11,7 @@ ghost use Rattle.rinqebo_resolve.specs.Endings.{IsAnswerTo, IsSilent, IsEndingFo
 use crate::asking::{Asked, parted};
 use crate::ending::Ending;
 use rinqebo_files::Gathered;
+use rinqebo_list::Untold;
 use rinqebo_report::{Colour, Format, Report, render};
 use rinqebo_run::{Failure, answer_of};
 use session_forms::{RequestFault, RunRequest};
@@ -40,7 +41,7 @@ fn ending_in(alloc: Global, asked: &Asked, gathered: &Gathered) -> Result<Ending
     ensures { IfOk result (IsEndingIn (asked_view asked.now) gathered.now) }
 {
     let request = asked.request(alloc)?;
-    match answer_of(alloc, &request, gathered) {
+    match answer_of(alloc, &request, gathered, &mut Untold) {
         Ok(answer) => Ok(Ending::Answered(document_of(alloc, &answer.report)?)),
         Err(failure) => failed(alloc, &failure),
     }

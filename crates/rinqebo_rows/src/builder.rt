@@ -117,7 +117,7 @@ impl Builder {
             "host" | "target" | "filter" => self.set_condition(line),
             "value" | "texts" | "table" => self.set_value(line),
             "field" => self.add_field(line),
-            "built-in" | "default-table" | "profile" | "override" | "script" => {
+            "built-in" | "default-table" | "profile" | "override" | "script" | "file" => {
                 self.add_origin(line)
             }
             "finding" => self.add_finding(line),
@@ -438,6 +438,7 @@ fn origin_of(alloc: Global, line: &Line) -> Result<Origin, RowError> {
     match line.word(0)? {
         "built-in" => Ok(Origin::BuiltIn),
         "default-table" => Ok(Origin::DefaultTable),
+        "file" => Ok(Origin::File(place_of(line, 1)?)),
         _ => written_of(alloc, line, 0),
     }
 }

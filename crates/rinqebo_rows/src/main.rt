@@ -20,7 +20,8 @@
 //! | `field KEY KIND TEXT` | a member of the table |
 //! | `built-in`, `default-table` | where the setting, rule or leaf comes from |
 //! | `profile`, `override` or `script`, then `PROFILE INDEX SOURCE FIRST LAST` | the same, with the place of the source from 0, and lines |
-//! | `unused`, and the same behind it | a rule that holds for no test |
+//! | `file SOURCE FIRST LAST` | the same, of what stands beside all profiles |
+//! | `unused`, and such a rule behind it | a rule that holds for no test |
 //! | `finding LEVEL CODE MESSAGE` | what is wrong |
 //! | `at SOURCE FIRST LAST COLUMN` | where it is |
 //! | `path KEYS` | the keys that lead to it |

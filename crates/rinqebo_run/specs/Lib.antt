@@ -16,3 +16,4 @@ pub mod Reasons
 pub mod TellsReasons
 pub mod Listed
 pub mod ListedBy
+pub mod ShownConfig

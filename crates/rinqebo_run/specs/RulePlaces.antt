@@ -42,3 +42,4 @@ IsOriginOf place (origins.Written w) =
     (string_bytes w.profile ≡ place.profile) × (w.part ≡ place.part)
 IsOriginOf place origins.BuiltIn = Unit {0}
 IsOriginOf place origins.DefaultTable = ⊥
+IsOriginOf place (origins.File p) = ⊥

@@ -27,7 +27,7 @@ use crate::rules::chain_of_profile;
 use crate::session::{Config, Session};
 use nextest_config::{DefaultConfigWarnings, EarlyProfile, EvaluatableProfile, NextestRunMode};
 use nextest_filters::{NextestFilters, NextestTally};
-use rinqebo_list::{Asking, ListedRows, RuleUse};
+use rinqebo_list::{Asking, ListedRows, Progress, RuleUse};
 use rinqebo_report::{Content, Report};
 use rinqebo_request::AskedSettings;
 use std::alloc::{AllocError, Global};
@@ -59,7 +59,7 @@ fn profile_on<'c>(
 }
 
 /// What is told of the tests of a session, and which rules of a chain hold for none of them.
-fn listed_rows<'c>(
+fn listed_rows<'c, P: Progress>(
     alloc: Global,
     session: &'c Session<'_>,
     config: &'c Config,
@@ -67,6 +67,7 @@ fn listed_rows<'c>(
     profile: &Profile<'c>,
     mode: NextestRunMode,
     asked: &AskedSettings,
+    progress: &mut P,
 ) -> Result<Rows<'c>, AllocError>
     ensures tests { IfOk result (λ rows. AreTestsTold filter_holds mode
         (profile_meaning (marks_view names_of) profile.now) asked.now
@@ -90,17 +91,26 @@ fn listed_rows<'c>(
     let queries = session.tests.queries(alloc)?;
     let mut origins = Origins::new(alloc, &session.layers, chain);
     let mut tally = NextestTally::new();
-    asking.list(alloc, &queries, &rules, platforms, &mut tally, &mut origins)
+    asking.list(
+        alloc,
+        &queries,
+        &rules,
+        platforms,
+        &mut tally,
+        &mut origins,
+        progress,
+    )
 }
 
 /// What is told of the tests of a session, by a configuration.
-fn listed<'c>(
+fn listed<'c, P: Progress>(
     alloc: Global,
     session: &'c Session<'_>,
     config: &'c Config,
     profile: &'c str,
     mode: NextestRunMode,
     asked: &AskedSettings,
+    progress: &mut P,
 ) -> Result<Content, AllocError>
     requires { IsIn (names_in config.now.config.profiles) profile.now }
     ensures { IfOk result (λ content. IfListed content
@@ -108,7 +118,7 @@ fn listed<'c>(
 {
     let chain = chain_of_profile(alloc, config, profile)?;
     let on = profile_on(alloc, session, config, profile)?;
-    let rows = listed_rows(alloc, session, config, &chain, &on, mode, asked)?;
+    let rows = listed_rows(alloc, session, config, &chain, &on, mode, asked, progress)?;
     Ok(Content::List {
         asked: asked_of(alloc, session, profile, &chain, mode)?,
         unused: origins_of_rules(alloc, &session.layers, &rows.unused)?,
@@ -117,19 +127,20 @@ fn listed<'c>(
 }
 
 /// The settings of each test of a list in a profile, and the rules that hold for none.
-pub fn list(
+pub fn list<P: Progress>(
     alloc: Global,
     session: &Session<'_>,
     profile: &str,
     mode: NextestRunMode,
     asked: &AskedSettings,
+    progress: &mut P,
 ) -> Result<Report, Failure>
     ensures ok { IfOk result (TellsTests session.now profile.now mode asked.now) }
     ensures err { IfErr result (IsFailureAbout session.now profile.now) }
 {
     let mut warnings = DefaultConfigWarnings::new(alloc);
     let config = config_with(alloc, session, profile, &mut warnings)?;
-    let content = listed(alloc, &*session, &config, profile, mode, asked)?;
+    let content = listed(alloc, &*session, &config, profile, mode, asked, progress)?;
     let findings = warning_findings(alloc, &session.layers, &warnings)?;
     let report = report_of(alloc, session, findings, Vec::new(alloc), content)?;
     Ok(report)

@@ -71,6 +71,7 @@ fn copied(origin: &Origin) -> Result<Origin, AllocError> {
             profile: written.profile.clone()?,
             part: written.part,
         })),
+        Origin::File(place) => Ok(Origin::File(*place)),
     }
 }
 

@@ -14,11 +14,14 @@ use crate::answer::{Answer, Failure};
 use crate::check::check;
 use crate::explain::explain;
 use crate::list::list;
+use crate::progress::ProgressLine;
 use crate::session::Session;
+use crate::show::show;
 use crate::why::why;
 use config_shape::schema_page;
 use nextest_explain::refuse_for_memory;
 use rinqebo_files::{GatherFault, Gathered};
+use rinqebo_list::Progress;
 use rinqebo_report::{Colour, Content, Format, Report, render, render_findings};
 use rinqebo_request::{ParseStop, Question, Request};
 use std::alloc::{AllocError, Global};
@@ -37,18 +40,28 @@ fn answered(report: Result<Report, Failure>) -> Result<Answer, Failure>
 }
 
 /// What a request is answered, over the files that it names: a report with an exit status, or why
-/// there is none. Nothing is written.
-pub fn answer_of(alloc: Global, request: &Request<'_>, gathered: &Gathered) -> Result<Answer, Failure>
+/// there is none. Nothing is written. Of a list it is told how far it is.
+pub fn answer_of<P: Progress>(
+    alloc: Global,
+    request: &Request<'_>,
+    gathered: &Gathered,
+    progress: &mut P,
+) -> Result<Answer, Failure>
     ensures ok { IfOk result
         (λ answer. IsAnswer request.now gathered.now answer.report answer.status) }
     ensures err { IfErr result (Fails request.now gathered.now) }
 {
     let session = Session::new(alloc, request, gathered)?;
-    answer_in(alloc, request, &session)
+    answer_in(alloc, request, &session, progress)
 }
 
 /// What a request is answered in a session.
-fn answer_in(alloc: Global, request: &Request<'_>, session: &Session<'_>) -> Result<Answer, Failure>
+fn answer_in<P: Progress>(
+    alloc: Global,
+    request: &Request<'_>,
+    session: &Session<'_>,
+    progress: &mut P,
+) -> Result<Answer, Failure>
     ensures ok { IfOk result (λ answer.
         AnswersQuestion request.now.question session.now answer.report answer.status) }
     ensures err { IfErr result (IsFailureIn session.now request.now.question) }
@@ -69,7 +82,12 @@ fn answer_in(alloc: Global, request: &Request<'_>, session: &Session<'_>) -> Res
             mode,
             asked,
             ..
-        } => answered(list(alloc, session, *profile, *mode, asked)),
+        } => answered(list(alloc, session, *profile, *mode, asked, progress)),
+        Question::ShowConfig {
+            profile,
+            keys,
+            with_hidden,
+        } => show(alloc, session, *profile, keys, *with_hidden),
         Question::Check { deny_warnings } => check(alloc, session, *deny_warnings),
     }
 }
@@ -175,9 +193,10 @@ fn refuse<E: Write>(alloc: Global, failure: &Failure, colour: Colour, err: &mut 
 }
 
 /// Answers a request over the files that it names, and answers the exit status: 0, or 1 for warnings
-/// that are denied, 2 for platforms and metadata that are not understood, 3 where the files are
+/// that are denied and where no leaf is found, 2 for platforms and metadata that are not understood, 3 where the files are
 /// refused, 4 where there is no such profile, 5 for want of memory, 6 where a write fails. Nothing
-/// goes to standard output where a run refuses, but for the findings of a check.
+/// goes to standard output where a run refuses, but for the findings of a check. Where a request says
+/// so, standard error is told how far a list is, on a line of its own that is gone in the end.
 pub fn perform<O: Write, E: Write>(
     alloc: Global,
     request: &Request<'_>,
@@ -192,7 +211,10 @@ pub fn perform<O: Write, E: Write>(
         → Tells request.now gathered.now result (O.contents out.old) (O.contents out.new) }
     ensures cause { IsToldBy request.now gathered.now result }
 {
-    match answer_of(alloc, request, gathered) {
+    let mut progress = ProgressLine::new(&mut *err, request.shows_progress);
+    let answer = answer_of(alloc, request, gathered, &mut progress);
+    progress.clear();
+    match answer {
         Ok(answer) => tell_answer(alloc, request, &answer, out, err),
         Err(failure) => refuse(alloc, &failure, request.colour, err),
     }

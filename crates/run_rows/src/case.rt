@@ -83,6 +83,7 @@ fn environment_in(alloc: Global, folder: &str) -> Result<Environment, AllocError
         wrapper_scripts: None,
         run: RunVariables::default(),
         is_terminal: false,
+        is_error_terminal: false,
     })
 }
 
@@ -107,6 +108,7 @@ impl<'a> Case<'a> {
             "folder" => self.environment.folder = String::from_str(alloc, rest)?,
             "set" => self.set_variable(alloc, line, rest)?,
             "terminal" => self.environment.is_terminal = true,
+            "error-terminal" => self.environment.is_error_terminal = true,
             "run" => self.runs.push(rest).map_err(AllocError::from)?,
             _ => return Err(CaseError::Line(line)),
         }

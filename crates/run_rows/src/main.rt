@@ -12,10 +12,11 @@
 //! | `folder PATH` | the folder that the program runs in |
 //! | `set NAME VALUE` | a variable of the environment |
 //! | `terminal` | standard output is a terminal |
+//! | `error-terminal` | standard error is a terminal |
 //! | `run WORD ..` | a run over the case's files, its words parted by one space |
 //!
 //! For each run it prints the case's name, the words, the status, and what was written to the two
-//! streams, with `\e` for each escape. A line that is none of these is told on standard error, and
+//! streams, with `\e` for each escape and `\r` for each return. A line that is none of these is told on standard error, and
 //! the status is 2.
 #![tactic(auto)]
 

@@ -63,14 +63,15 @@ fn text_of(alloc: Global, bytes: Vec<u8>) -> Result<String, AllocError> {
     }
 }
 
-/// Adds a line behind two spaces, with `\e` for each escape.
+/// Adds a line behind two spaces, with `\e` for each escape, and `\r` for each return.
 fn add_line(report: &mut String, line: &str) -> Result<(), AllocError> {
     report.push_str("  ")?;
-    for (place, part) in line.split('\u{1b}').enumerate() {
-        if place > 0 {
-            report.push_str("\\e")?;
+    for c in line.chars() {
+        match c {
+            '\u{1b}' => report.push_str("\\e")?,
+            '\r' => report.push_str("\\r")?,
+            c => report.push(c)?,
         }
-        report.push_str(part)?;
     }
     report.push_str("\n")
 }

@@ -4,7 +4,7 @@ use Rattle.rinqebo_run.proofs.Refused.{passed_on, want_told}
 use Rattle.rinqebo_run.proofs.list.list.Goals as goal
 
 pub returns-clause-ok : goal.returns-clause-ok
-returns-clause-ok c =
+returns-clause-ok g c =
     tells_tests c.args.session.now c.args.profile.now c.args.mode c.args.asked.now c.in_ok-report.report
     c.in_ok-content.content c.in_ok-config.config c.in_ok-config.ensures.accepted c.in_ok-config.ensures.means
     c.in_ok-config.ensures.known c.in_ok-report.ensures c.in_ok-content.ensures

@@ -7,10 +7,10 @@ use Rattle.rinqebo_run.proofs.Listing.{listed_here, told_of}
 use Rattle.rinqebo_run.proofs.list.listed.Goals as goal
 
 pub profile_on-requires : goal.profile_on-requires
-profile_on-requires c = c.requires
+profile_on-requires g c = c.requires
 
 pub returns : goal.returns
-returns c =
+returns g c =
     let chain = subst (λ names. IsChainAndDefault (parents_in (config_parents c.args.config.now.config))
     c.args.profile.now (borrowed_view names)) (sym c.deref.ensures.value) (c.in_ok-chain.ensures c.requires) in
     listed_here c.args.session.now c.args.config.now c.args.profile.now c.args.mode c.args.asked.now

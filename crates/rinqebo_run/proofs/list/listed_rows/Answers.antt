@@ -21,13 +21,13 @@ use Rattle.test_lists.specs.Lists.{all_tests}
 use Rattle.rinqebo_run.proofs.list.listed_rows.Goals as goal
 
 pub returns-clause-tests : goal.returns-clause-tests
-returns-clause-tests c =
+returns-clause-tests g c =
     subst (λ tests. IfOk c.list.result (λ rows. AreTestsTold filter_holds c.args.mode
     (profile_meaning (marks_view names_of) c.args.profile.now) c.args.asked.now tests rows.tests.items))
     (ap (map test_view) c.deref-3.ensures.value ∙ c.in_ok-queries.ensures) c.list.ensures.tests
 
 pub returns-clause-unused : goal.returns-clause-unused
-returns-clause-unused c =
+returns-clause-unused g c =
     let profile = profile_meaning (marks_view names_of) c.args.profile.now in
     let platforms = c.args.session.now.engines.platforms in
     let asked = ap (map test_view) c.deref-3.ensures.value ∙ c.in_ok-queries.ensures in

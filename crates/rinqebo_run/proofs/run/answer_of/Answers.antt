@@ -3,11 +3,11 @@ use Rattle.rinqebo_run.proofs.Statuses.{is_answered}
 use Rattle.rinqebo_run.proofs.run.answer_of.Goals as goal
 
 pub returns-clause-ok : goal.returns-clause-ok
-returns-clause-ok c =
+returns-clause-ok g c =
     is_answered c.args.request.now c.args.gathered.now c.in_ok-session.session c.answer_in.result
     c.in_ok-session.ensures.begun c.answer_in.ensures.ok
 
 pub returns-clause-err : goal.returns-clause-err
-returns-clause-err c =
+returns-clause-err g c =
     fails_in c.args.request.now c.args.gathered.now c.in_ok-session.session c.answer_in.result
     c.in_ok-session.ensures.begun c.answer_in.ensures.err

@@ -1,0 +1,46 @@
+//! A line on a terminal that says how far a list is.
+use rinqebo_list::Progress;
+use std::io::Write;
+
+/// After how many tests the line is written anew.
+const STEP: usize = 1000;
+
+/// A line that is written again and again in its place, where it is shown. It is no part of an answer,
+/// so a write that fails is no fault.
+#[derive(Drop)]
+pub struct ProgressLine<'w, W: Write> {
+    out: &'w mut W,
+    is_shown: bool,
+    /// Whether it was written, and stands on the terminal.
+    stands: bool,
+}
+
+impl<'w, W: Write> ProgressLine<'w, W> {
+    /// A line that was not written yet.
+    pub fn new(out: &'w mut W, is_shown: bool) -> ProgressLine<'w, W> {
+        ProgressLine {
+            out,
+            is_shown,
+            stands: false,
+        }
+    }
+
+    /// Takes the line away, if it stands.
+    pub fn clear(&mut self) {
+        if self.stands {
+            let _ = self.out.write_all(b"\r\x1b[K");
+            let _ = self.out.flush();
+            self.stands = false;
+        }
+    }
+}
+
+impl<W: Write> Progress for ProgressLine<'_, W> {
+    fn asked(&mut self, done: usize, all: usize) {
+        if self.is_shown && (done % STEP == 0 || done == all) {
+            let _ = write!(self.out, "\rasked {done} of {all} tests");
+            let _ = self.out.flush();
+            self.stands = true;
+        }
+    }
+}
