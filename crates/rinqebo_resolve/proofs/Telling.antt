@@ -28,6 +28,7 @@ zero_of : (asked : AskedText) (q : Question) (session : Session) (report : Repor
 zero_of asked (questions.Explain profile test settings) session report status asks answers = absurd asks
 zero_of asked (questions.Why profile test setting) session report status asks answers = absurd asks
 zero_of asked (questions.List profile mode list shown) session report status asks answers = answers.0
+zero_of asked (questions.ShowConfig profile keys with_hidden) session report status asks answers = absurd asks
 zero_of asked (questions.Check deny_warnings) session report status asks answers = absurd asks
 
 -- the document of an answer
