@@ -16,3 +16,5 @@ pub mod Reasons
 pub mod TellsReasons
 pub mod Listed
 pub mod ListedBy
+pub mod Begun
+pub mod Written

@@ -7,13 +7,19 @@ ghost use Rattle.config_shape.specs.Page.{schema_data};
 ghost use Rattle.serde_json.specs.Written.{compact_text};
 ghost use Rattle.rinqebo_report.specs.Rendered.{rendered};
 ghost use Rattle.rinqebo_run.specs.Answered.{AnswersQuestion, IsAnswer, Tells};
+ghost use Rattle.rinqebo_run.specs.Begun.{IsBegun};
 ghost use Rattle.rinqebo_run.specs.Refused.{Fails, IsFailureIn, IsToldBy};
 ghost use Rattle.rinqebo_run.specs.Statuses.{IsStatus, IsAnswerStatus, failure_status};
+ghost use Rattle.rinqebo_run.specs.Written.{AsksList};
+ghost use Rattle.rinqebo_report.specs.declared.format.Format.TheVariants as formats;
 
 use crate::answer::{Answer, Failure};
 use crate::check::check;
 use crate::explain::explain;
 use crate::list::list;
+use crate::list_fault::ListFault;
+use crate::list_page::AskedList;
+use crate::list_text::write_list;
 use crate::progress::ProgressLine;
 use crate::session::Session;
 use crate::why::why;
@@ -185,12 +191,8 @@ fn refuse<E: Write>(alloc: Global, failure: &Failure, colour: Colour, err: &mut 
     }
 }
 
-/// Answers a request over the files that it names, and answers the exit status: 0, or 1 for warnings
-/// that are denied, 2 for platforms and metadata that are not understood, 3 where the files are
-/// refused, 4 where there is no such profile, 5 for want of memory, 6 where a write fails. Nothing
-/// goes to standard output where a run refuses, but for the findings of a check. Where a request says
-/// so, standard error is told how far a list is, on a line of its own that is gone in the end.
-pub fn perform<O: Write, E: Write>(
+/// Answers a request with a page that is known whole before it goes out, and answers the exit status.
+fn answer_whole<O: Write, E: Write>(
     alloc: Global,
     request: &Request<'_>,
     gathered: &Gathered,
@@ -210,6 +212,76 @@ pub fn perform<O: Write, E: Write>(
     match answer {
         Ok(answer) => tell_answer(alloc, request, &answer, out, err),
         Err(failure) => refuse(alloc, &failure, request.colour, err),
+    }
+}
+
+/// Answers a list as a text, which goes out as its tests are asked, and answers the exit status.
+fn answer_list<O: Write, E: Write>(
+    alloc: Global,
+    request: &Request<'_>,
+    list: AskedList<'_>,
+    gathered: &Gathered,
+    out: &mut O,
+    err: &mut E,
+) -> u8
+    requires question { AsksList request.now.question list.entry }
+    requires format { request.now.format ≡ formats.Text }
+    ensures status { IsStatus result }
+    ensures quiet { IsAnswerStatus request.now.question result ⊎ (result ≡ 6)
+        ⊎ (O.contents out.new ≡ O.contents out.old) ⊎ ((result ≡ 5)
+        × IsBegun request.now gathered.now (O.contents out.old) (O.contents out.new)) }
+    ensures page { IsAnswerStatus request.now.question result
+        → Tells request.now gathered.now result (O.contents out.old) (O.contents out.new) }
+    ensures cause { IsToldBy request.now gathered.now result }
+{
+    match write_list(alloc, request, list, gathered, out, err) {
+        Ok(()) => 0,
+        Err(ListFault::Refused(failure)) => refuse(alloc, &failure, request.colour, err),
+        Err(ListFault::Memory) => refuse_for_memory(err),
+        Err(ListFault::Write) => 6,
+    }
+}
+
+/// Answers a request over the files that it names, and answers the exit status: 0, or 1 for warnings
+/// that are denied, 2 for platforms and metadata that are not understood, 3 where the files are
+/// refused, 4 where there is no such profile, 5 for want of memory, 6 where a write fails. Nothing
+/// goes to standard output where a run refuses, but for the findings of a check. The text of a list
+/// goes out as its tests are asked: where memory runs out meanwhile, it has the first tests, each
+/// whole. Where a request says so, standard error is told how far a list is, on a line of its own that
+/// is gone in the end.
+pub fn perform<O: Write, E: Write>(
+    alloc: Global,
+    request: &Request<'_>,
+    gathered: &Gathered,
+    out: &mut O,
+    err: &mut E,
+) -> u8
+    ensures status { IsStatus result }
+    ensures quiet { IsAnswerStatus request.now.question result ⊎ (result ≡ 6)
+        ⊎ (O.contents out.new ≡ O.contents out.old) ⊎ ((result ≡ 5)
+        × IsBegun request.now gathered.now (O.contents out.old) (O.contents out.new)) }
+    ensures page { IsAnswerStatus request.now.question result
+        → Tells request.now gathered.now result (O.contents out.old) (O.contents out.new) }
+    ensures cause { IsToldBy request.now gathered.now result }
+{
+    match (&request.question, request.format) {
+        (
+            Question::List {
+                profile,
+                mode,
+                asked,
+                ..
+            },
+            Format::Text,
+        ) => {
+            let list = AskedList {
+                profile: *profile,
+                mode: *mode,
+                settings: asked,
+            };
+            answer_list(alloc, request, list, gathered, out, err)
+        }
+        _ => answer_whole(alloc, request, gathered, out, err),
     }
 }
 
