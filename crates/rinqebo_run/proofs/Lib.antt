@@ -8,3 +8,4 @@ pub mod InOrder
 pub mod Meant
 pub mod Gathering
 pub mod Listing
+pub mod Writing

@@ -31,6 +31,7 @@ use Rattle.rinqebo_run.specs.Begun.{AreFirstOf}
 use Rattle.rinqebo_run.specs.Listed.{TellsTests}
 use Rattle.rinqebo_run.specs.ListedBy.{read_by}
 use Rattle.rinqebo_run.specs.Sessions.{readings}
+use Rattle.rinqebo_run.specs.Statuses.{failure_status}
 use Rattle.rinqebo_run.specs.declared.answer.Failure.{Failure}
 use Rattle.rinqebo_run.specs.declared.list_fault.ListFault.{ListFault}
 use Rattle.rinqebo_run.specs.declared.list_fault.ListFault.TheVariants as faults
@@ -76,3 +77,9 @@ abbrev pub StopsList : (Failure → Type 0) → Type 0 → Option (List ℕ) →
 StopsList refuses begun old new (faults.Refused failure) = refuses failure × (new ≡ old)
 StopsList refuses begun old new faults.Memory = begun ⊎ (new ≡ old)
 StopsList refuses begun old new faults.Write = Unit {0}
+
+-- the exit status of a run whose list was not written whole
+abbrev pub IsStopStatus : ListFault → ℕ → Type 0
+IsStopStatus (faults.Refused failure) n = (n ≡ failure_status failure) ⊎ (n ≡ 5) ⊎ (n ≡ 6)
+IsStopStatus faults.Memory n = (n ≡ 5) ⊎ (n ≡ 6)
+IsStopStatus faults.Write n = n ≡ 6

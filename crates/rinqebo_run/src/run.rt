@@ -10,7 +10,7 @@ ghost use Rattle.rinqebo_run.specs.Answered.{AnswersQuestion, IsAnswer, Tells};
 ghost use Rattle.rinqebo_run.specs.Begun.{IsBegun};
 ghost use Rattle.rinqebo_run.specs.Refused.{Fails, IsFailureIn, IsToldBy};
 ghost use Rattle.rinqebo_run.specs.Statuses.{IsStatus, IsAnswerStatus, failure_status};
-ghost use Rattle.rinqebo_run.specs.Written.{AsksList};
+ghost use Rattle.rinqebo_run.specs.Written.{AsksList, IsStopStatus};
 ghost use Rattle.rinqebo_report.specs.declared.format.Format.TheVariants as formats;
 
 use crate::answer::{Answer, Failure};
@@ -215,6 +215,18 @@ fn answer_whole<O: Write, E: Write>(
     }
 }
 
+/// Tells why a list was not written whole, and answers the exit status. Of a write that failed nothing
+/// is told.
+fn refuse_list<E: Write>(alloc: Global, fault: &ListFault, colour: Colour, err: &mut E) -> u8
+    ensures { IsStopStatus fault.now result }
+{
+    match fault {
+        ListFault::Refused(failure) => refuse(alloc, failure, colour, err),
+        ListFault::Memory => refuse_for_memory(err),
+        ListFault::Write => 6,
+    }
+}
+
 /// Answers a list as a text, which goes out as its tests are asked, and answers the exit status.
 fn answer_list<O: Write, E: Write>(
     alloc: Global,
@@ -236,9 +248,7 @@ fn answer_list<O: Write, E: Write>(
 {
     match write_list(alloc, request, list, gathered, out, err) {
         Ok(()) => 0,
-        Err(ListFault::Refused(failure)) => refuse(alloc, &failure, request.colour, err),
-        Err(ListFault::Memory) => refuse_for_memory(err),
-        Err(ListFault::Write) => 6,
+        Err(fault) => refuse_list(alloc, &fault, request.colour, err),
     }
 }
 
