@@ -1,4 +1,4 @@
-// Rinqebo as a library: a nextest configuration that is loaded once and asked often.
+// Rinqebo as a library: one call for a whole run, and configurations that are loaded once and asked often.
 //
 // Names, types and the order of parameters are those of crates/rinqebo_c; nothing compares the two.
 // docs/LIBRARY.md says what each call does, and what is proved of it.
@@ -29,11 +29,30 @@ enum rinqebo_status {
     RINQEBO_NOT_TEXT = 3,       // bytes are no UTF-8
     RINQEBO_MEMORY = 4,         // malloc gave nothing
     RINQEBO_NOT_UNDERSTOOD = 5, // the request is no JSON, or not of its form
-    RINQEBO_NO_ENGINES = 6,     // the metadata or a machine of the request is not understood
+    RINQEBO_NO_ENGINES = 6,     // the metadata, a machine or the list of tests of the request is not understood
     RINQEBO_NO_PROFILE = 7,     // there is no such profile
     RINQEBO_NOT_LOADED = 8,     // the session holds no configuration
     RINQEBO_UNKNOWN_NUMBER = 9  // a number stands for nothing: a platform, a mode, a kind of text, an index
 };
+
+// ---- a whole run
+
+// Answers which settings a profile gives to each test of a list. The request is that of a session, as
+// rinqebo_session_load has it, with three members more:
+//   "profile": TEXT, "mode": "test" or "benchmark",
+//   "list": what `cargo nextest list --message-format json` prints, a TEXT
+// What is told is written at the start of the buffer, and by the status that is
+//   DONE             the document of `rinqebo list --all --format json`, on a line
+//   REFUSED          the document of the findings for which the files are refused
+//   NO_PROFILE       the document that tells that there is no such profile
+//   NOT_UNDERSTOOD   why the request is not understood: a text that says where
+//   NO_ENGINES       why the metadata, a machine or the list is not understood: a text that says where
+//   NOT_TEXT, MEMORY nothing
+//   SMALL            nothing: the buffer has less than *needed bytes, and is left as it was
+// *needed is the length of what is told: 0 where that is nothing, and with SMALL the length of what would be told.
+// The buffer behind it stays as it was. The features are those of the request and those that its file switches on.
+// Without a target, the one that the list names counts, if it does. Nothing is kept: the same call tells the same.
+uint32_t rinqebo_resolve(const uint8_t *request, size_t request_len, uint8_t *answer, size_t answer_len, size_t *needed);
 
 // An index of no name: of the global group, or of no wrapper.
 #define RINQEBO_NO_NAME SIZE_MAX

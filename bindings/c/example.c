@@ -1,6 +1,7 @@
-// Loads the request of a file and asks for the settings of some tests, or checks the calls by themselves.
+// Answers the request of a file, asks for the settings of some tests, or checks the calls by themselves.
 //
 //   example                          checks each call, and exits with the number of the first that fails
+//   example REQUEST                  prints what a whole run tells, and exits with its status
 //   example REQUEST PROFILE BINARY TEST..   prints the settings of tests of a binary
 #include "rinqebo.h"
 #include <inttypes.h>
@@ -110,6 +111,63 @@ static int check_refused(const char *request, uint32_t status) {
     return 0;
 }
 
+// What is told of a run, in a buffer that is made as large as it has to be; NULL where there is no memory for it.
+static uint8_t *run(const char *request, size_t length, uint32_t *status, size_t *needed) {
+    size_t room = length + 1;
+    uint8_t *answer = malloc(room);
+    while (answer != NULL) {
+        *status = rinqebo_resolve((const uint8_t *)request, length, answer, room, needed);
+        if (*status != RINQEBO_SMALL) return answer;
+        room = *needed;
+        free(answer);
+        answer = malloc(room);
+    }
+    return answer;
+}
+
+// A request for a run: one over FILE, where PROFILE is asked of the tests of LIST.
+#define RUN_REQUEST(FILE, PROFILE, LIST) \
+    "{\"root\": \"/w\", \"file\": {\"path\": \"/w/.config/nextest.toml\", \"text\": \"" FILE "\"}, \"tools\": []," \
+    " \"features\": {\"setup-scripts\": false, \"wrapper-scripts\": false}, \"metadata\": null," \
+    " \"host\": {\"triple\": \"x86_64-unknown-linux-gnu\", \"cfg\": null}, \"target\": null," \
+    " \"profile\": \"" PROFILE "\", \"mode\": \"test\", \"list\": \"" LIST "\"}"
+
+#define LIST \
+    "{\\\"rust-suites\\\": {\\\"api\\\": {\\\"package-name\\\": \\\"api\\\", \\\"package-id\\\": \\\"api 1\\\", \\\"binary-id\\\": \\\"api\\\"," \
+    " \\\"binary-name\\\": \\\"api\\\", \\\"kind\\\": \\\"lib\\\", \\\"build-platform\\\": \\\"target\\\"," \
+    " \\\"testcases\\\": {\\\"db::reads\\\": {}}}}}"
+
+// Whether a run ends with a status, and tells this text among others.
+static int ends_with(const char *request, uint32_t wanted, const char *text) {
+    size_t needed = 0, length = strlen(text);
+    uint32_t status = 0;
+    uint8_t *told = run(request, strlen(request), &status, &needed);
+    int found = length == 0;
+    for (size_t i = 0; told != NULL && i + length <= needed; i++) found = found || memcmp(told + i, text, length) == 0;
+    free(told);
+    return status == wanted && found;
+}
+
+// A whole run, with each status but that for want of memory. 0, or the number of the first check that fails.
+static int check_run(void) {
+    static const char *asked = RUN_REQUEST("[profile.ci]\\nretries = 1\\n", "ci", LIST);
+    if (!ends_with(asked, RINQEBO_DONE, "\"retries\":{\"origins\":[{\"index\":null,\"kind\":\"profile\",\"lines\":[2,2]")) return 50;
+    if (!ends_with(RUN_REQUEST("[profile.ci", "ci", LIST), RINQEBO_REFUSED, "\"level\":\"error\"")) return 51;
+    if (!ends_with(RUN_REQUEST("", "cj", LIST), RINQEBO_NO_PROFILE, "cj")) return 52;
+    if (!ends_with(RUN_REQUEST("", "ci", "{}"), RINQEBO_NO_ENGINES, "rust-suites")) return 53;
+    if (!ends_with("{}", RINQEBO_NOT_UNDERSTOOD, "`profile`")) return 54;
+    if (!ends_with("", RINQEBO_NOT_UNDERSTOOD, "no JSON")) return 55;
+    if (!ends_with("\xff", RINQEBO_NOT_TEXT, "")) return 56;
+    uint8_t answer[4] = {'w', 'x', 'y', 'z'};
+    size_t needed = 0;
+    if (rinqebo_resolve((const uint8_t *)asked, strlen(asked), answer, 4, &needed) != RINQEBO_SMALL) return 57;
+    if (needed <= 4 || memcmp(answer, "wxyz", 4) != 0) return 58;
+    if (rinqebo_resolve((const uint8_t *)asked, strlen(asked), answer, 0, &needed) != RINQEBO_SMALL) return 59;
+    if (rinqebo_resolve((const uint8_t *)"\xff", 1, answer, 4, &needed) != RINQEBO_NOT_TEXT || needed != 0) return 60;
+    if (memcmp(answer, "wxyz", 4) != 0) return 61;
+    return 0;
+}
+
 static int check(void) {
     struct rinqebo_session *session = load(REQUEST);
     if (session == NULL) return 1;
@@ -130,7 +188,7 @@ static int check(void) {
     failed = check_refused("", RINQEBO_NOT_UNDERSTOOD);
     if (failed == 0) failed = check_refused("{}", RINQEBO_NOT_UNDERSTOOD);
     if (failed == 0) failed = check_refused("\xff", RINQEBO_NOT_TEXT);
-    return failed;
+    return failed == 0 ? check_run() : failed;
 }
 
 // The text of a file, ended by a zero, or NULL.
@@ -159,14 +217,30 @@ static void print_settings(const struct rinqebo_profile *profile, const char *bi
            settings.retries.count, (int)length, (const char *)group);
 }
 
+// Prints what is told of a run, and answers its status, or 99 where there is no memory for it.
+static int print_run(const char *request) {
+    size_t needed = 0;
+    uint32_t status = 0;
+    uint8_t *told = run(request, strlen(request), &status, &needed);
+    if (told == NULL) return 99;
+    fwrite(told, 1, needed, stdout);
+    free(told);
+    return (int)status;
+}
+
 int main(int count, char **words) {
-    if (count < 5) {
+    if (count < 2) {
         int failed = check();
         puts(failed == 0 ? "ok" : "failed");
         return failed;
     }
     char *request = text_of(words[1]);
     if (request == NULL) return 1;
+    if (count < 5) {
+        int status = print_run(request);
+        free(request);
+        return status;
+    }
     struct rinqebo_session *session = load(request);
     free(request);
     if (session == NULL || rinqebo_session_status(session) != RINQEBO_DONE) return 2;

@@ -1,20 +1,23 @@
 //! Why a call gives nothing.
 
+use crate::document::Refusal;
 use std::fmt;
 
 /// Why a call gives nothing, with the words of the library where it has some.
 #[derive(Clone, Debug, PartialEq, Eq)]
 pub enum Error {
     /// The configuration is refused.
-    Refused(String),
+    Refused(Refusal),
     /// The request is not of its form.
     NotUnderstood(String),
-    /// The metadata or a machine of the request is not understood.
+    /// The metadata, a machine or the list of tests of the request is not understood.
     NoEngines(String),
     /// There is no such profile.
-    NoProfile(String),
+    NoProfile(Refusal),
     /// Memory was refused.
     Memory,
+    /// The request is no UTF-8.
+    NotText,
     /// A number that this version does not know.
     Unknown(u32),
 }
@@ -23,11 +26,12 @@ impl Error {
     /// The error of a status, with its reason.
     pub(crate) fn of(status: u32, reason: String) -> Error {
         match status {
-            1 => Error::Refused(reason),
+            1 => Error::Refused(Refusal::of(reason)),
+            3 => Error::NotText,
             4 => Error::Memory,
             5 => Error::NotUnderstood(reason),
             6 => Error::NoEngines(reason),
-            7 => Error::NoProfile(reason),
+            7 => Error::NoProfile(Refusal::of(reason)),
             other => Error::Unknown(other),
         }
     }
@@ -36,10 +40,11 @@ impl Error {
 impl fmt::Display for Error {
     fn fmt(&self, f: &mut fmt::Formatter<'_>) -> fmt::Result {
         match self {
-            Error::Refused(reason) => write!(f, "the configuration is refused: {reason}"),
+            Error::Refused(refusal) => write!(f, "the configuration is refused: {}", refusal.reason),
             Error::NotUnderstood(reason) => write!(f, "the request is not understood: {reason}"),
-            Error::NoEngines(reason) => write!(f, "metadata or machines are not understood: {reason}"),
-            Error::NoProfile(reason) => f.write_str(reason),
+            Error::NoEngines(reason) => write!(f, "metadata, machines or tests are not understood: {reason}"),
+            Error::NoProfile(refusal) => f.write_str(&refusal.reason),
+            Error::NotText => f.write_str("the request is no UTF-8"),
             Error::Memory => f.write_str("out of memory"),
             Error::Unknown(status) => write!(f, "status {status}"),
         }

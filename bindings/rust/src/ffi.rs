@@ -91,6 +91,13 @@ pub struct Settings {
 }
 
 extern "C" {
+    pub fn rinqebo_resolve(
+        request: *const u8,
+        request_len: usize,
+        answer: *mut u8,
+        answer_len: usize,
+        needed: *mut usize,
+    ) -> u32;
     pub fn rinqebo_session_size() -> usize;
     pub fn rinqebo_session_load(request: *const u8, request_len: usize, room: *mut u8);
     pub fn rinqebo_session_status(session: *const u8) -> u32;

@@ -1,5 +1,5 @@
-//! Safe types over Rinqebo's proved library: a nextest configuration that is loaded once and asked
-//! often.
+//! Safe types over Rinqebo's proved library: one call for a whole run, and nextest configurations that
+//! are loaded once and asked often.
 //!
 //! ```no_run
 //! # fn main() -> Result<(), rinqebo::Error> {
@@ -19,14 +19,21 @@
 //! on the thread of that one. Threads that ask at once have a configuration each, or share one in a
 //! `Mutex` and open its profiles under the lock.
 
+mod document;
 mod error;
 mod ffi;
 mod room;
+mod run;
 mod settings;
 mod sources;
 
+pub use document::{
+    Document, Finding, Level, Origin, OriginKind, Refusal, Setting, Source, SourceKind, TestRow,
+};
 pub use error::Error;
 use room::Room;
+pub use run::{resolve, resolve_json, RunRequest};
+use serde::{Deserialize, Serialize};
 pub use settings::{
     Backoff, Display, Group, GroupThreads, LeakTimeout, Outcome, Report, Retries, SlowTimeout, TestSettings, Threads,
 };
@@ -41,14 +48,16 @@ const WRAPPER: u32 = 2;
 const NO_NAME: usize = usize::MAX;
 
 /// For which machine a binary is built.
-#[derive(Clone, Copy, Debug, PartialEq, Eq)]
+#[derive(Clone, Copy, Debug, PartialEq, Eq, Deserialize)]
+#[serde(rename_all = "kebab-case")]
 pub enum Platform {
     Host,
     Target,
 }
 
 /// For what tests are run.
-#[derive(Clone, Copy, Debug, PartialEq, Eq)]
+#[derive(Clone, Copy, Debug, PartialEq, Eq, Serialize, Deserialize)]
+#[serde(rename_all = "kebab-case")]
 pub enum Mode {
     Test,
     Benchmark,

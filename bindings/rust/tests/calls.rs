@@ -1,6 +1,8 @@
 //! The library through its safe types.
 
 use rinqebo::{Backoff, Config, Display, Error, Group, GroupThreads, Machine, Mode, Outcome, Platform, Sources, Test, Threads};
+use rinqebo::{resolve, resolve_json, Document, Level, OriginKind, RunRequest, SourceKind};
+use serde_json::json;
 use std::sync::{Arc, Mutex};
 use std::time::Duration;
 use std::{fs, thread};
@@ -38,14 +40,19 @@ fn config() -> Config {
     Config::load(&Sources::of_file("/w", FILE, TRIPLE)).expect("the file is accepted")
 }
 
-/// The configuration of `examples/real`, with its metadata.
-fn real() -> Config {
-    let root = concat!(env!("CARGO_MANIFEST_DIR"), "/../../examples/real");
-    let text = fs::read_to_string(format!("{root}/.config/nextest.toml")).expect("an example");
-    let mut sources = Sources::of_file(root, &text, TRIPLE);
-    sources.metadata = Some(fs::read_to_string(format!("{root}/metadata.json")).expect("an example"));
+/// A file of `examples/real`.
+fn example(path: &str) -> String {
+    fs::read_to_string(format!("{ROOT}/{path}")).expect("an example")
+}
+
+const ROOT: &str = concat!(env!("CARGO_MANIFEST_DIR"), "/../../examples/real");
+
+/// `examples/real`, with its metadata.
+fn real() -> Sources {
+    let mut sources = Sources::of_file(ROOT, &example(".config/nextest.toml"), TRIPLE);
+    sources.metadata = Some(example("metadata.json"));
     sources.features.setup_scripts = true;
-    Config::load(&sources).expect("the example is accepted")
+    sources
 }
 
 #[test]
@@ -98,7 +105,7 @@ fn what_filters_ask_of_a_test_counts() {
 
 #[test]
 fn the_worked_example_is_answered_as_it_is_explained() {
-    let config = real();
+    let config = Config::load(&real()).expect("the example is accepted");
     let profile = config.profile("ci").unwrap();
     let mut test = Test::of("api::smoke", "smoke::whole");
     (test.kind, test.target) = ("test", "smoke");
@@ -129,7 +136,7 @@ fn platforms_decide_rules() {
 #[test]
 fn refusals_tell_why() {
     let load = |text: &str| Config::load(&Sources::of_file("/w", text, TRIPLE)).err().expect("it is refused");
-    assert!(matches!(load("[profile.ci"), Error::Refused(reason) if !reason.is_empty()));
+    assert!(matches!(load("[profile.ci"), Error::Refused(refusal) if !refusal.reason.is_empty()));
     assert!(matches!(load("[profile.ci]\nretries = 'x'"), Error::Refused(_)));
     assert!(matches!(load("[[profile.ci.overrides]]\nfilter = 'deps(a)'\nretries = 1"), Error::Refused(_)));
     let unknown = Config::load(&Sources::of_file("/w", "", "no-such-triple")).err().unwrap();
@@ -138,12 +145,13 @@ fn refusals_tell_why() {
     sources.metadata = Some("{".to_owned());
     assert_eq!(Config::load(&sources).err(), Some(Error::NoEngines("the metadata is no JSON".to_owned())));
     let missing = config().profile("cj").err().unwrap();
-    assert!(matches!(&missing, Error::NoProfile(reason) if reason.contains("`cj` not found")), "{missing}");
+    let told = matches!(&missing, Error::NoProfile(refusal) if refusal.reason.contains("`cj` not found"));
+    assert!(told, "{missing}");
     let boxed: Box<dyn std::error::Error> = missing.into();
     assert!(boxed.to_string().contains("ci"));
 }
 
-/// A request, whose members the next tests spoil one by one.
+/// A request for a session, whose members the next tests spoil one by one.
 fn request() -> serde_json::Value {
     let mut sources = Sources::of_file("/w", "", TRIPLE);
     sources.tools.push(rinqebo::ToolFile {
@@ -155,18 +163,46 @@ fn request() -> serde_json::Value {
     serde_json::to_value(&sources).unwrap()
 }
 
-/// The place that a refusal names.
-fn place_of(request: &serde_json::Value) -> String {
-    match Config::from_json(request.to_string().as_bytes()) {
-        Err(Error::NotUnderstood(reason)) => reason.split('`').nth(1).unwrap_or_default().to_owned(),
-        Err(error) => panic!("{request}: {error}"),
-        Ok(_) => panic!("{request} is accepted"),
+/// A request for a run.
+fn run_request() -> serde_json::Value {
+    let mut run = request();
+    let members = run.as_object_mut().unwrap();
+    members.insert("profile".to_owned(), json!("default"));
+    members.insert("mode".to_owned(), json!("test"));
+    members.insert("list".to_owned(), json!(example("list.json")));
+    run
+}
+
+/// The place that the error of a request names.
+fn place_of(error: Option<Error>) -> String {
+    match error {
+        Some(Error::NotUnderstood(reason)) => reason.split('`').nth(1).unwrap_or_default().to_owned(),
+        other => panic!("{other:?}"),
     }
+}
+
+fn load_error(request: &serde_json::Value) -> Option<Error> {
+    Config::from_json(request.to_string().as_bytes()).err()
+}
+
+fn run_error(request: &serde_json::Value) -> Option<Error> {
+    resolve_json(request.to_string().as_bytes()).err()
+}
+
+/// A value with something else at a place, and without it.
+fn spoiled(value: &serde_json::Value, pointer: &str) -> [serde_json::Value; 2] {
+    let mut wrong = value.clone();
+    *wrong.pointer_mut(pointer).unwrap() = json!(7);
+    let (holder, key) = pointer.rsplit_once('/').unwrap();
+    let mut missing = value.clone();
+    missing.pointer_mut(holder).unwrap().as_object_mut().unwrap().remove(key);
+    [wrong, missing]
 }
 
 #[test]
 fn each_member_left_out_or_of_another_kind_is_told() {
-    assert!(Config::from_json(request().to_string().as_bytes()).is_ok());
+    assert_eq!(load_error(&request()), None);
+    assert_eq!(run_error(&run_request()), None);
     let places = [
         ("/root", "root"),
         ("/file", "file"),
@@ -188,24 +224,127 @@ fn each_member_left_out_or_of_another_kind_is_told() {
         ("/target/cfg", "target.cfg"),
     ];
     for (pointer, place) in places {
-        let mut wrong = request();
-        *wrong.pointer_mut(pointer).unwrap() = serde_json::json!(7);
-        assert_eq!(place_of(&wrong), place);
-        let (holder, key) = pointer.rsplit_once('/').unwrap();
-        let mut missing = request();
-        missing.pointer_mut(holder).unwrap().as_object_mut().unwrap().remove(key);
-        assert_eq!(place_of(&missing), place);
+        for request in spoiled(&request(), pointer) {
+            assert_eq!(place_of(load_error(&request)), place);
+        }
     }
-    let mut bad_name = request();
-    bad_name["tools"][0]["tool"] = serde_json::json!("no tool");
-    assert_eq!(place_of(&bad_name), "tools[0].tool");
+    let more = [("/profile", "profile"), ("/mode", "mode"), ("/list", "list")];
+    for (pointer, place) in places.into_iter().chain(more) {
+        for request in spoiled(&run_request(), pointer) {
+            assert_eq!(place_of(run_error(&request)), place);
+        }
+    }
+}
+
+#[test]
+fn words_that_stand_for_nothing_are_told() {
+    let mut request = run_request();
+    request["tools"][0]["tool"] = json!("no tool");
+    assert_eq!(place_of(load_error(&request)), "tools[0].tool");
+    assert_eq!(place_of(run_error(&request)), "tools[0].tool");
+    let mut request = run_request();
+    request["mode"] = json!("tests");
+    let told = Error::NotUnderstood("expected test or benchmark at `mode`".to_owned());
+    assert_eq!(run_error(&request), Some(told));
 }
 
 #[test]
 fn bytes_that_are_no_request() {
     assert_eq!(Config::from_json(b"").err(), Some(Error::NotUnderstood("the request is no JSON".to_owned())));
     assert_eq!(Config::from_json(b"{").err(), Some(Error::NotUnderstood("the request is no JSON".to_owned())));
-    assert_eq!(Config::from_json(b"\xff").err(), Some(Error::Unknown(3)));
+    assert_eq!(Config::from_json(b"\xff").err(), Some(Error::NotText));
+    for bytes in [b"".as_slice(), b"{", b"[1", b"\x00"] {
+        assert_eq!(resolve_json(bytes).err(), Some(Error::NotUnderstood("the request is no JSON".to_owned())));
+    }
+    assert_eq!(resolve_json(b"\xff\xfe").err(), Some(Error::NotText));
+    assert_eq!(place_of(resolve_json(b"7").err()), "profile");
+}
+
+/// The answer to a run over the worked example.
+fn answer(profile: &str, mode: Mode) -> Result<Document, Error> {
+    let list = example("list.json");
+    resolve(&RunRequest { sources: &real(), profile, mode, list: &list })
+}
+
+#[test]
+fn a_run_tells_all_settings_of_each_test() {
+    let document = answer("ci", Mode::Test).unwrap();
+    assert_eq!(document.profile, "ci");
+    assert_eq!(document.chain, ["ci", "default"]);
+    assert_eq!((document.mode, document.host.as_str()), (Mode::Test, TRIPLE));
+    assert_eq!(document.sources.last().unwrap().kind, SourceKind::Discovered);
+    let test = document.tests.iter().find(|test| test.name == "smoke::whole").unwrap();
+    assert_eq!((test.binary_id.as_str(), test.platform), ("api::smoke", Platform::Target));
+    assert_eq!(test.settings.len(), 15);
+    let priority = &test.settings["priority"];
+    assert_eq!(priority.value, json!(50));
+    assert_eq!(priority.origins[0].kind, OriginKind::Override);
+    assert_eq!(priority.origins[0].lines, Some((50, 50)));
+    assert_eq!(test.settings["test-group"].origins[0].kind, OriginKind::BuiltIn);
+    let benchmarks = answer("ci", Mode::Benchmark).unwrap();
+    assert!(benchmarks.tests.iter().all(|test| test.settings.contains_key("bench.slow-timeout")));
+}
+
+/// What a run and a profile that is open say of the priority and the retries of each test.
+#[test]
+fn a_run_and_a_session_agree() {
+    let document = answer("ci", Mode::Test).unwrap();
+    let config = Config::load(&real()).unwrap();
+    let profile = config.profile("ci").unwrap();
+    let list: serde_json::Value = serde_json::from_str(&example("list.json")).unwrap();
+    let mut count = 0;
+    for row in &document.tests {
+        let suites = list["rust-suites"].as_object().unwrap().values();
+        let suite = suites.into_iter().find(|suite| suite["binary-id"] == json!(row.binary_id)).unwrap();
+        let test = Test {
+            package: suite["package-id"].as_str().unwrap(),
+            kind: suite["kind"].as_str().unwrap(),
+            target: suite["binary-name"].as_str().unwrap(),
+            platform: row.platform,
+            ..Test::of(&row.binary_id, &row.name)
+        };
+        let settings = profile.settings(&test).unwrap();
+        assert_eq!(row.settings["priority"].value, json!(settings.priority));
+        let retries = &row.settings["retries"].value;
+        assert_eq!(*retries.get("count").unwrap_or(retries), json!(settings.retries.count));
+        count += 1;
+    }
+    assert!(count > 3);
+}
+
+#[test]
+fn a_run_that_is_refused_tells_its_findings() {
+    let list = example("list.json");
+    let ask = |text: &str, profile: &str| {
+        let sources = Sources::of_file("/w", text, TRIPLE);
+        resolve(&RunRequest { sources: &sources, profile, mode: Mode::Test, list: &list })
+    };
+    let Err(Error::Refused(refusal)) = ask("[profile.ci]\nretries = 'x'\n", "ci") else { panic!("it is refused") };
+    assert_eq!(refusal.findings[0].level, Level::Error);
+    assert_eq!(refusal.findings[0].path.as_deref(), Some("profile.ci.retries"));
+    assert_eq!(refusal.findings[0].lines, Some((2, 2)));
+    let Err(Error::NoProfile(refusal)) = ask("[profile.ci]\n", "cj") else { panic!("there is no cj") };
+    assert!(refusal.reason.contains("cj"), "{}", refusal.reason);
+    assert_eq!(refusal.findings.len(), 1);
+    // The features are those of the request, and those that the file switches on.
+    let script = "[scripts.setup.db]\ncommand = 'true'\n";
+    assert!(matches!(ask(script, "default"), Err(Error::Refused(_))));
+    assert!(ask(&format!("experimental = ['setup-scripts']\n{script}"), "default").is_ok());
+}
+
+#[test]
+fn a_run_without_engines_says_which() {
+    let ask = |triple: &str, metadata: Option<&str>, list: &str| {
+        let mut sources = Sources::of_file("/w", "", triple);
+        sources.metadata = metadata.map(str::to_owned);
+        resolve(&RunRequest { sources: &sources, profile: "default", mode: Mode::Test, list }).err().unwrap()
+    };
+    let list = example("list.json");
+    let reason = "platform `no-such-triple`: unknown target triple";
+    assert_eq!(ask("no-such-triple", None, &list), Error::NoEngines(reason.to_owned()));
+    assert_eq!(ask(TRIPLE, Some("{"), &list), Error::NoEngines("the metadata is no JSON".to_owned()));
+    let Error::NoEngines(reason) = ask(TRIPLE, None, "{}") else { panic!("it is no list") };
+    assert!(reason.starts_with("no list of tests in `list`: ") && reason.contains("rust-suites"), "{reason}");
 }
 
 #[test]

@@ -1,23 +1,44 @@
-//! The exports. A session and its profiles lie in room of the caller's, who never looks inside.
-ghost use Rattle.std.specs.Prelude.{◌≡◌, [], ℕ, List, string_bytes};
+//! The exports: one call for a whole run, and those of sessions. A session and its profiles lie in room
+//! of the caller's, who never looks inside.
+ghost use Rattle.std.specs.Prelude.{◌≡◌, [], ℕ, List, string_bytes, take};
 ghost use Rattle.std.specs.Mem.{type_size};
 ghost use base.Fml.{Share, flft};
 ghost use base.Fraction.{full_share};
 ghost use contract.BorrowLft.{◌⊑◌};
 ghost use denote.RawPtr.{lies_at, room_at};
 ghost use types.Logic.{sem};
+ghost use Rattle.rinqebo_resolve.specs.Endings.{IsAnswerTo, IsResolved, IsSilent};
 ghost use Rattle.rinqebo_session.specs.Answering.{Answers};
 ghost use Rattle.rinqebo_session.specs.Copies.{IsCopiedOut};
 ghost use Rattle.rinqebo_session.specs.Sessions.{session_status};
+ghost use Rattle.rinqebo_session.specs.declared.status.TheConstants.{DONE};
 ghost use Rattle.rinqebo_session.specs.Texts.{profile_status, IsTextCopied};
 ghost use Rattle.rinqebo_session.specs.contracts.session.Session.{the_row};
 ghost use Rattle.rinqebo_session.specs.declared.profile.Profile.{Profile};
 ghost use Rattle.rinqebo_session.specs.declared.session.Session.{Session};
 ghost use Rattle.rinqebo_c.specs.Handles.{loaded, lent, profile_row, opened, lent_profile};
 
+use rinqebo_resolve::resolve;
 use rinqebo_session::{AskedTest, Profile, Session, SettingNumbers};
 use std::alloc::Global;
 use std::mem::size_of;
+
+/// Answers a request in JSON for a whole run: writes the document of the answer, or why there is none,
+/// at the start of a buffer, and answers a number for which it is. Where the buffer is too small it
+/// stays as it was, and `needed` says what it takes.
+#[unsafe(no_mangle)]
+pub extern "C" fn rinqebo_resolve(
+    alloc: Global,
+    request: &[u8],
+    answer: &mut [u8],
+    needed: &mut usize,
+) -> u32
+    ensures resolved { IsResolved request.now answer.old answer.new needed.new result }
+    ensures done { result ≡ DONE → IsAnswerTo request.now (take needed.new answer.new) }
+    ensures kept { IsSilent result → answer.new ≡ answer.old }
+{
+    resolve(alloc, request, answer, needed)
+}
 
 /// The bytes of a session.
 #[unsafe(no_mangle)]

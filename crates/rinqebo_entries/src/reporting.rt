@@ -1,7 +1,11 @@
 //! Leaves of a configuration as they are reported.
-ghost use Rattle.std.specs.Prelude.{◌≡◌, IfOk, IfSome, string_bytes};
-ghost use Rattle.config_grounds.specs.Entries.{dotted};
+ghost use Rattle.std.specs.Prelude.{◌≡◌, ◌++◌, Some, false, IfOk, MatchOption, map, option_map};
+ghost use Rattle.config_grounds.specs.Entries.{leaf_view};
 ghost use Rattle.config_grounds.specs.Layers.{keys_view};
+ghost use Rattle.config_grounds.specs.Sections.{base_path, section_view};
+ghost use Rattle.nextest_tree.specs.View.{tree_view};
+ghost use Rattle.rinqebo_entries.specs.LeafValue.{is_tellable};
+ghost use Rattle.rinqebo_entries.specs.Reporting.{step_key, profile_of, IsOriginOf, IsEntryOf};
 
 use crate::leaf_value::told_value;
 use config_grounds::{Entry, Section, key_text};
@@ -10,7 +14,10 @@ use rinqebo_report::{Origin, Part, Place, Written};
 use std::alloc::{AllocError, Global};
 
 /// The path of a leaf from the root of its layer on: there its lines are looked for.
-pub fn steps_of<'t>(alloc: Global, entry: &Entry<'t>) -> Result<Vec<Step<'t>>, AllocError> {
+pub fn steps_of<'t>(alloc: Global, entry: &Entry<'t>) -> Result<Vec<Step<'t>>, AllocError>
+    ensures { IfOk result (λ steps. map step_key steps.items
+        ≡ map Some (base_path (section_view entry.now.section) ++ keys_view entry.now.path.items)) }
+{
     let mut steps = Vec::new(alloc);
     if let Section::Profile { name, .. } = entry.section {
         steps.push(Step::Key("profile"))?;
@@ -22,24 +29,32 @@ pub fn steps_of<'t>(alloc: Global, entry: &Entry<'t>) -> Result<Vec<Step<'t>>, A
     Ok(steps)
 }
 
-/// The name of the profile under which a leaf stands, empty where it stands under none.
-fn profile_name<'t>(entry: &Entry<'t>) -> &'t str {
+/// The name of the profile under which a leaf stands, if it stands under one.
+fn profile_name<'t>(entry: &Entry<'t>) -> Option<&'t str>
+    ensures { option_map (λ name. name.now) result
+        ≡ profile_of (section_view entry.now.section) }
+{
     match entry.section {
-        Section::Profile { name, .. } => name,
-        Section::Beside => "",
+        Section::Profile { name, .. } => Some(name),
+        Section::Beside => None,
     }
 }
 
 /// What writes a leaf. The lowest layer is the table of defaults.
-fn origin_of(alloc: Global, entry: &Entry<'_>, place: Place) -> Result<Origin, AllocError> {
+fn origin_of(alloc: Global, entry: &Entry<'_>, place: Place) -> Result<Origin, AllocError>
+    ensures { IfOk result (IsOriginOf (leaf_view entry.now) place) }
+{
     if entry.layer == 0 {
         return Ok(Origin::DefaultTable);
     }
-    Ok(Origin::Written(Written {
-        place,
-        profile: String::from_str(alloc, profile_name(entry))?,
-        part: Part::Fields,
-    }))
+    match profile_name(entry) {
+        Some(name) => Ok(Origin::Written(Written {
+            place,
+            profile: String::from_str(alloc, name)?,
+            part: Part::Fields,
+        })),
+        None => Ok(Origin::File(place)),
+    }
 }
 
 /// A leaf, as it is reported, with the place at which it stands in its file. There is none where its
@@ -49,10 +64,9 @@ pub fn reported_entry(
     entry: &Entry<'_>,
     place: Place,
 ) -> Result<Option<rinqebo_report::Entry>, AllocError>
-    ensures key { IfOk result (λ told. IfSome told (λ leaf.
-        string_bytes leaf.key ≡ dotted (keys_view entry.now.path.items))) }
-    ensures hidden { IfOk result (λ told. IfSome told (λ leaf.
-        leaf.is_hidden ≡ entry.now.is_hidden)) }
+    ensures { IfOk result (λ told. MatchOption told
+        (is_tellable (tree_view entry.now.value.now) ≡ false)
+        (IsEntryOf (leaf_view entry.now) place)) }
 {
     let Some(value) = told_value(alloc, entry.value)? else {
         return Ok(None);

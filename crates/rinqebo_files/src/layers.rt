@@ -1,16 +1,19 @@
 //! The sources of a run, with their texts and trees.
-ghost use Rattle.std.specs.Prelude.{◌≡◌, IfOk, option_map};
+ghost use Rattle.std.specs.Prelude.{◌≡◌, ◌++◌, Some, IfOk, OnOk, map, option_map, reverse};
 ghost use Rattle.nextest_documents.specs.Text.{tree_of as document_of};
 ghost use Rattle.nextest_tree.specs.View.{tree_view};
-ghost use Rattle.rinqebo_files.specs.Features.{tree_read};
+ghost use Rattle.rinqebo_files.specs.Features.{repository_file, tree_read};
+ghost use Rattle.rinqebo_files.specs.Layers.{layer_tree, file_tree, tool_tree, trees_read};
+ghost use Rattle.nextest_tables.specs.Defaults.{defaults};
 
 use crate::files::Gathered;
 use config_places::Places;
 use nextest_config::{
-    ConfigPath, ConfigSource, ConfigSourceKind, DEFAULT_CONFIG, FileInput, ReadOutcome, ToolName,
+    ConfigPath, ConfigSource, ConfigSourceKind, FileInput, ReadOutcome, ToolConfigFile, ToolName,
     Tree,
 };
 use nextest_documents::{TextFault, tree_from_text};
+use nextest_tables::default_tree;
 use rinqebo_report::{Source, SourceKind};
 use std::alloc::{AllocError, Global};
 use std::cell::OnceCell;
@@ -72,7 +75,9 @@ fn layer_of<'t>(
     alloc: Global,
     kind: SourceKind,
     file: &'t FileInput,
-) -> Result<Layer<'t>, AllocError> {
+) -> Result<Layer<'t>, AllocError>
+    ensures { IfOk result (λ layer. layer_tree layer ≡ file_tree file.entry.now) }
+{
     Ok(Layer {
         source: Source {
             kind,
@@ -85,31 +90,65 @@ fn layer_of<'t>(
 }
 
 /// The layer of the defaults.
-fn default_layer<'t>(alloc: Global) -> Result<Layer<'t>, AllocError> {
+fn default_layer<'t>(alloc: Global) -> Result<Layer<'t>, AllocError>
+    ensures { IfOk result (λ layer. layer_tree layer ≡ Some defaults) }
+{
     Ok(Layer {
         source: Source {
             kind: SourceKind::Default,
             path: None,
         },
         text: None,
-        tree: tree_of_text(alloc, DEFAULT_CONFIG)?,
+        tree: Some(default_tree(alloc)?),
         places: OnceCell::new(),
     })
 }
 
+/// The layer of a tool's file.
+fn tool_layer<'t>(alloc: Global, tool: &'t ToolConfigFile) -> Result<Layer<'t>, AllocError>
+    ensures { IfOk result (λ layer. layer_tree layer ≡ tool_tree tool.entry.now) }
+{
+    let kind = SourceKind::Tool(tool.tool.to_string(alloc)?);
+    layer_of(alloc, kind, &tool.config_file)
+}
+
+/// The layer of the repository's file.
+fn repository_layer<'t>(alloc: Global, gathered: &'t Gathered) -> Result<Layer<'t>, AllocError>
+    ensures { IfOk result (λ layer.
+        layer_tree layer ≡ file_tree (repository_file gathered.entry.now)) }
+{
+    match &gathered.config_file {
+        Some(file) => layer_of(alloc, SourceKind::Explicit, file),
+        None => layer_of(alloc, SourceKind::Discovered, &gathered.paths.shared),
+    }
+}
+
+/// Adds the layers of tools: the first tool is the highest.
+fn add_tools<'t>(
+    alloc: Global,
+    tools: &'t [ToolConfigFile],
+    layers: &mut Vec<Layer<'t>>,
+) -> Result<(), AllocError>
+    ensures { OnOk result (map layer_tree layers.new.items
+        ≡ map layer_tree layers.old.items ++ map tool_tree (reverse tools.entry.now)) }
+{
+    let count = tools.len();
+    'down: for back in 0..count {
+        let layer = tool_layer(alloc, &tools[count - 1 - back])?;
+        layers.push(layer)?;
+    }
+    Ok(())
+}
+
 /// The layers of a run, the lowest first: the defaults, the files of tools, and the repository's.
-pub fn layers_of<'t>(alloc: Global, gathered: &'t Gathered) -> Result<Vec<Layer<'t>>, AllocError> {
+pub fn layers_of<'t>(alloc: Global, gathered: &'t Gathered) -> Result<Vec<Layer<'t>>, AllocError>
+    ensures { IfOk result (λ layers.
+        map layer_tree layers.items ≡ trees_read gathered.entry.now) }
+{
     let mut layers = Vec::new(alloc);
     layers.push(default_layer(alloc)?)?;
-    for file in gathered.tools.iter().rev() {
-        let kind = SourceKind::Tool(file.tool.to_string(alloc)?);
-        layers.push(layer_of(alloc, kind, &file.config_file)?)?;
-    }
-    let layer = match &gathered.config_file {
-        Some(file) => layer_of(alloc, SourceKind::Explicit, file)?,
-        None => layer_of(alloc, SourceKind::Discovered, &gathered.paths.shared)?,
-    };
-    layers.push(layer)?;
+    add_tools(alloc, &gathered.tools, &mut layers)?;
+    layers.push(repository_layer(alloc, gathered)?)?;
     Ok(layers)
 }
 

@@ -1,4 +1,6 @@
 //! The lines of files that bring what stands at a path.
+ghost use Rattle.std.specs.Prelude.{◌≡◌, IfOk};
+
 use crate::layers::Layer;
 use config_places::Step;
 use nextest_config::Tree;
@@ -11,10 +13,12 @@ fn lines_in(alloc: Global, layer: &Layer, path: &[Step]) -> Result<Option<Lines>
     let Some(places) = layer.places(alloc)? else {
         return Ok(None);
     };
-    Ok(places.lines_at(path).map(|lines| Lines {
-        first: lines.first as u64,
-        last: lines.last as u64,
-    }))
+    Ok(
+        places.lines_at(path).map(|lines| Lines {
+            first: lines.first as u64,
+            last: lines.last as u64,
+        }),
+    )
 }
 
 /// The place of what stands at a path in the layer at a position.
@@ -23,7 +27,9 @@ pub fn path_place(
     layers: &[Layer],
     source: usize,
     path: &[Step],
-) -> Result<Place, AllocError> {
+) -> Result<Place, AllocError>
+    ensures { IfOk result (λ place. place.source ≡ source) }
+{
     let lines = match layers.get(source) {
         Some(layer) => lines_in(alloc, layer, path)?,
         None => None,

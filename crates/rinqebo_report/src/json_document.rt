@@ -6,9 +6,10 @@ ghost use Rattle.serde_json.specs.Written.{compact_text};
 ghost use Rattle.rinqebo_report.specs.DocumentViews.{asked_view, answers_view};
 ghost use Rattle.rinqebo_report.specs.Document.{asked_data, content_asked, command_word, rules_data, tests_data, entries_data, unused_data, answers_data, with_asked, with_answers, with_title, document_data};
 
+use crate::json_findings::findings_json;
 use crate::json_parts::{
-    all_unreached_json, entries_json, findings_json, optional_text_json, origins_json, rules_json,
-    sources_json, test_json, tests_json, texts_json,
+    all_unreached_json, entries_json, optional_text_json, origins_json, rules_json, sources_json,
+    test_json, tests_json, texts_json,
 };
 use crate::report::{Asked, Content, Report};
 use serde_json::{Map, Value, json, put};

@@ -13,6 +13,7 @@ mod github;
 mod group_page;
 mod hint;
 mod json_document;
+mod json_findings;
 mod json_parts;
 mod laws;
 mod list_page;

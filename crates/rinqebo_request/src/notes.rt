@@ -4,6 +4,11 @@ use crate::request::{AskedSettings, Question, Request};
 use nextest_config::Setting;
 use std::alloc::{AllocError, Global};
 
+/// Whether the leaves below keys have the value of a setting. Without a key all leaves are told.
+fn has_leaf(keys: &[&str], setting: Setting) -> bool {
+    keys.is_empty() || keys.iter().any(|key| *key == setting.name())
+}
+
 /// Whether a question asks for a setting of a test.
 fn asks_for(question: &Question<'_>, setting: Setting) -> bool {
     match question {
@@ -14,6 +19,7 @@ fn asks_for(question: &Question<'_>, setting: Setting) -> bool {
             ..
         } => settings.iter().any(|asked| *asked == setting),
         Question::List { .. } => true,
+        Question::ShowConfig { keys, .. } => has_leaf(keys, setting),
         Question::Check { .. } => false,
     }
 }

@@ -2,7 +2,7 @@
 use clap::{Arg, ArgAction, Command};
 use std::alloc::{AllocError, Global};
 
-/// The formats of what a test gets.
+/// The formats of answers.
 const ANSWER_FORMATS: &[&str] = &["text", "json"];
 
 /// The formats of findings.
@@ -137,16 +137,21 @@ fn keys<'a>(alloc: Global, help: &'a str) -> Arg<'a> {
         .help(help)
 }
 
-/// The options that say which profile counts, and for what tests run.
-fn with_profile<'a>(alloc: Global, command: Command<'a>) -> Result<Command<'a>, AllocError> {
-    let profile = option(
+/// The option that says which profile counts.
+fn profile<'a>(alloc: Global) -> Arg<'a> {
+    option(
         alloc,
         "profile",
         "P",
         "The profile [default: NEXTEST_PROFILE, else default]",
-    );
+    )
+    .short('P')
+}
+
+/// The options that say which profile counts, and for what tests run.
+fn with_profile<'a>(alloc: Global, command: Command<'a>) -> Result<Command<'a>, AllocError> {
     let mode = choice(alloc, "mode", "M", MODES, "For what the test runs").default_value("test");
-    command.arg(profile.short('P'))?.arg(mode)
+    command.arg(profile(alloc))?.arg(mode)
 }
 
 /// The command that explains the settings of a test.
@@ -210,6 +215,25 @@ fn list_command<'a>(alloc: Global) -> Result<Command<'a>, AllocError> {
     with_output(alloc, command, ANSWER_FORMATS)
 }
 
+/// The command that shows the leaves of the configuration.
+fn show_command<'a>(alloc: Global) -> Result<Command<'a>, AllocError> {
+    let hidden = flag(
+        alloc,
+        "hidden",
+        "Tells leaves too that higher files or nearer profiles hide",
+    );
+    let command = Command::new(alloc, "show-config")
+        .about("Tells what files write for a profile, and which of them")
+        .arg(keys(
+            alloc,
+            "Keys of the profile, or of store, test-groups and scripts [default: all]",
+        ))?
+        .arg(hidden)?
+        .arg(profile(alloc))?;
+    let command = with_files(alloc, command)?;
+    with_output(alloc, command, ANSWER_FORMATS)
+}
+
 /// The command that prints the schema of a file.
 fn schema_command<'a>(alloc: Global) -> Command<'a> {
     Command::new(alloc, "schema").about("Prints the JSON schema of a file, for editors")
@@ -244,5 +268,6 @@ pub fn program<'a>(alloc: Global) -> Result<Command<'a>, AllocError> {
         .subcommand(explain_command(alloc)?)?
         .subcommand(check_command(alloc)?)?
         .subcommand(list_command(alloc)?)?
+        .subcommand(show_command(alloc)?)?
         .subcommand(schema_command(alloc))
 }

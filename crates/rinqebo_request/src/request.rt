@@ -76,6 +76,15 @@ pub enum Question<'a> {
         /// The settings that are told.
         asked: AskedSettings,
     },
+    /// The leaves of the configuration.
+    ShowConfig {
+        /// The name of the profile.
+        profile: &'a str,
+        /// The keys below which leaves are told. Without one, all leaves are.
+        keys: Vec<&'a str>,
+        /// Whether leaves are told that others hide.
+        with_hidden: bool,
+    },
     /// What is wrong with the files.
     Check {
         /// Whether a warning is no success.
@@ -160,7 +169,10 @@ impl<'a> Request<'a> {
     pub fn list(&self) -> Option<ListFile<'a>> {
         match &self.question {
             Question::List { list, .. } => Some(*list),
-            Question::Explain { .. } | Question::Why { .. } | Question::Check { .. } => None,
+            Question::Explain { .. }
+            | Question::Why { .. }
+            | Question::ShowConfig { .. }
+            | Question::Check { .. } => None,
         }
     }
 

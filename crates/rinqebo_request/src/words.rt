@@ -166,8 +166,8 @@ fn engines<'a>(matches: &ArgMatches<'a>, environment: &'a Environment) -> Engine
     }
 }
 
-/// The languages of a check, which runs no test.
-fn check_engines<'a>(matches: &ArgMatches<'a>) -> EngineOptions<'a> {
+/// The languages of a command that is about no test.
+fn file_engines<'a>(matches: &ArgMatches<'a>) -> EngineOptions<'a> {
     EngineOptions {
         host: None,
         target: None,
@@ -402,6 +402,32 @@ fn list_request<'a>(
     })
 }
 
+/// The keys below which leaves are told.
+fn leaf_keys<'a>(alloc: Global, matches: &ArgMatches<'a>) -> Result<Vec<&'a str>, AllocError> {
+    Vec::from_slice(alloc, matches.get_strs("KEY").unwrap_or(&[]))
+}
+
+/// The request of the command `show-config`.
+fn show_request<'a>(
+    alloc: Global,
+    matches: &ArgMatches<'a>,
+    environment: &'a Environment,
+) -> Result<Request<'a>, ParseStop> {
+    Ok(Request {
+        question: Question::ShowConfig {
+            profile: profile(matches, environment),
+            keys: leaf_keys(alloc, matches)?,
+            with_hidden: matches.get_flag("hidden"),
+        },
+        files: files(alloc, matches, named_file(matches))?,
+        engines: file_engines(matches),
+        features: features(alloc, matches, environment)?,
+        format: format(matches, environment),
+        colour: colour(matches, environment),
+        shows_progress: false,
+    })
+}
+
 /// The request of the command `check`.
 fn check_request<'a>(
     alloc: Global,
@@ -413,7 +439,7 @@ fn check_request<'a>(
             deny_warnings: matches.get_flag("deny-warnings"),
         },
         files: files(alloc, matches, checked_file(alloc, matches)?)?,
-        engines: check_engines(matches),
+        engines: file_engines(matches),
         features: features(alloc, matches, environment)?,
         format: format(matches, environment),
         colour: colour(matches, environment),
@@ -434,6 +460,7 @@ pub fn parse<'a>(
     let request = match matches.subcommand() {
         Some(("explain", matches)) => explain_request(alloc, matches, environment)?,
         Some(("list", matches)) => list_request(alloc, matches, environment)?,
+        Some(("show-config", matches)) => show_request(alloc, matches, environment)?,
         Some(("schema", _)) => return Ok(Command::Schema),
         Some((_, matches)) => check_request(alloc, matches, environment)?,
         None => return Err(usage(alloc, "no command", None)?),

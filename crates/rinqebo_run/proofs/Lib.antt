@@ -8,4 +8,5 @@ pub mod InOrder
 pub mod Meant
 pub mod Gathering
 pub mod Listing
+pub mod Showing
 pub mod Writing

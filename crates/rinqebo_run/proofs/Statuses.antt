@@ -21,6 +21,8 @@ no_five : (q : Question) → IsAnswerStatus q 5 → ⊥
 no_five (questions.Explain profile test settings) is = omega arith
 no_five (questions.Why profile test setting) is = omega arith
 no_five (questions.List profile mode list asked) is = omega arith
+no_five (questions.ShowConfig profile keys with_hidden) (inl is) = omega arith
+no_five (questions.ShowConfig profile keys with_hidden) (inr is) = omega arith
 no_five (questions.Check deny_warnings) (inl is) = omega arith
 no_five (questions.Check deny_warnings) (inr (inl is)) = omega arith
 no_five (questions.Check deny_warnings) (inr (inr is)) = omega arith
@@ -30,6 +32,8 @@ no_six : (q : Question) → IsAnswerStatus q 6 → ⊥
 no_six (questions.Explain profile test settings) is = omega arith
 no_six (questions.Why profile test setting) is = omega arith
 no_six (questions.List profile mode list asked) is = omega arith
+no_six (questions.ShowConfig profile keys with_hidden) (inl is) = omega arith
+no_six (questions.ShowConfig profile keys with_hidden) (inr is) = omega arith
 no_six (questions.Check deny_warnings) (inl is) = omega arith
 no_six (questions.Check deny_warnings) (inr (inl is)) = omega arith
 no_six (questions.Check deny_warnings) (inr (inr is)) = omega arith
@@ -39,6 +43,8 @@ no_two : (q : Question) → IsAnswerStatus q 2 → ⊥
 no_two (questions.Explain profile test settings) is = omega arith
 no_two (questions.Why profile test setting) is = omega arith
 no_two (questions.List profile mode list asked) is = omega arith
+no_two (questions.ShowConfig profile keys with_hidden) (inl is) = omega arith
+no_two (questions.ShowConfig profile keys with_hidden) (inr is) = omega arith
 no_two (questions.Check deny_warnings) (inl is) = omega arith
 no_two (questions.Check deny_warnings) (inr (inl is)) = omega arith
 no_two (questions.Check deny_warnings) (inr (inr is)) = omega arith
@@ -48,6 +54,8 @@ no_four : (q : Question) → IsAnswerStatus q 4 → ⊥
 no_four (questions.Explain profile test settings) is = omega arith
 no_four (questions.Why profile test setting) is = omega arith
 no_four (questions.List profile mode list asked) is = omega arith
+no_four (questions.ShowConfig profile keys with_hidden) (inl is) = omega arith
+no_four (questions.ShowConfig profile keys with_hidden) (inr is) = omega arith
 no_four (questions.Check deny_warnings) (inl is) = omega arith
 no_four (questions.Check deny_warnings) (inr (inl is)) = omega arith
 no_four (questions.Check deny_warnings) (inr (inr is)) = omega arith
@@ -58,6 +66,8 @@ no_three : (q : Question) (session : Session) (report : Report) → IsFailureIn 
 no_three (questions.Explain profile test settings) session report cause is = omega arith
 no_three (questions.Why profile test setting) session report cause is = omega arith
 no_three (questions.List profile mode list asked) session report cause is = omega arith
+no_three (questions.ShowConfig profile keys with_hidden) session report cause (inl is) = omega arith
+no_three (questions.ShowConfig profile keys with_hidden) session report cause (inr is) = omega arith
 no_three (questions.Check deny_warnings) session report cause is = cause
 
 -- a failure is no answer

@@ -1,12 +1,14 @@
 -- What a request is answered.
 use Rattle.std.specs.Prelude.{◌≡◌, ℕ, List, Option}
 use Rattle.std.specs.Io.KnownBytes.{Appends}
+use Rattle.config_grounds.specs.Layers.{keys_view}
 use Rattle.rinqebo_report.specs.Rendered.{rendered}
 use Rattle.rinqebo_report.specs.declared.report.Report.{Report}
 use Rattle.rinqebo_run.specs.Checked.{IsCheckStatus}
 use Rattle.rinqebo_run.specs.Explained.{Explains}
 use Rattle.rinqebo_run.specs.Listed.{TellsTests}
 use Rattle.rinqebo_run.specs.SessionOf.{IsSessionOf}
+use Rattle.rinqebo_run.specs.ShownConfig.{ShowsConfig}
 use Rattle.rinqebo_run.specs.TellsReasons.{TellsReasons}
 use Rattle.rinqebo_files.specs.declared.files.Gathered.{Gathered}
 use Rattle.rinqebo_request.specs.declared.request.Question.{Question}
@@ -22,6 +24,8 @@ AnswersQuestion (questions.Why profile test setting) session report status =
     (status ≡ 0) × TellsReasons session profile.now test setting report
 AnswersQuestion (questions.List profile mode list asked) session report status =
     (status ≡ 0) × TellsTests session profile.now mode asked report
+AnswersQuestion (questions.ShowConfig profile keys with_hidden) session report status =
+    ShowsConfig session profile.now (keys_view keys.items) with_hidden report status
 AnswersQuestion (questions.Check deny_warnings) session report status =
     IsCheckStatus session status
 

@@ -16,5 +16,6 @@ pub mod Reasons
 pub mod TellsReasons
 pub mod Listed
 pub mod ListedBy
+pub mod ShownConfig
 pub mod Begun
 pub mod Written

@@ -63,6 +63,8 @@ IsFailureIn session (questions.Why profile test setting) failure =
     IsFailureAbout session profile.now failure
 IsFailureIn session (questions.List profile mode list asked) failure =
     IsFailureAbout session profile.now failure
+IsFailureIn session (questions.ShowConfig profile keys with_hidden) failure =
+    IsFailureAbout session profile.now failure
 IsFailureIn session (questions.Check deny_warnings) failure = IsBeginningFailure failure
 
 -- A session of a request does not answer it.
@@ -88,6 +90,8 @@ abbrev pub LacksProfileOf : Session → Question → Type 0
 LacksProfileOf session (questions.Explain profile test settings) = LacksProfile session profile.now
 LacksProfileOf session (questions.Why profile test setting) = LacksProfile session profile.now
 LacksProfileOf session (questions.List profile mode list asked) = LacksProfile session profile.now
+LacksProfileOf session (questions.ShowConfig profile keys with_hidden) =
+    LacksProfile session profile.now
 LacksProfileOf session (questions.Check deny_warnings) = ⊥
 
 -- The files of a request lack the profile that it names.

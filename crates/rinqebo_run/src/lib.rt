@@ -1,7 +1,8 @@
 //! What the program `rinqebo` does, over words, files and writers of a caller's choosing.
 //!
 //! [`perform`] answers a request over the files that it names: with the settings of a test or of each
-//! test of a list, the rules of a setting, or what is wrong with the files.
+//! test of a list, the rules of a setting, the leaves of the configuration, or what is wrong with the
+//! files. [`answer_of`] gives the answer as a value.
 #![tactic(auto)]
 
 mod above;
@@ -33,9 +34,12 @@ mod rule_places;
 mod rules;
 mod run;
 mod session;
+mod show;
 mod triples;
 mod unknown_names;
 mod why;
 mod wrappers;
 
-pub use run::{perform, print_schema, refuse_gathering, refuse_words};
+pub use answer::{Answer, Failure};
+pub use engines::EngineFault;
+pub use run::{answer_of, perform, print_schema, refuse_gathering, refuse_words};

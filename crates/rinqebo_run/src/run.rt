@@ -22,6 +22,7 @@ use crate::list_page::AskedList;
 use crate::list_text::write_list;
 use crate::progress::ProgressLine;
 use crate::session::Session;
+use crate::show::show;
 use crate::why::why;
 use config_shape::schema_page;
 use nextest_explain::refuse_for_memory;
@@ -44,8 +45,9 @@ fn answered(report: Result<Report, Failure>) -> Result<Answer, Failure>
     }
 }
 
-/// What a request is answered, over the files that it names. Of a list it is told how far it is.
-fn answer_of<P: Progress>(
+/// What a request is answered, over the files that it names: a report with an exit status, or why
+/// there is none. Nothing is written. Of a list it is told how far it is.
+pub fn answer_of<P: Progress>(
     alloc: Global,
     request: &Request<'_>,
     gathered: &Gathered,
@@ -87,6 +89,11 @@ fn answer_in<P: Progress>(
             asked,
             ..
         } => answered(list(alloc, session, *profile, *mode, asked, progress)),
+        Question::ShowConfig {
+            profile,
+            keys,
+            with_hidden,
+        } => show(alloc, session, *profile, keys, *with_hidden),
         Question::Check { deny_warnings } => check(alloc, session, *deny_warnings),
     }
 }
@@ -253,12 +260,12 @@ fn answer_list<O: Write, E: Write>(
 }
 
 /// Answers a request over the files that it names, and answers the exit status: 0, or 1 for warnings
-/// that are denied, 2 for platforms and metadata that are not understood, 3 where the files are
-/// refused, 4 where there is no such profile, 5 for want of memory, 6 where a write fails. Nothing
-/// goes to standard output where a run refuses, but for the findings of a check. The text of a list
-/// goes out as its tests are asked: where memory runs out meanwhile, it has the first tests, each
-/// whole. Where a request says so, standard error is told how far a list is, on a line of its own that
-/// is gone in the end.
+/// that are denied and where no leaf is found, 2 for platforms and metadata that are not understood,
+/// 3 where the files are refused, 4 where there is no such profile, 5 for want of memory, 6 where a
+/// write fails. Nothing goes to standard output where a run refuses, but for the findings of a check.
+/// The text of a list goes out as its tests are asked: where memory runs out meanwhile, it has the
+/// first tests, each whole. Where a request says so, standard error is told how far a list is, on a
+/// line of its own that is gone in the end.
 pub fn perform<O: Write, E: Write>(
     alloc: Global,
     request: &Request<'_>,

@@ -10,7 +10,8 @@ use Rattle.rinqebo_session.specs.declared.profile.Group.{Group}
 use Rattle.rinqebo_session.specs.declared.settings.SettingNumbers.{SettingNumbers}
 
 pub numbers_by : (known : List Group) (wrappers : List (Bor (List ℕ))) (v w : (s : Setting) → Option (ValueOf s))
-    (n : SettingNumbers) → ((s : Setting) → v s ≡ w s) → AreNumbersOf known wrappers v n → AreNumbersOf known wrappers w n
+    (n : SettingNumbers) → ((s : Setting) → v s ≡ w s) → AreNumbersOf known wrappers v n
+    → AreNumbersOf known wrappers w n
 numbers_by known wrappers v w n same is = record {
   priority = ap (option_map (λ p. p.0)) (sym (same at.Priority)) ∙ is.priority;
   threads_required = ap (option_map thread_numbers) (sym (same at.ThreadsRequired)) ∙ is.threads_required;

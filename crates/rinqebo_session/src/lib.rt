@@ -14,7 +14,9 @@ mod settings;
 pub mod status;
 mod test;
 
+pub use copies::copy_out;
 pub use failure::{Failure, OpenFailure};
+pub use features::features_of;
 pub use loading::{Config, Loaded};
 pub use profile::{Group, Opened, Profile};
 pub use session::Session;

@@ -2,3 +2,4 @@ pub mod Parts
 pub mod Requests
 pub mod Numbers
 pub mod Machines
+pub mod Runs

@@ -65,6 +65,8 @@ pub enum Wanted {
     ObjectOrNull,
     /// The name of a tool.
     ToolName,
+    /// For what tests are run.
+    Mode,
 }
 
 impl fmt::Display for Wanted {
@@ -77,6 +79,7 @@ impl fmt::Display for Wanted {
             Wanted::Object => "an object",
             Wanted::ObjectOrNull => "an object or null",
             Wanted::ToolName => "the name of a tool",
+            Wanted::Mode => "test or benchmark",
         })
     }
 }

@@ -1,11 +1,12 @@
-//! The forms in which a session is asked for and answers: a request in JSON, the machines that it
-//! names, and settings as numbers.
+//! The forms in which a session and a whole run are asked for, and in which a session answers: a
+//! request in JSON, the machines that it names, and settings as numbers.
 #![tactic(auto)]
 
 mod fault;
 mod machines;
 mod numbers;
 mod request;
+mod run_request;
 mod values;
 
 pub use fault::{Holder, Place, RequestFault, Wanted};
@@ -16,3 +17,4 @@ pub use numbers::{
     slow_numbers, status_number, thread_numbers,
 };
 pub use request::{LoadRequest, Machine, Switches};
+pub use run_request::RunRequest;

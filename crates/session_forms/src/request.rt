@@ -183,7 +183,7 @@ fn switches_in(value: &Value) -> Result<Switches, RequestFault>
 }
 
 /// The place of a key of a request.
-fn at(key: &'static str) -> Place
+pub(crate) fn at(key: &'static str) -> Place
     ensures { result.key.now ≡ key.now }
 {
     Place {
@@ -195,7 +195,7 @@ fn at(key: &'static str) -> Place
 impl LoadRequest {
     /// The request that a JSON value says.
     #[tactic(auto, unfolding(crate::specs::Requests::request_in))]
-    fn from_value(alloc: Global, value: &Value) -> Result<LoadRequest, RequestFault>
+    pub(crate) fn from_value(alloc: Global, value: &Value) -> Result<LoadRequest, RequestFault>
         ensures { Reads request_view result (request_in (view value.now)) }
     {
         let workspace_root = string_at(alloc, value, at("root"))?;

@@ -48,12 +48,14 @@ rinqebo_profile_status_spec 𝓤 𝓛 𝓜 𝓡 wired =
     let κ = n.0 in let ι = n.1 in let q = n.2 in let k = n.3 in let x = n.4 in
     let R = profile_row ι in
     let y : Ptr → W.Ghost = λ p. ((κs, qs, bounds, (p, tt), (rawptr_vals p, tt)), n) in
-    qed 𝓛 ((‵ ftrue ⊛ ‵ (owns (types_at f.signature.params κs) a (rawptr_vals a.0, tt))) ∷ (‵ (lent_profile κ ι q k a.0 x) ⊛ raw (fact 𝓤 (κ ⊑ ι))) ∷ []) ∵
+    qed 𝓛 ((‵ ftrue ⊛ ‵ (owns (types_at f.signature.params κs) a (rawptr_vals a.0, tt)))
+    ∷ (‵ (lent_profile κ ι q k a.0 x) ⊛ raw (fact 𝓤 (κ ⊑ ι))) ∷ []) ∵
     split ! $ move ! (1 ∷ []) $ drop ! $ move ! (1 ∷ []) $ split ! $ move ! (1 ∷ []) $ heard ! _ (λ within.
     -- [the loan; no token]
     in_a_block ! a.0 (λ p. lent_profile κ ι q k p x) (id⊢ 𝓤 _) (λ b o e.
     regoal ! (λ p. prop (WpFn 𝓤 𝓛.H 𝓣.C 𝓣.Λ code.function (rawptr_vals p) (W.post (y p)))) e refl $
-    fsplit ! $ move ! (1 ∷ []) $ fsplit ! $ move ! (1 ∷ []) $ shr_dup ! R ((held.the_row_laws (record { mir = erased; lft = ι })).shr_laws) x b o κ $
+    fsplit ! $ move ! (1 ∷ []) $ fsplit ! $ move ! (1 ∷ []) $ shr_dup ! R
+    ((held.the_row_laws (record { mir = erased; lft = ι })).shr_laws) x b o κ $
     enter ! _ _ _ _ _ $ alloc_all ! (λ l. pass_all ! refl ((tt, tt), tt) $
     sets ! (of_opd ! (get ! refl)) refl (tt, tt) $
     sets ! (addr ! (through ! refl (stop !))) refl (tt, tt) $
@@ -63,12 +65,16 @@ rinqebo_profile_status_spec 𝓤 𝓛 𝓜 𝓡 wired =
     let z : G.Ghost = (((κ, (ι, tt)), (q, (k, tt)), (within, tt), (r, tt), (vptr b o ∷ [], tt)), tt) in
     feq_i ! (List Val) (vptr b o ∷ []) (vptr b o ∷ []) refl $ fjoin ! $
     nothing ! $ move ! (1 ∷ 0 ∷ []) $ fjoin ! $
-    move ! (2 ∷ 4 ∷ []) $ join ! $ move ! (3 ∷ 0 ∷ []) $ join ! $ join ! $ nothing ! $ move ! (1 ∷ 0 ∷ []) $ join ! $ use1 𝓛 (raw (G.pre z)) (id⊢ 𝓤 _) $
-    calls_at ! (framed 𝓤 𝓛.H 𝓜 (tables 𝓤 𝓛.H 𝓜 𝓡 𝓡.env)) G (met 𝓤 𝓛 𝓜 𝓡 (code.calls-rinqebo_session::profile::Profile::status 𝓡.env wired)) z
+    move ! (2 ∷ 4 ∷ []) $ join ! $ move ! (3 ∷ 0 ∷ []) $ join ! $ join ! $ nothing ! $ move ! (1 ∷ 0 ∷ []) $
+    join ! $ use1 𝓛 (raw (G.pre z)) (id⊢ 𝓤 _) $
+    calls_at ! (framed 𝓤 𝓛.H 𝓜 (tables 𝓤 𝓛.H 𝓜 𝓡 𝓡.env)) G
+    (met 𝓤 𝓛 𝓜 𝓡 (code.calls-rinqebo_session::profile::Profile::status 𝓡.env wired)) z
     (and_then ! (get ! refl) (no_more !)) (λ v.
-    use1 𝓛 (later (some (λ (w : ℕ). ((‵ (flft κ q) ⊛ (‵ (flft ι k) ⊛ ‵ ftrue)) ⊛ ‵ (u32.own_val w (v ∷ []))) ⊛ raw (ensured 𝓛 g.ended (g.clauses 𝓛 𝓜.mem 𝓡.returns) z.0.0 z.0.3 tt w)))) (id⊢ 𝓤 _) $
+    use1 𝓛 (later (some (λ (w : ℕ). ((‵ (flft κ q) ⊛ (‵ (flft ι k) ⊛ ‵ ftrue)) ⊛ ‵ (u32.own_val w (v ∷ []))) ⊛
+    raw (ensured 𝓛 g.ended (g.clauses 𝓛 𝓜.mem 𝓡.returns) z.0.0 z.0.3 tt w)))) (id⊢ 𝓤 _) $
     await ! tt $ pick ! (λ w. split ! $ move ! (1 ∷ []) $
-    use1 𝓛 (raw (fact 𝓤 (w ≡ profile_status x))) (ex_e 𝓤 _ (λ ws. snd∗ 𝓤 (sem 𝓛 (lasts g.ended z.0.0 z.0.3 ws)) (fact 𝓤 (w ≡ profile_status x)))) $
+    use1 𝓛 (raw (fact 𝓤 (w ≡ profile_status x)))
+    (ex_e 𝓤 _ (λ ws. snd∗ 𝓤 (sem 𝓛 (lasts g.ended z.0.0 z.0.3 ws)) (fact 𝓤 (w ≡ profile_status x)))) $
     heard ! _ (λ is. split ! $ split ! $ move ! (1 ∷ []) $ split ! $ move ! (3 ∷ []) $
     peeks ! u32 (Is u32) (shows 𝓛 u32) w (v ∷ []) (λ ok. lands_as ! refl refl ((uint_Lawful 𝓛 w32).typed w _ ok).0 $
     returns ! (look_at ! 0 refl) $ free_all ! refl $

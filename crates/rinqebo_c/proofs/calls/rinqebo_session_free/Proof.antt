@@ -43,12 +43,14 @@ rinqebo_session_free_spec 𝓤 𝓛 𝓜 𝓡 wired =
     f.Key.name code.function (code.unfolded 𝓤 𝓛.H 𝓜 𝓡 wired)
     (λ κs. (rawptr_vals, tt)) (λ κs. (rawptr_Tells, tt)) (λ κs qs bounds a x are.
     let y : Ptr → W.Ghost = λ p. ((κs, qs, bounds, (p, tt), (rawptr_vals p, tt)), x) in
-    qed 𝓛 ((‵ ftrue ⊛ ‵ (owns (types_at f.signature.params κs) a (rawptr_vals a.0, tt))) ∷ ‵ (lies_at the_row full_share a.0 x) ∷ []) ∵
+    qed 𝓛 ((‵ ftrue ⊛ ‵ (owns (types_at f.signature.params κs) a (rawptr_vals a.0, tt)))
+    ∷ ‵ (lies_at the_row full_share a.0 x) ∷ []) ∵
     split ! $ move ! (1 ∷ []) $ drop ! $ move ! (1 ∷ []) $
     -- [the session; no token]
     in_a_block ! a.0 (λ p. lies_at the_row full_share p x) (id⊢ 𝓤 _) (λ b o e.
     regoal ! (λ p. prop (WpFn 𝓤 𝓛.H 𝓣.C 𝓣.Λ code.function (rawptr_vals p) (W.post (y p)))) e refl $
-    use1 𝓛 (some (λ (v : Val). ‵ (fat full_share (lone the_row.mir) b o v) ⊛ ‵ (the_row.own_val x (v ∷ [])))) (part_out 𝓛 the_row refl full_share x b o) $ pick ! (λ v. split ! $ move ! (1 ∷ []) $
+    use1 𝓛 (some (λ (v : Val). ‵ (fat full_share (lone the_row.mir) b o v) ⊛ ‵ (the_row.own_val x (v ∷ []))))
+    (part_out 𝓛 the_row refl full_share x b o) $ pick ! (λ v. split ! $ move ! (1 ∷ []) $
     peeks ! the_row (Is the_row) (shows 𝓛 the_row) x (v ∷ []) (λ is.
     let t : T (has_ty (lone the_row.mir) v) × WT v = ((held.the_row_laws.lawful 𝓛).typed x (v ∷ []) is).0 in
     -- [what the session owns; its cell; no token]
@@ -57,8 +59,10 @@ rinqebo_session_free_spec 𝓤 𝓛 𝓜 𝓡 wired =
     sets ! (of_opd ! (load ! (through ! refl (stop !)) (look ! 1 refl))) refl t $
     let G = triple_of 𝓛 g.signature (g.spec 𝓛 𝓜.mem 𝓡.returns) in
     let z : G.Ghost = ((tt, tt, tt, (x, tt), (v ∷ [], tt)), tt) in
-    nothing ! $ move ! (1 ∷ 0 ∷ []) $ fjoin ! $ move ! (2 ∷ 0 ∷ []) $ join ! $ nothing ! $ move ! (1 ∷ 0 ∷ []) $ join ! $ use1 𝓛 (raw (G.pre z)) (id⊢ 𝓤 _) $
-    calls_at ! (framed 𝓤 𝓛.H 𝓜 (tables 𝓤 𝓛.H 𝓜 𝓡 𝓡.env)) G (met 𝓤 𝓛 𝓜 𝓡 (code.calls-rinqebo_c::calls::close_session 𝓡.env wired)) z
+    nothing ! $ move ! (1 ∷ 0 ∷ []) $ fjoin ! $ move ! (2 ∷ 0 ∷ []) $ join ! $ nothing ! $ move ! (1 ∷ 0 ∷ [])
+    $ join ! $ use1 𝓛 (raw (G.pre z)) (id⊢ 𝓤 _) $
+    calls_at ! (framed 𝓤 𝓛.H 𝓜 (tables 𝓤 𝓛.H 𝓜 𝓡 𝓡.env)) G
+    (met 𝓤 𝓛 𝓜 𝓡 (code.calls-rinqebo_c::calls::close_session 𝓡.env wired)) z
     (and_then ! (get ! refl) (no_more !)) (λ u.
     use1 𝓛 (later (some (λ (r : Unit {0}). (‵ ftrue ⊛ ‵ (unit.own_val r (u ∷ []))) ⊛
     some (λ ws. ‵ (lasts g.ended z.0.0 z.0.3 ws) ⊛ ‵ ftrue)))) (id⊢ 𝓤 _) $

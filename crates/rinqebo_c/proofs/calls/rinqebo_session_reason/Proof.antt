@@ -1,4 +1,5 @@
--- `rinqebo_session_reason` asks the session that is lent at the pointer, and passes the caller's buffer on: a walk of its MIR by hand.
+-- `rinqebo_session_reason` asks the session that is lent at the pointer, and passes the caller's buffer
+-- on: a walk of its MIR by hand.
 use Rattle.std.proofs.Common.{◌≡◌, ℕ, List, [], ◌∷◌, ◌++◌, refl, string_bytes, Bor, w32}
 use Rattle.std.proofs.raw_atomic.Walks.{proved}
 use seplogic.Ra.Ura.{Ura}
@@ -63,33 +64,55 @@ rinqebo_session_reason_spec 𝓤 𝓛 𝓜 𝓡 wired =
     proved 𝓛 f.ended stayed c 𝓜 𝓡
     (Goes-dropped 𝓛 2 (plain (λ _. RawPtr)) yes (λ κs x w. refl), (passed_goes 𝓛 Out, (passed_goes 𝓛 Needed, tt)))
     f.Key.name code.function (code.unfolded 𝓤 𝓛.H 𝓜 𝓡 wired)
-    (λ κs. (rawptr_vals, (mut_slice_vals, (mut_vals, tt)))) (λ κs. (rawptr_Tells, (mut_slice_Tells (named 0) κs.0 u8, (mut_Tells (named 1) κs.1.0 usize, tt)))) (λ κs qs bounds a n are.
+    (λ κs. (rawptr_vals, (mut_slice_vals, (mut_vals, tt))))
+    (λ κs. (rawptr_Tells, (mut_slice_Tells (named 0) κs.0 u8, (mut_Tells (named 1) κs.1.0 usize, tt))))
+    (λ κs qs bounds a n are.
     let κ = n.0 in let q = n.1 in let x = n.2 in
     let out = a.1.0 in let needed = a.1.1.0 in
-    let y : Ptr → W.Ghost = λ p. ((κs, qs, bounds, (p, (out, (needed, tt))), (rawptr_vals p, (mut_slice_vals out, (mut_vals needed, tt)))), n) in
-    qed 𝓛 (((‵ (flft κs.0 qs.0) ⊛ (‵ (flft κs.1.0 qs.1.0) ⊛ ‵ ftrue)) ⊛ ‵ (owns (types_at f.signature.params κs) a (y a.0).0.4)) ∷ ‵ (lent κ q a.0 x) ∷ []) ∵
-    split ! $ move ! (1 ∷ []) $ fsplit ! $ drop ! $ fsplit ! $ move ! (1 ∷ []) $ fsplit ! $ move ! (1 ∷ []) $ drop ! $ move ! (3 ∷ []) $
+    let y : Ptr → W.Ghost = λ p.
+    ((κs, qs, bounds, (p, (out, (needed, tt))), (rawptr_vals p, (mut_slice_vals out, (mut_vals needed, tt)))), n) in
+    qed 𝓛 (((‵ (flft κs.0 qs.0) ⊛ (‵ (flft κs.1.0 qs.1.0) ⊛ ‵ ftrue)) ⊛ ‵
+    (owns (types_at f.signature.params κs) a (y a.0).0.4)) ∷ ‵ (lent κ q a.0 x) ∷ []) ∵
+    split ! $ move ! (1 ∷ []) $ fsplit ! $ drop ! $ fsplit ! $ move ! (1 ∷ []) $ fsplit ! $ move ! (1 ∷ []) $
+    drop ! $ move ! (3 ∷ []) $
     -- [the loan; `needed`; `out`; the tokens]
     in_a_block ! a.0 (λ p. lent κ q p x) (id⊢ 𝓤 _) (λ b o e.
-    regoal ! (λ p. prop (WpFn 𝓤 𝓛.H 𝓣.C 𝓣.Λ code.function (rawptr_vals p ++ (mut_slice_vals out ++ (mut_vals needed ++ []))) (W.post (y p)))) e refl $
+    regoal ! (λ p. prop (WpFn 𝓤 𝓛.H 𝓣.C 𝓣.Λ code.function
+    (rawptr_vals p ++ (mut_slice_vals out ++ (mut_vals needed ++ []))) (W.post (y p)))) e refl $
     fsplit ! $ move ! (1 ∷ []) $ shr_dup ! the_row (held.the_row_laws.shr_laws) x b o κ $
-    enter ! _ _ _ _ _ $ alloc_all ! (λ l. pass_all ! refl ((tt, tt), ((tt, (tt, (record { fits = are.1.0.0.1.0 }, tt))), ((tt, tt), tt))) $
+    enter ! _ _ _ _ _ $ alloc_all !
+    (λ l. pass_all ! refl ((tt, tt), ((tt, (tt, (record { fits = are.1.0.0.1.0 }, tt))), ((tt, tt), tt))) $
     sets ! (of_opd ! (get ! refl)) refl (tt, tt) $
     sets ! (addr ! (through ! refl (stop !))) refl (tt, tt) $
     sets ! (addr ! (from ! (fld ! refl (hop ! (look_in_at ! 2 (sub ! 0 refl (whole !))) (stop !))))) refl (tt, tt) $
-    sets ! (agg ! (and_then ! (get ! refl) (and_then ! (get_in ! (fld ! refl (stop !)) (sub ! 1 refl (whole !))) (no_more !)))) refl (tt, (tt, (record { fits = are.1.0.0.1.0 }, tt))) $
+    sets ! (agg ! (and_then ! (get ! refl)
+    (and_then ! (get_in ! (fld ! refl (stop !)) (sub ! 1 refl (whole !))) (no_more !)))) refl
+    (tt, (tt, (record { fits = are.1.0.0.1.0 }, tt))) $
     sets ! (addr ! (through ! refl (stop !))) refl (tt, tt) $
     -- [what a `&` holds, twice; the token of the loan; `needed`; `out`; the tokens; the locals]
     let G = triple_of 𝓛 g.signature (g.spec 𝓛 𝓜.mem 𝓡.returns) in
     let r : Bor the_row.Denot = record { ref_ptr = (b, o); now = x } in
-    let z : G.Ghost = (((κ, (κs.0, (κs.1.0, tt))), (q, (qs.0, (qs.1.0, tt))), tt, (r, (out, (needed, tt))), (vptr b o ∷ [], (mut_slice_vals out, (mut_vals needed, tt)))), tt) in
+    let z : G.Ghost = (
+      (
+        (κ, (κs.0, (κs.1.0, tt))),
+        (q, (qs.0, (qs.1.0, tt))),
+        tt,
+        (r, (out, (needed, tt))),
+        (vptr b o ∷ [], (mut_slice_vals out, (mut_vals needed, tt))),
+      ),
+      tt,
+    ) in
     feq_i ! (List Val) (vptr b o ∷ []) (vptr b o ∷ []) refl $ fjoin ! $
     nothing ! $ move ! (4 ∷ 0 ∷ []) $ fjoin ! $ move ! (4 ∷ 0 ∷ []) $ fjoin ! $ move ! (1 ∷ 0 ∷ []) $ fjoin ! $
-    move ! (2 ∷ 3 ∷ []) $ join ! $ join ! $ nothing ! $ move ! (1 ∷ 0 ∷ []) $ join ! $ use1 𝓛 (raw (G.pre z)) (id⊢ 𝓤 _) $
-    calls_at ! (framed 𝓤 𝓛.H 𝓜 (tables 𝓤 𝓛.H 𝓜 𝓡 𝓡.env)) G (met 𝓤 𝓛 𝓜 𝓡 (code.calls-rinqebo_session::session::Session::copy_reason 𝓡.env wired)) z
+    move ! (2 ∷ 3 ∷ []) $ join ! $ join ! $ nothing ! $ move ! (1 ∷ 0 ∷ []) $ join ! $ use1 𝓛 (raw (G.pre z))
+    (id⊢ 𝓤 _) $
+    calls_at ! (framed 𝓤 𝓛.H 𝓜 (tables 𝓤 𝓛.H 𝓜 𝓡 𝓡.env)) G
+    (met 𝓤 𝓛 𝓜 𝓡 (code.calls-rinqebo_session::session::Session::copy_reason 𝓡.env wired)) z
     (and_then ! (get ! refl) (and_then ! (get ! refl) (and_then ! (get ! refl) (no_more !)))) (λ v.
-    use1 𝓛 (later (some (λ (w : ℕ). ((‵ (flft κ q) ⊛ (‵ (flft κs.0 qs.0) ⊛ (‵ (flft κs.1.0 qs.1.0) ⊛ ‵ ftrue))) ⊛ ‵ (u32.own_val w (v ∷ []))) ⊛
-    some (λ (ws : Unit {0} × (List ℕ × (ℕ × Unit {0}))). ‵ (lasts g.ended z.0.0 z.0.3 ws) ⊛ raw (fact 𝓤 (IsCopiedOut (string_bytes x.reason) out.now ws.1.0 ws.1.1.0 w)))))) (id⊢ 𝓤 _) $
+    use1 𝓛 (later (some (λ (w : ℕ).
+    ((‵ (flft κ q) ⊛ (‵ (flft κs.0 qs.0) ⊛ (‵ (flft κs.1.0 qs.1.0) ⊛ ‵ ftrue))) ⊛ ‵ (u32.own_val w (v ∷ []))) ⊛
+    some (λ (ws : Unit {0} × (List ℕ × (ℕ × Unit {0}))). ‵ (lasts g.ended z.0.0 z.0.3 ws) ⊛ raw
+    (fact 𝓤 (IsCopiedOut (string_bytes x.reason) out.now ws.1.0 ws.1.1.0 w)))))) (id⊢ 𝓤 _) $
     await ! tt $ pick ! (λ w. split ! $ move ! (1 ∷ []) $ pick ! (λ ws. split ! $ move ! (1 ∷ []) $ heard ! _ (λ is.
     fsplit ! $ drop ! $ fsplit ! $ move ! (1 ∷ []) $ fsplit ! $ move ! (1 ∷ []) $ drop ! $
     -- [`needed` and `out` at their last values; the tokens and the answer; what a `&` holds]
@@ -98,6 +121,7 @@ rinqebo_session_reason_spec 𝓤 𝓛 𝓜 𝓡 wired =
     returns ! (look_at ! 0 refl) $ free_all ! refl $
     -- [the answer; the token of the loan; the tokens; `needed`; `out`; what a `&` holds]
     move ! (1 ∷ 5 ∷ []) $ fjoin ! $
-    suffices ! _ (ends_at 𝓛 f.ended stayed c (y (block_ptr b o)) v w (tt, (ws.1.0, (ws.1.1.0, tt))) (tt, (tt, (tt, tt)))) $
+    suffices ! _ (ends_at 𝓛 f.ended stayed c (y (block_ptr b o)) v w (tt, (ws.1.0, (ws.1.1.0, tt)))
+    (tt, (tt, (tt, tt)))) $
     nothing ! $ move ! (4 ∷ 0 ∷ []) $ join ! $ move ! (4 ∷ 0 ∷ []) $ join ! $ nothing ! $ join ! $
     move ! (3 ∷ 0 ∷ 2 ∷ []) $ group ! 3 $ frame ! $ says ! is $ done !))))))))

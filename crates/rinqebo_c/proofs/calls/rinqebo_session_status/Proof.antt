@@ -61,12 +61,16 @@ rinqebo_session_status_spec 𝓤 𝓛 𝓜 𝓡 wired =
     let z : G.Ghost = (((κ, tt), (q, tt), tt, (r, tt), (vptr b o ∷ [], tt)), tt) in
     feq_i ! (List Val) (vptr b o ∷ []) (vptr b o ∷ []) refl $ fjoin ! $
     nothing ! $ move ! (1 ∷ 0 ∷ []) $ fjoin ! $
-    move ! (2 ∷ 3 ∷ []) $ join ! $ join ! $ nothing ! $ move ! (1 ∷ 0 ∷ []) $ join ! $ use1 𝓛 (raw (G.pre z)) (id⊢ 𝓤 _) $
-    calls_at ! (framed 𝓤 𝓛.H 𝓜 (tables 𝓤 𝓛.H 𝓜 𝓡 𝓡.env)) G (met 𝓤 𝓛 𝓜 𝓡 (code.calls-rinqebo_session::session::Session::status 𝓡.env wired)) z
+    move ! (2 ∷ 3 ∷ []) $ join ! $ join ! $ nothing ! $ move ! (1 ∷ 0 ∷ []) $ join ! $ use1 𝓛 (raw (G.pre z))
+    (id⊢ 𝓤 _) $
+    calls_at ! (framed 𝓤 𝓛.H 𝓜 (tables 𝓤 𝓛.H 𝓜 𝓡 𝓡.env)) G
+    (met 𝓤 𝓛 𝓜 𝓡 (code.calls-rinqebo_session::session::Session::status 𝓡.env wired)) z
     (and_then ! (get ! refl) (no_more !)) (λ v.
-    use1 𝓛 (later (some (λ (w : ℕ). ((‵ (flft κ q) ⊛ ‵ ftrue) ⊛ ‵ (u32.own_val w (v ∷ []))) ⊛ raw (ensured 𝓛 g.ended (g.clauses 𝓛 𝓜.mem 𝓡.returns) z.0.0 z.0.3 tt w)))) (id⊢ 𝓤 _) $
+    use1 𝓛 (later (some (λ (w : ℕ). ((‵ (flft κ q) ⊛ ‵ ftrue) ⊛ ‵ (u32.own_val w (v ∷ []))) ⊛ raw
+    (ensured 𝓛 g.ended (g.clauses 𝓛 𝓜.mem 𝓡.returns) z.0.0 z.0.3 tt w)))) (id⊢ 𝓤 _) $
     await ! tt $ pick ! (λ w. split ! $ move ! (1 ∷ []) $
-    use1 𝓛 (raw (fact 𝓤 (w ≡ session_status x))) (ex_e 𝓤 _ (λ ws. snd∗ 𝓤 (sem 𝓛 (lasts g.ended z.0.0 z.0.3 ws)) (fact 𝓤 (w ≡ session_status x)))) $
+    use1 𝓛 (raw (fact 𝓤 (w ≡ session_status x)))
+    (ex_e 𝓤 _ (λ ws. snd∗ 𝓤 (sem 𝓛 (lasts g.ended z.0.0 z.0.3 ws)) (fact 𝓤 (w ≡ session_status x)))) $
     heard ! _ (λ is. split ! $ split ! $ move ! (2 ∷ []) $
     peeks ! u32 (Is u32) (shows 𝓛 u32) w (v ∷ []) (λ ok. lands_as ! refl refl ((uint_Lawful 𝓛 w32).typed w _ ok).0 $
     returns ! (look_at ! 0 refl) $ free_all ! refl $

@@ -30,6 +30,7 @@ returns-clause-ok c =
       is_profile = is.is_profile;
       groups = c.in_ok-groups.ensures ∙ c.test_group_config.ensures;
       wrappers = c.in_ok-wrappers.ensures
-          ∙ sym (fused (λ e. e.0) (λ e. (script_text e.0, wrapper_script_view e.1)) c.script_config.result.now.wrapper.entries)
+          ∙ sym (fused (λ e. e.0) (λ e. (script_text e.0, wrapper_script_view e.1))
+          c.script_config.result.now.wrapper.entries)
           ∙ ap (λ scripts. names_in scripts.wrapper) c.script_config.ensures;
     }

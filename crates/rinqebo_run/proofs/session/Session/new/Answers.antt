@@ -4,6 +4,7 @@ use Rattle.rinqebo_run.proofs.session.Session.new.Goals as goal
 pub returns-clause-begun : goal.returns-clause-begun
 returns-clause-begun c = record {
   read = refl;
+  layers = c.in_ok-layers_of.ensures;
   features = c.in_ok-features_of.ensures;
   tests = c.in_ok-tests.ensures;
   platforms = rw (c.in_ok-triples.ensures.host, c.in_ok-triples.ensures.target) at c.in_ok-new.ensures;

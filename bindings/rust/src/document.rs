@@ -1,0 +1,154 @@
+//! The document of a run, as the library writes it in JSON.
+
+use crate::{Mode, Platform};
+use serde::Deserialize;
+use std::collections::BTreeMap;
+
+/// What a run is answered: all settings of each test.
+#[derive(Clone, Debug, PartialEq, Deserialize)]
+pub struct Document {
+    /// The workspace's root.
+    pub root: String,
+    /// The files that count, the lowest first; before them the built-in defaults.
+    pub sources: Vec<Source>,
+    pub profile: String,
+    /// The profiles that count, the nearest first.
+    pub chain: Vec<String>,
+    pub mode: Mode,
+    /// The triple of the machine that builds.
+    pub host: String,
+    /// The triple of the machine that is built for, if there is one.
+    pub target: Option<String>,
+    /// The tests of the list, in the order of the keys under which it has their binaries.
+    pub tests: Vec<TestRow>,
+    /// The warnings of the files.
+    pub findings: Vec<Finding>,
+    /// The rules that hold for none of the tests.
+    pub unused: Vec<Origin>,
+}
+
+/// A source.
+#[derive(Clone, Debug, PartialEq, Eq, Deserialize)]
+pub struct Source {
+    pub kind: SourceKind,
+    /// The tool that provides it.
+    pub tool: Option<String>,
+    pub path: Option<String>,
+}
+
+/// A kind of source.
+#[derive(Clone, Copy, Debug, PartialEq, Eq, Deserialize)]
+#[serde(rename_all = "kebab-case")]
+pub enum SourceKind {
+    /// The built-in defaults.
+    Default,
+    Tool,
+    /// The repository's file that a user named.
+    Explicit,
+    /// The repository's file in its own place.
+    Discovered,
+}
+
+/// A test with its settings.
+#[derive(Clone, Debug, PartialEq, Deserialize)]
+#[serde(rename_all = "kebab-case")]
+pub struct TestRow {
+    pub binary_id: String,
+    pub name: String,
+    /// For which machine its binary is built.
+    pub platform: Platform,
+    /// Its settings, by their keys in files.
+    pub settings: BTreeMap<String, Setting>,
+}
+
+/// A setting of a test.
+#[derive(Clone, Debug, PartialEq, Deserialize)]
+pub struct Setting {
+    /// Its value; `null` where it has none.
+    pub value: serde_json::Value,
+    /// What decides it.
+    pub origins: Vec<Origin>,
+}
+
+/// What decides a setting.
+#[derive(Clone, Debug, PartialEq, Eq, Deserialize)]
+pub struct Origin {
+    pub kind: OriginKind,
+    /// The profile that has it.
+    pub profile: Option<String>,
+    /// The place of a rule among those of its list, from 0.
+    pub index: Option<usize>,
+    /// The place of the source among those of the document, from 0.
+    pub source: Option<usize>,
+    /// The first and the last line.
+    pub lines: Option<(usize, usize)>,
+}
+
+/// A kind of origin.
+#[derive(Clone, Copy, Debug, PartialEq, Eq, Deserialize)]
+#[serde(rename_all = "kebab-case")]
+pub enum OriginKind {
+    BuiltIn,
+    DefaultTable,
+    /// A value of a profile.
+    Profile,
+    Override,
+    Script,
+}
+
+/// What is wrong with a file.
+#[derive(Clone, Debug, PartialEq, Eq, Deserialize)]
+pub struct Finding {
+    pub code: String,
+    pub level: Level,
+    pub message: String,
+    /// The keys that lead to it, with dots between them.
+    pub path: Option<String>,
+    /// The place of the source among those of the document, from 0.
+    pub source: Option<usize>,
+    /// The first and the last line.
+    pub lines: Option<(usize, usize)>,
+    pub column: Option<usize>,
+    /// The filter or the platform that it is about, and the bytes of it that it marks.
+    pub expression: Option<String>,
+    pub span: Option<(usize, usize)>,
+    /// What would be right there.
+    pub expected: Option<String>,
+    /// What to do.
+    pub help: Option<String>,
+}
+
+/// How bad a finding is.
+#[derive(Clone, Copy, Debug, PartialEq, Eq, Deserialize)]
+#[serde(rename_all = "kebab-case")]
+pub enum Level {
+    Error,
+    Warning,
+}
+
+/// Why there is no answer.
+#[derive(Clone, Debug, PartialEq, Eq)]
+pub struct Refusal {
+    /// The words of it.
+    pub reason: String,
+    /// What is wrong with the files, one by one. A configuration that is loaded tells its words alone.
+    pub findings: Vec<Finding>,
+}
+
+impl Refusal {
+    /// A refusal that is told in words.
+    pub(crate) fn of(reason: String) -> Refusal {
+        Refusal { reason, findings: Vec::new() }
+    }
+
+    /// The refusal that a document tells.
+    pub(crate) fn read(document: &[u8]) -> Refusal {
+        #[derive(Deserialize)]
+        struct Findings {
+            findings: Vec<Finding>,
+        }
+        let Findings { findings } = serde_json::from_slice(document).expect("the library writes such a document");
+        let messages: Vec<_> = findings.iter().map(|finding| finding.message.as_str()).collect();
+        Refusal { reason: messages.join("\n"), findings }
+    }
+}

@@ -1,0 +1,2 @@
+pub mod LeafValue
+pub mod Reporting

@@ -1,0 +1,152 @@
+//! Findings as JSON.
+ghost use Rattle.std.specs.Prelude.{◌≡◌, IfOk, OnOk};
+ghost use Rattle.serde_json.specs.View.{members_view, view};
+ghost use Rattle.rinqebo_report.specs.Documents.{list_data, place_source_data, place_lines_data, span_data, expression_data, expression_span_data, with_fault, with_site, with_expression, with_advice, finding_data};
+
+use crate::finding::{Expression, Finding, Span};
+use crate::json_parts::{lines_json, optional_count_json, optional_text_json};
+use crate::origin::Place;
+use serde_json::{Map, Value, json, put};
+use std::alloc::{AllocError, Global};
+
+/// The place of a finding's source, or null.
+fn place_source_json(place: Option<Place>) -> Value
+    ensures { view result ≡ place_source_data place }
+{
+    match place {
+        Some(place) => Value::from(place.source),
+        None => Value::Null,
+    }
+}
+
+/// The lines of a finding, or null.
+fn place_lines_json(alloc: Global, place: Option<Place>) -> Result<Value, AllocError>
+    ensures { IfOk result (λ value. view value ≡ place_lines_data place) }
+{
+    match place {
+        Some(place) => lines_json(alloc, place.lines),
+        None => Ok(Value::Null),
+    }
+}
+
+/// The text of an expression, or null.
+fn expression_json(alloc: Global, expression: &Option<Expression>) -> Result<Value, AllocError>
+    ensures { IfOk result (λ value. view value ≡ expression_data expression.now) }
+{
+    match expression {
+        Some(expression) => Value::try_from_str(alloc, expression.text.as_str()),
+        None => Ok(Value::Null),
+    }
+}
+
+/// A span, or null.
+fn span_json(alloc: Global, span: Option<Span>) -> Result<Value, AllocError>
+    ensures { IfOk result (λ value. view value ≡ span_data span) }
+{
+    match span {
+        Some(Span { from, to }) => json!(in alloc; [from, to]),
+        None => Ok(Value::Null),
+    }
+}
+
+/// The span of an expression, or null.
+fn expression_span_json(alloc: Global, expression: &Option<Expression>) -> Result<Value, AllocError>
+    ensures { IfOk result (λ value. view value ≡ expression_span_data expression.now) }
+{
+    match expression {
+        Some(expression) => span_json(alloc, expression.span),
+        None => Ok(Value::Null),
+    }
+}
+
+/// Puts what is wrong among members.
+fn put_fault(
+    members: &mut Map<String, Value>,
+    alloc: Global,
+    finding: &Finding,
+) -> Result<(), AllocError>
+    ensures { OnOk result (members_view members.new.entries
+        ≡ with_fault finding.now (members_view members.old.entries)) }
+{
+    let code = Value::try_from_str(alloc, finding.code.as_str())?;
+    put(members, alloc, "code", code)?;
+    let level = Value::try_from_str(alloc, finding.level.word())?;
+    put(members, alloc, "level", level)?;
+    let message = Value::try_from_str(alloc, finding.message.as_str())?;
+    put(members, alloc, "message", message)
+}
+
+/// Puts where it stands among members.
+fn put_site(
+    members: &mut Map<String, Value>,
+    alloc: Global,
+    finding: &Finding,
+) -> Result<(), AllocError>
+    ensures { OnOk result (members_view members.new.entries
+        ≡ with_site finding.now (members_view members.old.entries)) }
+{
+    put(
+        members,
+        alloc,
+        "column",
+        optional_count_json(finding.column),
+    )?;
+    let lines = place_lines_json(alloc, finding.place)?;
+    put(members, alloc, "lines", lines)?;
+    let path = optional_text_json(alloc, &finding.path)?;
+    put(members, alloc, "path", path)?;
+    put(members, alloc, "source", place_source_json(finding.place))
+}
+
+/// Puts the expression that it is about among members.
+fn put_expression(
+    members: &mut Map<String, Value>,
+    alloc: Global,
+    finding: &Finding,
+) -> Result<(), AllocError>
+    ensures { OnOk result (members_view members.new.entries
+        ≡ with_expression finding.now (members_view members.old.entries)) }
+{
+    let expression = expression_json(alloc, &finding.expression)?;
+    put(members, alloc, "expression", expression)?;
+    let span = expression_span_json(alloc, &finding.expression)?;
+    put(members, alloc, "span", span)
+}
+
+/// Puts what to do among members.
+fn put_advice(
+    members: &mut Map<String, Value>,
+    alloc: Global,
+    finding: &Finding,
+) -> Result<(), AllocError>
+    ensures { OnOk result (members_view members.new.entries
+        ≡ with_advice finding.now (members_view members.old.entries)) }
+{
+    let expected = optional_text_json(alloc, &finding.expected)?;
+    put(members, alloc, "expected", expected)?;
+    let help = optional_text_json(alloc, &finding.help)?;
+    put(members, alloc, "help", help)
+}
+
+/// A finding.
+fn finding_json(alloc: Global, finding: &Finding) -> Result<Value, AllocError>
+    ensures { IfOk result (λ value. view value ≡ finding_data finding.now) }
+{
+    let mut members = Map::new(alloc);
+    put_fault(&mut members, alloc, finding)?;
+    put_site(&mut members, alloc, finding)?;
+    put_expression(&mut members, alloc, finding)?;
+    put_advice(&mut members, alloc, finding)?;
+    Ok(Value::Object(members))
+}
+
+/// Findings.
+pub(crate) fn findings_json(alloc: Global, findings: &[Finding]) -> Result<Value, AllocError>
+    ensures { IfOk result (λ value. view value ≡ list_data finding_data findings.now) }
+{
+    let mut list = Vec::new(alloc);
+    for finding in findings {
+        list.push(finding_json(alloc, finding)?)?;
+    }
+    Ok(Value::Array(list))
+}

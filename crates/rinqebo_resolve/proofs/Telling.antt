@@ -1,0 +1,139 @@
+-- From what the program answers to how a run ends.
+use Rattle.std.proofs.Common.{◌≡◌, ◌∙◌, ◌⊎◌, ◌<◌, ◌≤◌, ◌++◌, inl, inr, ℕ, List, [], ap, arith, drop, length, refl, string_bytes, subst, sym, take}
+use Rattle.std.proofs.Math.Seq.{take-append_seam}
+use Rattle.std.proofs.lemmas.Bool.{cases_lt}
+use Rattle.rinqebo_files.specs.declared.files.Gathered.{Gathered}
+use Rattle.rinqebo_report.specs.Rendered.{rendered}
+use Rattle.rinqebo_report.specs.declared.format.Format.TheVariants.{Json}
+use Rattle.rinqebo_report.specs.declared.piece.Colour.TheVariants.{Plain}
+use Rattle.rinqebo_report.specs.declared.report.Report.{Report}
+use Rattle.rinqebo_request.specs.declared.request.Question.{Question}
+use Rattle.rinqebo_request.specs.declared.request.Question.TheVariants as questions
+use Rattle.rinqebo_request.specs.declared.request.Request.{Request}
+use Rattle.rinqebo_run.specs.Answered.{AnswersQuestion, IsAnswer}
+use Rattle.rinqebo_run.specs.Refused.{AreRefusedFor, Fails, LackProfileFor}
+use Rattle.rinqebo_run.specs.declared.answer.Failure.{Failure}
+use Rattle.rinqebo_run.specs.declared.answer.Failure.TheVariants as failures
+use Rattle.rinqebo_run.specs.declared.session.Session.{Session}
+use Rattle.rinqebo_run.proofs.Refused.{failure_told}
+use Rattle.rinqebo_resolve.specs.Asking.{AskedText, AsksForAll, IsRequestFor}
+use Rattle.rinqebo_session.specs.declared.status.TheConstants.{DONE}
+use Rattle.rinqebo_resolve.specs.Endings.{IsAnswerTo, IsAnswerOf, IsEndingFor, IsEndingIn, IsResolved, IsSilent, TellsFailure, ending_status, ending_text}
+use Rattle.rinqebo_resolve.specs.declared.ending.Ending.{Ending}
+use Rattle.rinqebo_resolve.specs.declared.ending.Ending.TheVariants as ends
+
+-- the answer about a list has status 0
+zero_of : (asked : AskedText) (q : Question) (session : Session) (report : Report) (status : ℕ)
+    → AsksForAll asked q → AnswersQuestion q session report status → status ≡ 0
+zero_of asked (questions.Explain profile test settings) session report status asks answers = absurd asks
+zero_of asked (questions.Why profile test setting) session report status asks answers = absurd asks
+zero_of asked (questions.List profile mode list shown) session report status asks answers = answers.0
+zero_of asked (questions.Check deny_warnings) session report status asks answers = absurd asks
+
+-- the document of an answer
+pub answered : (asked : AskedText) (request : Request) (gathered : Gathered) (report : Report) (status : ℕ)
+    (text : List ℕ) → IsRequestFor asked request → IsAnswer request gathered report status
+    → text ≡ rendered report Json Plain → IsAnswerOf asked gathered text
+answered asked request gathered report status text is_request is_answer document =
+    let zero = zero_of asked request.question is_answer.session report status is_request.question
+    is_answer.answers in
+    record {
+      request = request;
+      is_request = is_request;
+      report = report;
+      holds = subst (λ n. IsAnswer request gathered report n) zero is_answer;
+      document = document;
+    }
+
+-- the ending for which the program answers nothing
+pub unanswered : (asked : AskedText) (request : Request) (gathered : Gathered) (failure : Failure) (ending : Ending)
+    → IsRequestFor asked request → Fails request gathered failure → TellsFailure failure ending
+    → IsEndingIn asked gathered ending
+unanswered asked request gathered (failures.Engines fault) (ends.NoEngines reason) is_request fails tells = tt
+unanswered asked request gathered (failures.Refused report) (ends.Refused text) is_request fails tells = record {
+  request = request;
+  is_request = is_request;
+  report = report;
+  holds = (failure_told request gathered (failures.Refused report) 3 fails (inl refl)).refused refl;
+  document = tells;
+}
+unanswered asked request gathered (failures.NoProfile report) (ends.NoProfile text) is_request fails tells = record {
+  request = request;
+  is_request = is_request;
+  report = report;
+  holds = (failure_told request gathered (failures.NoProfile report) 4 fails (inl refl)).lacking refl;
+  document = tells;
+}
+unanswered asked request gathered failure ending is_request fails tells = absurd tells
+
+-- an ending with status 0 answers the request
+answer_of : (request : List ℕ) (ending : Ending) → IsEndingFor request ending → ending_status ending ≡ DONE
+    → IsAnswerTo request (ending_text ending)
+answer_of request (ends.Answered text) is done = record {
+  run = is.0;
+  reads = is.1;
+  gathered = is.2.gathered;
+  are_files = is.2.are_files;
+  is_answer = is.2.is_ending;
+}
+answer_of request (ends.Refused text) is done = absurd (omega arith)
+answer_of request (ends.NoProfile text) is done = absurd (omega arith)
+answer_of request (ends.NoEngines reason) is done = absurd (omega arith)
+answer_of request (ends.NotUnderstood reason) is done = absurd (omega arith)
+answer_of request ends.NotText is done = absurd (omega arith)
+answer_of request ends.Memory is done = absurd (omega arith)
+
+answer_in : (request old new : List ℕ) (needed status : ℕ) (r : IsResolved request old new needed status)
+    → (length old < length (ending_text r.ending)) ⊎ (length (ending_text r.ending) ≤ length old) → status ≡ DONE
+    → IsAnswerTo request (take needed new)
+answer_in request old new needed status r (inl less) done =
+    let small = (r.is_told.small less).0 in
+    absurd (omega arith)
+answer_in request old new needed status r (inr room) done =
+    let text = ending_text r.ending in
+    let told = r.is_told.written room in
+    let is : take needed new ≡ text =
+    ap (λ n. take n new) r.is_told.told ∙ ap (take (length text)) told.1
+    ∙ take-append_seam text (drop (length text) old) in
+    subst (IsAnswerTo request) (sym is) (answer_of request r.ending r.is_ending (sym told.0 ∙ done))
+
+-- what is told with status 0 answers the request
+pub told_answer : (request old new : List ℕ) (needed status : ℕ) → IsResolved request old new needed status
+    → status ≡ DONE → IsAnswerTo request (take needed new)
+told_answer request old new needed status r =
+    answer_in request old new needed status r (cases_lt (length old) (length (ending_text r.ending)))
+
+-- an ending with a status beside which nothing is told has no text
+silent_text : (ending : Ending) → IsSilent (ending_status ending) → ending_text ending ≡ []
+silent_text (ends.Answered text) (inl is) = absurd (omega arith)
+silent_text (ends.Answered text) (inr (inl is)) = absurd (omega arith)
+silent_text (ends.Answered text) (inr (inr is)) = absurd (omega arith)
+silent_text (ends.Refused text) (inl is) = absurd (omega arith)
+silent_text (ends.Refused text) (inr (inl is)) = absurd (omega arith)
+silent_text (ends.Refused text) (inr (inr is)) = absurd (omega arith)
+silent_text (ends.NoProfile text) (inl is) = absurd (omega arith)
+silent_text (ends.NoProfile text) (inr (inl is)) = absurd (omega arith)
+silent_text (ends.NoProfile text) (inr (inr is)) = absurd (omega arith)
+silent_text (ends.NoEngines reason) (inl is) = absurd (omega arith)
+silent_text (ends.NoEngines reason) (inr (inl is)) = absurd (omega arith)
+silent_text (ends.NoEngines reason) (inr (inr is)) = absurd (omega arith)
+silent_text (ends.NotUnderstood reason) (inl is) = absurd (omega arith)
+silent_text (ends.NotUnderstood reason) (inr (inl is)) = absurd (omega arith)
+silent_text (ends.NotUnderstood reason) (inr (inr is)) = absurd (omega arith)
+silent_text ends.NotText is = refl
+silent_text ends.Memory is = refl
+
+kept_in : (request old new : List ℕ) (needed status : ℕ) (r : IsResolved request old new needed status)
+    → (length old < length (ending_text r.ending)) ⊎ (length (ending_text r.ending) ≤ length old) → IsSilent status
+    → new ≡ old
+kept_in request old new needed status r (inl less) silent = (r.is_told.small less).1
+kept_in request old new needed status r (inr room) silent =
+    let told = r.is_told.written room in
+    let none = silent_text r.ending (subst IsSilent told.0 silent) in
+    told.1 ∙ ap (λ text. text ++ drop (length text) old) none
+
+-- where nothing is told, the buffer is as it was
+pub told_kept : (request old new : List ℕ) (needed status : ℕ) → IsResolved request old new needed status
+    → IsSilent status → new ≡ old
+told_kept request old new needed status r =
+    kept_in request old new needed status r (cases_lt (length old) (length (ending_text r.ending)))

@@ -1,0 +1,16 @@
+use Rattle.rinqebo_resolve.specs.Endings.{IsResolved}
+use Rattle.rinqebo_resolve.proofs.Telling.{told_answer, told_kept}
+use Rattle.rinqebo_resolve.proofs.resolving.resolve.Goals as goal
+
+pub returns-clause-resolved : goal.returns-clause-resolved
+returns-clause-resolved c = record {
+  ending = c.ending_for.result;
+  is_ending = c.ending_for.ensures;
+  is_told = c.tell.ensures;
+}
+
+pub returns-clause-done : goal.returns-clause-done
+returns-clause-done c = told_answer _ _ _ _ _ (returns-clause-resolved c)
+
+pub returns-clause-kept : goal.returns-clause-kept
+returns-clause-kept c = told_kept _ _ _ _ _ (returns-clause-resolved c)

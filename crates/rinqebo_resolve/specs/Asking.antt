@@ -1,0 +1,83 @@
+-- A run as the program is asked for it.
+use Rattle.std.specs.Prelude.{◌≡◌, ℕ, List, Bool, Option, None, Some, option_and_then, option_map, string_bytes}
+use Rattle.nextest_elements.specs.declared.experimental.ConfigExperimental.{ConfigExperimental}
+use Rattle.nextest_elements.specs.declared.run_mode.NextestRunMode.{NextestRunMode}
+use Rattle.nextest_rules.specs.KnownView.{features_view}
+use Rattle.nextest_settings.specs.Settings.{settings}
+use Rattle.rinqebo_files.specs.declared.files.Gathered.{Gathered}
+use Rattle.rinqebo_request.specs.declared.request.AskedSettings.{AskedSettings}
+use Rattle.rinqebo_request.specs.declared.request.AskedSettings.TheVariants.{Decided, These}
+use Rattle.rinqebo_request.specs.declared.request.EngineOptions.{EngineOptions}
+use Rattle.rinqebo_request.specs.declared.request.Question.{Question}
+use Rattle.rinqebo_request.specs.declared.request.Question.TheVariants as questions
+use Rattle.rinqebo_request.specs.declared.request.Request.{Request}
+use Rattle.rinqebo_run.specs.Sessions.{files_view}
+use Rattle.rinqebo_session.specs.Loading.{files_of, is_on}
+use Rattle.session_forms.specs.Runs.{RunText}
+use Rattle.session_forms.specs.declared.request.Switches.{Switches}
+use Rattle.rinqebo_resolve.specs.declared.asking.Asked.{Asked}
+
+-- What is asked of files: a profile and a mode, the triples of the machines, and features.
+pub record AskedText : Type 0 where
+  pub profile : List ℕ
+  pub mode : NextestRunMode
+  pub host : List ℕ
+  pub target : Option (List ℕ)
+  pub features : Switches
+
+-- what contracts see of what is asked
+abbrev pub asked_view : Asked → AskedText
+asked_view asked = record {
+  profile = string_bytes asked.profile;
+  mode = asked.mode;
+  host = string_bytes asked.host;
+  target = option_map string_bytes asked.target;
+  features = asked.features;
+}
+
+-- what a run asks of its files
+abbrev pub asked_of : RunText → AskedText
+asked_of run = record {
+  profile = run.profile;
+  mode = run.mode;
+  host = run.load.host.triple;
+  target = option_map (λ machine. machine.triple) run.load.target;
+  features = run.load.features;
+}
+
+-- what is told of each test are all settings
+abbrev pub AreAll : AskedSettings → Type 0
+AreAll Decided = ⊥
+AreAll (These asked) = asked.items ≡ settings
+
+-- a question asks for all settings of each test of a list, in a profile and a mode
+abbrev pub AsksForAll : AskedText → Question → Type 0
+AsksForAll asked (questions.Explain profile test shown) = ⊥
+AsksForAll asked (questions.Why profile test setting) = ⊥
+AsksForAll asked (questions.List profile mode list shown) =
+    (profile.now ≡ asked.profile) × (mode ≡ asked.mode) × AreAll shown
+AsksForAll asked (questions.Check deny_warnings) = ⊥
+
+-- The languages know the triples that are asked for, and none of an environment.
+pub record AreEnginesFor (asked : AskedText) (engines : EngineOptions) : Type 0 where
+  pub host : option_map (λ host. host.now) engines.host ≡ Some asked.host
+  pub target : option_map (λ target. target.now) engines.target ≡ asked.target
+  pub build_target : engines.build_target ≡ None
+
+-- A request of the program asks for this.
+pub record IsRequestFor (asked : AskedText) (request : Request) : Type 0 where
+  pub question : AsksForAll asked request.question
+  pub engines : AreEnginesFor asked request.engines
+  pub features : (feature : ConfigExperimental)
+      → features_view request.features feature ≡ is_on asked.features feature
+
+-- The files that the program reads are those of a run: its root, its sources, the list of tests,
+-- the metadata, and what the compiler prints for its machines.
+pub record AreFilesOf (run : RunText) (gathered : Gathered) : Type 0 where
+  pub root : string_bytes gathered.paths.workspace_root ≡ run.load.root
+  pub sources : files_view gathered ≡ files_of run.load
+  pub list : option_map string_bytes gathered.list ≡ Some run.list
+  pub metadata : option_map string_bytes gathered.metadata ≡ run.load.metadata
+  pub host_cfg : option_map string_bytes gathered.host_cfg ≡ run.load.host.cfg
+  pub target_cfg : option_map string_bytes gathered.target_cfg
+      ≡ option_and_then (λ machine. machine.cfg) run.load.target

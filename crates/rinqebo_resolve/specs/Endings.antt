@@ -1,0 +1,134 @@
+-- How a run ends, and what is told of it.
+use Rattle.std.specs.Prelude.{◌≡◌, ◌⊎◌, ◌<◌, ◌≤◌, ◌++◌, ℕ, List, [], Option, None, Some, drop, length, string_bytes}
+use Rattle.std.specs.Str.{IsUtf8}
+use Rattle.rinqebo_files.specs.declared.files.Gathered.{Gathered}
+use Rattle.rinqebo_report.specs.Rendered.{rendered}
+use Rattle.rinqebo_report.specs.declared.format.Format.TheVariants.{Json}
+use Rattle.rinqebo_report.specs.declared.piece.Colour.TheVariants.{Plain}
+use Rattle.rinqebo_report.specs.declared.report.Report.{Report}
+use Rattle.rinqebo_request.specs.declared.request.Request.{Request}
+use Rattle.rinqebo_run.specs.Answered.{IsAnswer}
+use Rattle.rinqebo_run.specs.Refused.{AreRefusedFor, LackProfileFor}
+use Rattle.rinqebo_run.specs.declared.answer.Failure.{Failure}
+use Rattle.rinqebo_run.specs.declared.answer.Failure.TheVariants as failures
+use Rattle.rinqebo_session.specs.declared.status.TheConstants.{DONE, REFUSED, SMALL, NOT_TEXT, MEMORY, NOT_UNDERSTOOD, NO_ENGINES, NO_PROFILE}
+use Rattle.session_forms.specs.Runs.{RunText, run_of}
+use Rattle.rinqebo_resolve.specs.Asking.{AskedText, AreFilesOf, IsRequestFor, asked_of}
+use Rattle.rinqebo_resolve.specs.declared.ending.Ending.{Ending}
+use Rattle.rinqebo_resolve.specs.declared.ending.Ending.TheVariants as ends
+
+-- A text is the document of a report, in JSON, of which something holds for what is asked of files.
+pub record TellsOf (asked : AskedText) (gathered : Gathered)
+    (Holds : Request → Gathered → Report → Type 0) (text : List ℕ) : Type 0 where
+  pub request : Request
+  pub is_request : IsRequestFor asked request
+  pub report : Report
+  pub holds : Holds request gathered report
+  pub document : text ≡ rendered report Json Plain
+
+-- a text is the document of the answer
+abbrev pub IsAnswerOf : AskedText → Gathered → List ℕ → Type 0
+IsAnswerOf asked gathered =
+    TellsOf asked gathered (λ request files report. IsAnswer request files report 0)
+
+-- a text is a document beside files that are refused: some written rule does not hold of them
+abbrev pub IsRefusalOf : AskedText → Gathered → List ℕ → Type 0
+IsRefusalOf asked gathered =
+    TellsOf asked gathered (λ request files report. AreRefusedFor request files)
+
+-- a text is a document beside files that are accepted and lack the profile
+abbrev pub TellsNoProfileOf : AskedText → Gathered → List ℕ → Type 0
+TellsNoProfileOf asked gathered =
+    TellsOf asked gathered (λ request files report. LackProfileFor request files)
+
+-- how what is asked of files ends, want of memory aside
+abbrev pub IsEndingIn : AskedText → Gathered → Ending → Type 0
+IsEndingIn asked gathered (ends.Answered text) = IsAnswerOf asked gathered (string_bytes text)
+IsEndingIn asked gathered (ends.Refused text) = IsRefusalOf asked gathered (string_bytes text)
+IsEndingIn asked gathered (ends.NoProfile text) =
+    TellsNoProfileOf asked gathered (string_bytes text)
+IsEndingIn asked gathered (ends.NoEngines reason) = Unit {0}
+IsEndingIn asked gathered (ends.NotUnderstood reason) = ⊥
+IsEndingIn asked gathered ends.NotText = ⊥
+IsEndingIn asked gathered ends.Memory = Unit {0}
+
+-- A run ends so: what it asks of its files does.
+pub record IsEndingOf (run : RunText) (ending : Ending) : Type 0 where
+  pub gathered : Gathered
+  pub are_files : AreFilesOf run gathered
+  pub is_ending : IsEndingIn (asked_of run) gathered ending
+
+-- an ending tells why the program answers nothing: the report of the refusal, or of the profile that
+-- is missing, in JSON
+abbrev pub TellsFailure : Failure → Ending → Type 0
+TellsFailure (failures.Engines fault) (ends.NoEngines reason) = Unit {0}
+TellsFailure (failures.Refused report) (ends.Refused text) =
+    string_bytes text ≡ rendered report Json Plain
+TellsFailure (failures.NoProfile report) (ends.NoProfile text) =
+    string_bytes text ≡ rendered report Json Plain
+TellsFailure failure ending = ⊥
+
+-- the bytes of a request are understood, and what they ask for ends so
+abbrev pub EndsUnderstood : List ℕ → Ending → Type 0
+EndsUnderstood request ending =
+    (run : RunText) × (run_of request ≡ Some run) × IsEndingOf run ending
+
+-- how the run that bytes ask for ends: as what they say does, or they are not understood, or no
+-- UTF-8; want of memory aside
+abbrev pub IsEndingFor : List ℕ → Ending → Type 0
+IsEndingFor request (ends.Answered text) = EndsUnderstood request (ends.Answered text)
+IsEndingFor request (ends.Refused text) = EndsUnderstood request (ends.Refused text)
+IsEndingFor request (ends.NoProfile text) = EndsUnderstood request (ends.NoProfile text)
+IsEndingFor request (ends.NoEngines reason) = EndsUnderstood request (ends.NoEngines reason)
+IsEndingFor request (ends.NotUnderstood reason) = run_of request ≡ None
+IsEndingFor request ends.NotText = ¬ IsUtf8 request
+IsEndingFor request ends.Memory = Unit {0}
+
+-- the number of an ending
+abbrev pub ending_status : Ending → ℕ
+ending_status (ends.Answered text) = DONE
+ending_status (ends.Refused text) = REFUSED
+ending_status (ends.NoProfile text) = NO_PROFILE
+ending_status (ends.NoEngines reason) = NO_ENGINES
+ending_status (ends.NotUnderstood reason) = NOT_UNDERSTOOD
+ending_status ends.NotText = NOT_TEXT
+ending_status ends.Memory = MEMORY
+
+-- what an ending tells
+abbrev pub ending_text : Ending → List ℕ
+ending_text (ends.Answered text) = string_bytes text
+ending_text (ends.Refused text) = string_bytes text
+ending_text (ends.NoProfile text) = string_bytes text
+ending_text (ends.NoEngines reason) = string_bytes reason
+ending_text (ends.NotUnderstood reason) = string_bytes reason
+ending_text ends.NotText = []
+ending_text ends.Memory = []
+
+-- An ending is told: where the buffer has room for its text, that stands at the buffer's start, what
+-- was behind it stays, and its number is answered; else the buffer is left as it was. The length of
+-- the text is told either way.
+pub record IsTold (ending : Ending) (old new : List ℕ) (needed status : ℕ) : Type 0 where
+  pub told : needed ≡ length (ending_text ending)
+  pub written : length (ending_text ending) ≤ length old
+      → (status ≡ ending_status ending)
+      × (new ≡ ending_text ending ++ drop (length (ending_text ending)) old)
+  pub small : length old < length (ending_text ending) → (status ≡ SMALL) × (new ≡ old)
+
+-- A run is resolved: it ends so for the bytes of the request, and that is told.
+pub record IsResolved (request old new : List ℕ) (needed status : ℕ) : Type 0 where
+  pub ending : Ending
+  pub is_ending : IsEndingFor request ending
+  pub is_told : IsTold ending old new needed status
+
+-- A text is the answer to the bytes of a request: they are understood, and it is the document of the answer
+-- over the files that they say.
+pub record IsAnswerTo (request text : List ℕ) : Type 0 where
+  pub run : RunText
+  pub reads : run_of request ≡ Some run
+  pub gathered : Gathered
+  pub are_files : AreFilesOf run gathered
+  pub is_answer : IsAnswerOf (asked_of run) gathered text
+
+-- a status beside which nothing is told
+abbrev pub IsSilent : ℕ → Type 0
+IsSilent status = (status ≡ SMALL) ⊎ (status ≡ NOT_TEXT) ⊎ (status ≡ MEMORY)

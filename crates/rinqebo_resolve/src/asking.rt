@@ -1,0 +1,154 @@
+//! A run as the program is asked for it: a request, and the files as they were read.
+ghost use Rattle.std.specs.Prelude.{◌≡◌, IfOk, option_and_then, option_map, string_bytes};
+ghost use Rattle.nextest_settings.specs.Settings.{settings};
+ghost use Rattle.session_forms.specs.Requests.{machine_view};
+ghost use Rattle.session_forms.specs.Runs.{run_view};
+ghost use Rattle.rinqebo_resolve.specs.Asking.{AreEnginesFor, AreFilesOf, AsksForAll, IsRequestFor, asked_of, asked_view};
+
+use nextest_config::{NextestRunMode, Setting};
+use rinqebo_files::Gathered;
+use rinqebo_report::{Colour, Format};
+use rinqebo_request::{
+    AskedSettings, ConfigFile, EngineOptions, FileOptions, ListFile, Question, Request,
+};
+use rinqebo_session::features_of;
+use session_forms::{LoadRequest, Machine, RunRequest, Switches};
+use std::alloc::{AllocError, Global};
+
+/// What messages call the list of tests: the member of a request that has it.
+const LIST: &str = "list";
+
+/// What is asked of files.
+#[derive(Drop)]
+pub struct Asked {
+    /// The name of the profile.
+    pub profile: String,
+    /// For what the tests are run.
+    pub mode: NextestRunMode,
+    /// The triple of the machine that builds.
+    pub host: String,
+    /// The triple of the machine that is built for, if it is given.
+    pub target: Option<String>,
+    /// The experimental features that are switched on beside those of the repository's file.
+    pub features: Switches,
+}
+
+/// All settings.
+fn all_settings(alloc: Global) -> Result<Vec<Setting>, AllocError>
+    ensures { IfOk result (λ all. all.items ≡ settings) }
+{
+    let mut all = Vec::new(alloc);
+    for setting in Setting::ALL.iter() {
+        all.push(*setting)?;
+    }
+    Ok(all)
+}
+
+/// The text, if there is one.
+fn text_of(text: &Option<String>) -> Option<&str>
+    ensures { option_map (λ text. text.now) result ≡ option_map string_bytes text.now }
+{
+    match text {
+        Some(text) => Some(text.as_str()),
+        None => None,
+    }
+}
+
+impl Asked {
+    /// The question: all settings of each test of the list.
+    fn question(&self, alloc: Global) -> Result<Question<'_>, AllocError>
+        ensures { IfOk result (AsksForAll (asked_view self.now)) }
+    {
+        Ok(Question::List {
+            profile: self.profile.as_str(),
+            mode: self.mode,
+            list: ListFile::Named(LIST),
+            asked: AskedSettings::These(all_settings(alloc)?),
+        })
+    }
+
+    /// What the languages of filters and platforms know.
+    fn engines(&self) -> EngineOptions<'_>
+        ensures { AreEnginesFor (asked_view self.now) result }
+    {
+        EngineOptions {
+            host: Some(self.host.as_str()),
+            target: text_of(&self.target),
+            build_target: None,
+            host_cfg: None,
+            target_cfg: None,
+            metadata: None,
+        }
+    }
+
+    /// The request of the program, for a document of JSON.
+    pub fn request(&self, alloc: Global) -> Result<Request<'_>, AllocError>
+        ensures { IfOk result (IsRequestFor (asked_view self.now)) }
+    {
+        Ok(Request {
+            question: self.question(alloc)?,
+            files: FileOptions {
+                root: None,
+                config_file: ConfigFile::Discovered,
+                tools: Vec::new(alloc),
+            },
+            engines: self.engines(),
+            features: features_of(alloc, self.features)?,
+            format: Format::Json,
+            colour: Colour::Plain,
+        })
+    }
+}
+
+/// The triple of a machine and what the compiler prints for it, if there is one.
+fn target_parts(target: Option<Machine>) -> (Option<String>, Option<String>)
+    ensures triple { option_map string_bytes result.0
+        ≡ option_map (λ machine. machine.triple) (option_map machine_view target) }
+    ensures cfg { option_map string_bytes result.1
+        ≡ option_and_then (λ machine. machine.cfg) (option_map machine_view target) }
+{
+    match target {
+        Some(Machine { triple, cfg }) => (Some(triple), cfg),
+        None => (None, None),
+    }
+}
+
+/// Parts what a run is asked from the files that it has.
+pub fn parted(run: RunRequest) -> (Asked, Gathered)
+    ensures asked { asked_view result.0 ≡ asked_of (run_view run) }
+    ensures files { AreFilesOf (run_view run) result.1 }
+{
+    let RunRequest {
+        load,
+        profile,
+        mode,
+        list,
+    } = run;
+    let LoadRequest {
+        paths,
+        tools,
+        features,
+        metadata,
+        host,
+        target,
+    } = load;
+    let Machine { triple, cfg } = host;
+    let (target, target_cfg) = target_parts(target);
+    let asked = Asked {
+        profile,
+        mode,
+        host: triple,
+        target,
+        features,
+    };
+    let gathered = Gathered {
+        paths,
+        config_file: None,
+        tools,
+        host_cfg: cfg,
+        target_cfg,
+        metadata,
+        list: Some(list),
+    };
+    (asked, gathered)
+}

@@ -1,0 +1,10 @@
+//! One call for a whole run: a request in JSON is answered with the document that the program writes
+//! for `list --all --format json`.
+#![tactic(auto)]
+
+mod asking;
+mod ending;
+mod resolving;
+
+pub use ending::Ending;
+pub use resolving::resolve;

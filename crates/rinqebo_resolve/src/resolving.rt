@@ -1,0 +1,91 @@
+//! A request for a whole run, answered.
+ghost use Rattle.std.specs.Prelude.{◌≡◌, IfOk, string_bytes, take};
+ghost use Rattle.session_forms.specs.Runs.{run_view};
+ghost use Rattle.rinqebo_report.specs.Rendered.{rendered};
+ghost use Rattle.rinqebo_report.specs.declared.format.Format.TheVariants.{Json};
+ghost use Rattle.rinqebo_report.specs.declared.piece.Colour.TheVariants.{Plain};
+ghost use Rattle.rinqebo_session.specs.declared.status.TheConstants.{DONE};
+ghost use Rattle.rinqebo_resolve.specs.Asking.{asked_view};
+ghost use Rattle.rinqebo_resolve.specs.Endings.{IsAnswerTo, IsSilent, IsEndingFor, IsEndingIn, IsEndingOf, IsResolved, TellsFailure};
+
+use crate::asking::{Asked, parted};
+use crate::ending::Ending;
+use rinqebo_files::Gathered;
+use rinqebo_list::Untold;
+use rinqebo_report::{Colour, Format, Report, render};
+use rinqebo_run::{Failure, answer_of};
+use session_forms::{RequestFault, RunRequest};
+use std::alloc::{AllocError, Global};
+
+/// The document of a report.
+fn document_of(alloc: Global, report: &Report) -> Result<String, AllocError>
+    ensures { IfOk result (λ text. string_bytes text ≡ rendered report.now Json Plain) }
+{
+    render(alloc, report, Format::Json, Colour::Plain)
+}
+
+/// The ending of a run that answers nothing.
+fn failed(alloc: Global, failure: &Failure) -> Result<Ending, AllocError>
+    ensures { IfOk result (TellsFailure failure.now) }
+{
+    match failure {
+        Failure::Engines(fault) => Ok(Ending::NoEngines(format!(in alloc; "{fault}")?)),
+        Failure::Refused(report) => Ok(Ending::Refused(document_of(alloc, report)?)),
+        Failure::NoProfile(report) => Ok(Ending::NoProfile(document_of(alloc, report)?)),
+        Failure::Memory => Err(AllocError),
+    }
+}
+
+/// How what is asked of files ends.
+fn ending_in(alloc: Global, asked: &Asked, gathered: &Gathered) -> Result<Ending, AllocError>
+    ensures { IfOk result (IsEndingIn (asked_view asked.now) gathered.now) }
+{
+    let request = asked.request(alloc)?;
+    match answer_of(alloc, &request, gathered, &mut Untold) {
+        Ok(answer) => Ok(Ending::Answered(document_of(alloc, &answer.report)?)),
+        Err(failure) => failed(alloc, &failure),
+    }
+}
+
+/// How a run ends.
+fn ending_of(alloc: Global, run: RunRequest) -> Result<Ending, AllocError>
+    ensures { IfOk result (IsEndingOf (run_view run)) }
+{
+    let (asked, gathered) = parted(run);
+    ending_in(alloc, &asked, &gathered)
+}
+
+/// How the run ends that the bytes of a request ask for, where memory suffices.
+fn ending_with_memory(alloc: Global, request: &[u8]) -> Result<Ending, AllocError>
+    ensures { IfOk result (IsEndingFor request.now) }
+{
+    let Ok(text) = std::str::from_utf8(request) else {
+        return Ok(Ending::NotText);
+    };
+    match RunRequest::read(alloc, text) {
+        Ok(run) => ending_of(alloc, run),
+        Err(RequestFault::Memory) => Err(AllocError),
+        Err(fault) => Ok(Ending::NotUnderstood(format!(in alloc; "{fault}")?)),
+    }
+}
+
+/// How the run ends that the bytes of a request ask for.
+fn ending_for(alloc: Global, request: &[u8]) -> Ending
+    ensures { IsEndingFor request.now result }
+{
+    match ending_with_memory(alloc, request) {
+        Ok(ending) => ending,
+        Err(_) => Ending::Memory,
+    }
+}
+
+/// Answers a request in JSON for a whole run: writes the document of the answer at the start of a
+/// buffer, or why there is none, and answers a number for which it is. Where the buffer is too small
+/// it stays as it was. Either way `needed` is the length of what is told.
+pub fn resolve(alloc: Global, request: &[u8], answer: &mut [u8], needed: &mut usize) -> u32
+    ensures resolved { IsResolved request.now answer.old answer.new needed.new result }
+    ensures done { result ≡ DONE → IsAnswerTo request.now (take needed.new answer.new) }
+    ensures kept { IsSilent result → answer.new ≡ answer.old }
+{
+    ending_for(alloc, request).tell(answer, needed)
+}

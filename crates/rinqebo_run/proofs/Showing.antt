@@ -1,0 +1,79 @@
+-- What is told of the leaves of a configuration.
+use Rattle.std.proofs.Common.{◌≡◌, ◌<◌, ◌≤◌, ◌+◌, ◌∙◌, ℕ, List, [], ◌∷◌, ◌++◌, Bool, true, false, cond, ap, arith, filter, get_or, length, map, subst, sym, take}
+use Rattle.std.proofs.lemmas.List.{append-nil, map-append, take_all, take_more}
+use Rattle.std.proofs.lemmas.List.Elements.{filter-append}
+use Rattle.std.proofs.lemmas.Slice.Zip.{all_zipped_more}
+use Rattle.std.specs.List.{AllZip}
+use Rattle.config_grounds.specs.Entries.{Leaf, leaf_view}
+use Rattle.config_grounds.specs.declared.entries.Entry.{Entry as Found}
+use Rattle.filter_language.specs.Filtersets.{marks_view}
+use Rattle.filter_language.specs.declared.filterset.Filterset.{Filterset}
+use Rattle.nextest_filters.specs.Compiling.{names_of}
+use Rattle.nextest_filters.specs.declared.compiling.FieldMatcher.{FieldMatcher}
+use Rattle.nextest_inheritance.specs.Parents.{parents_in}
+use Rattle.nextest_load.specs.Config.{config_parents}
+use Rattle.nextest_load.specs.Load.{Loaded}
+use Rattle.nextest_tables.specs.FileTexts.{names_in, IsIn}
+use Rattle.nextest_tables.specs.Written.{Name}
+use Rattle.rinqebo_entries.specs.LeafValue.{is_tellable}
+use Rattle.rinqebo_report.specs.declared.report.Content.{Content}
+use Rattle.rinqebo_report.specs.declared.report.Entry.{Entry}
+use Rattle.rinqebo_report.specs.declared.report.Report.{Report}
+use Rattle.rinqebo_run.specs.Checked.{AreAccepted}
+use Rattle.rinqebo_run.specs.Sessions.{files_view, readings, IsLoadedFrom}
+use Rattle.rinqebo_run.specs.ShownConfig.{TellsLeaf, TellLeaves, IsShownIn, shown_status, ShowsConfig}
+use Rattle.rinqebo_run.specs.declared.session.Session.{Session}
+use Rattle.target_language.specs.declared.expression.TargetSpec.{TargetSpec}
+
+-- whether a leaf is told
+abbrev pub tells : Leaf → Bool
+tells leaf = is_tellable leaf.value
+
+-- a leaf is told at the end
+ended : (leaves : List Leaf) (leaf : Leaf) (b : Bool) → tells leaf ≡ b
+    → filter tells (leaves ++ leaf ∷ []) ≡ filter tells leaves ++ cond b (leaf ∷ []) []
+ended leaves leaf b told =
+    filter-append tells leaves (leaf ∷ []) ∙ ap (λ t. filter tells leaves ++ cond t (leaf ∷ []) []) told
+
+-- one leaf more that is told
+pub told_more : (leaves : List Leaf) (leaf : Leaf) (entries : List Entry) (entry : Entry) → TellLeaves leaves entries
+    → TellsLeaf leaf entry → TellLeaves (leaves ++ leaf ∷ []) (entries ++ entry ∷ [])
+told_more leaves leaf entries entry before is =
+    subst (λ ls. AllZip TellsLeaf ls (entries ++ entry ∷ [])) (sym (ended leaves leaf true is.is_entry.value.told))
+    (all_zipped_more TellsLeaf (filter tells leaves) entries leaf entry before is)
+
+-- one leaf more that is not told
+pub told_less : (leaves : List Leaf) (leaf : Leaf) (entries : List Entry) → TellLeaves leaves entries
+    → tells leaf ≡ false → TellLeaves (leaves ++ leaf ∷ []) entries
+told_less leaves leaf entries before none =
+    subst (λ ls. AllZip TellsLeaf ls entries)
+    (sym (ended leaves leaf false none ∙ append-nil (filter tells leaves))) before
+
+-- the next leaf of some
+pub next_leaf : (found : List Found) (n m : ℕ) (leaf : Found) → n < length found → leaf ≡ get_or found n leaf
+    → m ≡ n + 1 → map leaf_view (take m found) ≡ map leaf_view (take n found) ++ leaf_view leaf ∷ []
+next_leaf found n m leaf within at next =
+    ap (λ k. map leaf_view (take k found)) next ∙ ap (map leaf_view) (take_more found n leaf within)
+    ∙ map-append leaf_view (take n found) (get_or found n leaf ∷ [])
+    ∙ ap (λ l. map leaf_view (take n found) ++ leaf_view l ∷ []) (sym at)
+
+-- all leaves
+pub leaves_all : (found : List Found) (n : ℕ) (entries : List Entry) → length found ≤ n
+    → TellLeaves (map leaf_view (take n found)) entries → TellLeaves (map leaf_view found) entries
+leaves_all found n entries all told = subst (λ ls. TellLeaves (map leaf_view ls) entries) (take_all n found all) told
+
+-- a report shows the leaves of what was loaded
+pub shows : (session : Session) (profile : Name) (keys : List (List ℕ)) (with_hidden : Bool) (report : Report)
+    (status : ℕ) (content : Content) (loaded : Loaded (Filterset FieldMatcher) TargetSpec) → AreAccepted session
+    → IsLoadedFrom (readings session.engines.filters) (files_view session.gathered.now) loaded
+    → IsIn (names_in loaded.config.profiles) profile → report.content ≡ content
+    → IsShownIn session (parents_in (config_parents loaded.config)) profile keys with_hidden content
+    → status ≡ shown_status content → ShowsConfig session profile keys with_hidden report status
+shows session profile keys with_hidden report status content loaded accepted from there same shown status_is = record {
+  acceptance = accepted;
+  known = subst (λ config. IsIn (names_in config.profiles) profile) from.means there;
+  shown = subst (λ config. IsShownIn session (parents_in (config_parents config)) profile keys with_hidden
+      report.content) from.means
+      (subst (IsShownIn session (parents_in (config_parents loaded.config)) profile keys with_hidden) (sym same) shown);
+  status_is = status_is ∙ ap shown_status (sym same);
+}

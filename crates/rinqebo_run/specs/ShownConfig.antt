@@ -1,0 +1,87 @@
+-- What is told of the leaves of a configuration.
+use Rattle.std.specs.Prelude.{◌≡◌, ℕ, List, [], ◌∷◌, Bool, Option, Some, None, filter, map, unwrap_or}
+use Rattle.std.specs.List.{AllZip}
+use Rattle.config_grounds.specs.Entries.{AreEntries, Leaf}
+use Rattle.nextest_filters.specs.Engine.{Filter}
+use Rattle.nextest_inheritance.specs.Parents.{Parents, parents_in}
+use Rattle.nextest_load.specs.Config.{ConfigModel, config_of, config_parents}
+use Rattle.nextest_profiles.specs.Profiles.{IsChainAndDefault}
+use Rattle.nextest_sources.specs.Inputs.{sources_in}
+use Rattle.nextest_tables.specs.FileTexts.{names_in, IsIn}
+use Rattle.nextest_tables.specs.Written.{Name}
+use Rattle.nextest_tree.specs.Node.{Node, table, no_entries}
+use Rattle.rinqebo_entries.specs.LeafValue.{is_tellable}
+use Rattle.rinqebo_entries.specs.Reporting.{IsEntryOf}
+use Rattle.rinqebo_files.specs.Layers.{layer_tree}
+use Rattle.rinqebo_files.specs.declared.layers.Layer.{Layer}
+use Rattle.rinqebo_report.specs.declared.origin.Place.{Place}
+use Rattle.rinqebo_report.specs.declared.report.Content.{Content}
+use Rattle.rinqebo_report.specs.declared.report.Content.TheVariants as contents
+use Rattle.rinqebo_report.specs.declared.report.Entry.{Entry}
+use Rattle.rinqebo_report.specs.declared.report.Report.{Report}
+use Rattle.target_language.specs.Expressions.{Spec}
+use Rattle.rinqebo_run.specs.Checked.{AreAccepted}
+use Rattle.rinqebo_run.specs.Sessions.{files_view, readings}
+use Rattle.rinqebo_run.specs.declared.session.Session.{Session}
+
+-- the trees of layers; a layer without a document writes nothing
+abbrev pub trees_of : List Layer → List Node
+trees_of layers = map (λ layer. unwrap_or (layer_tree layer) (table no_entries)) layers
+
+-- An entry tells a leaf, at a place in the file of the leaf's layer.
+pub record TellsLeaf (leaf : Leaf) (entry : Entry) : Type 0 where
+  pub place : Place
+  pub source : place.source ≡ leaf.layer
+  pub is_entry : IsEntryOf leaf place entry
+
+-- entries tell leaves one by one: all those whose values are told
+abbrev pub TellLeaves : List Leaf → List Entry → Type 0
+TellLeaves leaves entries =
+    AllZip TellsLeaf (filter (λ leaf. is_tellable leaf.value) leaves) entries
+
+-- Entries tell the leaves that are asked for in the layers of a chain of profiles.
+pub record AreShown (layers : List Node) (chain keys : List (List ℕ)) (with_hidden : Bool)
+    (entries : List Entry) : Type 0 where
+  pub leaves : List Leaf
+  pub are_leaves : AreEntries layers chain keys with_hidden leaves
+  pub told : TellLeaves leaves entries
+
+-- a fact of the entries that a report shows
+abbrev pub IfShown : Content → (List Entry → Type 0) → Type 0
+IfShown (contents.ShowConfig asked entries) P = P entries.items
+IfShown _ P = ⊥
+
+-- the exit status for entries: 1 where there are none
+abbrev pub entries_status : List Entry → ℕ
+entries_status [] = 1
+entries_status (entry ∷ entries) = 0
+
+-- the exit status for what a report shows
+abbrev pub shown_status : Content → ℕ
+shown_status (contents.ShowConfig asked entries) = entries_status entries.items
+shown_status _ = 0
+
+-- what the files of a session mean
+abbrev pub config_meant : Session → ConfigModel Filter Spec
+config_meant session =
+    config_of (readings session.engines.filters) (sources_in (files_view session.gathered.now))
+
+-- What a report tells of a session is the leaves of a profile below keys, where these are the parents
+-- of all profiles: the profiles that count are those of its chain, and then `default`.
+pub record IsShownIn (session : Session) (parents : Parents) (profile : Name)
+    (keys : List (List ℕ)) (with_hidden : Bool) (content : Content) : Type 0 where
+  pub chain : List Name
+  pub is_chain : IsChainAndDefault parents profile chain
+  pub shown : IfShown content (AreShown (trees_of session.layers.items) chain keys with_hidden)
+
+-- A report shows the leaves of a profile below keys, by what the files write.
+pub record ShowsConfig (session : Session) (profile : Name) (keys : List (List ℕ))
+    (with_hidden : Bool) (report : Report) (status : ℕ) : Type 0 where
+  -- Every written rule holds of the files.
+  pub acceptance : AreAccepted session
+  -- They have the profile.
+  pub known : IsIn (names_in (config_meant session).profiles) profile
+  -- The report tells the leaves that are asked for, and the status whether there are any.
+  pub shown : IsShownIn session (parents_in (config_parents (config_meant session))) profile keys
+      with_hidden report.content
+  pub status_is : status ≡ shown_status report.content

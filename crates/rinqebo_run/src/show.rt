@@ -1,0 +1,129 @@
+//! The leaves of a configuration, and what writes each.
+ghost use Rattle.std.specs.Prelude.{◌≡◌, false, IfErr, IfOk, MatchOption, map};
+ghost use Rattle.config_grounds.specs.Entries.{leaf_view};
+ghost use Rattle.config_grounds.specs.Layers.{keys_view, layers_view};
+ghost use Rattle.nextest_inheritance.specs.Parents.{parents_in};
+ghost use Rattle.nextest_load.specs.Config.{config_parents};
+ghost use Rattle.nextest_tables.specs.FileTexts.{names_in, IsIn};
+ghost use Rattle.rinqebo_entries.specs.LeafValue.{is_tellable};
+ghost use Rattle.rinqebo_run.specs.Refused.{IsFailureAbout};
+ghost use Rattle.rinqebo_run.specs.ShownConfig.{trees_of, TellsLeaf, TellLeaves, AreShown, IfShown, IsShownIn, shown_status, ShowsConfig};
+
+use crate::answer::{Answer, Failure};
+use crate::check::report_of;
+use crate::explain::asked_of;
+use crate::findings::warning_findings;
+use crate::loading::config_with;
+use crate::rules::chain_of_profile;
+use crate::session::{Config, Session};
+use config_grounds::{Entry as Leaf, entries_of};
+use nextest_config::{DefaultConfigWarnings, NextestRunMode, Tree};
+use rinqebo_entries::{reported_entry, steps_of};
+use rinqebo_files::{Layer, path_place};
+use rinqebo_report::{Content, Entry};
+use std::alloc::{AllocError, Global};
+
+/// The trees of layers.
+fn trees_of<'l>(alloc: Global, layers: &'l [Layer<'_>]) -> Result<Vec<Option<&'l Tree>>, AllocError>
+    ensures { IfOk result (λ trees. layers_view trees.items ≡ trees_of layers.entry.now) }
+{
+    let mut trees = Vec::new(alloc);
+    for layer in layers {
+        trees.push(layer.tree.as_ref())?;
+    }
+    Ok(trees)
+}
+
+/// A leaf as it is reported, with its place in the file of its layer. There is none where its value
+/// can't be told.
+fn told_leaf(alloc: Global, layers: &[Layer], leaf: &Leaf<'_>) -> Result<Option<Entry>, AllocError>
+    ensures { IfOk result (λ told. MatchOption told
+        (is_tellable (leaf_view leaf.now).value ≡ false) (TellsLeaf (leaf_view leaf.now))) }
+{
+    let path = steps_of(alloc, leaf)?;
+    let place = path_place(alloc, layers, leaf.layer, &path)?;
+    reported_entry(alloc, leaf, place)
+}
+
+/// Leaves as they are reported.
+fn told_leaves(
+    alloc: Global,
+    layers: &[Layer],
+    leaves: &[Leaf<'_>],
+) -> Result<Vec<Entry>, AllocError>
+    ensures { IfOk result (λ entries. TellLeaves (map leaf_view leaves.now) entries.items) }
+{
+    let mut entries = Vec::new(alloc);
+    for leaf in leaves {
+        if let Some(entry) = told_leaf(alloc, layers, leaf)? {
+            entries.push(entry)?;
+        }
+    }
+    Ok(entries)
+}
+
+/// The leaves of a chain of profiles below keys, as they are reported.
+fn entries_in(
+    alloc: Global,
+    layers: &[Layer],
+    chain: &[&str],
+    keys: &[&str],
+    with_hidden: bool,
+) -> Result<Vec<Entry>, AllocError>
+    ensures { IfOk result (λ entries. AreShown (trees_of layers.now) (keys_view chain.now)
+        (keys_view keys.now) with_hidden entries.items) }
+{
+    let trees = trees_of(alloc, layers)?;
+    let leaves = entries_of(alloc, &trees, chain, keys, with_hidden)?;
+    told_leaves(alloc, layers, &leaves)
+}
+
+/// The leaves of a profile below keys, by a configuration.
+fn shown(
+    alloc: Global,
+    session: &Session<'_>,
+    config: &Config,
+    profile: &str,
+    keys: &[&str],
+    with_hidden: bool,
+) -> Result<Content, AllocError>
+    ensures { IsIn (names_in config.now.config.profiles) profile.now
+        → IfOk result (IsShownIn session.now (parents_in (config_parents config.now.config))
+        profile.now (keys_view keys.now) with_hidden) }
+{
+    let chain = chain_of_profile(alloc, config, profile)?;
+    let asked = asked_of(alloc, session, profile, &chain, NextestRunMode::Test)?;
+    let entries = entries_in(alloc, &session.layers, &chain, keys, with_hidden)?;
+    Ok(Content::ShowConfig { asked, entries })
+}
+
+/// The exit status for what is shown: 1 where that is nothing.
+fn status_of(content: &Content) -> u8
+    ensures { result ≡ shown_status content.now }
+{
+    match content {
+        Content::ShowConfig { entries, .. } if entries.is_empty() => 1,
+        _ => 0,
+    }
+}
+
+/// The leaves of a profile below keys, and what writes each.
+pub fn show(
+    alloc: Global,
+    session: &Session<'_>,
+    profile: &str,
+    keys: &[&str],
+    with_hidden: bool,
+) -> Result<Answer, Failure>
+    ensures ok { IfOk result (λ answer. ShowsConfig session.now profile.now (keys_view keys.now)
+        with_hidden answer.report answer.status) }
+    ensures err { IfErr result (IsFailureAbout session.now profile.now) }
+{
+    let mut warnings = DefaultConfigWarnings::new(alloc);
+    let config = config_with(alloc, session, profile, &mut warnings)?;
+    let content = shown(alloc, &*session, &config, profile, keys, with_hidden)?;
+    let status = status_of(&content);
+    let findings = warning_findings(alloc, &session.layers, &warnings)?;
+    let report = report_of(alloc, session, findings, Vec::new(alloc), content)?;
+    Ok(Answer { report, status })
+}
