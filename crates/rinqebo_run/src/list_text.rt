@@ -43,16 +43,16 @@ fn begin<E: Write>(
 fn write_in<O: Write, E: Write>(
     alloc: Global,
     session: &Session<'_>,
-    list: AskedList<'_>,
+    list: &AskedList<'_>,
     colour: Colour,
     shows_progress: bool,
     out: &mut O,
     err: &mut E,
 ) -> Result<(), ListFault>
-    ensures ok { OnOk result (WritesList session.now list.entry.profile.now list.entry.mode
-        list.entry.settings.now colour (O.contents out.old) (O.contents out.new)) }
-    ensures err { IfErr result (StopsList (IsFailureAbout session.now list.entry.profile.now)
-        (BeginsList session.now list.entry.profile.now list.entry.mode list.entry.settings.now
+    ensures ok { OnOk result (WritesList session.now list.now.profile.now list.now.mode
+        list.now.settings.now colour (O.contents out.old) (O.contents out.new)) }
+    ensures err { IfErr result (StopsList (IsFailureAbout session.now list.now.profile.now)
+        (BeginsList session.now list.now.profile.now list.now.mode list.now.settings.now
         colour (O.contents out.old) (O.contents out.new))
         (O.contents out.old) (O.contents out.new)) }
 {
@@ -62,7 +62,7 @@ fn write_in<O: Write, E: Write>(
     let page = ListPage {
         session,
         config: &config,
-        list,
+        list: *list,
         head: &head,
         colour,
     };
@@ -79,12 +79,12 @@ fn write_in<O: Write, E: Write>(
 pub fn write_list<O: Write, E: Write>(
     alloc: Global,
     request: &Request<'_>,
-    list: AskedList<'_>,
+    list: &AskedList<'_>,
     gathered: &Gathered,
     out: &mut O,
     err: &mut E,
 ) -> Result<(), ListFault>
-    requires question { AsksList request.now.question list.entry }
+    requires question { AsksList request.now.question list.now }
     requires format { request.now.format ≡ formats.Text }
     ensures ok { OnOk result
         (Tells request.now gathered.now 0 (O.contents out.old) (O.contents out.new)) }

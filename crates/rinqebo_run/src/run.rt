@@ -1,5 +1,5 @@
 //! Answers a request, and writes what it answers.
-ghost use Rattle.std.specs.Prelude.{◌≡◌, ◌⊎◌, ◌++◌, [], ◌∷◌, IsOk, IfOk, IfErr};
+ghost use Rattle.std.specs.Prelude.{◌≡◌, ◌⊎◌, ◌++◌, [], ◌∷◌, IsOk, IfOk, IfErr, IfSome};
 ghost use Rattle.std.specs.Io.KnownBytes.{Appends};
 ghost use Rattle.std.specs.Result.{result_map_both};
 ghost use Rattle.config_shape.specs.FileForm.{file_form};
@@ -222,6 +222,30 @@ fn answer_whole<O: Write, E: Write>(
     }
 }
 
+/// What is asked of a list, where a request asks for one as a text.
+fn text_list<'r>(request: &'r Request<'_>) -> Option<AskedList<'r>>
+    ensures question { IfSome result (AsksList request.now.question) }
+    ensures format { IfSome result (λ _. request.now.format ≡ formats.Text) }
+{
+    let Question::List {
+        profile,
+        mode,
+        asked,
+        ..
+    } = &request.question
+    else {
+        return None;
+    };
+    match request.format {
+        Format::Text => Some(AskedList {
+            profile: *profile,
+            mode: *mode,
+            settings: asked,
+        }),
+        Format::Grouped | Format::Json | Format::Concise | Format::Github(_) => None,
+    }
+}
+
 /// Tells why a list was not written whole, and answers the exit status. Of a write that failed nothing
 /// is told.
 fn refuse_list<E: Write>(alloc: Global, fault: &ListFault, colour: Colour, err: &mut E) -> u8
@@ -238,12 +262,12 @@ fn refuse_list<E: Write>(alloc: Global, fault: &ListFault, colour: Colour, err: 
 fn answer_list<O: Write, E: Write>(
     alloc: Global,
     request: &Request<'_>,
-    list: AskedList<'_>,
+    list: &AskedList<'_>,
     gathered: &Gathered,
     out: &mut O,
     err: &mut E,
 ) -> u8
-    requires question { AsksList request.now.question list.entry }
+    requires question { AsksList request.now.question list.now }
     requires format { request.now.format ≡ formats.Text }
     ensures status { IsStatus result }
     ensures quiet { IsAnswerStatus request.now.question result ⊎ (result ≡ 6)
@@ -281,24 +305,9 @@ pub fn perform<O: Write, E: Write>(
         → Tells request.now gathered.now result (O.contents out.old) (O.contents out.new) }
     ensures cause { IsToldBy request.now gathered.now result }
 {
-    match (&request.question, request.format) {
-        (
-            Question::List {
-                profile,
-                mode,
-                asked,
-                ..
-            },
-            Format::Text,
-        ) => {
-            let list = AskedList {
-                profile: *profile,
-                mode: *mode,
-                settings: asked,
-            };
-            answer_list(alloc, request, list, gathered, out, err)
-        }
-        _ => answer_whole(alloc, request, gathered, out, err),
+    match text_list(request) {
+        Some(list) => answer_list(alloc, request, &list, gathered, out, err),
+        None => answer_whole(alloc, request, gathered, out, err),
     }
 }
 
