@@ -1,31 +1,11 @@
 -- Which items of lists are told.
-use Rattle.std.proofs.Common.{◌≡◌, ◌<◌, ◌≤◌, ◌+◌, ◌∙◌, ℕ, zero, suc, List, [], ◌∷◌, ◌++◌, true, false, Option, None, Some, absurd, ap, arith, get_or, length, map, refl, String, string_bytes, subst, sym, take}
-use Rattle.std.proofs.lemmas.List.{map-append, take_all, take_more}
+use Rattle.std.proofs.Common.{◌≡◌, ◌<◌, ◌≤◌, ◌∙◌, ℕ, zero, suc, List, [], ◌∷◌, true, false, None, ap, arith, get_or, length, map, refl, String, sym, take}
+use Rattle.std.proofs.lemmas.List.{take_all}
 use Rattle.std.specs.declared.alloc.Global.{Global}
 use Rattle.nextest_tree.specs.Node.{Node, table, array, text, int, bool, opaque, as_text}
 use Rattle.nextest_tree.specs.View.{nodes_of, tree_view}
 use Rattle.nextest_tree.specs.declared.tree.Tree.{Tree}
 use Rattle.rinqebo_entries.specs.LeafValue.{text_node, are_texts, AreItems}
-
--- a node with a text is this text
-is_text : (n : Node) (s : List ℕ) → Some s ≡ as_text n → text s ≡ n
-is_text (table entries) s is = absurd (cc)
-is_text (array items) s is = absurd (cc)
-is_text (text t) s is = ap text (some_same is)
-is_text (int z) s is = absurd (cc)
-is_text (bool b) s is = absurd (cc)
-is_text opaque s is = absurd (cc)
-
--- one text more
-pub text_more : (items : List Tree) (n m : ℕ) (item : Tree) (old new : List (String Global)) (t : String Global)
-    (s : List ℕ) → n < length items → item ≡ get_or items n item → m ≡ n + 1 → Some s ≡ as_text (tree_view item)
-    → string_bytes t ≡ s → map text_node old ≡ map tree_view (take n items) → new ≡ old ++ t ∷ []
-    → map text_node new ≡ map tree_view (take m items)
-text_more items n m item old new t s within at next is same before more =
-    ap (map text_node) more ∙ map-append text_node old (t ∷ [])
-    ∙ (λ i. before i ++ (ap text same ∙ is_text (tree_view item) s is ∙ ap tree_view at) i ∷ [])
-    ∙ sym (ap (λ k. map tree_view (take k items)) next ∙ ap (map tree_view) (take_more items n item within)
-    ∙ map-append tree_view (take n items) (get_or items n item ∷ []))
 
 -- texts are told
 all_texts : (texts : List (String Global)) → are_texts (nodes_of (map text_node texts)) ≡ true
@@ -44,7 +24,7 @@ are_items items n texts all same =
 
 -- behind an item that is no text
 no_text : (item : Node) (items : List Node) → None ≡ as_text item → are_texts (nodes_of (item ∷ items)) ≡ false
-no_text (table entries) items none = refl
+no_text (table es) items none = refl
 no_text (array nodes) items none = refl
 no_text (text t) items none = absurd (cc)
 no_text (int z) items none = refl
@@ -54,7 +34,7 @@ no_text opaque items none = refl
 -- before items that are no texts
 behind : (item : Node) (items : List Node) → are_texts (nodes_of items) ≡ false
     → are_texts (nodes_of (item ∷ items)) ≡ false
-behind (table entries) items none = refl
+behind (table es) items none = refl
 behind (array nodes) items none = refl
 behind (text t) items none = none
 behind (int z) items none = refl

@@ -35,7 +35,7 @@ are_texts (node item items) = false
 
 -- Whether the value of a leaf is told: a text, a number, a truth value, or a list of texts.
 abbrev pub is_tellable : Node → Bool
-is_tellable (table entries) = false
+is_tellable (table es) = false
 is_tellable (array items) = are_texts items
 is_tellable opaque = false
 is_tellable leaf = true

@@ -1,5 +1,5 @@
 -- Leaves as they are reported.
-use Rattle.std.specs.Prelude.{◌≡◌, ◌<◌, ◌++◌, ℕ, List, Option, None, Some, map, string_bytes}
+use Rattle.std.specs.Prelude.{◌≡◌, ◌<◌, ℕ, List, Option, None, Some, string_bytes}
 use Rattle.config_grounds.specs.Entries.{Leaf, dotted}
 use Rattle.config_grounds.specs.Sections.{Region, of_profile, beside}
 use Rattle.config_places.specs.declared.step.Step.{Step}

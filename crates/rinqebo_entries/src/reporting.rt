@@ -13,16 +13,25 @@ use config_places::Step;
 use rinqebo_report::{Origin, Part, Place, Written};
 use std::alloc::{AllocError, Global};
 
+/// The path of the table in which a section stands.
+fn base_steps<'t>(alloc: Global, section: Section<'t>) -> Result<Vec<Step<'t>>, AllocError>
+    ensures { IfOk result (λ steps. map step_key steps.items
+        ≡ map Some (base_path (section_view section.entry))) }
+{
+    let mut steps = Vec::new(alloc);
+    if let Section::Profile { name, .. } = section {
+        steps.push(Step::Key("profile"))?;
+        steps.push(Step::Key(name))?;
+    }
+    Ok(steps)
+}
+
 /// The path of a leaf from the root of its layer on: there its lines are looked for.
 pub fn steps_of<'t>(alloc: Global, entry: &Entry<'t>) -> Result<Vec<Step<'t>>, AllocError>
     ensures { IfOk result (λ steps. map step_key steps.items
         ≡ map Some (base_path (section_view entry.now.section) ++ keys_view entry.now.path.items)) }
 {
-    let mut steps = Vec::new(alloc);
-    if let Section::Profile { name, .. } = entry.section {
-        steps.push(Step::Key("profile"))?;
-        steps.push(Step::Key(name))?;
-    }
+    let mut steps = base_steps(alloc, entry.section)?;
     for key in &entry.path {
         steps.push(Step::Key(*key))?;
     }

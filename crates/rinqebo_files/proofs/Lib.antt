@@ -1,1 +1,2 @@
 mod Switching
+mod Layering
