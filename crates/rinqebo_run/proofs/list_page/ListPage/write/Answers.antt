@@ -1,4 +1,4 @@
-use Rattle.std.proofs.Common.{◌≡◌, ◌∙◌, inr, refl, subst, sym}
+use Rattle.std.proofs.Common.{◌≡◌, arith, length, subst, sym}
 use Rattle.filter_language.specs.Filtersets.{marks_view}
 use Rattle.nextest_filters.specs.Compiling.{names_of}
 use Rattle.nextest_filters.specs.Engine.{filter_holds}
@@ -32,21 +32,23 @@ returns-clause-told g c =
 pub returns-clause-page : goal.returns-clause-page
 returns-clause-page g c =
     let self = c.args.self.now in
+    let rows = c.in_ok-rows.rows in
+    let all : c.len.result ≡ length rows.tests.items = omega (arith, rows.tests.ok.0) in
     whole_page self.head.now self.colour c.in_ok-rows.rows.tests.items c.in_ok-unused.unused.items _ _ _ _
-    c.len.ensures c.in_ok-rows.ensures.page c.in_ok-unused.ensures.page
+    all c.in_ok-rows.ensures.page c.in_ok-unused.ensures.page
 
 pub returns-in_err-rows-clause-err : goal.returns-in_err-rows-clause-err
 returns-in_err-rows-clause-err g c =
     let self = c.args.self.now in
     let list = self.list in
     let old = g.O.Write.contents c.args.out.now in
-    let new = g.O.Write.contents c.write_rows-rows.new.out in
-    passed_stop _ c.from_residual.result c.in_err-rows.e c.from_residual.ensures
+    let new = g.O.Write.contents c.write_rows.new.out in
+    passed_stop _ c.from_residual-in_err-rows.result c.in_err-rows.field-0.0 c.from_residual-in_err-rows.ensures.1
     (stops_so (λ _. ⊥) (λ _. ⊥) (AreFirstWritten filter_holds list.mode
     (profile_meaning (marks_view names_of) c.in_ok-on.on) list.settings.now (all_tests (list_view self.session.now.tests))
     self.head.now self.colour old new)
     (AreFirstBy self.session.now self.config.now list.profile.now list.mode list.settings.now self.colour old new)
-    old new c.in_err-rows.e (λ _ none. none)
+    old new c.in_err-rows.field-0.0 (λ _ none. none)
     (first_here self.session.now self.config.now list.profile.now list.mode list.settings.now c.in_ok-on.on self.head.now
     self.colour old new c.in_ok-on.ensures)
     c.in_err-rows.ensures.err)
@@ -56,14 +58,14 @@ returns-in_err-unused-clause-err g c =
     let self = c.args.self.now in
     let list = self.list in
     let old = g.O.Write.contents c.args.out.now in
-    let mid = g.O.Write.contents c.write_rows-rows.new.out in
-    let new = g.O.Write.contents c.write_end-unused.new.out in
+    let mid = g.O.Write.contents c.write_rows.new.out in
+    let new = g.O.Write.contents c.write_end.new.out in
     let tests = all_tests (list_view self.session.now.tests) in
     let profile = profile_meaning (marks_view names_of) c.in_ok-on.on in
-    passed_stop _ c.from_residual.result c.in_err-unused.e c.from_residual.ensures
+    passed_stop _ c.from_residual-in_err-unused.result c.in_err-unused.field-0.0 c.from_residual-in_err-unused.ensures.1
     (stops_at_end
     (AreFirstBy self.session.now self.config.now list.profile.now list.mode list.settings.now self.colour old new)
-    old mid new c.in_err-unused.e
+    old mid new c.in_err-unused.field-0.0
     (λ same. subst
     (AreFirstBy self.session.now self.config.now list.profile.now list.mode list.settings.now self.colour old) same
     (first_here self.session.now self.config.now list.profile.now list.mode list.settings.now c.in_ok-on.on self.head.now

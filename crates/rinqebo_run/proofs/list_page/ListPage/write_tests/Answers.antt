@@ -41,7 +41,7 @@ loop-query-preserved g c =
           refl)
           (rw before.default_filter at (c.see.ensures.marks _ before.marks));
       page = one_more c.args.self.now.head.now c.args.self.now.colour c.loop-query.tests.items
-          c.take_test-text.new.tests.items adds.rows c.as_str.result.now _ _ _ adds.added
+          c.take_test.new.tests.items adds.rows c.as_str.result.now _ _ _ adds.added
           (c.as_str.ensures.value ∙ adds.shown) before.page c.in_ok-write_text.ensures.ok;
     }
 
@@ -80,7 +80,7 @@ returns-in_err-text-clause-err g c =
     let asking = c.args.asking.now in
     let self = c.args.self.now in
     let before = c.loop-query.invariant in
-    passed_stop _ c.from_residual.result faults.Memory c.from_residual.ensures
+    passed_stop _ c.from_residual-in_err-text.result faults.Memory c.from_residual-in_err-text.ensures.1
     (inl (first_so_far asking.mode (profile_meaning (marks_view names_of) asking.profile.now) asking.asked.now
     self.head.now self.colour c.args.queries.now c.loop-query.query-index c.loop-query.tests.items _ _ before.told
     before.page))
@@ -90,7 +90,7 @@ returns-in_err-unused-clause-err g c =
     let asking = c.args.asking.now in
     let self = c.args.self.now in
     let before = c.loop-query.invariant in
-    passed_stop _ c.from_residual.result faults.Memory c.from_residual.ensures
+    passed_stop _ c.from_residual-in_err-unused.result faults.Memory c.from_residual-in_err-unused.ensures.1
     (inl (first_so_far asking.mode (profile_meaning (marks_view names_of) asking.profile.now) asking.asked.now
     self.head.now self.colour c.args.queries.now c.loop-query.query-index c.loop-query.tests.items _ _ before.told
     before.page))
