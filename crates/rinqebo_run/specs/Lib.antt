@@ -17,3 +17,5 @@ pub mod TellsReasons
 pub mod Listed
 pub mod ListedBy
 pub mod ShownConfig
+pub mod Begun
+pub mod Written

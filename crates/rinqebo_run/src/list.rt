@@ -34,13 +34,13 @@ use std::alloc::{AllocError, Global};
 use target_language::TargetSpecs;
 
 /// A profile on the platforms of a build.
-type Profile<'c> = EvaluatableProfile<'c, NextestFilters, TargetSpecs>;
+pub type Profile<'c> = EvaluatableProfile<'c, NextestFilters, TargetSpecs>;
 
 /// The rows of tests, with the places of the rules that hold for none.
-type Rows<'c> = ListedRows<RulePlace<'c>>;
+pub type Rows<'c> = ListedRows<RulePlace<'c>>;
 
 /// The profile of a name on the platforms of a session.
-fn profile_on<'c>(
+pub fn profile_on<'c>(
     alloc: Global,
     session: &'c Session<'_>,
     config: &'c Config,

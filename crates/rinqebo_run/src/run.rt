@@ -1,5 +1,5 @@
 //! Answers a request, and writes what it answers.
-ghost use Rattle.std.specs.Prelude.{◌≡◌, ◌⊎◌, ◌++◌, [], ◌∷◌, IsOk, IfOk, IfErr};
+ghost use Rattle.std.specs.Prelude.{◌≡◌, ◌⊎◌, ◌++◌, [], ◌∷◌, IsOk, IfOk, IfErr, IfSome};
 ghost use Rattle.std.specs.Io.KnownBytes.{Appends};
 ghost use Rattle.std.specs.Result.{result_map_both};
 ghost use Rattle.config_shape.specs.FileForm.{file_form};
@@ -7,13 +7,19 @@ ghost use Rattle.config_shape.specs.Page.{schema_data};
 ghost use Rattle.serde_json.specs.Written.{compact_text};
 ghost use Rattle.rinqebo_report.specs.Rendered.{rendered};
 ghost use Rattle.rinqebo_run.specs.Answered.{AnswersQuestion, IsAnswer, Tells};
+ghost use Rattle.rinqebo_run.specs.Begun.{IsBegun};
 ghost use Rattle.rinqebo_run.specs.Refused.{Fails, IsFailureIn, IsToldBy};
 ghost use Rattle.rinqebo_run.specs.Statuses.{IsStatus, IsAnswerStatus, failure_status};
+ghost use Rattle.rinqebo_run.specs.Written.{AsksList, IsStopStatus};
+ghost use Rattle.rinqebo_report.specs.declared.format.Format.TheVariants as formats;
 
 use crate::answer::{Answer, Failure};
 use crate::check::check;
 use crate::explain::explain;
 use crate::list::list;
+use crate::list_fault::ListFault;
+use crate::list_page::AskedList;
+use crate::list_text::write_list;
 use crate::progress::ProgressLine;
 use crate::session::Session;
 use crate::show::show;
@@ -192,13 +198,8 @@ fn refuse<E: Write>(alloc: Global, failure: &Failure, colour: Colour, err: &mut 
     }
 }
 
-/// Answers a request over the files that it names, and answers the exit status: 0, or 1 for warnings
-/// that are denied and where no leaf is found, 2 for platforms and metadata that are not understood,
-/// 3 where the files are refused, 4 where there is no such profile, 5 for want of memory, 6 where a
-/// write fails. Nothing goes to standard output where a run refuses, but for the findings of a check.
-/// Where a request says so, standard error is told how far a list is, on a line of its own that is
-/// gone in the end.
-pub fn perform<O: Write, E: Write>(
+/// Answers a request with a page that is known whole before it goes out, and answers the exit status.
+fn answer_whole<O: Write, E: Write>(
     alloc: Global,
     request: &Request<'_>,
     gathered: &Gathered,
@@ -218,6 +219,95 @@ pub fn perform<O: Write, E: Write>(
     match answer {
         Ok(answer) => tell_answer(alloc, request, &answer, out, err),
         Err(failure) => refuse(alloc, &failure, request.colour, err),
+    }
+}
+
+/// What is asked of a list, where a request asks for one as a text.
+fn text_list<'r>(request: &'r Request<'_>) -> Option<AskedList<'r>>
+    ensures question { IfSome result (AsksList request.now.question) }
+    ensures format { IfSome result (λ _. request.now.format ≡ formats.Text) }
+{
+    let Question::List {
+        profile,
+        mode,
+        asked,
+        ..
+    } = &request.question
+    else {
+        return None;
+    };
+    match request.format {
+        Format::Text => Some(AskedList {
+            profile: *profile,
+            mode: *mode,
+            settings: asked,
+        }),
+        Format::Grouped | Format::Json | Format::Concise | Format::Github(_) => None,
+    }
+}
+
+/// Tells why a list was not written whole, and answers the exit status. Of a write that failed nothing
+/// is told.
+fn refuse_list<E: Write>(alloc: Global, fault: &ListFault, colour: Colour, err: &mut E) -> u8
+    ensures { IsStopStatus fault.now result }
+{
+    match fault {
+        ListFault::Refused(failure) => refuse(alloc, failure, colour, err),
+        ListFault::Memory => refuse_for_memory(err),
+        ListFault::Write => 6,
+    }
+}
+
+/// Answers a list as a text, which goes out as its tests are asked, and answers the exit status.
+fn answer_list<O: Write, E: Write>(
+    alloc: Global,
+    request: &Request<'_>,
+    list: &AskedList<'_>,
+    gathered: &Gathered,
+    out: &mut O,
+    err: &mut E,
+) -> u8
+    requires question { AsksList request.now.question list.now }
+    requires format { request.now.format ≡ formats.Text }
+    ensures status { IsStatus result }
+    ensures quiet { IsAnswerStatus request.now.question result ⊎ (result ≡ 6)
+        ⊎ (O.contents out.new ≡ O.contents out.old) ⊎ ((result ≡ 5)
+        × IsBegun request.now gathered.now (O.contents out.old) (O.contents out.new)) }
+    ensures page { IsAnswerStatus request.now.question result
+        → Tells request.now gathered.now result (O.contents out.old) (O.contents out.new) }
+    ensures cause { IsToldBy request.now gathered.now result }
+{
+    match write_list(alloc, request, list, gathered, out, err) {
+        Ok(()) => 0,
+        Err(fault) => refuse_list(alloc, &fault, request.colour, err),
+    }
+}
+
+/// Answers a request over the files that it names, and answers the exit status: 0, or 1 for warnings
+/// that are denied and where no leaf is found, 2 for platforms and metadata that are not understood,
+/// 3 where the files are refused, 4 where there is no such profile, 5 for want of memory, 6 where a
+/// write fails. Nothing goes to standard output where a run refuses, but for the findings of a check.
+/// The text of a list goes out as its tests are asked: where memory runs out meanwhile, it has the
+/// first tests, each whole. Where a request says so, standard error is told how far a list is, on a
+/// line of its own that is gone in the end.
+pub fn perform<O: Write, E: Write>(
+    alloc: Global,
+    request: &Request<'_>,
+    gathered: &Gathered,
+    out: &mut O,
+    err: &mut E,
+) -> u8
+    ensures status { IsStatus result }
+    ensures quiet { IsAnswerStatus request.now.question result ⊎ (result ≡ 6)
+        ⊎ (O.contents out.new ≡ O.contents out.old) ⊎ ((result ≡ 5)
+        × IsBegun request.now gathered.now (O.contents out.old) (O.contents out.new)) }
+    ensures page { IsAnswerStatus request.now.question result
+        → Tells request.now gathered.now result (O.contents out.old) (O.contents out.new) }
+    ensures cause { IsToldBy request.now gathered.now result }
+{
+    match text_list(request) {
+        Some(list) => answer_list(alloc, request, &list, gathered, out, err),
+        None => answer_whole(alloc, request, gathered, out, err),
     }
 }
 

@@ -1,6 +1,6 @@
 use Rattle.rinqebo_run.proofs.Refused.{answer_told, failure_told}
 use Rattle.rinqebo_run.proofs.Statuses.{answer_status, told_same, told_page, tells, failed_silent, failed_status}
-use Rattle.rinqebo_run.proofs.run.perform.Goals as goal
+use Rattle.rinqebo_run.proofs.run.answer_whole.Goals as goal
 
 pub returns-in-Ok-clause-quiet : goal.returns-in-Ok-clause-quiet
 returns-in-Ok-clause-quiet g c =

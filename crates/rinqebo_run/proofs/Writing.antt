@@ -1,0 +1,332 @@
+-- Lists that are written as their tests are asked.
+use Rattle.std.proofs.Common.{◌≡◌, ◌∙◌, ◌⊎◌, inl, inr, ℕ, List, [], ◌∷◌, ◌++◌, Bool, Option, Result, Ok, Err, IfErr, IsErrAnd, ap, arith, flat_map, length, map, refl, string_bytes, subst, sym, take}
+use Rattle.std.proofs.KnownBytes.{Appends-trans}
+use Rattle.std.proofs.lemmas.Grind.{flat_map-append}
+use Rattle.std.proofs.lemmas.List.{append-nil, take-map, take_all}
+use Rattle.std.specs.Io.KnownBytes.{Appends}
+use Rattle.std.specs.List.{AllZip}
+use Rattle.filter_language.specs.Filtersets.{marks_view}
+use Rattle.filter_language.specs.declared.filterset.Filterset.{Filterset}
+use Rattle.nextest_elements.specs.declared.run_mode.NextestRunMode.{NextestRunMode}
+use Rattle.nextest_engines.specs.Engines.{Test, test_view}
+use Rattle.nextest_engines.specs.declared.queries.TestQuery.{TestQuery}
+use Rattle.nextest_filters.specs.Compiling.{names_of}
+use Rattle.nextest_filters.specs.Engine.{Filter, filter_holds}
+use Rattle.nextest_filters.specs.declared.compiling.FieldMatcher.{FieldMatcher}
+use Rattle.nextest_load.specs.Config.{ConfigModel}
+use Rattle.nextest_load.specs.Load.{Loaded}
+use Rattle.nextest_profiles.specs.Meaning.{profile_meaning}
+use Rattle.nextest_settings.specs.Profile.{EvaluatableModel}
+use Rattle.nextest_settings.specs.Queries.{query_in}
+use Rattle.nextest_tables.specs.FileTexts.{names_in, IsIn}
+use Rattle.nextest_tables.specs.Written.{Name}
+use Rattle.rinqebo_files.specs.declared.files.Gathered.{Gathered}
+use Rattle.rinqebo_list.specs.Rows.{AreTestsTold, IsTestTold}
+use Rattle.rinqebo_report.specs.Pages.{content_runs, count_runs, list_runs, listed_runs, unused_runs}
+use Rattle.rinqebo_report.specs.Pieces.{painted, page_text}
+use Rattle.rinqebo_report.specs.Rendered.{rendered}
+use Rattle.rinqebo_report.specs.declared.format.Format.TheVariants as formats
+use Rattle.rinqebo_report.specs.declared.origin.Origin.{Origin}
+use Rattle.rinqebo_report.specs.declared.piece.Colour.{Colour}
+use Rattle.rinqebo_report.specs.declared.report.Content.{Content}
+use Rattle.rinqebo_report.specs.declared.report.Content.TheVariants as contents
+use Rattle.rinqebo_report.specs.declared.report.Report.{Report}
+use Rattle.rinqebo_report.specs.declared.report.TestRows.{TestRows}
+use Rattle.rinqebo_request.specs.declared.request.AskedSettings.{AskedSettings}
+use Rattle.rinqebo_request.specs.declared.request.Question.{Question}
+use Rattle.rinqebo_request.specs.declared.request.Question.TheVariants as questions
+use Rattle.rinqebo_request.specs.declared.request.Request.{Request}
+use Rattle.target_language.specs.Expressions.{Spec, spec_view}
+use Rattle.target_language.specs.declared.expression.TargetSpec.{TargetSpec}
+use Rattle.test_lists.specs.ListView.{list_view}
+use Rattle.test_lists.specs.Lists.{all_tests}
+use Rattle.rinqebo_run.proofs.Listing.{given_means, tells_tests, zip_mapped}
+use Rattle.rinqebo_run.proofs.Refused.{failure_told}
+use Rattle.rinqebo_run.proofs.Statuses.{failed_silent, failed_status}
+use Rattle.rinqebo_run.specs.Answered.{AnswersQuestion, Tells}
+use Rattle.rinqebo_run.specs.Begun.{tests_text, AreFirstOf, AreFirstWritten, BeginsList, BeginsPage, IsBegun}
+use Rattle.rinqebo_run.specs.Checked.{AreAccepted}
+use Rattle.rinqebo_run.specs.Conditions.{is_met_by}
+use Rattle.rinqebo_run.specs.Listed.{IfListed, IsProfileOn, TellsTests}
+use Rattle.rinqebo_run.specs.ListedBy.{listed_by, read_by}
+use Rattle.rinqebo_run.specs.Refused.{Fails, IsFailureAbout, IsFailureIn, IsToldBy}
+use Rattle.rinqebo_run.specs.SessionOf.{IsSessionOf}
+use Rattle.rinqebo_run.specs.Sessions.{files_view, readings, IsLoadedFrom}
+use Rattle.rinqebo_run.specs.Statuses.{IsAnswerStatus, IsStatus}
+use Rattle.rinqebo_run.specs.Written.{AreFirstBy, AsksList, IsStopStatus, StopsList, WritesList}
+use Rattle.rinqebo_run.specs.declared.answer.Failure.{Failure}
+use Rattle.rinqebo_run.specs.declared.answer.Failure.TheVariants as failures
+use Rattle.rinqebo_run.specs.declared.list_fault.ListFault.{ListFault}
+use Rattle.rinqebo_run.specs.declared.list_fault.ListFault.TheVariants as faults
+use Rattle.rinqebo_run.specs.declared.list_page.AskedList.{AskedList}
+use Rattle.rinqebo_run.specs.declared.session.Session.{Session}
+
+-- a fault is passed on
+pub passed_stop : {A : Type 0} (P : ListFault → Type 0) (r : Result A ListFault) (fault : ListFault)
+    → IsErrAnd r (λ told. told ≡ fault) → P fault → IfErr r P
+passed_stop P (Ok answer) fault same is = tt
+passed_stop P (Err told) fault same is = subst P (sym same) is
+
+-- a list was not written whose report was not begun
+pub early_stop : (refuses : Failure → Type 0) (begun : Type 0) (old : Option (List ℕ)) (fault : ListFault)
+    → (fault ≡ faults.Memory) ⊎ (fault ≡ faults.Write) → StopsList refuses begun old old fault
+early_stop refuses begun old fault (inl memory) = subst (StopsList refuses begun old old) (sym memory) (inr refl)
+early_stop refuses begun old fault (inr write) = subst (StopsList refuses begun old old) (sym write) tt
+
+-- the lines of tests, and those of one more
+pub tests_text-push : (head : Report) (tint : Colour) (tests : List TestRows) (rows : TestRows)
+    → tests_text head tint (tests ++ rows ∷ [])
+    ≡ tests_text head tint tests ++ page_text tint (listed_runs (string_bytes head.root) head.sources.items rows)
+tests_text-push head tint tests rows =
+    let lines = listed_runs (string_bytes head.root) head.sources.items in
+    ap (page_text tint)
+    (flat_map-append lines tests (rows ∷ []) ∙ ap (λ rs. flat_map lines tests ++ rs) (append-nil (lines rows)))
+    ∙ flat_map-append (painted tint) (flat_map lines tests) (lines rows)
+
+-- one more test went out
+pub one_more : (head : Report) (tint : Colour) (tests more : List TestRows) (rows : TestRows) (lines : List ℕ)
+    (old mid new : Option (List ℕ)) → more ≡ tests ++ rows ∷ []
+    → lines ≡ page_text tint (listed_runs (string_bytes head.root) head.sources.items rows)
+    → Appends old mid (tests_text head tint tests) → Appends mid new lines
+    → Appends old new (tests_text head tint more)
+one_more head tint tests more rows lines old mid new are shown before after =
+    subst (Appends old new)
+    (ap (λ text. tests_text head tint tests ++ text) shown ∙ sym (tests_text-push head tint tests rows)
+    ∙ ap (tests_text head tint) (sym are))
+    (Appends-trans old mid new (tests_text head tint tests) lines before after)
+
+-- the tests went out, and then what stands behind them
+pub whole_page : (head : Report) (tint : Colour) (tests : List TestRows) (unused : List Origin) (count : ℕ)
+    (old mid new : Option (List ℕ)) → count ≡ length tests → Appends old mid (tests_text head tint tests)
+    → Appends mid new (page_text tint (count_runs count
+    ++ flat_map (unused_runs (string_bytes head.root) head.sources.items) unused))
+    → Appends old new (page_text tint (list_runs (string_bytes head.root) head.sources.items tests unused))
+whole_page head tint tests unused count old mid new all before after =
+    let root = string_bytes head.root in
+    let sources = head.sources.items in
+    let ending : ℕ → List ℕ = λ n. page_text tint (count_runs n ++ flat_map (unused_runs root sources) unused) in
+    subst (Appends old new)
+    (ap (λ n. tests_text head tint tests ++ ending n) all
+    ∙ sym (flat_map-append (painted tint) (flat_map (listed_runs root sources) tests)
+    (count_runs (length tests) ++ flat_map (unused_runs root sources) unused)))
+    (Appends-trans old mid new (tests_text head tint tests) (ending count) before after)
+
+-- the tests so far went out
+pub first_so_far : (mode : NextestRunMode) (profile : EvaluatableModel Filter) (asked : AskedSettings) (head : Report)
+    (tint : Colour) (queries : List TestQuery) (i : ℕ) (tests : List TestRows) (old new : Option (List ℕ))
+    → AllZip (λ query. IsTestTold (query_in filter_holds profile (test_view query)) mode profile asked
+    (test_view query)) (take i queries) tests
+    → Appends old new (tests_text head tint tests)
+    → AreFirstWritten filter_holds mode profile asked (map test_view queries) head tint old new
+first_so_far mode profile asked head tint queries i tests old new told page =
+    let Told : Test → TestRows → Type 0 =
+    λ test. IsTestTold (query_in filter_holds profile test) mode profile asked test in
+    record {
+      count = i;
+      tests = tests;
+      are_told = subst (λ list. AllZip Told list tests) (sym (take-map test_view i queries))
+          (zip_mapped test_view Told (take i queries) tests told);
+      page = page;
+    }
+
+-- all tests went out
+pub all_first : (mode : NextestRunMode) (profile : EvaluatableModel Filter) (asked : AskedSettings) (head : Report)
+    (tint : Colour) (list : List Test) (tests : List TestRows) (old new : Option (List ℕ))
+    → AreTestsTold filter_holds mode profile asked list tests → Appends old new (tests_text head tint tests)
+    → AreFirstWritten filter_holds mode profile asked list head tint old new
+all_first mode profile asked head tint list tests old new told page = record {
+  count = length list;
+  tests = tests;
+  are_told = subst (λ first. AreTestsTold filter_holds mode profile asked first tests)
+      (sym (take_all (length list) list (omega arith))) told;
+  page = page;
+}
+
+-- the first tests went out by a configuration that was loaded
+pub first_here : (session : Session) (loaded : Loaded (Filterset FieldMatcher) TargetSpec) (name : Name)
+    (mode : NextestRunMode) (asked : AskedSettings) (on : EvaluatableModel (Filterset FieldMatcher)) (head : Report)
+    (tint : Colour) (old new : Option (List ℕ))
+    → IsProfileOn is_met_by session.engines.platforms (read_by session loaded) name on
+    → AreFirstWritten (readings session.engines.filters).matches_test mode (profile_meaning (marks_view names_of) on)
+    asked (all_tests (list_view session.tests)) head tint old new
+    → AreFirstBy session loaded name mode asked tint old new
+first_here session loaded name mode asked on head tint old new is first = record {
+  head = head;
+  profile = profile_meaning (marks_view names_of) on;
+  is_profile = given_means (marks_view names_of) spec_view (readings session.engines.filters).meets
+      session.engines.platforms (read_by session loaded) name on is;
+  first = first;
+}
+
+-- the page of a list was begun by what was loaded
+pub begins_list : (session : Session) (profile : Name) (mode : NextestRunMode) (asked : AskedSettings) (tint : Colour)
+    (loaded : Loaded (Filterset FieldMatcher) TargetSpec) (old new : Option (List ℕ)) → AreAccepted session
+    → IsLoadedFrom (readings session.engines.filters) (files_view session.gathered.now) loaded
+    → IsIn (names_in loaded.config.profiles) profile → AreFirstBy session loaded profile mode asked tint old new
+    → BeginsList session profile mode asked tint old new
+begins_list session profile mode asked tint loaded old new accepted from there first =
+    let engines = readings session.engines.filters in
+    let First : ConfigModel Filter Spec → Type 0 =
+    λ config. AreFirstOf engines.meets engines.matches_test session.engines.platforms
+    (record {
+      root = string_bytes session.gathered.now.paths.workspace_root;
+      config = config;
+      scripts = loaded.scripts;
+    }) profile mode asked (all_tests (list_view session.tests)) tint old new in
+    record {
+      acceptance = accepted;
+      scripts = loaded.scripts;
+      are_scripts = from.scripts;
+      known = subst (λ config. IsIn (names_in config.profiles) profile) from.means there;
+      first = subst First from.means first;
+    }
+
+-- the page of a list does not speak of what else its report has
+page_of_list : (head : Report) (tint : Colour) (content : Content) (P : List TestRows → List Origin → Type 0)
+    (old new : Option (List ℕ)) → IfListed content P → Appends old new (page_text tint (content_runs head content))
+    → Appends old new (rendered (record head { content = content }) formats.Text tint)
+page_of_list head tint (contents.List asked tests unused) P old new listed page = page
+page_of_list head tint _ P old new listed page = absurd listed
+
+-- the page of a list went out by what was loaded
+pub writes_list : (session : Session) (profile : Name) (mode : NextestRunMode) (asked : AskedSettings) (tint : Colour)
+    (head : Report) (content : Content) (loaded : Loaded (Filterset FieldMatcher) TargetSpec)
+    (old new : Option (List ℕ)) → AreAccepted session
+    → IsLoadedFrom (readings session.engines.filters) (files_view session.gathered.now) loaded
+    → IsIn (names_in loaded.config.profiles) profile
+    → IfListed content (listed_by session loaded profile mode asked)
+    → Appends old new (page_text tint (content_runs head content))
+    → WritesList session profile mode asked tint old new
+writes_list session profile mode asked tint head content loaded old new accepted from there listed page = record {
+  report = record head { content = content };
+  tells = tells_tests session profile mode asked (record head { content = content }) content loaded accepted from there
+      refl listed;
+  page = page_of_list head tint content (listed_by session loaded profile mode asked) old new listed page;
+}
+
+-- why a list was not written whole, in other words
+pub stops_so : (refuses others : Failure → Type 0) (begun more : Type 0) (old new : Option (List ℕ))
+    (fault : ListFault) → ((failure : Failure) → refuses failure → others failure) → (begun → more)
+    → StopsList refuses begun old new fault → StopsList others more old new fault
+stops_so refuses others begun more old new (faults.Refused failure) told first stop = (told failure stop.0, stop.1)
+stops_so refuses others begun more old new faults.Memory told first (inl is) = inl (first is)
+stops_so refuses others begun more old new faults.Memory told first (inr same) = inr same
+stops_so refuses others begun more old new faults.Write told first stop = tt
+
+-- why a list was not written whole whose end was to be written
+pub stops_at_end : (begun : Type 0) (old mid new : Option (List ℕ)) (fault : ListFault)
+    → (mid ≡ new → begun) → StopsList (λ _. ⊥) ⊥ mid new fault → StopsList (λ _. ⊥) begun old new fault
+stops_at_end begun old mid new (faults.Refused failure) first stop = absurd stop.0
+stops_at_end begun old mid new faults.Memory first (inl none) = absurd none
+stops_at_end begun old mid new faults.Memory first (inr same) = inl (first (sym same))
+stops_at_end begun old mid new faults.Write first stop = tt
+
+-- a question that asks for a list is answered by what tells its tests
+answers_list : (q : Question) (list : AskedList) (session : Session) (report : Report) → AsksList q list
+    → TellsTests session list.profile.now list.mode list.settings.now report → AnswersQuestion q session report 0
+answers_list (questions.List profile mode file settings) list session report asks tells = (
+  refl,
+  subst (λ p. TellsTests session p mode settings report) asks.0
+      (subst (λ m. TellsTests session list.profile.now m settings report) asks.1
+      (subst (λ s. TellsTests session list.profile.now list.mode s report) asks.2 tells)),
+)
+answers_list _ list session report asks tells = absurd asks
+
+begins_page : (q : Question) (list : AskedList) (session : Session) (tint : Colour) (old new : Option (List ℕ))
+    → AsksList q list
+    → BeginsList session list.profile.now list.mode list.settings.now tint old new
+    → BeginsPage q session tint old new
+begins_page (questions.List profile mode file settings) list session tint old new asks begins =
+    subst (λ p. BeginsList session p mode settings tint old new) asks.0
+    (subst (λ m. BeginsList session list.profile.now m settings tint old new) asks.1
+    (subst (λ s. BeginsList session list.profile.now list.mode s tint old new) asks.2 begins))
+begins_page _ list session tint old new asks begins = absurd asks
+
+fails_about : (q : Question) (list : AskedList) (session : Session) (failure : Failure) → AsksList q list
+    → IsFailureAbout session list.profile.now failure → IsFailureIn session q failure
+fails_about (questions.List profile mode file settings) list session failure asks cause =
+    subst (λ p. IsFailureAbout session p failure) asks.0 cause
+fails_about _ list session failure asks cause = absurd asks
+
+-- status 0 answers a question that asks for a list
+pub zero_answers : (q : Question) (list : AskedList) → AsksList q list → IsAnswerStatus q 0
+zero_answers (questions.List profile mode file settings) list asks = refl
+zero_answers _ list asks = absurd asks
+
+-- a list of a session that went out whole answers the request
+pub list_told : (request : Request) (gathered : Gathered) (list : AskedList) (session : Session)
+    (old new : Option (List ℕ)) → IsSessionOf request gathered session → AsksList request.question list
+    → request.format ≡ formats.Text
+    → WritesList session list.profile.now list.mode list.settings.now request.colour old new
+    → Tells request gathered 0 old new
+list_told request gathered list session old new begun asks is_text writes = record {
+  report = writes.report;
+  is_answer = record {
+    session = session;
+    begun = begun;
+    answers = answers_list request.question list session writes.report asks writes.tells;
+  };
+  page = subst (λ format. Appends old new (rendered writes.report format request.colour)) (sym is_text) writes.page;
+}
+
+-- why a list of a session was not written whole is why that of the request was not
+pub list_stopped : (request : Request) (gathered : Gathered) (list : AskedList) (session : Session)
+    (old new : Option (List ℕ)) (fault : ListFault) → IsSessionOf request gathered session
+    → AsksList request.question list → request.format ≡ formats.Text
+    → StopsList (IsFailureAbout session list.profile.now)
+    (BeginsList session list.profile.now list.mode list.settings.now request.colour old new) old new fault
+    → StopsList (Fails request gathered) (IsBegun request gathered old new) old new fault
+list_stopped request gathered list session old new fault begun asks is_text stop =
+    stops_so (IsFailureAbout session list.profile.now) (Fails request gathered)
+    (BeginsList session list.profile.now list.mode list.settings.now request.colour old new)
+    (IsBegun request gathered old new) old new fault
+    (λ failure cause. inr (record {
+      session = session;
+      begun = begun;
+      cause = fails_about request.question list session failure asks cause;
+    }))
+    (λ begins. record {
+      session = session;
+      of_request = begun;
+      is_text = is_text;
+      page = begins_page request.question list session request.colour old new asks begins;
+    }) stop
+
+-- what a run ends with whose list was not written whole is a status
+pub stop_status : (fault : ListFault) (n : ℕ) → IsStopStatus fault n → IsStatus n
+stop_status (faults.Refused failure) n ends = failed_status failure n ends
+stop_status faults.Memory n ends = failed_status failures.Memory n (inr ends)
+stop_status faults.Write n ends = failed_status failures.Memory n (inr (inr ends))
+
+-- what went out of a list that was not written whole
+pub stop_quiet : (request : Request) (gathered : Gathered) (old new : Option (List ℕ)) (fault : ListFault) (n : ℕ)
+    → StopsList (Fails request gathered) (IsBegun request gathered old new) old new fault → IsStopStatus fault n
+    → IsAnswerStatus request.question n ⊎ (n ≡ 6) ⊎ (new ≡ old) ⊎ ((n ≡ 5) × IsBegun request gathered old new)
+stop_quiet request gathered old new (faults.Refused failure) n stop ends = inr (inr (inl stop.1))
+stop_quiet request gathered old new faults.Memory n (inl begun) (inl five) = inr (inr (inr (five, begun)))
+stop_quiet request gathered old new faults.Memory n (inl begun) (inr six) = inr (inl six)
+stop_quiet request gathered old new faults.Memory n (inr same) ends = inr (inr (inl same))
+stop_quiet request gathered old new faults.Write n stop ends = inr (inl ends)
+
+-- a list that was not written whole has no status of an answer
+pub stop_silent : {X : Type 0} (request : Request) (gathered : Gathered) (old new : Option (List ℕ))
+    (fault : ListFault) (n : ℕ)
+    → StopsList (Fails request gathered) (IsBegun request gathered old new) old new fault → IsStopStatus fault n
+    → IsAnswerStatus request.question n → X
+stop_silent request gathered old new (faults.Refused failure) n stop ends is =
+    failed_silent request gathered failure n stop.0 ends is
+stop_silent request gathered old new faults.Memory n stop ends is =
+    failed_silent request gathered failures.Memory n (inl tt) (inr ends) is
+stop_silent request gathered old new faults.Write n stop ends is =
+    failed_silent request gathered failures.Memory n (inl tt) (inr (inr ends)) is
+
+-- the status of a run whose list was not written whole tells of files
+pub stop_told : (request : Request) (gathered : Gathered) (old new : Option (List ℕ)) (fault : ListFault) (n : ℕ)
+    → StopsList (Fails request gathered) (IsBegun request gathered old new) old new fault → IsStopStatus fault n
+    → IsToldBy request gathered n
+stop_told request gathered old new (faults.Refused failure) n stop ends =
+    failure_told request gathered failure n stop.0 ends
+stop_told request gathered old new faults.Memory n stop ends =
+    failure_told request gathered failures.Memory n (inl tt) (inr ends)
+stop_told request gathered old new faults.Write n stop ends =
+    failure_told request gathered failures.Memory n (inl tt) (inr (inr ends))

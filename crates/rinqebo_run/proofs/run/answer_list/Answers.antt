@@ -1,0 +1,18 @@
+use Rattle.rinqebo_run.proofs.Writing.{stop_quiet, stop_silent, stop_status, stop_told, zero_answers}
+use Rattle.rinqebo_run.proofs.run.answer_list.Goals as goal
+
+pub returns-in-Err-clause-status : goal.returns-in-Err-clause-status
+returns-in-Err-clause-status g c = stop_status c.in-Err.fault _ c.refuse_list.ensures
+
+pub returns-in-Err-clause-quiet : goal.returns-in-Err-clause-quiet
+returns-in-Err-clause-quiet g c =
+    stop_quiet c.args.request.now c.args.gathered.now _ _ c.in-Err.fault _ c.in-Err.ensures.err c.refuse_list.ensures
+
+pub returns-in-Err-clause-page : goal.returns-in-Err-clause-page
+returns-in-Err-clause-page g c answered =
+    stop_silent c.args.request.now c.args.gathered.now _ _ c.in-Err.fault _ c.in-Err.ensures.err
+    c.refuse_list.ensures answered
+
+pub returns-in-Err-clause-cause : goal.returns-in-Err-clause-cause
+returns-in-Err-clause-cause g c =
+    stop_told c.args.request.now c.args.gathered.now _ _ c.in-Err.fault _ c.in-Err.ensures.err c.refuse_list.ensures

@@ -1,0 +1,89 @@
+-- What went out of a list whose end did not: its first tests.
+use Rattle.std.specs.Prelude.{◌≡◌, ℕ, Bool, List, Option, flat_map, string_bytes, take}
+use Rattle.std.specs.Io.KnownBytes.{Appends}
+use Rattle.nextest_elements.specs.declared.run_mode.NextestRunMode.{NextestRunMode}
+use Rattle.nextest_engines.specs.Engines.{Test}
+use Rattle.nextest_engines.specs.declared.queries.BuildPlatforms.{BuildPlatforms}
+use Rattle.nextest_filters.specs.Engine.{Filter}
+use Rattle.nextest_load.specs.Config.{ScriptTables}
+use Rattle.nextest_load.specs.Scripts.{AreScriptsOf}
+use Rattle.nextest_settings.specs.Profile.{Configured, EvaluatableModel}
+use Rattle.nextest_sources.specs.Inputs.{sources_in}
+use Rattle.nextest_tables.specs.FileTexts.{names_in, IsIn}
+use Rattle.nextest_tables.specs.Written.{Name}
+use Rattle.rinqebo_files.specs.declared.files.Gathered.{Gathered}
+use Rattle.rinqebo_list.specs.Rows.{AreTestsTold}
+use Rattle.rinqebo_report.specs.Pages.{listed_runs}
+use Rattle.rinqebo_report.specs.Pieces.{page_text}
+use Rattle.rinqebo_report.specs.declared.format.Format.TheVariants as formats
+use Rattle.rinqebo_report.specs.declared.piece.Colour.{Colour}
+use Rattle.rinqebo_report.specs.declared.report.Report.{Report}
+use Rattle.rinqebo_report.specs.declared.report.TestRows.{TestRows}
+use Rattle.rinqebo_request.specs.declared.request.AskedSettings.{AskedSettings}
+use Rattle.rinqebo_request.specs.declared.request.Question.{Question}
+use Rattle.rinqebo_request.specs.declared.request.Question.TheVariants as questions
+use Rattle.rinqebo_request.specs.declared.request.Request.{Request}
+use Rattle.test_lists.specs.ListView.{list_view}
+use Rattle.test_lists.specs.Lists.{all_tests}
+use Rattle.rinqebo_run.specs.Checked.{AreAccepted}
+use Rattle.rinqebo_run.specs.Listed.{IsProfileOn}
+use Rattle.rinqebo_run.specs.SessionOf.{IsSessionOf}
+use Rattle.rinqebo_run.specs.Sessions.{files_view, readings}
+use Rattle.rinqebo_run.specs.TellsReasons.{configured_by}
+use Rattle.rinqebo_run.specs.declared.session.Session.{Session}
+
+-- the lines of tests on the page of a report
+abbrev pub tests_text : Report → Colour → List TestRows → List ℕ
+tests_text head tint tests =
+    page_text tint (flat_map (listed_runs (string_bytes head.root) head.sources.items) tests)
+
+-- The first tests of a list went out, each whole and told as a profile gives it settings: known bytes
+-- grew by their lines on the page of a report, and by nothing else.
+pub record AreFirstWritten {M : Type 0} (matches : M → Test → M → Bool) (mode : NextestRunMode)
+    (profile : EvaluatableModel M) (asked : AskedSettings) (list : List Test) (head : Report)
+    (tint : Colour) (old new : Option (List ℕ)) : Type 0 where
+  pub count : ℕ
+  pub tests : List TestRows
+  pub are_told : AreTestsTold matches mode profile asked (take count list) tests
+  pub page : Appends old new (tests_text head tint tests)
+
+-- The first tests of a list went out, as the profile of a name gives them settings on the platforms
+-- of a build.
+pub record AreFirstOf {M K P : Type 0} (meets : K → P → Option Bool) (matches : M → Test → M → Bool)
+    (platforms : BuildPlatforms P) (configured : Configured M K) (name : Name)
+    (mode : NextestRunMode) (asked : AskedSettings) (list : List Test) (tint : Colour)
+    (old new : Option (List ℕ)) : Type 0 where
+  pub head : Report
+  pub profile : EvaluatableModel M
+  pub is_profile : IsProfileOn meets platforms configured name profile
+  pub first : AreFirstWritten matches mode profile asked list head tint old new
+
+-- The page of a list was begun: its first tests went out, by what the files mean.
+pub record BeginsList (session : Session) (profile : Name) (mode : NextestRunMode)
+    (asked : AskedSettings) (tint : Colour) (old new : Option (List ℕ)) : Type 0 where
+  -- Every written rule holds of the files.
+  pub acceptance : AreAccepted session
+  -- Their scripts are those that they define.
+  pub scripts : ScriptTables
+  pub are_scripts : AreScriptsOf (sources_in (files_view session.gathered.now)) scripts
+  -- They have the profile.
+  pub known : IsIn (names_in (configured_by session scripts).config.profiles) profile
+  pub first : AreFirstOf (readings session.engines.filters).meets
+      (readings session.engines.filters).matches_test session.engines.platforms
+      (configured_by session scripts) profile mode asked (all_tests (list_view session.tests))
+      tint old new
+
+-- the page that answers a question was begun: only a list goes out before its end is known
+abbrev pub BeginsPage : Question → Session → Colour → Option (List ℕ) → Option (List ℕ) → Type 0
+BeginsPage (questions.List profile mode list asked) session tint old new =
+    BeginsList session profile.now mode asked tint old new
+BeginsPage _ session tint old new = ⊥
+
+-- The text of a list was begun over the files that were read: a writer was given the lines of its
+-- first tests, each whole.
+pub record IsBegun (request : Request) (gathered : Gathered) (old new : Option (List ℕ)) : Type 0
+  where
+    pub session : Session
+    pub of_request : IsSessionOf request gathered session
+    pub is_text : request.format ≡ formats.Text
+    pub page : BeginsPage request.question session request.colour old new

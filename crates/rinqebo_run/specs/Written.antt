@@ -1,0 +1,85 @@
+-- Lists that are written as their tests are asked.
+use Rattle.std.specs.Prelude.{◌≡◌, ◌⊎◌, ◌++◌, [], ◌∷◌, ℕ, List, Option, string_bytes}
+use Rattle.std.specs.Io.KnownBytes.{Appends}
+use Rattle.filter_language.specs.Filtersets.{marks_view}
+use Rattle.filter_language.specs.declared.filterset.Filterset.{Filterset}
+use Rattle.nextest_elements.specs.declared.run_mode.NextestRunMode.{NextestRunMode}
+use Rattle.nextest_engines.specs.Engines.{Test}
+use Rattle.nextest_filters.specs.Compiling.{names_of}
+use Rattle.nextest_filters.specs.declared.compiling.FieldMatcher.{FieldMatcher}
+use Rattle.nextest_load.specs.Load.{Loaded}
+use Rattle.nextest_profiles.specs.Meaning.{configured_meaning}
+use Rattle.nextest_settings.specs.Deciding.{QueryContext}
+use Rattle.nextest_settings.specs.Profile.{EvaluatableModel}
+use Rattle.nextest_tables.specs.Written.{Name}
+use Rattle.rinqebo_list.specs.Rows.{IsTestTold}
+use Rattle.rinqebo_report.specs.Pages.{listed_runs}
+use Rattle.rinqebo_report.specs.Pieces.{page_text}
+use Rattle.rinqebo_report.specs.Rendered.{rendered}
+use Rattle.rinqebo_report.specs.declared.format.Format.TheVariants as formats
+use Rattle.rinqebo_report.specs.declared.piece.Colour.{Colour}
+use Rattle.rinqebo_report.specs.declared.report.Report.{Report}
+use Rattle.rinqebo_report.specs.declared.report.TestRows.{TestRows}
+use Rattle.rinqebo_request.specs.declared.request.AskedSettings.{AskedSettings}
+use Rattle.rinqebo_request.specs.declared.request.Question.{Question}
+use Rattle.rinqebo_request.specs.declared.request.Question.TheVariants as questions
+use Rattle.target_language.specs.Expressions.{spec_view}
+use Rattle.target_language.specs.declared.expression.TargetSpec.{TargetSpec}
+use Rattle.test_lists.specs.ListView.{list_view}
+use Rattle.test_lists.specs.Lists.{all_tests}
+use Rattle.rinqebo_run.specs.Begun.{AreFirstOf}
+use Rattle.rinqebo_run.specs.Listed.{TellsTests}
+use Rattle.rinqebo_run.specs.ListedBy.{read_by}
+use Rattle.rinqebo_run.specs.Sessions.{readings}
+use Rattle.rinqebo_run.specs.Statuses.{failure_status}
+use Rattle.rinqebo_run.specs.declared.answer.Failure.{Failure}
+use Rattle.rinqebo_run.specs.declared.list_fault.ListFault.{ListFault}
+use Rattle.rinqebo_run.specs.declared.list_fault.ListFault.TheVariants as faults
+use Rattle.rinqebo_run.specs.declared.list_page.AskedList.{AskedList}
+use Rattle.rinqebo_run.specs.declared.session.Session.{Session}
+
+-- a question asks for a list
+abbrev pub AsksList : Question → AskedList → Type 0
+AsksList (questions.List profile mode list settings) asked =
+    (asked.profile.now ≡ profile.now) × (asked.mode ≡ mode) × (asked.settings.now ≡ settings)
+AsksList _ asked = ⊥
+
+-- One more test is told, and these are its lines on the page of a report.
+pub record AddsTest {M : Type 0} (query : QueryContext M) (mode : NextestRunMode)
+    (profile : EvaluatableModel M) (asked : AskedSettings) (test : Test) (head : Report)
+    (tint : Colour) (old new : List TestRows) (lines : List ℕ) : Type 0 where
+  pub rows : TestRows
+  pub are_told : IsTestTold query mode profile asked test rows
+  pub added : new ≡ old ++ rows ∷ []
+  pub shown : lines ≡ page_text tint
+      (listed_runs (string_bytes head.root) head.sources.items rows)
+
+-- the first tests of a list went out by a configuration that was loaded
+abbrev pub AreFirstBy : Session → Loaded (Filterset FieldMatcher) TargetSpec → Name
+    → NextestRunMode → AskedSettings → Colour → Option (List ℕ) → Option (List ℕ) → Type 0
+AreFirstBy session loaded profile mode asked =
+    AreFirstOf (readings session.engines.filters).meets
+    (readings session.engines.filters).matches_test session.engines.platforms
+    (configured_meaning (marks_view names_of) spec_view (read_by session loaded)) profile mode
+    asked (all_tests (list_view session.tests))
+
+-- The page of a list went out whole.
+pub record WritesList (session : Session) (profile : Name) (mode : NextestRunMode)
+    (asked : AskedSettings) (tint : Colour) (old new : Option (List ℕ)) : Type 0 where
+  pub report : Report
+  pub tells : TellsTests session profile mode asked report
+  pub page : Appends old new (rendered report formats.Text tint)
+
+-- A list was not written whole: a run refuses for a reason, and nothing went out; or memory ran out,
+-- and the first tests went out, or nothing; or a write failed.
+abbrev pub StopsList : (Failure → Type 0) → Type 0 → Option (List ℕ) → Option (List ℕ) → ListFault
+    → Type 0
+StopsList refuses begun old new (faults.Refused failure) = refuses failure × (new ≡ old)
+StopsList refuses begun old new faults.Memory = begun ⊎ (new ≡ old)
+StopsList refuses begun old new faults.Write = Unit {0}
+
+-- the exit status of a run whose list was not written whole
+abbrev pub IsStopStatus : ListFault → ℕ → Type 0
+IsStopStatus (faults.Refused failure) n = (n ≡ failure_status failure) ⊎ (n ≡ 5) ⊎ (n ≡ 6)
+IsStopStatus faults.Memory n = (n ≡ 5) ⊎ (n ≡ 6)
+IsStopStatus faults.Write n = n ≡ 6

@@ -1,0 +1,270 @@
+//! The page of a list, which is written test after test, as they are asked.
+ghost use Rattle.std.specs.Prelude.{◌≡◌, ◌++◌, IfErr, IfOk, OnErr, OnOk, flat_map, length, map, string_bytes};
+ghost use Rattle.std.specs.Io.KnownBytes.{Appends};
+ghost use Rattle.std.specs.List.{AllZip};
+ghost use Rattle.filter_language.specs.Filtersets.{marks_view};
+ghost use Rattle.nextest_engines.specs.Engines.{test_view};
+ghost use Rattle.nextest_filters.specs.Compiling.{names_of};
+ghost use Rattle.nextest_filters.specs.Engine.{filter_holds};
+ghost use Rattle.nextest_inheritance.specs.View.{borrowed_view};
+ghost use Rattle.nextest_profiles.specs.Meaning.{profile_meaning};
+ghost use Rattle.nextest_settings.specs.Queries.{query_in};
+ghost use Rattle.nextest_tables.specs.FileTexts.{names_in, IsIn};
+ghost use Rattle.test_lists.specs.ListView.{list_view};
+ghost use Rattle.test_lists.specs.Lists.{all_tests};
+ghost use Rattle.rinqebo_list.specs.RuleViews.{list_rule_view};
+ghost use Rattle.rinqebo_list.specs.Rows.{AreTestsTold};
+ghost use Rattle.rinqebo_list.specs.Unused.{unused_among};
+ghost use Rattle.rinqebo_list.specs.Uses.{meant_on};
+ghost use Rattle.rinqebo_report.specs.Pages.{content_runs, count_runs, listed_runs, unused_runs};
+ghost use Rattle.rinqebo_report.specs.Pieces.{page_text};
+ghost use Rattle.rinqebo_run.specs.Conditions.{is_met_by};
+ghost use Rattle.rinqebo_run.specs.Listed.{IfListed};
+ghost use Rattle.rinqebo_run.specs.ListedBy.{listed_by, AreUnusedPlaces};
+ghost use Rattle.rinqebo_run.specs.RulePlaces.{place_view, IsOriginOf};
+ghost use Rattle.rinqebo_run.specs.Begun.{tests_text, AreFirstWritten};
+ghost use Rattle.rinqebo_run.specs.Written.{AddsTest, AreFirstBy, StopsList};
+ghost use Rattle.rinqebo_run.specs.declared.list_fault.ListFault.TheVariants as faults;
+
+use crate::explain::asked_of;
+use crate::list::{Profile, Rows, profile_on};
+use crate::list_fault::ListFault;
+use crate::list_origins::{Origins, origins_of_rules};
+use crate::list_rules::{Rule, all_rules, wrapper_rules};
+use crate::rule_places::RulePlace;
+use crate::rules::chain_of_profile;
+use crate::session::{Config, Session};
+use nextest_config::{NextestRunMode, TestQuery};
+use nextest_filters::{NextestFilters, NextestTally};
+use rinqebo_list::{Asking, ListedRows, Progress, RuleUse};
+use rinqebo_report::{Colour, Content, Origin, Report, TestRows, render_list_end, render_listed};
+use rinqebo_request::AskedSettings;
+use std::alloc::{AllocError, Global};
+use std::io::Write;
+use target_language::TargetSpecs;
+
+/// How the tests of a list are asked.
+type TestAsking<'l, 'c> = Asking<'l, 'c, NextestFilters, TargetSpecs, RulePlace<'c>>;
+
+/// What is asked of a list.
+#[derive(Clone, Copy)]
+pub struct AskedList<'q> {
+    /// The name of the profile.
+    pub profile: &'q str,
+    /// For what the tests are run.
+    pub mode: NextestRunMode,
+    /// Which settings are told.
+    pub settings: &'q AskedSettings,
+}
+
+/// The page of a list.
+#[derive(Clone, Copy)]
+pub struct ListPage<'c, 'g> {
+    pub session: &'c Session<'g>,
+    /// What was loaded in the session.
+    pub config: &'c Config,
+    pub list: AskedList<'c>,
+    /// The report of which it is the page, but for what that answers.
+    pub head: &'c Report,
+    pub colour: Colour,
+}
+
+/// Writes a text.
+pub fn write_text<W: Write>(text: &str, out: &mut W) -> Result<(), ListFault>
+    ensures ok { OnOk result (Appends (W.contents out.old) (W.contents out.new) text.now) }
+    ensures err { IfErr result (λ fault. fault ≡ faults.Write) }
+{
+    match out.write_all(text.as_bytes()) {
+        Ok(()) => Ok(()),
+        Err(_) => Err(ListFault::Write),
+    }
+}
+
+/// Writes a text after which nothing follows.
+pub fn write_last<W: Write>(text: &str, out: &mut W) -> Result<(), ListFault>
+    ensures ok { OnOk result (Appends (W.contents out.old) (W.contents out.new) text.now) }
+    ensures err { IfErr result (λ fault. fault ≡ faults.Write) }
+{
+    write_text(text, out)?;
+    match out.flush() {
+        Ok(()) => Ok(()),
+        Err(_) => Err(ListFault::Write),
+    }
+}
+
+impl<'c> ListPage<'c, '_> {
+    /// Asks a test, keeps what is told of it behind that of other tests, and answers its lines.
+    fn take_test(
+        &self,
+        alloc: Global,
+        asking: &TestAsking<'_, 'c>,
+        query: &TestQuery<'_>,
+        tally: &mut NextestTally,
+        origins: &mut Origins<'_, '_>,
+        tests: &mut Vec<TestRows>,
+    ) -> Result<String, AllocError>
+        ensures ok { let profile = profile_meaning (marks_view names_of) asking.now.profile.now in
+            IfOk result (λ text. AddsTest (query_in filter_holds profile (test_view query.now))
+            asking.now.mode profile asking.now.asked.now (test_view query.now) self.now.head.now
+            self.now.colour tests.old.items tests.new.items (string_bytes text)) }
+        ensures err { OnErr result (tests.new.items ≡ tests.old.items) }
+    {
+        let rows = asking.rows_of(alloc, query, tally, origins)?;
+        let text = render_listed(alloc, self.head, self.colour, &rows)?;
+        tests.push(rows)?;
+        Ok(text)
+    }
+
+    /// Writes the tests as they are asked, and answers what is told of them, and which of some rules
+    /// hold for none.
+    fn write_tests<O: Write, P: Progress>(
+        &self,
+        alloc: Global,
+        asking: &TestAsking<'_, 'c>,
+        queries: &[TestQuery<'_>],
+        rules: &[Rule<'c>],
+        origins: &mut Origins<'_, '_>,
+        progress: &mut P,
+        out: &mut O,
+    ) -> Result<Rows<'c>, ListFault>
+        ensures tests { let profile = profile_meaning (marks_view names_of) asking.now.profile.now in
+            IfOk result (λ rows. AreTestsTold filter_holds asking.now.mode profile
+            asking.now.asked.now (map test_view queries.now) rows.tests.items) }
+        ensures unused { let profile = profile_meaning (marks_view names_of) asking.now.profile.now in
+            IfOk result (λ rows. rows.unused.items ≡ map (λ rule. rule.writes)
+            (unused_among (map (query_in filter_holds profile) (map test_view queries.now))
+            (map (meant_on (marks_view names_of) is_met_by self.now.session.now.engines.platforms)
+            (map list_rule_view rules.now)))) }
+        ensures page { IfOk result (λ rows. Appends (O.contents out.old) (O.contents out.new)
+            (tests_text self.now.head.now self.now.colour rows.tests.items)) }
+        ensures err { IfErr result (StopsList (λ _. ⊥) (AreFirstWritten filter_holds
+            asking.now.mode (profile_meaning (marks_view names_of) asking.now.profile.now)
+            asking.now.asked.now (map test_view queries.now) self.now.head.now self.now.colour
+            (O.contents out.old) (O.contents out.new))
+            (O.contents out.old) (O.contents out.new)) }
+    {
+        let platforms = &self.session.engines.platforms;
+        let default_filter = asking.profile.filterset_ecx().default_filter;
+        let mut uses = RuleUse::new(alloc, rules, platforms, default_filter)?;
+        let mut tests = Vec::new(alloc);
+        let mut tally = NextestTally::new();
+        for query in queries {
+            uses.see(query, &mut tally);
+            let text = self.take_test(alloc, asking, query, &mut tally, origins, &mut tests)?;
+            write_text(text.as_str(), out)?;
+            progress.asked(tests.len(), queries.len());
+        }
+        Ok(ListedRows {
+            tests,
+            unused: uses.unused(alloc)?,
+        })
+    }
+
+    /// Writes the tests by a profile on the platforms of the build, and answers what is told of them,
+    /// and which rules of a chain hold for none.
+    fn write_rows<O: Write, P: Progress>(
+        &self,
+        alloc: Global,
+        chain: &[&'c str],
+        on: &Profile<'c>,
+        progress: &mut P,
+        out: &mut O,
+    ) -> Result<Rows<'c>, ListFault>
+        ensures tests { IfOk result (λ rows. AreTestsTold filter_holds self.now.list.mode
+            (profile_meaning (marks_view names_of) on.now) self.now.list.settings.now
+            (all_tests (list_view self.now.session.now.tests)) rows.tests.items) }
+        ensures unused { IfOk result (λ rows. AreUnusedPlaces
+            self.now.session.now.engines.platforms self.now.config.now.config.layers
+            (borrowed_view chain.now) (profile_meaning (marks_view names_of) on.now)
+            (all_tests (list_view self.now.session.now.tests)) (map place_view rows.unused.items)) }
+        ensures page { IfOk result (λ rows. Appends (O.contents out.old) (O.contents out.new)
+            (tests_text self.now.head.now self.now.colour rows.tests.items)) }
+        ensures err { IfErr result (StopsList (λ _. ⊥) (AreFirstWritten filter_holds
+            self.now.list.mode (profile_meaning (marks_view names_of) on.now) self.now.list.settings.now
+            (all_tests (list_view self.now.session.now.tests)) self.now.head.now self.now.colour
+            (O.contents out.old) (O.contents out.new))
+            (O.contents out.old) (O.contents out.new)) }
+    {
+        let platforms = &self.session.engines.platforms;
+        let default_filter = on.filterset_ecx().default_filter;
+        let wrappers = wrapper_rules(alloc, self.config, chain)?;
+        let wrappers = RuleUse::new(alloc, &wrappers, platforms, default_filter)?;
+        let asking = Asking {
+            profile: on,
+            mode: self.list.mode,
+            asked: self.list.settings,
+            wrappers: &wrappers,
+        };
+        let rules = all_rules(alloc, self.config, chain)?;
+        let queries = self.session.tests.queries(alloc)?;
+        let mut origins = Origins::new(alloc, &self.session.layers, chain);
+        self.write_tests(
+            alloc,
+            &asking,
+            &queries,
+            &rules,
+            &mut origins,
+            progress,
+            out,
+        )
+    }
+
+    /// Writes what stands behind the tests: how many there are, and the rules that hold for none,
+    /// whose origins it answers.
+    fn write_end<O: Write>(
+        &self,
+        alloc: Global,
+        count: u64,
+        unused: &[RulePlace<'_>],
+        out: &mut O,
+    ) -> Result<Vec<Origin>, ListFault>
+        ensures origins { IfOk result (λ origins.
+            AllZip IsOriginOf (map place_view unused.now) origins.items) }
+        ensures page { IfOk result (λ origins. Appends (O.contents out.old) (O.contents out.new)
+            (page_text self.now.colour (count_runs count
+            ++ flat_map (unused_runs (string_bytes self.now.head.now.root)
+            self.now.head.now.sources.items) origins.items))) }
+        ensures err { IfErr result (StopsList (λ _. ⊥) ⊥
+            (O.contents out.old) (O.contents out.new)) }
+    {
+        let origins = origins_of_rules(alloc, &self.session.layers, unused)?;
+        let text = render_list_end(alloc, self.head, self.colour, count, &origins)?;
+        write_last(text.as_str(), out)?;
+        Ok(origins)
+    }
+
+    /// Writes the page, and answers what it tells.
+    pub fn write<O: Write, P: Progress>(
+        &self,
+        alloc: Global,
+        progress: &mut P,
+        out: &mut O,
+    ) -> Result<Content, ListFault>
+        requires { IsIn (names_in self.now.config.now.config.profiles) self.now.list.profile.now }
+        ensures told { IfOk result (λ content. IfListed content (listed_by self.now.session.now
+            self.now.config.now self.now.list.profile.now self.now.list.mode self.now.list.settings.now)) }
+        ensures page { IfOk result (λ content. Appends (O.contents out.old) (O.contents out.new)
+            (page_text self.now.colour (content_runs self.now.head.now content))) }
+        ensures err { IfErr result (StopsList (λ _. ⊥) (AreFirstBy self.now.session.now
+            self.now.config.now self.now.list.profile.now self.now.list.mode self.now.list.settings.now
+            self.now.colour (O.contents out.old) (O.contents out.new))
+            (O.contents out.old) (O.contents out.new)) }
+    {
+        let chain = chain_of_profile(alloc, self.config, self.list.profile)?;
+        let asked = asked_of(
+            alloc,
+            self.session,
+            self.list.profile,
+            &chain,
+            self.list.mode,
+        )?;
+        let on = profile_on(alloc, self.session, self.config, self.list.profile)?;
+        let rows = self.write_rows(alloc, &chain, &on, progress, out)?;
+        let unused = self.write_end(alloc, rows.tests.len() as u64, &rows.unused, out)?;
+        Ok(Content::List {
+            asked,
+            tests: rows.tests,
+            unused,
+        })
+    }
+}

@@ -1,0 +1,105 @@
+//! Answers a list as a text, which goes out as its tests are asked.
+ghost use Rattle.std.specs.Prelude.{◌≡◌, ◌⊎◌, IfErr, OnOk};
+ghost use Rattle.rinqebo_run.specs.Answered.{Tells};
+ghost use Rattle.rinqebo_run.specs.Refused.{Fails, IsFailureAbout};
+ghost use Rattle.rinqebo_run.specs.Begun.{BeginsList, IsBegun};
+ghost use Rattle.rinqebo_run.specs.Written.{AsksList, StopsList, WritesList};
+ghost use Rattle.rinqebo_run.specs.declared.list_fault.ListFault.TheVariants as faults;
+ghost use Rattle.rinqebo_report.specs.declared.format.Format.TheVariants as formats;
+
+use crate::check::report_of;
+use crate::findings::warning_findings;
+use crate::list_fault::ListFault;
+use crate::list_page::{AskedList, ListPage, write_last};
+use crate::loading::config_with;
+use crate::progress::ProgressLine;
+use crate::session::Session;
+use nextest_config::DefaultConfigWarnings;
+use rinqebo_files::Gathered;
+use rinqebo_report::{Colour, Content, Report, render_findings};
+use rinqebo_request::Request;
+use std::alloc::Global;
+use std::io::Write;
+
+/// Tells warnings, and answers the report that has them as findings, without what it answers.
+fn begin<E: Write>(
+    alloc: Global,
+    session: &Session<'_>,
+    warnings: &DefaultConfigWarnings,
+    colour: Colour,
+    err: &mut E,
+) -> Result<Report, ListFault>
+    ensures { IfErr result (λ fault. (fault ≡ faults.Memory) ⊎ (fault ≡ faults.Write)) }
+{
+    let findings = warning_findings(alloc, &session.layers, warnings)?;
+    let head = report_of(alloc, session, findings, Vec::new(alloc), Content::Check)?;
+    let notes = render_findings(alloc, &head, colour)?;
+    write_last(notes.as_str(), err)?;
+    Ok(head)
+}
+
+/// Writes a list that is asked of a session. Standard error is told of warnings, and then, where it is
+/// shown, how far the list is.
+fn write_in<O: Write, E: Write>(
+    alloc: Global,
+    session: &Session<'_>,
+    list: &AskedList<'_>,
+    colour: Colour,
+    shows_progress: bool,
+    out: &mut O,
+    err: &mut E,
+) -> Result<(), ListFault>
+    ensures ok { OnOk result (WritesList session.now list.now.profile.now list.now.mode
+        list.now.settings.now colour (O.contents out.old) (O.contents out.new)) }
+    ensures err { IfErr result (StopsList (IsFailureAbout session.now list.now.profile.now)
+        (BeginsList session.now list.now.profile.now list.now.mode list.now.settings.now
+        colour (O.contents out.old) (O.contents out.new))
+        (O.contents out.old) (O.contents out.new)) }
+{
+    let mut warnings = DefaultConfigWarnings::new(alloc);
+    let config = config_with(alloc, session, list.profile, &mut warnings)?;
+    let head = begin(alloc, session, &warnings, colour, err)?;
+    let page = ListPage {
+        session,
+        config: &config,
+        list: *list,
+        head: &head,
+        colour,
+    };
+    let mut progress = ProgressLine::new(&mut *err, shows_progress);
+    let written = page.write(alloc, &mut progress, out);
+    progress.clear();
+    match written {
+        Ok(_) => Ok(()),
+        Err(fault) => Err(fault),
+    }
+}
+
+/// Writes the list that a request asks for, as a text, over the files that it names.
+pub fn write_list<O: Write, E: Write>(
+    alloc: Global,
+    request: &Request<'_>,
+    list: &AskedList<'_>,
+    gathered: &Gathered,
+    out: &mut O,
+    err: &mut E,
+) -> Result<(), ListFault>
+    requires question { AsksList request.now.question list.now }
+    requires format { request.now.format ≡ formats.Text }
+    ensures ok { OnOk result
+        (Tells request.now gathered.now 0 (O.contents out.old) (O.contents out.new)) }
+    ensures err { IfErr result (StopsList (Fails request.now gathered.now)
+        (IsBegun request.now gathered.now (O.contents out.old) (O.contents out.new))
+        (O.contents out.old) (O.contents out.new)) }
+{
+    let session = Session::new(alloc, request, gathered)?;
+    write_in(
+        alloc,
+        &session,
+        list,
+        request.colour,
+        request.shows_progress,
+        out,
+        err,
+    )
+}
