@@ -1,5 +1,5 @@
 -- From what the program answers to how a run ends.
-use Rattle.std.proofs.Common.{◌≡◌, ◌∙◌, ◌⊎◌, ◌<◌, ◌≤◌, ◌++◌, inl, inr, ℕ, List, [], ap, arith, drop, length, refl, string_bytes, subst, sym, take}
+use Rattle.std.proofs.Common.{◌≡◌, ◌∙◌, ◌⊎◌, ◌<◌, ◌≤◌, ◌++◌, inl, inr, ℕ, List, [], Result, Ok, Err, IfOk, IfErr, ap, arith, drop, length, refl, string_bytes, subst, sym, take}
 use Rattle.std.proofs.Math.Seq.{take-append_seam}
 use Rattle.std.proofs.lemmas.Bool.{cases_lt}
 use Rattle.rinqebo_files.specs.declared.files.Gathered.{Gathered}
@@ -12,13 +12,15 @@ use Rattle.rinqebo_request.specs.declared.request.Question.TheVariants as questi
 use Rattle.rinqebo_request.specs.declared.request.Request.{Request}
 use Rattle.rinqebo_run.specs.Answered.{AnswersQuestion, IsAnswer}
 use Rattle.rinqebo_run.specs.Refused.{AreRefusedFor, Fails, LackProfileFor}
+use Rattle.rinqebo_run.specs.declared.answer.Answer.{Answer}
 use Rattle.rinqebo_run.specs.declared.answer.Failure.{Failure}
 use Rattle.rinqebo_run.specs.declared.answer.Failure.TheVariants as failures
 use Rattle.rinqebo_run.specs.declared.session.Session.{Session}
 use Rattle.rinqebo_run.proofs.Refused.{failure_told}
-use Rattle.rinqebo_resolve.specs.Asking.{AskedText, AsksForAll, IsRequestFor}
+use Rattle.session_forms.specs.Runs.{RunText}
+use Rattle.rinqebo_resolve.specs.Asking.{AskedText, AreFilesOf, AsksForAll, IsRequestFor, asked_of}
 use Rattle.rinqebo_session.specs.declared.status.TheConstants.{DONE}
-use Rattle.rinqebo_resolve.specs.Endings.{IsAnswerTo, IsAnswerOf, IsEndingFor, IsEndingIn, IsResolved, IsSilent, TellsFailure, ending_status, ending_text}
+use Rattle.rinqebo_resolve.specs.Endings.{IsAnswerTo, IsAnswerOf, IsEndingFor, IsEndingIn, IsEndingOf, IsResolved, IsSilent, TellsFailure, TellsOutcome, ending_status, ending_text}
 use Rattle.rinqebo_resolve.specs.declared.ending.Ending.{Ending}
 use Rattle.rinqebo_resolve.specs.declared.ending.Ending.TheVariants as ends
 
@@ -28,10 +30,11 @@ zero_of : (asked : AskedText) (q : Question) (session : Session) (report : Repor
 zero_of asked (questions.Explain profile test settings) session report status asks answers = absurd asks
 zero_of asked (questions.Why profile test setting) session report status asks answers = absurd asks
 zero_of asked (questions.List profile mode list shown) session report status asks answers = answers.0
+zero_of asked (questions.ShowConfig profile keys with_hidden) session report status asks answers = absurd asks
 zero_of asked (questions.Check deny_warnings) session report status asks answers = absurd asks
 
 -- the document of an answer
-pub answered : (asked : AskedText) (request : Request) (gathered : Gathered) (report : Report) (status : ℕ)
+answered : (asked : AskedText) (request : Request) (gathered : Gathered) (report : Report) (status : ℕ)
     (text : List ℕ) → IsRequestFor asked request → IsAnswer request gathered report status
     → text ≡ rendered report Json Plain → IsAnswerOf asked gathered text
 answered asked request gathered report status text is_request is_answer document =
@@ -46,7 +49,7 @@ answered asked request gathered report status text is_request is_answer document
     }
 
 -- the ending for which the program answers nothing
-pub unanswered : (asked : AskedText) (request : Request) (gathered : Gathered) (failure : Failure) (ending : Ending)
+unanswered : (asked : AskedText) (request : Request) (gathered : Gathered) (failure : Failure) (ending : Ending)
     → IsRequestFor asked request → Fails request gathered failure → TellsFailure failure ending
     → IsEndingIn asked gathered ending
 unanswered asked request gathered (failures.Engines fault) (ends.NoEngines reason) is_request fails tells = tt
@@ -65,6 +68,37 @@ unanswered asked request gathered (failures.NoProfile report) (ends.NoProfile te
   document = tells;
 }
 unanswered asked request gathered failure ending is_request fails tells = absurd tells
+
+-- the ending that tells what the program answers
+ends_so : (asked : AskedText) (request : Request) (gathered : Gathered) (outcome : Result Answer Failure)
+    (ending : Ending) → IsRequestFor asked request
+    → IfOk outcome (λ answer. IsAnswer request gathered answer.report answer.status)
+    → IfErr outcome (Fails request gathered) → TellsOutcome outcome ending → IsEndingIn asked gathered ending
+ends_so asked request gathered (Ok answer) (ends.Answered text) is_request is_answer fails tells =
+    answered asked request gathered answer.report answer.status (string_bytes text) is_request is_answer tells
+ends_so asked request gathered (Ok answer) ending is_request is_answer fails tells = absurd tells
+ends_so asked request gathered (Err failure) ending is_request is_answer fails tells =
+    unanswered asked request gathered failure ending is_request fails tells
+
+-- what the program answers ends a run, where memory suffices to tell it
+pub ended : {E : Type 0} (asked : AskedText) (request : Request) (gathered : Gathered)
+    (outcome : Result Answer Failure) (told : Result Ending E) → IsRequestFor asked request
+    → IfOk outcome (λ answer. IsAnswer request gathered answer.report answer.status)
+    → IfErr outcome (Fails request gathered) → IfOk told (TellsOutcome outcome) → IfOk told (IsEndingIn asked gathered)
+ended asked request gathered outcome (Ok ending) is_request is_answer fails tells =
+    ends_so asked request gathered outcome ending is_request is_answer fails tells
+ended asked request gathered outcome (Err want) is_request is_answer fails tells = tt
+
+-- what is asked of the files of a run ends as the run does
+pub ended_of : {E : Type 0} (run : RunText) (asked : AskedText) (gathered : Gathered) (told : Result Ending E)
+    → asked ≡ asked_of run → AreFilesOf run gathered → IfOk told (IsEndingIn asked gathered)
+    → IfOk told (IsEndingOf run)
+ended_of run asked gathered (Ok ending) same are_files is = record {
+  gathered = gathered;
+  are_files = are_files;
+  is_ending = subst (λ what. IsEndingIn what gathered ending) same is;
+}
+ended_of run asked gathered (Err want) same are_files is = tt
 
 -- an ending with status 0 answers the request
 answer_of : (request : List ℕ) (ending : Ending) → IsEndingFor request ending → ending_status ending ≡ DONE

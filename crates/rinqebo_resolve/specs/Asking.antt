@@ -56,6 +56,7 @@ AsksForAll asked (questions.Explain profile test shown) = ⊥
 AsksForAll asked (questions.Why profile test setting) = ⊥
 AsksForAll asked (questions.List profile mode list shown) =
     (profile.now ≡ asked.profile) × (mode ≡ asked.mode) × AreAll shown
+AsksForAll asked (questions.ShowConfig profile keys with_hidden) = ⊥
 AsksForAll asked (questions.Check deny_warnings) = ⊥
 
 -- The languages know the triples that are asked for, and none of an environment.

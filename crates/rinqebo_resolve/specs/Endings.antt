@@ -1,5 +1,5 @@
 -- How a run ends, and what is told of it.
-use Rattle.std.specs.Prelude.{◌≡◌, ◌⊎◌, ◌<◌, ◌≤◌, ◌++◌, ℕ, List, [], Option, None, Some, drop, length, string_bytes}
+use Rattle.std.specs.Prelude.{◌≡◌, ◌⊎◌, ◌<◌, ◌≤◌, ◌++◌, ℕ, List, [], Option, None, Some, Result, Ok, Err, drop, length, string_bytes}
 use Rattle.std.specs.Str.{IsUtf8}
 use Rattle.rinqebo_files.specs.declared.files.Gathered.{Gathered}
 use Rattle.rinqebo_report.specs.Rendered.{rendered}
@@ -9,6 +9,7 @@ use Rattle.rinqebo_report.specs.declared.report.Report.{Report}
 use Rattle.rinqebo_request.specs.declared.request.Request.{Request}
 use Rattle.rinqebo_run.specs.Answered.{IsAnswer}
 use Rattle.rinqebo_run.specs.Refused.{AreRefusedFor, LackProfileFor}
+use Rattle.rinqebo_run.specs.declared.answer.Answer.{Answer}
 use Rattle.rinqebo_run.specs.declared.answer.Failure.{Failure}
 use Rattle.rinqebo_run.specs.declared.answer.Failure.TheVariants as failures
 use Rattle.rinqebo_session.specs.declared.status.TheConstants.{DONE, REFUSED, SMALL, NOT_TEXT, MEMORY, NOT_UNDERSTOOD, NO_ENGINES, NO_PROFILE}
@@ -67,6 +68,13 @@ TellsFailure (failures.Refused report) (ends.Refused text) =
 TellsFailure (failures.NoProfile report) (ends.NoProfile text) =
     string_bytes text ≡ rendered report Json Plain
 TellsFailure failure ending = ⊥
+
+-- an ending tells what the program answers: its report in JSON, or why there is none
+abbrev pub TellsOutcome : Result Answer Failure → Ending → Type 0
+TellsOutcome (Ok answer) (ends.Answered text) =
+    string_bytes text ≡ rendered answer.report Json Plain
+TellsOutcome (Ok answer) ending = ⊥
+TellsOutcome (Err failure) ending = TellsFailure failure ending
 
 -- the bytes of a request are understood, and what they ask for ends so
 abbrev pub EndsUnderstood : List ℕ → Ending → Type 0

@@ -96,6 +96,7 @@ impl Asked {
             features: features_of(alloc, self.features)?,
             format: Format::Json,
             colour: Colour::Plain,
+            shows_progress: false,
         })
     }
 }

@@ -6,14 +6,14 @@ ghost use Rattle.rinqebo_report.specs.declared.format.Format.TheVariants.{Json};
 ghost use Rattle.rinqebo_report.specs.declared.piece.Colour.TheVariants.{Plain};
 ghost use Rattle.rinqebo_session.specs.declared.status.TheConstants.{DONE};
 ghost use Rattle.rinqebo_resolve.specs.Asking.{asked_view};
-ghost use Rattle.rinqebo_resolve.specs.Endings.{IsAnswerTo, IsSilent, IsEndingFor, IsEndingIn, IsEndingOf, IsResolved, TellsFailure};
+ghost use Rattle.rinqebo_resolve.specs.Endings.{IsAnswerTo, IsSilent, IsEndingFor, IsEndingIn, IsEndingOf, IsResolved, TellsFailure, TellsOutcome};
 
 use crate::asking::{Asked, parted};
 use crate::ending::Ending;
 use rinqebo_files::Gathered;
 use rinqebo_list::Untold;
 use rinqebo_report::{Colour, Format, Report, render};
-use rinqebo_run::{Failure, answer_of};
+use rinqebo_run::{Answer, Failure, answer_of};
 use session_forms::{RequestFault, RunRequest};
 use std::alloc::{AllocError, Global};
 
@@ -36,15 +36,23 @@ fn failed(alloc: Global, failure: &Failure) -> Result<Ending, AllocError>
     }
 }
 
+/// The ending of a run with what the program answers.
+fn ended(alloc: Global, outcome: &Result<Answer, Failure>) -> Result<Ending, AllocError>
+    ensures { IfOk result (TellsOutcome outcome.now) }
+{
+    match outcome {
+        Ok(answer) => Ok(Ending::Answered(document_of(alloc, &answer.report)?)),
+        Err(failure) => failed(alloc, failure),
+    }
+}
+
 /// How what is asked of files ends.
 fn ending_in(alloc: Global, asked: &Asked, gathered: &Gathered) -> Result<Ending, AllocError>
     ensures { IfOk result (IsEndingIn (asked_view asked.now) gathered.now) }
 {
     let request = asked.request(alloc)?;
-    match answer_of(alloc, &request, gathered, &mut Untold) {
-        Ok(answer) => Ok(Ending::Answered(document_of(alloc, &answer.report)?)),
-        Err(failure) => failed(alloc, &failure),
-    }
+    let outcome = answer_of(alloc, &request, gathered, &mut Untold);
+    ended(alloc, &outcome)
 }
 
 /// How a run ends.

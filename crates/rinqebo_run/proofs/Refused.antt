@@ -1,5 +1,5 @@
 -- Why a run answers nothing: from loads and rows to questions, and from there to exit statuses.
-use Rattle.std.proofs.Common.{◌≡◌, ◌≤◌, ◌∙◌, ◌⊎◌, inl, inr, ℕ, List, [], ◌∷◌, false, map, string_bytes, Result, Ok, Err, IfErr, IsErrAnd, arith, subst, sym}
+use Rattle.std.proofs.Common.{◌≡◌, ◌∙◌, ◌⊎◌, inl, inr, ℕ, List, false, map, string_bytes, Result, Ok, Err, IfErr, IsErrAnd, arith, subst, sym}
 use Rattle.std.specs.Result.{result_map_both}
 use Rattle.filter_language.specs.declared.filterset.Filterset.{Filterset}
 use Rattle.nextest_config.specs.Headline.{Request, Resolves}
@@ -21,21 +21,18 @@ use Rattle.nextest_tables.specs.FileTexts.{names_in, IsIn}
 use Rattle.nextest_tables.specs.Written.{Name}
 use Rattle.nextest_tree.specs.Schema.{is_one_of}
 use Rattle.rinqebo_files.specs.declared.files.Gathered.{Gathered}
-use Rattle.rinqebo_report.specs.declared.report.Content.{Content}
-use Rattle.rinqebo_report.specs.declared.report.Content.TheVariants as contents
-use Rattle.rinqebo_report.specs.declared.report.Entry.{Entry}
 use Rattle.rinqebo_report.specs.declared.report.Report.{Report}
 use Rattle.rinqebo_request.specs.declared.request.Question.{Question}
 use Rattle.rinqebo_request.specs.declared.request.Question.TheVariants as questions
 use Rattle.rinqebo_request.specs.declared.request.Request.{Request as Asked}
 use Rattle.rinqebo_request.specs.declared.request.TestName.{TestName}
+use Rattle.rinqebo_run.proofs.Statuses.{shown_low}
 use Rattle.rinqebo_run.specs.Answered.{AnswersQuestion, IsAnswer}
 use Rattle.rinqebo_run.specs.Checked.{AreAccepted}
 use Rattle.rinqebo_run.specs.Explained.{Asks}
 use Rattle.rinqebo_run.specs.Refused.{AreRefusedFor, Fails, IsFailureAbout, IsFailureIn, IsLoadFailure, IsProfileFailure, IsRunFailure, IsToldBy, LackProfileFor, LacksProfile, LacksProfileOf}
 use Rattle.rinqebo_run.specs.SessionOf.{IsSessionOf}
 use Rattle.rinqebo_run.specs.Sessions.{files_view, readings, IsLoadedFrom}
-use Rattle.rinqebo_run.specs.ShownConfig.{entries_status, shown_status}
 use Rattle.rinqebo_run.specs.Statuses.{failure_status}
 use Rattle.rinqebo_run.specs.declared.answer.Failure.{Failure}
 use Rattle.rinqebo_run.specs.declared.answer.Failure.TheVariants as failures
@@ -138,18 +135,6 @@ fails_in request gathered session (Err failure) begun cause = inr (record {
   begun = begun;
   cause = cause;
 })
-
--- what shows leaves has status 0 or 1
-entries_low : (entries : List Entry) → entries_status entries ≤ 1
-entries_low [] = omega arith
-entries_low (entry ∷ entries) = omega arith
-
-shown_low : (content : Content) → shown_status content ≤ 1
-shown_low (contents.Explain asked test) = omega arith
-shown_low (contents.Why asked key rules) = omega arith
-shown_low (contents.List asked tests unused) = omega arith
-shown_low (contents.ShowConfig asked entries) = entries_low entries.items
-shown_low contents.Check = omega arith
 
 -- an answer of status 3 tells that files are refused
 refused_in : (q : Question) (session : Session) (report : Report) (n : ℕ) → AnswersQuestion q session report n

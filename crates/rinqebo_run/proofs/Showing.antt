@@ -1,6 +1,6 @@
 -- What is told of the leaves of a configuration.
-use Rattle.std.proofs.Common.{◌≡◌, ◌<◌, ◌≤◌, ◌+◌, ◌∙◌, ℕ, List, [], ◌∷◌, ◌++◌, Bool, true, false, cond, ap, arith, filter, get_or, length, map, subst, sym, take}
-use Rattle.std.proofs.lemmas.List.{append-nil, map-append, take_all, take_more}
+use Rattle.std.proofs.Common.{◌≡◌, ◌<◌, ◌+◌, ◌∙◌, ℕ, List, [], ◌∷◌, ◌++◌, Bool, true, false, cond, ap, filter, get_or, length, map, subst, sym, take}
+use Rattle.std.proofs.lemmas.List.{append-nil, map-append, take_more}
 use Rattle.std.proofs.lemmas.List.Elements.{filter-append}
 use Rattle.std.proofs.lemmas.Slice.Zip.{all_zipped_more}
 use Rattle.std.specs.List.{AllZip}
@@ -35,32 +35,35 @@ ended : (leaves : List Leaf) (leaf : Leaf) (b : Bool) → tells leaf ≡ b
 ended leaves leaf b told =
     filter-append tells leaves (leaf ∷ []) ∙ ap (λ t. filter tells leaves ++ cond t (leaf ∷ []) []) told
 
--- one leaf more that is told
-pub told_more : (leaves : List Leaf) (leaf : Leaf) (entries : List Entry) (entry : Entry) → TellLeaves leaves entries
-    → TellsLeaf leaf entry → TellLeaves (leaves ++ leaf ∷ []) (entries ++ entry ∷ [])
-told_more leaves leaf entries entry before is =
-    subst (λ ls. AllZip TellsLeaf ls (entries ++ entry ∷ [])) (sym (ended leaves leaf true is.is_entry.value.told))
-    (all_zipped_more TellsLeaf (filter tells leaves) entries leaf entry before is)
-
--- one leaf more that is not told
-pub told_less : (leaves : List Leaf) (leaf : Leaf) (entries : List Entry) → TellLeaves leaves entries
-    → tells leaf ≡ false → TellLeaves (leaves ++ leaf ∷ []) entries
-told_less leaves leaf entries before none =
-    subst (λ ls. AllZip TellsLeaf ls entries)
-    (sym (ended leaves leaf false none ∙ append-nil (filter tells leaves))) before
-
 -- the next leaf of some
-pub next_leaf : (found : List Found) (n m : ℕ) (leaf : Found) → n < length found → leaf ≡ get_or found n leaf
-    → m ≡ n + 1 → map leaf_view (take m found) ≡ map leaf_view (take n found) ++ leaf_view leaf ∷ []
+next_leaf : (found : List Found) (n m : ℕ) (leaf : Found) → n < length found → leaf ≡ get_or found n leaf → m ≡ n + 1
+    → map leaf_view (take m found) ≡ map leaf_view (take n found) ++ leaf_view leaf ∷ []
 next_leaf found n m leaf within at next =
     ap (λ k. map leaf_view (take k found)) next ∙ ap (map leaf_view) (take_more found n leaf within)
     ∙ map-append leaf_view (take n found) (get_or found n leaf ∷ [])
     ∙ ap (λ l. map leaf_view (take n found) ++ leaf_view l ∷ []) (sym at)
 
--- all leaves
-pub leaves_all : (found : List Found) (n : ℕ) (entries : List Entry) → length found ≤ n
-    → TellLeaves (map leaf_view (take n found)) entries → TellLeaves (map leaf_view found) entries
-leaves_all found n entries all told = subst (λ ls. TellLeaves (map leaf_view ls) entries) (take_all n found all) told
+-- one leaf more that is told
+pub told_more : (found : List Found) (n m : ℕ) (leaf : Found) (old new : List Entry) (entry : Entry)
+    → n < length found → leaf ≡ get_or found n leaf → m ≡ n + 1 → TellLeaves (map leaf_view (take n found)) old
+    → TellsLeaf (leaf_view leaf) entry → new ≡ old ++ entry ∷ [] → TellLeaves (map leaf_view (take m found)) new
+told_more found n m leaf old new entry within at next before is more =
+    let leaves = map leaf_view (take n found) in
+    let same = ap (filter tells) (next_leaf found n m leaf within at next)
+    ∙ ended leaves (leaf_view leaf) true is.is_entry.value.told in
+    subst (λ ls. AllZip TellsLeaf ls new) (sym same)
+    (subst (AllZip TellsLeaf (filter tells leaves ++ leaf_view leaf ∷ [])) (sym more)
+    (all_zipped_more TellsLeaf (filter tells leaves) old (leaf_view leaf) entry before is))
+
+-- one leaf more that is not told
+pub told_less : (found : List Found) (n m : ℕ) (leaf : Found) (old new : List Entry) → n < length found
+    → leaf ≡ get_or found n leaf → m ≡ n + 1 → TellLeaves (map leaf_view (take n found)) old
+    → tells (leaf_view leaf) ≡ false → new ≡ old → TellLeaves (map leaf_view (take m found)) new
+told_less found n m leaf old new within at next before none kept =
+    let leaves = map leaf_view (take n found) in
+    let same = ap (filter tells) (next_leaf found n m leaf within at next)
+    ∙ ended leaves (leaf_view leaf) false none ∙ append-nil (filter tells leaves) in
+    subst (λ ls. AllZip TellsLeaf ls new) (sym same) (subst (AllZip TellsLeaf (filter tells leaves)) (sym kept) before)
 
 -- a report shows the leaves of what was loaded
 pub shows : (session : Session) (profile : Name) (keys : List (List ℕ)) (with_hidden : Bool) (report : Report)

@@ -1,11 +1,15 @@
 -- Exit statuses: those of answers, and those of failures.
-use Rattle.std.proofs.Common.{◌≡◌, ◌⊎◌, inl, inr, ℕ, List, Option, Result, Ok, Err, IfOk, arith, subst, sym}
+use Rattle.std.proofs.Common.{◌≡◌, ◌≤◌, ◌⊎◌, inl, inr, ℕ, zero, suc, List, [], ◌∷◌, Option, Result, Ok, Err, IfOk, arith, refl, subst, sym}
 use Rattle.std.specs.Io.KnownBytes.{Appends}
 use Rattle.rinqebo_report.specs.Rendered.{rendered}
+use Rattle.rinqebo_report.specs.declared.report.Content.{Content}
+use Rattle.rinqebo_report.specs.declared.report.Content.TheVariants as contents
+use Rattle.rinqebo_report.specs.declared.report.Entry.{Entry}
 use Rattle.rinqebo_report.specs.declared.report.Report.{Report}
 use Rattle.rinqebo_run.specs.Answered.{AnswersQuestion, IsAnswer, Tells}
 use Rattle.rinqebo_run.specs.SessionOf.{IsSessionOf}
 use Rattle.rinqebo_run.specs.Refused.{Fails, IsFailureIn}
+use Rattle.rinqebo_run.specs.ShownConfig.{entries_status, shown_status}
 use Rattle.rinqebo_run.specs.Statuses.{IsAnswerStatus, IsStatus, failure_status}
 use Rattle.rinqebo_run.specs.declared.answer.Answer.{Answer}
 use Rattle.rinqebo_run.specs.declared.answer.Failure.{Failure}
@@ -120,6 +124,40 @@ failed_silent request gathered f n fails (inr (inl five)) is =
     absurd (no_five request.question (subst (IsAnswerStatus request.question) five is))
 failed_silent request gathered f n fails (inr (inr six)) is =
     absurd (no_six request.question (subst (IsAnswerStatus request.question) six is))
+
+-- what shows leaves has status 0 or 1
+entries_low : (entries : List Entry) → entries_status entries ≤ 1
+entries_low [] = omega arith
+entries_low (entry ∷ entries) = omega arith
+
+pub shown_low : (content : Content) → shown_status content ≤ 1
+shown_low (contents.Explain asked test) = omega arith
+shown_low (contents.Why asked key rules) = omega arith
+shown_low (contents.List asked tests unused) = omega arith
+shown_low (contents.ShowConfig asked entries) = entries_low entries.items
+shown_low contents.Check = omega arith
+
+one_or_none : (n : ℕ) → n ≤ 1 → (n ≡ 0) ⊎ (n ≡ 1)
+one_or_none zero low = inl refl
+one_or_none (suc n) low = inr (omega arith)
+
+-- what answers a question has a status of an answer
+status_of_answer : (q : Question) (session : Session) (report : Report) (n : ℕ) → AnswersQuestion q session report n
+    → IsAnswerStatus q n
+status_of_answer (questions.Explain profile test settings) session report n answers = answers.0
+status_of_answer (questions.Why profile test setting) session report n answers = answers.0
+status_of_answer (questions.List profile mode list asked) session report n answers = answers.0
+status_of_answer (questions.ShowConfig profile keys with_hidden) session report n answers =
+    one_or_none n (omega (arith, answers.status_is, shown_low report.content))
+status_of_answer (questions.Check deny_warnings) session report n answers = answers.is_status
+
+-- a run with an answer has its status, unless something fails
+pub answer_status : {X : Type 0} (request : Request) (gathered : Gathered) (report : Report) (n m : ℕ)
+    → IsAnswer request gathered report m → (n ≡ m) ⊎ X → IsAnswerStatus request.question n ⊎ X
+answer_status request gathered report n m answer (inl same) =
+    inl (subst (IsAnswerStatus request.question) (sym same)
+    (status_of_answer request.question answer.session report m answer.answers))
+answer_status request gathered report n m answer (inr fails) = inr fails
 
 -- what answers a question of a session answers the request
 pub is_answered : (request : Request) (gathered : Gathered) (session : Session) (answer : Result Answer Failure)

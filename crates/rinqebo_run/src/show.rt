@@ -55,8 +55,9 @@ fn told_leaves(
 {
     let mut entries = Vec::new(alloc);
     for leaf in leaves {
-        if let Some(entry) = told_leaf(alloc, layers, leaf)? {
-            entries.push(entry)?;
+        match told_leaf(alloc, layers, leaf)? {
+            Some(entry) => entries.push(entry)?,
+            None => {}
         }
     }
     Ok(entries)

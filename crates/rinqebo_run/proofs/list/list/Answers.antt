@@ -8,3 +8,7 @@ returns-clause-ok g c =
     tells_tests c.args.session.now c.args.profile.now c.args.mode c.args.asked.now c.in_ok-report.report
     c.in_ok-content.content c.in_ok-config.config c.in_ok-config.ensures.accepted c.in_ok-config.ensures.means
     c.in_ok-config.ensures.known c.in_ok-report.ensures c.in_ok-content.ensures
+
+pub returns-in_err-findings-clause-err : goal.returns-in_err-findings-clause-err
+returns-in_err-findings-clause-err g c =
+    want_told c.args.session.now c.args.profile.now _ c.from_residual-in_err-findings.ensures.1

@@ -1,6 +1,11 @@
 use Rattle.rinqebo_run.proofs.Refused.{answer_told, failure_told}
-use Rattle.rinqebo_run.proofs.Statuses.{told_same, told_page, tells, failed_silent, failed_status}
+use Rattle.rinqebo_run.proofs.Statuses.{answer_status, told_same, told_page, tells, failed_silent, failed_status}
 use Rattle.rinqebo_run.proofs.run.answer_whole.Goals as goal
+
+pub returns-in-Ok-clause-quiet : goal.returns-in-Ok-clause-quiet
+returns-in-Ok-clause-quiet g c =
+    answer_status c.args.request.now c.args.gathered.now c.in-Ok.answer.report _ _ c.in-Ok.ensures.ok
+    c.tell_answer.ensures.quiet
 
 pub returns-in-Ok-clause-page : goal.returns-in-Ok-clause-page
 returns-in-Ok-clause-page g c answered =
