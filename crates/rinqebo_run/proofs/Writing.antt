@@ -67,12 +67,6 @@ pub passed_stop : {A : Type 0} (P : ListFault → Type 0) (r : Result A ListFaul
 passed_stop P (Ok answer) fault same is = tt
 passed_stop P (Err told) fault same is = subst P (sym same) is
 
--- a list was not written whose report was not begun
-pub early_stop : (refuses : Failure → Type 0) (begun : Type 0) (old : Option (List ℕ)) (fault : ListFault)
-    → (fault ≡ faults.Memory) ⊎ (fault ≡ faults.Write) → StopsList refuses begun old old fault
-early_stop refuses begun old fault (inl memory) = subst (StopsList refuses begun old old) (sym memory) (inr refl)
-early_stop refuses begun old fault (inr write) = subst (StopsList refuses begun old old) (sym write) tt
-
 -- the lines of tests, and those of one more
 pub tests_text-push : (head : Report) (tint : Colour) (tests : List TestRows) (rows : TestRows)
     → tests_text head tint (tests ++ rows ∷ [])

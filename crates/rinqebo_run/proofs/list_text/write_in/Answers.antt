@@ -11,8 +11,8 @@ returns-in-Ok-clause-ok g c =
     c.in-Ok.field-0 c.in_ok-config.config _ _ c.in_ok-config.ensures.accepted c.in_ok-config.ensures.means
     c.in_ok-config.ensures.known c.in-Ok.ensures.told c.in-Ok.ensures.page
 
-pub returns-in-Err-clause-err : goal.returns-in-Err-clause-err
-returns-in-Err-clause-err g c =
+pub returns-clause-err : goal.returns-clause-err
+returns-clause-err g c =
     let list = c.args.list.now in
     let session = c.args.session.now in
     let old = g.O.Write.contents c.args.out.now in
