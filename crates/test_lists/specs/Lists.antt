@@ -30,6 +30,10 @@ tests_in b = map (λ name. record { binary = b.binary; name = name }) b.tests
 abbrev pub all_tests : TestList → List Test
 all_tests list = flat_map tests_in list.binaries
 
+-- the binaries of a list, in order
+abbrev pub all_binaries : TestList → List Binary
+all_binaries list = map (λ b. b.binary) list.binaries
+
 -- the keys of an object
 abbrev pub keys : Members → List (List ℕ)
 keys members = map (λ m. m.0) (listed members)

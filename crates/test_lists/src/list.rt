@@ -1,7 +1,7 @@
 //! Lists of tests.
 ghost use Rattle.std.specs.Prelude.{◌≡◌, ◌++◌, IfOk, map, string_bytes};
-ghost use Rattle.nextest_engines.specs.Engines.{test_view};
-ghost use Rattle.test_lists.specs.Lists.{all_tests, tests_in};
+ghost use Rattle.nextest_engines.specs.Engines.{binary_view as query_view, test_view};
+ghost use Rattle.test_lists.specs.Lists.{all_binaries, all_tests, tests_in};
 ghost use Rattle.test_lists.specs.ListView.{binary_view, list_view, listed_view};
 
 use nextest_engines::{BinaryQuery, BuildPlatform, TestQuery};
@@ -27,18 +27,25 @@ pub struct ListedBinary {
 }
 
 impl ListedBinary {
+    /// The binary, as filters see it.
+    pub fn binary_query(&self) -> BinaryQuery<'_>
+        ensures { query_view result ≡ binary_view self.now }
+    {
+        BinaryQuery {
+            package_id: &self.package_id,
+            binary_id: &self.id,
+            kind: &self.kind,
+            binary_name: &self.name,
+            platform: self.platform,
+        }
+    }
+
     /// A test of the binary, as filters see it.
     pub fn query<'a>(&'a self, test: &'a str) -> TestQuery<'a>
         ensures { test_view result ≡ record { binary = binary_view self.now; name = test.now } }
     {
         TestQuery {
-            binary_query: BinaryQuery {
-                package_id: &self.package_id,
-                binary_id: &self.id,
-                kind: &self.kind,
-                binary_name: &self.name,
-                platform: self.platform,
-            },
+            binary_query: self.binary_query(),
             test_name: test,
         }
     }
@@ -79,6 +86,18 @@ impl ListedTests {
         let mut queries = Vec::new(alloc);
         for binary in &self.binaries {
             queries = with_tests(queries, binary)?;
+        }
+        Ok(queries)
+    }
+
+    /// All binaries, in order, as filters see them. Some may have no tests.
+    pub fn binary_queries(&self, alloc: Global) -> Result<Vec<BinaryQuery<'_>>, AllocError>
+        ensures { IfOk result (λ queries. map query_view queries.items
+            ≡ all_binaries (list_view self.now)) }
+    {
+        let mut queries = Vec::new(alloc);
+        for binary in &self.binaries {
+            queries.push(binary.binary_query())?;
         }
         Ok(queries)
     }
