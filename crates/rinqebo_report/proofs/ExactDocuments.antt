@@ -5,8 +5,8 @@ use Rattle.serde_json.specs.Data.{Data, null, number, array, no_items, no_member
 use Rattle.serde_json.specs.Find.{of_integer}
 use Rattle.serde_json.specs.Read.{max_depth}
 use Rattle.serde_json.specs.Written.{has_float}
-use Rattle.rinqebo_report.specs.Document.{AskedData, asked_data, content_asked, rules_data, tests_data, entries_data, unused_data, document_data}
-use Rattle.rinqebo_report.specs.Documents.{count_data, text_data, optional_text_data, optional_count_data, list_data, pair_data, lines_data, scalar_data, value_data, optional_value_data, part_data, kind_data, origin_data, setting_data, test_data, entry_data, rule_data, tool_data, source_data, unreached_data, place_source_data, place_lines_data, span_data, expression_data, expression_span_data, finding_data}
+use Rattle.rinqebo_report.specs.Document.{AskedData, asked_data, content_asked, rules_data, tests_data, entries_data, unused_data, setup_scripts_data, list_wrappers_data, document_data}
+use Rattle.rinqebo_report.specs.Documents.{count_data, text_data, optional_text_data, optional_count_data, list_data, pair_data, lines_data, scalar_data, value_data, optional_value_data, part_data, kind_data, origin_data, setting_data, test_data, entry_data, rule_data, tool_data, source_data, unreached_data, wrapper_data, place_source_data, place_lines_data, span_data, expression_data, expression_span_data, finding_data}
 use Rattle.rinqebo_report.specs.declared.finding.Expression.{Expression}
 use Rattle.rinqebo_report.specs.declared.finding.Finding.{Finding}
 use Rattle.rinqebo_report.specs.declared.finding.Span.{Span}
@@ -23,6 +23,7 @@ use Rattle.rinqebo_report.specs.declared.report.Asked.{Asked}
 use Rattle.rinqebo_report.specs.declared.report.Content.{Content}
 use Rattle.rinqebo_report.specs.declared.report.Content.TheVariants as contents
 use Rattle.rinqebo_report.specs.declared.report.Entry.{Entry}
+use Rattle.rinqebo_report.specs.declared.report.ListWrapper.{ListWrapper}
 use Rattle.rinqebo_report.specs.declared.report.Report.{Report}
 use Rattle.rinqebo_report.specs.declared.report.Rule.{Rule}
 use Rattle.rinqebo_report.specs.declared.report.SettingRow.{SettingRow}
@@ -120,6 +121,9 @@ test t =
     exact_object 5 (and_member _ (text 5 t.binary)
     (and_member _ (text 5 t.name) (and_member _ (exact_text 5 _) (and_member _ settings (no_more 5)))))
 
+wrapper : (w : ListWrapper) → IsExact 1 (wrapper_data w)
+wrapper w = exact_object 0 (and_member _ (text 0 w.binary) (and_member _ (text 0 w.value) (no_more 0)))
+
 entry : (e : Entry) → IsExact 3 (entry_data e)
 entry e =
     exact_object 2 (and_member _ (exact_truth 2 e.is_hidden)
@@ -198,7 +202,7 @@ asked a = record {
 content : (c : Content) → IsExactAsked (content_asked c)
 content (contents.Explain a t) = asked a
 content (contents.Why a key rules) = asked a
-content (contents.List a tests unused) = asked a
+content (contents.List a tests unused scripts) = asked a
 content (contents.ShowConfig a entries) = asked a
 content contents.Check = record {
   chain = nothing 6;
@@ -211,21 +215,21 @@ content contents.Check = record {
 rules_of : (c : Content) → IsExact 7 (rules_data c)
 rules_of (contents.Explain a t) = nothing 6
 rules_of (contents.Why a key rules) = exact_list 6 rule_data (λ r. deeper 6 (rule r) (omega arith)) rules.items
-rules_of (contents.List a tests unused) = nothing 6
+rules_of (contents.List a tests unused scripts) = nothing 6
 rules_of (contents.ShowConfig a entries) = nothing 6
 rules_of contents.Check = nothing 6
 
 tests_of : (c : Content) → IsExact 7 (tests_data c)
 tests_of (contents.Explain a t) = exact_list 6 test_data test (t ∷ [])
 tests_of (contents.Why a key rules) = nothing 6
-tests_of (contents.List a tests unused) = exact_list 6 test_data test tests.items
+tests_of (contents.List a tests unused scripts) = exact_list 6 test_data test tests.items
 tests_of (contents.ShowConfig a entries) = nothing 6
 tests_of contents.Check = nothing 6
 
 entries_of : (c : Content) → IsExact 7 (entries_data c)
 entries_of (contents.Explain a t) = nothing 6
 entries_of (contents.Why a key rules) = nothing 6
-entries_of (contents.List a tests unused) = nothing 6
+entries_of (contents.List a tests unused scripts) = nothing 6
 entries_of (contents.ShowConfig a entries) =
     exact_list 6 entry_data (λ e. deeper 6 (entry e) (omega arith)) entries.items
 entries_of contents.Check = nothing 6
@@ -233,22 +237,38 @@ entries_of contents.Check = nothing 6
 unused_of : (c : Content) → IsExact 7 (unused_data c)
 unused_of (contents.Explain a t) = nothing 6
 unused_of (contents.Why a key rules) = nothing 6
-unused_of (contents.List a tests unused) =
+unused_of (contents.List a tests unused scripts) =
     exact_list 6 origin_data (λ o. deeper 6 (origin o) (omega arith)) unused.items
 unused_of (contents.ShowConfig a entries) = nothing 6
 unused_of contents.Check = nothing 6
+
+setup_scripts_of : (c : Content) → IsExact 7 (setup_scripts_data c)
+setup_scripts_of (contents.Explain a t) = nothing 6
+setup_scripts_of (contents.Why a key rules) = nothing 6
+setup_scripts_of (contents.List a tests unused scripts) = texts 6 scripts.setup.items
+setup_scripts_of (contents.ShowConfig a entries) = nothing 6
+setup_scripts_of contents.Check = nothing 6
+
+list_wrappers_of : (c : Content) → IsExact 7 (list_wrappers_data c)
+list_wrappers_of (contents.Explain a t) = nothing 6
+list_wrappers_of (contents.Why a key rules) = nothing 6
+list_wrappers_of (contents.List a tests unused scripts) =
+    exact_list 6 wrapper_data (λ w. deeper 6 (wrapper w) (omega arith)) scripts.list_wrappers.items
+list_wrappers_of (contents.ShowConfig a entries) = nothing 6
+list_wrappers_of contents.Check = nothing 6
 
 document : (report : Report) → IsExact 8 (document_data report)
 document report =
     let a = content report.content in
     exact_object 7 (and_member _ a.chain (and_member _ (exact_text 7 _) (and_member _ (entries_of report.content)
     (and_member _ (exact_list 6 finding_data (λ f. deeper 6 (finding f) (omega arith)) report.findings.items)
-    (and_member _ a.host (and_member _ a.mode (and_member _ a.profile (and_member _ (text 7 report.root)
-    (and_member _ (rules_of report.content)
+    (and_member _ a.host (and_member _ (list_wrappers_of report.content)
+    (and_member _ a.mode (and_member _ a.profile (and_member _ (text 7 report.root)
+    (and_member _ (rules_of report.content) (and_member _ (setup_scripts_of report.content)
     (and_member _ (exact_list 6 source_data (λ s. deeper 6 (source s) (omega arith)) report.sources.items)
     (and_member _ a.target (and_member _ (tests_of report.content)
     (and_member _ (exact_list 6 unreached_data (λ u. deeper 6 (unreached u) (omega arith)) report.unreached.items)
-    (and_member _ (unused_of report.content) (and_member _ (count 7 1) (no_more 7))))))))))))))))
+    (and_member _ (unused_of report.content) (and_member _ (count 7 1) (no_more 7))))))))))))))))))
 
 within : (d : Data) → IsExact 8 d → depth d ≤ max_depth
 within d h = omega (arith, h.nests)

@@ -5,7 +5,7 @@ use Rattle.rinqebo_report.specs.declared.report.Asked.{Asked}
 use Rattle.rinqebo_report.specs.declared.report.Content.{Content}
 use Rattle.rinqebo_report.specs.declared.report.Content.TheVariants as contents
 use Rattle.rinqebo_report.specs.declared.report.Report.{Report}
-use Rattle.rinqebo_report.specs.Documents.{count_data, text_data, optional_text_data, list_data, origin_data, test_data, entry_data, rule_data, finding_data, source_data, unreached_data}
+use Rattle.rinqebo_report.specs.Documents.{count_data, text_data, optional_text_data, list_data, origin_data, test_data, entry_data, rule_data, finding_data, source_data, unreached_data, wrapper_data}
 use Rattle.rinqebo_report.specs.Pages.{mode_word}
 
 -- What was asked for, as the document tells it.
@@ -20,7 +20,9 @@ pub record AskedData : Type 0 where
 pub record AnswersData : Type 0 where
   pub entries : Data
   pub findings : Data
+  pub list_wrappers : Data
   pub rules : Data
+  pub setup_scripts : Data
   pub sources : Data
   pub tests : Data
   pub unreached : Data
@@ -45,7 +47,7 @@ asked_data asked = record {
 abbrev pub content_asked : Content → AskedData
 content_asked (contents.Explain asked test) = asked_data asked
 content_asked (contents.Why asked key rules) = asked_data asked
-content_asked (contents.List asked tests unused) = asked_data asked
+content_asked (contents.List asked tests unused scripts) = asked_data asked
 content_asked (contents.ShowConfig asked entries) = asked_data asked
 content_asked contents.Check = nothing_asked
 
@@ -53,7 +55,7 @@ content_asked contents.Check = nothing_asked
 abbrev pub command_word : Content → List ℕ
 command_word (contents.Explain asked test) = codes "explain"
 command_word (contents.Why asked key rules) = codes "explain"
-command_word (contents.List asked tests unused) = codes "list"
+command_word (contents.List asked tests unused scripts) = codes "list"
 command_word (contents.ShowConfig asked entries) = codes "show-config"
 command_word contents.Check = codes "check"
 
@@ -61,7 +63,7 @@ command_word contents.Check = codes "check"
 abbrev pub rules_data : Content → Data
 rules_data (contents.Explain asked test) = array no_items
 rules_data (contents.Why asked key rules) = list_data rule_data rules.items
-rules_data (contents.List asked tests unused) = array no_items
+rules_data (contents.List asked tests unused scripts) = array no_items
 rules_data (contents.ShowConfig asked entries) = array no_items
 rules_data contents.Check = array no_items
 
@@ -69,7 +71,7 @@ rules_data contents.Check = array no_items
 abbrev pub tests_data : Content → Data
 tests_data (contents.Explain asked test) = array (item (test_data test) no_items)
 tests_data (contents.Why asked key rules) = array no_items
-tests_data (contents.List asked tests unused) = list_data test_data tests.items
+tests_data (contents.List asked tests unused scripts) = list_data test_data tests.items
 tests_data (contents.ShowConfig asked entries) = array no_items
 tests_data contents.Check = array no_items
 
@@ -77,7 +79,7 @@ tests_data contents.Check = array no_items
 abbrev pub entries_data : Content → Data
 entries_data (contents.Explain asked test) = array no_items
 entries_data (contents.Why asked key rules) = array no_items
-entries_data (contents.List asked tests unused) = array no_items
+entries_data (contents.List asked tests unused scripts) = array no_items
 entries_data (contents.ShowConfig asked entries) = list_data entry_data entries.items
 entries_data contents.Check = array no_items
 
@@ -85,16 +87,36 @@ entries_data contents.Check = array no_items
 abbrev pub unused_data : Content → Data
 unused_data (contents.Explain asked test) = array no_items
 unused_data (contents.Why asked key rules) = array no_items
-unused_data (contents.List asked tests unused) = list_data origin_data unused.items
+unused_data (contents.List asked tests unused scripts) = list_data origin_data unused.items
 unused_data (contents.ShowConfig asked entries) = array no_items
 unused_data contents.Check = array no_items
+
+-- the setup scripts that tests enable
+abbrev pub setup_scripts_data : Content → Data
+setup_scripts_data (contents.Explain asked test) = array no_items
+setup_scripts_data (contents.Why asked key rules) = array no_items
+setup_scripts_data (contents.List asked tests unused scripts) =
+    list_data text_data scripts.setup.items
+setup_scripts_data (contents.ShowConfig asked entries) = array no_items
+setup_scripts_data contents.Check = array no_items
+
+-- the list wrappers of binaries
+abbrev pub list_wrappers_data : Content → Data
+list_wrappers_data (contents.Explain asked test) = array no_items
+list_wrappers_data (contents.Why asked key rules) = array no_items
+list_wrappers_data (contents.List asked tests unused scripts) =
+    list_data wrapper_data scripts.list_wrappers.items
+list_wrappers_data (contents.ShowConfig asked entries) = array no_items
+list_wrappers_data contents.Check = array no_items
 
 -- this is answered
 abbrev pub answers_data : Report → AnswersData
 answers_data report = record {
   entries = entries_data report.content;
   findings = list_data finding_data report.findings.items;
+  list_wrappers = list_wrappers_data report.content;
   rules = rules_data report.content;
+  setup_scripts = setup_scripts_data report.content;
   sources = list_data source_data report.sources.items;
   tests = tests_data report.content;
   unreached = list_data unreached_data report.unreached.items;
@@ -113,8 +135,9 @@ abbrev pub with_answers : AnswersData → Members → Members
 with_answers answers members =
     put (codes "unused") answers.unused (put (codes "unreached") answers.unreached
     (put (codes "tests") answers.tests (put (codes "sources") answers.sources
-    (put (codes "rules") answers.rules (put (codes "findings") answers.findings
-    (put (codes "entries") answers.entries members))))))
+    (put (codes "setup-scripts") answers.setup_scripts (put (codes "rules") answers.rules
+    (put (codes "list-wrappers") answers.list_wrappers (put (codes "findings") answers.findings
+    (put (codes "entries") answers.entries members))))))))
 
 -- members, with the command, the root of the workspace, and the version of the document
 abbrev pub with_title : Report → Members → Members
@@ -130,16 +153,18 @@ document_with asked answers report =
     (member (codes "entries") answers.entries
     (member (codes "findings") answers.findings
     (member (codes "host") asked.host
+    (member (codes "list-wrappers") answers.list_wrappers
     (member (codes "mode") asked.mode
     (member (codes "profile") asked.profile
     (member (codes "root") (text_data report.root)
     (member (codes "rules") answers.rules
+    (member (codes "setup-scripts") answers.setup_scripts
     (member (codes "sources") answers.sources
     (member (codes "target") asked.target
     (member (codes "tests") answers.tests
     (member (codes "unreached") answers.unreached
     (member (codes "unused") answers.unused
-    (member (codes "version") (count_data 1) no_members)))))))))))))))
+    (member (codes "version") (count_data 1) no_members)))))))))))))))))
 
 -- the document of a report
 abbrev pub document_data : Report → Data

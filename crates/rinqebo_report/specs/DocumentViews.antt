@@ -19,7 +19,9 @@ abbrev pub answers_view : AnswersJson → AnswersData
 answers_view json = record {
   entries = view json.entries;
   findings = view json.findings;
+  list_wrappers = view json.list_wrappers;
   rules = view json.rules;
+  setup_scripts = view json.setup_scripts;
   sources = view json.sources;
   tests = view json.tests;
   unreached = view json.unreached;

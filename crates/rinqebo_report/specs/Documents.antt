@@ -19,6 +19,7 @@ use Rattle.rinqebo_report.specs.declared.origin.SourceKind.TheVariants as kinds
 use Rattle.rinqebo_report.specs.declared.report.ConditionAnswer.{ConditionAnswer}
 use Rattle.rinqebo_report.specs.declared.report.ConditionAnswer.TheVariants as answers
 use Rattle.rinqebo_report.specs.declared.report.Entry.{Entry}
+use Rattle.rinqebo_report.specs.declared.report.ListWrapper.{ListWrapper}
 use Rattle.rinqebo_report.specs.declared.report.Rule.{Rule}
 use Rattle.rinqebo_report.specs.declared.report.SettingRow.{SettingRow}
 use Rattle.rinqebo_report.specs.declared.report.TestRows.{TestRows}
@@ -131,6 +132,12 @@ test_data test =
     (member (codes "platform") (string (platform_word test.platform))
     (member (codes "settings") (object (fold with_setting no_members test.settings.items))
     no_members))))
+
+-- the list wrapper of a binary
+abbrev pub wrapper_data : ListWrapper → Data
+wrapper_data wrapper =
+    object (member (codes "binary-id") (text_data wrapper.binary)
+    (member (codes "value") (text_data wrapper.value) no_members))
 
 -- a leaf of the configuration
 abbrev pub entry_data : Entry → Data

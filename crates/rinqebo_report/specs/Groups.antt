@@ -67,6 +67,6 @@ grouped_runs root sources tests unused =
 
 -- the page of what a command answers, with the tests of a list in groups
 abbrev pub grouped_content_runs : Report → Content → List Run
-grouped_content_runs report (contents.List asked tests unused) =
+grouped_content_runs report (contents.List asked tests unused scripts) =
     grouped_runs (string_bytes report.root) report.sources.items tests.items unused.items
 grouped_content_runs report content = content_runs report content

@@ -368,7 +368,7 @@ content_runs report (contents.Explain asked test) =
     explain_runs (string_bytes report.root) report.sources.items asked test
 content_runs report (contents.Why asked key rules) =
     rules_runs (string_bytes report.root) report.sources.items (string_bytes key) 0 rules.items
-content_runs report (contents.List asked tests unused) =
+content_runs report (contents.List asked tests unused scripts) =
     list_runs (string_bytes report.root) report.sources.items tests.items unused.items
 content_runs report (contents.ShowConfig asked entries) =
     config_runs (string_bytes report.root) report.sources.items entries.items

@@ -4,12 +4,12 @@ ghost use Rattle.serde_json.specs.Read.{read};
 ghost use Rattle.serde_json.specs.View.{members_view, view};
 ghost use Rattle.serde_json.specs.Written.{compact_text};
 ghost use Rattle.rinqebo_report.specs.DocumentViews.{asked_view, answers_view};
-ghost use Rattle.rinqebo_report.specs.Document.{asked_data, content_asked, command_word, rules_data, tests_data, entries_data, unused_data, answers_data, with_asked, with_answers, with_title, document_data};
+ghost use Rattle.rinqebo_report.specs.Document.{asked_data, content_asked, command_word, rules_data, tests_data, entries_data, unused_data, setup_scripts_data, list_wrappers_data, answers_data, with_asked, with_answers, with_title, document_data};
 
 use crate::json_findings::findings_json;
 use crate::json_parts::{
     all_unreached_json, entries_json, optional_text_json, origins_json, rules_json, sources_json,
-    test_json, tests_json, texts_json,
+    test_json, tests_json, texts_json, wrappers_json,
 };
 use crate::report::{Asked, Content, Report};
 use serde_json::{Map, Value, json, put};
@@ -122,6 +122,32 @@ impl Content {
             | Content::Check => Ok(Value::Array(Vec::new(alloc))),
         }
     }
+
+    /// The setup scripts that tests enable.
+    fn setup_scripts_json(&self, alloc: Global) -> Result<Value, AllocError>
+        ensures { IfOk result (λ value. view value ≡ setup_scripts_data self.now) }
+    {
+        match self {
+            Content::List { scripts, .. } => texts_json(alloc, &scripts.setup),
+            Content::Explain { .. }
+            | Content::Why { .. }
+            | Content::ShowConfig { .. }
+            | Content::Check => Ok(Value::Array(Vec::new(alloc))),
+        }
+    }
+
+    /// The list wrappers of binaries.
+    fn list_wrappers_json(&self, alloc: Global) -> Result<Value, AllocError>
+        ensures { IfOk result (λ value. view value ≡ list_wrappers_data self.now) }
+    {
+        match self {
+            Content::List { scripts, .. } => wrappers_json(alloc, &scripts.list_wrappers),
+            Content::Explain { .. }
+            | Content::Why { .. }
+            | Content::ShowConfig { .. }
+            | Content::Check => Ok(Value::Array(Vec::new(alloc))),
+        }
+    }
 }
 
 /// What a report answers, as the document tells it.
@@ -129,7 +155,9 @@ impl Content {
 struct AnswersJson {
     entries: Value,
     findings: Value,
+    list_wrappers: Value,
     rules: Value,
+    setup_scripts: Value,
     sources: Value,
     tests: Value,
     unreached: Value,
@@ -143,7 +171,9 @@ fn answers_json(alloc: Global, report: &Report) -> Result<AnswersJson, AllocErro
     Ok(AnswersJson {
         entries: report.content.entries_json(alloc)?,
         findings: findings_json(alloc, &report.findings)?,
+        list_wrappers: report.content.list_wrappers_json(alloc)?,
         rules: report.content.rules_json(alloc)?,
+        setup_scripts: report.content.setup_scripts_json(alloc)?,
         sources: sources_json(alloc, &report.sources)?,
         tests: report.content.tests_json(alloc)?,
         unreached: all_unreached_json(alloc, &report.unreached)?,
@@ -178,7 +208,9 @@ fn put_answers(
 {
     put(members, alloc, "entries", answers.entries)?;
     put(members, alloc, "findings", answers.findings)?;
+    put(members, alloc, "list-wrappers", answers.list_wrappers)?;
     put(members, alloc, "rules", answers.rules)?;
+    put(members, alloc, "setup-scripts", answers.setup_scripts)?;
     put(members, alloc, "sources", answers.sources)?;
     put(members, alloc, "tests", answers.tests)?;
     put(members, alloc, "unreached", answers.unreached)?;

@@ -2,11 +2,13 @@
 ghost use Rattle.std.specs.Prelude.{◌≡◌, IfOk, codes, fold};
 ghost use Rattle.serde_json.specs.Data.{null, object, no_members};
 ghost use Rattle.serde_json.specs.View.{members_view, view};
-ghost use Rattle.rinqebo_report.specs.Documents.{count_data, text_data, optional_text_data, optional_count_data, list_data, lines_data, scalar_data, with_field, value_data, optional_value_data, part_word, part_data, kind_data, origin_data, setting_data, with_setting, test_data, entry_data, answer_word, rule_data, kind_word, tool_data, source_data, unreached_data};
+ghost use Rattle.rinqebo_report.specs.Documents.{count_data, text_data, optional_text_data, optional_count_data, list_data, lines_data, scalar_data, with_field, value_data, optional_value_data, part_word, part_data, kind_data, origin_data, setting_data, with_setting, test_data, entry_data, answer_word, rule_data, kind_word, tool_data, source_data, unreached_data, wrapper_data};
 
 use crate::duration::add_duration;
 use crate::origin::{Lines, Origin, Part, Place, Source, SourceKind, Written};
-use crate::report::{ConditionAnswer, Entry, Rule, SettingRow, TestRows, Unreached};
+use crate::report::{
+    ConditionAnswer, Entry, ListWrapper, Rule, SettingRow, TestRows, Unreached,
+};
 use crate::value::{Field, Scalar, Value as SettingValue};
 use serde_json::{Map, Value, json, put};
 use std::alloc::{AllocError, Global};
@@ -228,6 +230,27 @@ pub(crate) fn tests_json(alloc: Global, tests: &[TestRows]) -> Result<Value, All
     let mut list = Vec::new(alloc);
     for test in tests {
         list.push(test_json(alloc, test)?)?;
+    }
+    Ok(Value::Array(list))
+}
+
+/// The list wrapper of a binary.
+fn wrapper_json(alloc: Global, wrapper: &ListWrapper) -> Result<Value, AllocError>
+    ensures { IfOk result (λ value. view value ≡ wrapper_data wrapper.now) }
+{
+    json!(in alloc; {
+        "binary-id": wrapper.binary.as_str(),
+        "value": wrapper.value.as_str()
+    })
+}
+
+/// The list wrappers of binaries.
+pub(crate) fn wrappers_json(alloc: Global, wrappers: &[ListWrapper]) -> Result<Value, AllocError>
+    ensures { IfOk result (λ value. view value ≡ list_data wrapper_data wrappers.now) }
+{
+    let mut list = Vec::new(alloc);
+    for wrapper in wrappers {
+        list.push(wrapper_json(alloc, wrapper)?)?;
     }
     Ok(Value::Array(list))
 }

@@ -34,7 +34,7 @@ pub use list_page::{render_list_end, render_listed};
 pub use origin::{Lines, Origin, Part, Place, Source, SourceKind, Written};
 pub use piece::Colour;
 pub use report::{
-    Asked, Condition, ConditionAnswer, Content, Entry, Platform, Report, Rule, RunMode, SettingRow,
-    TestRows, Unreached, Verdict,
+    Asked, Condition, ConditionAnswer, Content, Entry, ListScripts, ListWrapper, Platform, Report,
+    Rule, RunMode, SettingRow, TestRows, Unreached, Verdict,
 };
 pub use value::{Field, Scalar, Value};

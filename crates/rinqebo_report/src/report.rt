@@ -131,6 +131,24 @@ pub struct Rule {
     pub value: Option<Value>,
 }
 
+/// The script that wraps a binary while it lists its tests.
+#[derive(Drop)]
+pub struct ListWrapper {
+    /// The id of the binary.
+    pub binary: String,
+    /// The id of the script.
+    pub value: String,
+}
+
+/// The scripts of a list that a run needs beside the settings of each test.
+#[derive(Drop)]
+pub struct ListScripts {
+    /// The ids of the setup scripts that the tests enable, in the order in which they run.
+    pub setup: Vec<String>,
+    /// The list wrappers of the binaries that have one, in the order of the binaries.
+    pub list_wrappers: Vec<ListWrapper>,
+}
+
 /// Checks of a source that were not reached.
 #[derive(Drop)]
 pub struct Unreached {
@@ -161,6 +179,8 @@ pub enum Content {
         tests: Vec<TestRows>,
         /// The rules that hold for no test.
         unused: Vec<Origin>,
+        /// The scripts that run before the tests, or around the binaries.
+        scripts: ListScripts,
     },
     /// Leaves of the configuration.
     ShowConfig {
