@@ -16,7 +16,9 @@ use std::alloc::{AllocError, Global};
 
 // The most states of an automaton, and less for those that take less room to search by.
 const MOST_STATES: usize = 4096;
+
 const MANY_STATES: usize = 512;
+
 const FEW_STATES: usize = 64;
 
 // The most bytes that the tables of an automaton may take.
