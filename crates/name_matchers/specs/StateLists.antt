@@ -1,14 +1,20 @@
 -- Lists of states.
-use Rattle.std.specs.Prelude.{◌≡◌, ℕ, ◌≤◌, ◌⊎◌, Bool, true, false, List, [], ◌∷◌, ◌++◌, length, take, Contains, slice_index_or}
+use Rattle.std.specs.Prelude.{◌≡◌, ℕ, ◌^◌, ◌<◌, ◌≤◌, ◌⊎◌, Bool, true, false, List, [], ◌∷◌, ◌++◌, length, take, All, Contains, fold, slice_set, slice_index_or}
 use Rattle.regex_vm.specs.Bits.{members}
 
--- The flags tell of each state whether it is among the first of the states, of which there are as
--- many as flags that are set.
-pub record IsListed (flags : List Bool) (states : List ℕ) (len : ℕ) : Type 0 where
-  pub size : length flags ≡ 4096
-  pub room : length states ≡ 4096
+-- the flags without those of the states
+abbrev pub without : List Bool → List ℕ → List Bool
+without flags states = fold (λ left state. slice_set left state false) flags states
+
+-- The flags tell of each state below the room whether it is among the first of the states, of which
+-- there are as many as flags that are set.
+pub record IsListed (room : ℕ) (flags : List Bool) (states : List ℕ) (len : ℕ) : Type 0 where
+  pub narrow : room ≤ 2 ^ 16
+  pub size : length flags ≡ room
+  pub places : length states ≡ room
   pub count : members flags ≡ len
-  pub within : len ≤ 4096
+  pub within : len ≤ room
+  pub below : All (λ q. q < room) (take len states)
   pub told : (q : ℕ) → slice_index_or flags q false ≡ true → Contains (take len states) q
 
 -- The new list has the state: it is the old one, or the old one with the state behind it.

@@ -6,9 +6,7 @@ ghost use Rattle.rinqebo_report.specs.Documents.{count_data, text_data, optional
 
 use crate::duration::add_duration;
 use crate::origin::{Lines, Origin, Part, Place, Source, SourceKind, Written};
-use crate::report::{
-    ConditionAnswer, Entry, ListWrapper, Rule, SettingRow, TestRows, Unreached,
-};
+use crate::report::{ConditionAnswer, Entry, ListWrapper, Rule, SettingRow, TestRows, Unreached};
 use crate::value::{Field, Scalar, Value as SettingValue};
 use serde_json::{Map, Value, json, put};
 use std::alloc::{AllocError, Global};

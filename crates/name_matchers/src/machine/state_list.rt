@@ -1,39 +1,37 @@
-//! A set of states as a list, each once, with room for 4096.
-ghost use Rattle.std.specs.Prelude.{◌≡◌, ◌<◌, ◌≤◌, ℕ, List, [], length, slice_index, take};
+//! A set of states as a list, each once.
+ghost use Rattle.std.specs.Prelude.{◌≡◌, ◌^◌, ◌<◌, ◌≤◌, ℕ, List, [], length, slice_index, take};
 ghost use Rattle.name_matchers.specs.StateLists.{AddsState, IsListed};
 
-use crate::machine::state_bits::StateBits;
+use crate::machine::state_flags::StateFlags;
 use regex_nfa::StateId;
 use std::marker::Model;
 
-/// The most states that a list has room for.
-pub const MOST_STATES: usize = 4096;
-
-/// A list of states in which none comes twice.
+/// A list of states below `ROOM`, in which none comes twice.
 #[derive(Drop)]
-pub struct StateList {
-    listed: StateBits,
-    states: [u16; MOST_STATES],
+pub struct StateList<const ROOM: usize> {
+    listed: StateFlags<ROOM>,
+    states: [u16; ROOM],
     len: usize,
 }
 
 /// The states, in the order in which they were added.
-impl Model for StateList {
+impl<const ROOM: usize> Model for StateList<ROOM> {
     ghost Value = { List ℕ };
 
     ghost view = { λ list. take list.len list.states };
 
-    ghost invariant = { λ list. IsListed list.listed list.states list.len };
+    ghost invariant = { λ list. IsListed ROOM list.listed list.states list.len };
 }
 
-impl StateList {
+impl<const ROOM: usize> StateList<ROOM> {
     /// No state.
-    pub fn new() -> StateList
+    pub fn new() -> Self
+        requires { ROOM ≤ 2 ^ 16 }
         ensures { result ≡ [] }
     {
         StateList {
-            listed: StateBits::new(),
-            states: [0; MOST_STATES],
+            listed: StateFlags::new(),
+            states: [0; ROOM],
             len: 0,
         }
     }
@@ -41,7 +39,7 @@ impl StateList {
     /// How many states there are.
     pub fn len(&self) -> usize
         ensures len { result ≡ length self.now }
-        ensures few { length self.now ≤ 4096 }
+        ensures few { length self.now ≤ ROOM }
     {
         self.len
     }
@@ -55,17 +53,17 @@ impl StateList {
         StateId::from(states[index])
     }
 
-    /// Takes all states out.
+    /// Takes all states out, in time in proportion to how many there are.
     pub fn clear(&mut self)
         ensures { self.new ≡ [] }
     {
-        self.listed = StateBits::new();
+        self.listed.remove_all(&self.states[..self.len]);
         self.len = 0;
     }
 
     /// Adds a state at the end, unless it is there.
     pub fn insert(&mut self, state: StateId)
-        requires { state < 4096 }
+        requires { state < ROOM }
         ensures { AddsState state self.old self.new }
     {
         if self.listed.insert(state as usize) {

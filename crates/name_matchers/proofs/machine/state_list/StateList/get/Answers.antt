@@ -3,7 +3,7 @@ use Rattle.name_matchers.proofs.StateLists.{listed_len}
 use Rattle.name_matchers.proofs.machine.state_list.StateList.get.Goals as goal
 
 pub offset_bounds-states-index : goal.offset_bounds-states-index
-offset_bounds-states-index c = omega (arith, listed_len _ _ _ c.self.invariant, ap length c.self.view_is)
+offset_bounds-states-index g c = omega (arith, listed_len _ _ _ _ c.self.invariant, ap length c.self.view_is)
 
 pub bounds-states-index : goal.bounds-states-index
-bounds-states-index c = omega (arith, listed_len _ _ _ c.self.invariant, ap length c.self.view_is)
+bounds-states-index g c = omega (arith, listed_len _ _ _ _ c.self.invariant, ap length c.self.view_is)

@@ -1,6 +1,0 @@
-use Rattle.name_matchers.specs.Runs.{in_turn}
-use Rattle.name_matchers.proofs.Searches.{IsSearched}
-use Rattle.name_matchers.proofs.machine.Machine.has_match.Given as goal
-
-abbrev pub invariant-loop-at : goal.invariant-loop-at
-invariant-loop-at l = IsSearched l.self.nfa l.name l.at (in_turn l.at l.even l.odd)
