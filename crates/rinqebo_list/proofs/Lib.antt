@@ -1,4 +1,5 @@
 pub mod Listing
 pub mod Marks
 pub mod RowsMore
+pub mod ScriptRules
 pub mod Selecting

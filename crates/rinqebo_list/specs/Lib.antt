@@ -4,3 +4,4 @@ pub mod Unused
 pub mod Uses
 pub mod Settings
 pub mod Rows
+pub mod Scripts

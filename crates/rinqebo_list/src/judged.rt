@@ -40,7 +40,7 @@ fn spec_holds<S: Specs>(spec: &Option<S::Spec>, platform: &S::Platform) -> bool
 }
 
 /// Whether specs hold on the platforms of a build, for binaries that are built for one of them.
-fn specs_hold<S: Specs>(
+pub fn specs_hold<S: Specs>(
     specs: &PlatformSpecs<S>,
     platforms: &BuildPlatforms<S::Platform>,
     build: BuildPlatform,

@@ -1,5 +1,5 @@
 //! What a profile gives to each test of a list: the settings that are told, and the rules that hold
-//! for no test.
+//! for no test; and to the list as a whole: setup scripts, and what wraps its binaries.
 //!
 //! A configuration is loaded once, by the caller. Its profile on the platforms of the build answers
 //! the settings of one test after another, and beside them only one flag is kept for each rule.
@@ -12,6 +12,7 @@ mod origins;
 mod progress;
 mod rows;
 mod rule_use;
+mod scripts;
 mod values;
 
 pub use judged::ListRule;
@@ -20,3 +21,4 @@ pub use lister::{Asking, ListedRows};
 pub use origins::{Decider, OriginTeller};
 pub use progress::{Progress, Untold};
 pub use rule_use::RuleUse;
+pub use scripts::AskingScripts;
