@@ -4,8 +4,9 @@ use crate::{Mode, Platform};
 use serde::Deserialize;
 use std::collections::BTreeMap;
 
-/// What a run is answered: all settings of each test.
+/// What a run is answered: all settings of each test, and the scripts of the list.
 #[derive(Clone, Debug, PartialEq, Deserialize)]
+#[serde(rename_all = "kebab-case")]
 pub struct Document {
     /// The workspace's root.
     pub root: String,
@@ -25,6 +26,19 @@ pub struct Document {
     pub findings: Vec<Finding>,
     /// The rules that hold for none of the tests.
     pub unused: Vec<Origin>,
+    /// The ids of the setup scripts that the tests enable, in the order in which they run.
+    pub setup_scripts: Vec<String>,
+    /// The list wrappers of the binaries that have one, in the order of the list's keys.
+    pub list_wrappers: Vec<ListWrapper>,
+}
+
+/// The script that wraps a binary while it lists its tests.
+#[derive(Clone, Debug, PartialEq, Eq, Deserialize)]
+#[serde(rename_all = "kebab-case")]
+pub struct ListWrapper {
+    pub binary_id: String,
+    /// The id of the script.
+    pub value: String,
 }
 
 /// A source.

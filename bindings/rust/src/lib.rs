@@ -28,7 +28,7 @@ mod settings;
 mod sources;
 
 pub use document::{
-    Document, Finding, Level, Origin, OriginKind, Refusal, Setting, Source, SourceKind, TestRow,
+    Document, Finding, Level, ListWrapper, Origin, OriginKind, Refusal, Setting, Source, SourceKind, TestRow,
 };
 pub use error::Error;
 use room::Room;

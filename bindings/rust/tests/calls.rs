@@ -1,7 +1,7 @@
 //! The library through its safe types.
 
 use rinqebo::{Backoff, Config, Display, Error, Group, GroupThreads, Machine, Mode, Outcome, Platform, Sources, Test, Threads};
-use rinqebo::{resolve, resolve_json, Document, Level, OriginKind, RunRequest, SourceKind};
+use rinqebo::{resolve, resolve_json, Document, Level, ListWrapper, OriginKind, RunRequest, SourceKind};
 use serde_json::json;
 use std::sync::{Arc, Mutex};
 use std::time::Duration;
@@ -283,6 +283,37 @@ fn a_run_tells_all_settings_of_each_test() {
     assert_eq!(test.settings["test-group"].origins[0].kind, OriginKind::BuiltIn);
     let benchmarks = answer("ci", Mode::Benchmark).unwrap();
     assert!(benchmarks.tests.iter().all(|test| test.settings.contains_key("bench.slow-timeout")));
+}
+
+const SCRIPTS: &str = r#"
+experimental = ["setup-scripts", "wrapper-scripts"]
+[scripts.setup.seed]
+command = "seed"
+[scripts.setup.unused]
+command = "unused"
+[scripts.setup.migrate]
+command = "migrate"
+[scripts.wrapper.sandbox]
+command = "sandbox"
+[[profile.default.scripts]]
+filter = "kind(test)"
+setup = ["migrate", "seed"]
+list-wrapper = "sandbox"
+"#;
+
+#[test]
+fn a_run_tells_the_scripts_of_its_list() {
+    let mut sources = Sources::of_file(ROOT, SCRIPTS, TRIPLE);
+    sources.metadata = Some(example("metadata.json"));
+    let list = example("list.json");
+    let request = RunRequest { sources: &sources, profile: "default", mode: Mode::Test, list: &list };
+    let document = resolve(&request).unwrap();
+    assert_eq!(document.setup_scripts, ["seed", "migrate"]);
+    let wrapper = ListWrapper { binary_id: "api::smoke".to_owned(), value: "sandbox".to_owned() };
+    assert_eq!(document.list_wrappers, [wrapper]);
+    let document = answer("ci", Mode::Test).unwrap();
+    assert_eq!(document.setup_scripts, ["migrate"]);
+    assert!(document.list_wrappers.is_empty());
 }
 
 /// What a run and a profile that is open say of the priority and the retries of each test.

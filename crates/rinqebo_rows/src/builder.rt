@@ -1,9 +1,12 @@
 //! Puts a report together, line by line.
 use crate::line::{Line, RowError};
+use crate::parts::{
+    answer_of, expression_of, origin_of, place_of, scalar_of, verdict_of, written_of,
+};
 use rinqebo_report::{
-    Asked, Condition, ConditionAnswer, Content, Entry, Expression, Field, Finding, Level, Lines,
-    Origin, Part, Place, Platform, Report, Rule, RunMode, Scalar, SettingRow, Source, SourceKind,
-    Span, TestRows, Unreached, Value, Verdict, Written,
+    Asked, Condition, ConditionAnswer, Content, Entry, Field, Finding, Level, ListScripts,
+    ListWrapper, Origin, Platform, Report, Rule, RunMode, SettingRow, Source, SourceKind, TestRows,
+    Unreached, Value,
 };
 use std::alloc::{AllocError, Global};
 use std::mem;
@@ -30,6 +33,7 @@ pub struct Builder {
     rules: Vec<Rule>,
     entries: Vec<Entry>,
     unused: Vec<Origin>,
+    scripts: ListScripts,
     findings: Vec<Finding>,
     unreached: Vec<Unreached>,
 }
@@ -39,6 +43,14 @@ fn absent(alloc: Global) -> Condition {
     Condition {
         text: String::new(alloc),
         answer: ConditionAnswer::Absent,
+    }
+}
+
+/// No scripts yet, for a list.
+fn no_scripts(alloc: Global) -> ListScripts {
+    ListScripts {
+        setup: Vec::new(alloc),
+        list_wrappers: Vec::new(alloc),
     }
 }
 
@@ -56,6 +68,7 @@ impl Builder {
             rules: Vec::new(alloc),
             entries: Vec::new(alloc),
             unused: Vec::new(alloc),
+            scripts: no_scripts(alloc),
             findings: Vec::new(alloc),
             unreached: Vec::new(alloc),
         }
@@ -93,6 +106,7 @@ impl Builder {
                 asked,
                 tests: mem::replace(&mut self.tests, Vec::new(alloc)),
                 unused: mem::replace(&mut self.unused, Vec::new(alloc)),
+                scripts: mem::replace(&mut self.scripts, no_scripts(alloc)),
             }),
             Some(Command::ShowConfig) => Ok(Content::ShowConfig {
                 asked,
@@ -114,6 +128,8 @@ impl Builder {
             "rule" => self.add_rule(line),
             "entry" | "hidden" => self.add_entry(line),
             "unused" => self.add_unused(line),
+            "setup" => self.set_setup(line),
+            "list-wrapper" => self.add_list_wrapper(line),
             "host" | "target" | "filter" => self.set_condition(line),
             "value" | "texts" | "table" => self.set_value(line),
             "field" => self.add_field(line),
@@ -241,6 +257,21 @@ impl Builder {
     fn add_unused(&mut self, line: &Line) -> Result<(), RowError> {
         let origin = written_of(self.alloc, line, 1)?;
         self.unused.push(origin).map_err(AllocError::from)?;
+        Ok(())
+    }
+
+    fn set_setup(&mut self, line: &Line) -> Result<(), RowError> {
+        self.scripts.setup = line.texts(self.alloc, 1)?;
+        Ok(())
+    }
+
+    fn add_list_wrapper(&mut self, line: &Line) -> Result<(), RowError> {
+        let wrapper = ListWrapper {
+            binary: line.text(self.alloc, 1)?,
+            value: line.text(self.alloc, 2)?,
+        };
+        let wrappers = &mut self.scripts.list_wrappers;
+        wrappers.push(wrapper).map_err(AllocError::from)?;
         Ok(())
     }
 
@@ -376,102 +407,4 @@ fn push_optional_field(value: &mut Option<Value>, field: Field) -> Result<(), Ro
         Some(value) => push_field(value, field),
         None => Err(RowError::NoRow),
     }
-}
-
-/// The verdict of these words.
-fn verdict_of(words: &str) -> Option<Verdict> {
-    match words {
-        "platform no" => Some(Verdict::PlatformNo),
-        "filter no" => Some(Verdict::FilterNo),
-        "sets nothing" => Some(Verdict::SetsNothing),
-        "decided before" => Some(Verdict::DecidedBefore),
-        "decides" => Some(Verdict::Decides),
-        "fallback" => Some(Verdict::Fallback),
-        _ => None,
-    }
-}
-
-/// The answer of this word.
-fn answer_of(word: &str) -> Option<ConditionAnswer> {
-    match word {
-        "absent" => Some(ConditionAnswer::Absent),
-        "yes" => Some(ConditionAnswer::Yes),
-        "no" => Some(ConditionAnswer::No),
-        "unknown" => Some(ConditionAnswer::Unknown),
-        "unasked" => Some(ConditionAnswer::Unasked),
-        _ => None,
-    }
-}
-
-/// The scalar whose kind stands at a place, and whose text behind it.
-fn scalar_of(alloc: Global, line: &Line, place: usize) -> Result<Scalar, RowError> {
-    let text = line.word(place.saturating_add(1))?;
-    match line.word(place)? {
-        "boolean" => Ok(Scalar::Boolean(text == "true")),
-        "integer" => match text.parse::<i64>() {
-            Ok(number) => Ok(Scalar::Integer(number)),
-            Err(_) => Err(RowError::NoRow),
-        },
-        "text" => Ok(Scalar::Text(String::from_str(alloc, text)?)),
-        "duration" => match text.parse::<u128>() {
-            Ok(nanoseconds) => Ok(Scalar::Duration(nanoseconds)),
-            Err(_) => Err(RowError::NoRow),
-        },
-        _ => Err(RowError::NoRow),
-    }
-}
-
-/// The place whose source stands at a place of the line, and whose lines behind it.
-fn place_of(line: &Line, place: usize) -> Result<Place, RowError> {
-    let source = line.number(place)? as usize;
-    let first = line.optional_number(place.saturating_add(1))?;
-    let last = line.optional_number(place.saturating_add(2))?;
-    let lines = match (first, last) {
-        (Some(first), Some(last)) => Some(Lines { first, last }),
-        _ => None,
-    };
-    Ok(Place { source, lines })
-}
-
-/// The origin of a line.
-fn origin_of(alloc: Global, line: &Line) -> Result<Origin, RowError> {
-    match line.word(0)? {
-        "built-in" => Ok(Origin::BuiltIn),
-        "default-table" => Ok(Origin::DefaultTable),
-        "file" => Ok(Origin::File(place_of(line, 1)?)),
-        _ => written_of(alloc, line, 0),
-    }
-}
-
-/// What is written in a file, whose kind stands at a place of the line.
-fn written_of(alloc: Global, line: &Line, place: usize) -> Result<Origin, RowError> {
-    let index = line.optional_number(place.saturating_add(2))?;
-    let part = match (line.word(place)?, index) {
-        ("profile", None) => Part::Fields,
-        ("override", Some(index)) => Part::Override(index as usize),
-        ("script", Some(index)) => Part::Script(index as usize),
-        _ => return Err(RowError::NoRow),
-    };
-    Ok(Origin::Written(Written {
-        place: place_of(line, place.saturating_add(3))?,
-        profile: line.text(alloc, place.saturating_add(1))?,
-        part,
-    }))
-}
-
-/// The expression of a line.
-fn expression_of(alloc: Global, line: &Line) -> Result<Expression, RowError> {
-    let from = line.optional_number(2)?;
-    let to = line.optional_number(3)?;
-    let span = match (from, to) {
-        (Some(from), Some(to)) => Some(Span {
-            from: from as usize,
-            to: to as usize,
-        }),
-        _ => None,
-    };
-    Ok(Expression {
-        text: line.text(alloc, 1)?,
-        span,
-    })
 }

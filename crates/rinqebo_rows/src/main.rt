@@ -22,6 +22,8 @@
 //! | `profile`, `override` or `script`, then `PROFILE INDEX SOURCE FIRST LAST` | the same, with the place of the source from 0, and lines |
 //! | `file SOURCE FIRST LAST` | the same, of what stands beside all profiles |
 //! | `unused`, and such a rule behind it | a rule that holds for no test |
+//! | `setup ID ..` | the setup scripts that the tests of a list enable |
+//! | `list-wrapper BINARY ID` | the list wrapper of a binary |
 //! | `finding LEVEL CODE MESSAGE` | what is wrong |
 //! | `at SOURCE FIRST LAST COLUMN` | where it is |
 //! | `path KEYS` | the keys that lead to it |
@@ -36,6 +38,7 @@
 
 mod builder;
 mod line;
+mod parts;
 mod print;
 
 use builder::Builder;

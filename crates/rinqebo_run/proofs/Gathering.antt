@@ -73,7 +73,7 @@ pub why_moved : (content : Content) (P Q : List ℕ → List Rule → Type 0)
     → ((key : List ℕ) (rules : List Rule) → P key rules → Q key rules) → IfWhy content P → IfWhy content Q
 why_moved (contents.Explain asked test) P Q moved is = absurd is
 why_moved (contents.Why asked key rules) P Q moved is = moved (string_bytes key) rules.items is
-why_moved (contents.List asked tests unused) P Q moved is = absurd is
+why_moved (contents.List asked tests unused scripts) P Q moved is = absurd is
 why_moved (contents.ShowConfig asked entries) P Q moved is = absurd is
 why_moved contents.Check P Q moved is = absurd is
 

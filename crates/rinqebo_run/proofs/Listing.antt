@@ -27,17 +27,19 @@ use Rattle.nextest_settings.specs.View.{evaluated_override_meaning, evaluated_sc
 use Rattle.nextest_tables.specs.FileTexts.{ScriptUse, names_in, IsIn}
 use Rattle.nextest_tables.specs.Written.{Name}
 use Rattle.rinqebo_list.specs.Rows.{AreTestsTold}
+use Rattle.rinqebo_list.specs.Scripts.{AreScriptsTold}
 use Rattle.rinqebo_list.specs.Unused.{is_used, unused_among}
 use Rattle.rinqebo_list.specs.Uses.{meant_on}
 use Rattle.rinqebo_report.specs.declared.origin.Origin.{Origin}
 use Rattle.rinqebo_report.specs.declared.report.Content.{Content}
+use Rattle.rinqebo_report.specs.declared.report.ListScripts.{ListScripts}
 use Rattle.rinqebo_report.specs.declared.report.Report.{Report}
 use Rattle.rinqebo_report.specs.declared.report.TestRows.{TestRows}
 use Rattle.rinqebo_request.specs.declared.request.AskedSettings.{AskedSettings}
 use Rattle.target_language.specs.Expressions.{Spec, spec_view}
 use Rattle.target_language.specs.declared.expression.TargetSpec.{TargetSpec}
 use Rattle.test_lists.specs.ListView.{list_view}
-use Rattle.test_lists.specs.Lists.{all_tests}
+use Rattle.test_lists.specs.Lists.{all_binaries, all_tests}
 use Rattle.rinqebo_run.specs.Checked.{AreAccepted}
 use Rattle.rinqebo_run.specs.Conditions.{is_met_by}
 use Rattle.rinqebo_run.specs.ListRules.{bare, writing, placed_view, placed_override, listed_script, AreRulesOf}
@@ -161,6 +163,13 @@ module _ {E N M K P : Type 0} (f : E → M) (g : N → K) (meets : K → P → O
         ∙ ap with_default (lead_default_one (parents_in (config_parents c.config)) name chain.chain is.chain
         chain.is_chain.leads is.is_chain.leads)
 
+    -- the script rules of a chain are those of the profile
+    pub rules_here : (names : List Name) → names ≡ with_default is.chain
+        → map (rule_on read_meets platforms) (script_rules_of c.config.layers names) ≡ on.script_rules
+    rules_here names same =
+        ap (λ ns. map (rule_on read_meets platforms) (script_rules_of c.config.layers ns)) same
+        ∙ ap (λ p. p.script_rules) (sym is.is_profile)
+
     -- the rules that hold for no test are told
     pub unused_told : (names : List Name) (tests : List (QueryContext M)) (rules : List (Compiled E N Place))
         (unused : List Origin) → names ≡ with_default is.chain → AreRulesOf c.config.layers names rules
@@ -190,18 +199,37 @@ module _ {E N M K P : Type 0} (f : E → M) (g : N → K) (meets : K → P → O
               rules_meant told;
         }
 
--- tests and rules are told by a configuration that was loaded
+-- the script rules of a chain that was loaded are those of the profile
+pub scripts_here : (session : Session) (loaded : Loaded (Filterset FieldMatcher) TargetSpec) (name : Name)
+    (on : EvaluatableModel (Filterset FieldMatcher)) (names : List Name)
+    → IsProfileOn is_met_by session.engines.platforms (read_by session loaded) name on
+    → IsChainAndDefault (parents_in (config_parents loaded.config)) name names
+    → map (rule_on is_met_by session.engines.platforms) (script_rules_of loaded.config.layers names)
+    ≡ on.script_rules
+scripts_here session loaded name on names is chain =
+    let engines = readings session.engines.filters in
+    let platforms = session.engines.platforms in
+    let f = marks_view names_of in
+    let c = read_by session loaded in
+    rules_here f spec_view engines.meets platforms c name on is names
+    (same_names f spec_view engines.meets platforms c name on is names chain)
+
+-- tests, rules and scripts are told by a configuration that was loaded
 pub listed_here : (session : Session) (loaded : Loaded (Filterset FieldMatcher) TargetSpec) (name : Name)
     (mode : NextestRunMode) (asked : AskedSettings) (on : EvaluatableModel (Filterset FieldMatcher))
-    (names : List Name) (places : List Place) (tests : List TestRows) (unused : List Origin)
+    (names : List Name) (places : List Place) (tests : List TestRows) (unused : List Origin) (scripts : ListScripts)
     → IsProfileOn is_met_by session.engines.platforms (read_by session loaded) name on
     → IsChainAndDefault (parents_in (config_parents loaded.config)) name names
     → AreTestsTold (readings session.engines.filters).matches_test mode (profile_meaning (marks_view names_of) on)
     asked (all_tests (list_view session.tests)) tests
     → AreUnusedPlaces session.engines.platforms loaded.config.layers names (profile_meaning (marks_view names_of) on)
     (all_tests (list_view session.tests)) places
-    → AllZip IsOriginOf places unused → listed_by session loaded name mode asked tests unused
-listed_here session loaded name mode asked on names places tests unused is chain told are origins =
+    → AllZip IsOriginOf places unused
+    → AreScriptsTold (readings session.engines.filters).matches_test (readings session.engines.filters).matches_binary
+    (profile_meaning (marks_view names_of) on) (all_tests (list_view session.tests))
+    (all_binaries (list_view session.tests)) scripts
+    → listed_by session loaded name mode asked tests unused scripts
+listed_here session loaded name mode asked on names places tests unused scripts is chain told are origins scripted =
     let engines = readings session.engines.filters in
     let platforms = session.engines.platforms in
     let f = marks_view names_of in
@@ -213,6 +241,7 @@ listed_here session loaded name mode asked on names places tests unused is chain
       unused_told = unused_told f spec_view engines.meets platforms c name on is names _ are.rules unused
           (same_names f spec_view engines.meets platforms c name on is names chain) are.are_rules
           (subst (λ ps. AllZip IsOriginOf ps unused) are.are origins);
+      scripts_told = scripted;
     }
 
 -- a report tells the tests of a list by what was loaded
@@ -224,12 +253,12 @@ pub tells_tests : (session : Session) (profile : Name) (mode : NextestRunMode) (
 tells_tests session profile mode asked report content loaded accepted from there same is =
     let engines = readings session.engines.filters in
     let Listed : Content → ConfigModel Filter Spec → Type 0 =
-    λ content config. IfListed content (AreTestsOf engines.meets engines.matches_test session.engines.platforms
-    (record {
+    λ content config. IfListed content (AreTestsOf engines.meets engines.matches_test engines.matches_binary
+    session.engines.platforms (record {
       root = string_bytes session.gathered.now.paths.workspace_root;
       config = config;
       scripts = loaded.scripts;
-    }) profile mode asked (all_tests (list_view session.tests))) in
+    }) profile mode asked (list_view session.tests)) in
     record {
       acceptance = accepted;
       scripts = loaded.scripts;

@@ -30,6 +30,7 @@ use Rattle.rinqebo_report.specs.declared.origin.Origin.{Origin}
 use Rattle.rinqebo_report.specs.declared.piece.Colour.{Colour}
 use Rattle.rinqebo_report.specs.declared.report.Content.{Content}
 use Rattle.rinqebo_report.specs.declared.report.Content.TheVariants as contents
+use Rattle.rinqebo_report.specs.declared.report.ListScripts.{ListScripts}
 use Rattle.rinqebo_report.specs.declared.report.Report.{Report}
 use Rattle.rinqebo_report.specs.declared.report.TestRows.{TestRows}
 use Rattle.rinqebo_request.specs.declared.request.AskedSettings.{AskedSettings}
@@ -176,10 +177,11 @@ begins_list session profile mode asked tint loaded old new accepted from there f
     }
 
 -- the page of a list does not speak of what else its report has
-page_of_list : (head : Report) (tint : Colour) (content : Content) (P : List TestRows → List Origin → Type 0)
-    (old new : Option (List ℕ)) → IfListed content P → Appends old new (page_text tint (content_runs head content))
+page_of_list : (head : Report) (tint : Colour) (content : Content)
+    (P : List TestRows → List Origin → ListScripts → Type 0) (old new : Option (List ℕ)) → IfListed content P
+    → Appends old new (page_text tint (content_runs head content))
     → Appends old new (rendered (record head { content = content }) formats.Text tint)
-page_of_list head tint (contents.List asked tests unused) P old new listed page = page
+page_of_list head tint (contents.List asked tests unused scripts) P old new listed page = page
 page_of_list head tint _ P old new listed page = absurd listed
 
 -- the page of a list went out by what was loaded

@@ -6,6 +6,7 @@ use Rattle.nextest_engines.specs.Engines.{Test}
 use Rattle.nextest_engines.specs.declared.queries.BuildPlatforms.{BuildPlatforms}
 use Rattle.nextest_filters.specs.Engine.{Filter}
 use Rattle.nextest_inheritance.specs.Parents.{parents_in, IsChain}
+use Rattle.nextest_load.specs.Closed.{BinaryMatch}
 use Rattle.nextest_load.specs.Config.{ScriptTables, config_parents}
 use Rattle.nextest_load.specs.Scripts.{AreScriptsOf}
 use Rattle.nextest_rules.specs.Rules.{OverrideUse}
@@ -17,16 +18,18 @@ use Rattle.nextest_sources.specs.Inputs.{sources_in}
 use Rattle.nextest_tables.specs.FileTexts.{names_in, IsIn}
 use Rattle.nextest_tables.specs.Written.{Name}
 use Rattle.rinqebo_list.specs.Rows.{AreTestsTold}
+use Rattle.rinqebo_list.specs.Scripts.{AreScriptsTold}
 use Rattle.rinqebo_list.specs.Unused.{unused_among}
 use Rattle.rinqebo_report.specs.declared.origin.Origin.{Origin}
 use Rattle.rinqebo_report.specs.declared.report.Content.{Content}
 use Rattle.rinqebo_report.specs.declared.report.Content.TheVariants as contents
+use Rattle.rinqebo_report.specs.declared.report.ListScripts.{ListScripts}
 use Rattle.rinqebo_report.specs.declared.report.Report.{Report}
 use Rattle.rinqebo_report.specs.declared.report.TestRows.{TestRows}
 use Rattle.rinqebo_request.specs.declared.request.AskedSettings.{AskedSettings}
 use Rattle.target_language.specs.Expressions.{Spec}
 use Rattle.test_lists.specs.ListView.{list_view}
-use Rattle.test_lists.specs.Lists.{all_tests}
+use Rattle.test_lists.specs.Lists.{all_binaries, all_tests, TestList}
 use Rattle.rinqebo_run.specs.Checked.{AreAccepted}
 use Rattle.rinqebo_run.specs.RulePlaces.{Place, id_place, IsOriginOf}
 use Rattle.rinqebo_run.specs.Sessions.{files_view, readings}
@@ -69,20 +72,22 @@ pub record AreUnused {M : Type 0} (tests : List (QueryContext M)) (profile : Eva
       (unused_among tests (map placed_on profile.overrides ++ scripts)))
       unused
 
--- Tests are told as the profile of a name gives them settings on the platforms of a build, and of
--- its rules those that hold for none.
+-- Tests are told as the profile of a name gives them settings on the platforms of a build, of its
+-- rules those that hold for none, and the scripts that it gives to the list.
 pub record AreTestsOf {M K P : Type 0} (meets : K → P → Option Bool) (matches : M → Test → M → Bool)
-    (platforms : BuildPlatforms P) (configured : Configured M K) (name : Name)
-    (mode : NextestRunMode) (asked : AskedSettings) (list : List Test) (tests : List TestRows)
-    (unused : List Origin) : Type 0 where
+    (matches_binary : BinaryMatch M) (platforms : BuildPlatforms P) (configured : Configured M K)
+    (name : Name) (mode : NextestRunMode) (asked : AskedSettings) (list : TestList)
+    (tests : List TestRows) (unused : List Origin) (scripts : ListScripts) : Type 0 where
   pub profile : EvaluatableModel M
   pub is_profile : IsProfileOn meets platforms configured name profile
-  pub tests_told : AreTestsTold matches mode profile asked list tests
-  pub unused_told : AreUnused (map (query_in matches profile) list) profile unused
+  pub tests_told : AreTestsTold matches mode profile asked (all_tests list) tests
+  pub unused_told : AreUnused (map (query_in matches profile) (all_tests list)) profile unused
+  pub scripts_told : AreScriptsTold matches matches_binary profile (all_tests list)
+      (all_binaries list) scripts
 
--- a fact of the tests and of the rules that a report lists
-abbrev pub IfListed : Content → (List TestRows → List Origin → Type 0) → Type 0
-IfListed (contents.List asked tests unused) P = P tests.items unused.items
+-- a fact of the tests, of the rules and of the scripts that a report lists
+abbrev pub IfListed : Content → (List TestRows → List Origin → ListScripts → Type 0) → Type 0
+IfListed (contents.List asked tests unused scripts) P = P tests.items unused.items scripts
 IfListed _ P = ⊥
 
 -- A report tells the tests of a list in a profile, by what the files mean.
@@ -95,9 +100,11 @@ pub record TellsTests (session : Session) (profile : Name) (mode : NextestRunMod
   pub are_scripts : AreScriptsOf (sources_in (files_view session.gathered.now)) scripts
   -- They have the profile.
   pub known : IsIn (names_in (configured_by session scripts).config.profiles) profile
-  -- The report tells each test of the list in order, with the values that the profile gives it, and
-  -- the rules of the profile that hold for none.
+  -- The report tells each test of the list in order, with the values that the profile gives it, the
+  -- rules of the profile that hold for none, the setup scripts that the tests enable, and what wraps
+  -- the binaries of the list.
   pub told : IfListed report.content
       (AreTestsOf (readings session.engines.filters).meets
-      (readings session.engines.filters).matches_test session.engines.platforms
-      (configured_by session scripts) profile mode asked (all_tests (list_view session.tests)))
+      (readings session.engines.filters).matches_test
+      (readings session.engines.filters).matches_binary session.engines.platforms
+      (configured_by session scripts) profile mode asked (list_view session.tests))

@@ -17,13 +17,13 @@ use Rattle.nextest_tables.specs.Written.{Name}
 use Rattle.rinqebo_list.specs.Unused.{unused_among}
 use Rattle.rinqebo_list.specs.Uses.{meant_on}
 use Rattle.rinqebo_report.specs.declared.origin.Origin.{Origin}
+use Rattle.rinqebo_report.specs.declared.report.ListScripts.{ListScripts}
 use Rattle.rinqebo_report.specs.declared.report.TestRows.{TestRows}
 use Rattle.rinqebo_request.specs.declared.request.AskedSettings.{AskedSettings}
 use Rattle.target_language.specs.Expressions.{spec_view}
 use Rattle.target_language.specs.declared.expression.TargetSpec.{TargetSpec}
 use Rattle.target_platforms.specs.declared.Platform.{Platform}
 use Rattle.test_lists.specs.ListView.{list_view}
-use Rattle.test_lists.specs.Lists.{all_tests}
 use Rattle.rinqebo_run.specs.Conditions.{is_met_by}
 use Rattle.rinqebo_run.specs.ListRules.{AreRulesOf}
 use Rattle.rinqebo_run.specs.Listed.{AreTestsOf}
@@ -51,11 +51,12 @@ pub record AreUnusedPlaces (platforms : BuildPlatforms Platform)
       (unused_among (map (query_in filter_holds profile) list)
       (map (meant_on (marks_view names_of) is_met_by platforms) rules))
 
--- tests and rules are told as the profile of a name gives settings, by what was loaded
+-- tests, rules and scripts are told as the profile of a name gives them, by what was loaded
 abbrev pub listed_by : Session → Loaded (Filterset FieldMatcher) TargetSpec → Name
-    → NextestRunMode → AskedSettings → List TestRows → List Origin → Type 0
+    → NextestRunMode → AskedSettings → List TestRows → List Origin → ListScripts → Type 0
 listed_by session loaded profile mode asked =
     AreTestsOf (readings session.engines.filters).meets
-    (readings session.engines.filters).matches_test session.engines.platforms
+    (readings session.engines.filters).matches_test
+    (readings session.engines.filters).matches_binary session.engines.platforms
     (configured_meaning (marks_view names_of) spec_view (read_by session loaded)) profile mode
-    asked (all_tests (list_view session.tests))
+    asked (list_view session.tests)

@@ -26,6 +26,7 @@ mod list_fault;
 mod list_origins;
 mod list_page;
 mod list_rules;
+mod list_scripts;
 mod list_text;
 mod loading;
 mod progress;

@@ -1,4 +1,4 @@
-//! The settings of each test of a list, and the rules that hold for none.
+//! The settings of each test of a list, the rules that hold for none, and the scripts of the list.
 ghost use Rattle.std.specs.Prelude.{IfErr, IfOk, map};
 ghost use Rattle.filter_language.specs.Filtersets.{marks_view};
 ghost use Rattle.nextest_filters.specs.Compiling.{names_of};
@@ -21,6 +21,7 @@ use crate::explain::asked_of;
 use crate::findings::warning_findings;
 use crate::list_origins::{Origins, origins_of_rules};
 use crate::list_rules::{all_rules, wrapper_rules};
+use crate::list_scripts::scripts_of_list;
 use crate::loading::config_with;
 use crate::rule_places::RulePlace;
 use crate::rules::chain_of_profile;
@@ -102,7 +103,7 @@ fn listed_rows<'c, P: Progress>(
     )
 }
 
-/// What is told of the tests of a session, by a configuration.
+/// What is told of the tests and of the binaries of a session, by a configuration.
 fn listed<'c, P: Progress>(
     alloc: Global,
     session: &'c Session<'_>,
@@ -122,11 +123,13 @@ fn listed<'c, P: Progress>(
     Ok(Content::List {
         asked: asked_of(alloc, session, profile, &chain, mode)?,
         unused: origins_of_rules(alloc, &session.layers, &rows.unused)?,
+        scripts: scripts_of_list(alloc, session, config, &chain, &on)?,
         tests: rows.tests,
     })
 }
 
-/// The settings of each test of a list in a profile, and the rules that hold for none.
+/// The settings of each test of a list in a profile, the rules that hold for none, and the scripts of
+/// the list.
 pub fn list<P: Progress>(
     alloc: Global,
     session: &Session<'_>,

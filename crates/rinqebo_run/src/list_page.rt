@@ -31,6 +31,7 @@ use crate::list::{Profile, Rows, profile_on};
 use crate::list_fault::ListFault;
 use crate::list_origins::{Origins, origins_of_rules};
 use crate::list_rules::{Rule, all_rules, wrapper_rules};
+use crate::list_scripts::scripts_of_list;
 use crate::rule_places::RulePlace;
 use crate::rules::chain_of_profile;
 use crate::session::{Config, Session};
@@ -260,11 +261,13 @@ impl<'c> ListPage<'c, '_> {
         )?;
         let on = profile_on(alloc, self.session, self.config, self.list.profile)?;
         let rows = self.write_rows(alloc, &chain, &on, progress, out)?;
+        let scripts = scripts_of_list(alloc, self.session, self.config, &chain, &on)?;
         let unused = self.write_end(alloc, rows.tests.len() as u64, &rows.unused, out)?;
         Ok(Content::List {
             asked,
             tests: rows.tests,
             unused,
+            scripts,
         })
     }
 }

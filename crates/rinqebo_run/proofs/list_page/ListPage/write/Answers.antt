@@ -1,4 +1,4 @@
-use Rattle.std.proofs.Common.{◌≡◌, arith, length, subst, sym}
+use Rattle.std.proofs.Common.{◌≡◌, arith, inl, length, subst, sym}
 use Rattle.filter_language.specs.Filtersets.{marks_view}
 use Rattle.nextest_filters.specs.Compiling.{names_of}
 use Rattle.nextest_filters.specs.Engine.{filter_holds}
@@ -7,7 +7,7 @@ use Rattle.nextest_inheritance.specs.View.{borrowed_view}
 use Rattle.nextest_load.specs.Config.{config_parents}
 use Rattle.nextest_profiles.specs.Meaning.{profile_meaning}
 use Rattle.nextest_profiles.specs.Profiles.{IsChainAndDefault}
-use Rattle.rinqebo_run.proofs.Listing.{listed_here, told_of}
+use Rattle.rinqebo_run.proofs.Listing.{listed_here, scripts_here, told_of}
 use Rattle.rinqebo_run.proofs.Writing.{all_first, first_here, passed_stop, stops_at_end, stops_so, whole_page}
 use Rattle.rinqebo_run.specs.Begun.{AreFirstWritten}
 use Rattle.rinqebo_run.specs.Written.{AreFirstBy}
@@ -19,15 +19,23 @@ use Rattle.rinqebo_run.proofs.list_page.ListPage.write.Goals as goal
 pub profile_on-requires : goal.profile_on-requires
 profile_on-requires g c = c.requires
 
+pub scripts_of_list-requires : goal.scripts_of_list-requires
+scripts_of_list-requires g c =
+    let self = c.args.self.now in
+    let name = self.list.profile.now in
+    let chain = subst (λ names. IsChainAndDefault (parents_in (config_parents self.config.now.config))
+    name (borrowed_view names)) (sym c.deref-3.ensures.value) (c.in_ok-chain.ensures c.requires) in
+    scripts_here self.session.now self.config.now name c.in_ok-on.on _ c.in_ok-on.ensures chain
+
 pub returns-clause-told : goal.returns-clause-told
 returns-clause-told g c =
     let self = c.args.self.now in
     let list = self.list in
     let chain = subst (λ names. IsChainAndDefault (parents_in (config_parents self.config.now.config))
     list.profile.now (borrowed_view names)) (sym c.deref-2.ensures.value) (c.in_ok-chain.ensures c.requires) in
-    listed_here self.session.now self.config.now list.profile.now list.mode list.settings.now c.in_ok-on.on _ _ _ _
+    listed_here self.session.now self.config.now list.profile.now list.mode list.settings.now c.in_ok-on.on _ _ _ _ _
     c.in_ok-on.ensures chain c.in_ok-rows.ensures.tests c.in_ok-rows.ensures.unused
-    (told_of _ _ _ c.deref-3.ensures.value c.in_ok-unused.ensures.origins)
+    (told_of _ _ _ c.deref-4.ensures.value c.in_ok-unused.ensures.origins) c.in_ok-scripts.ensures
 
 pub returns-clause-page : goal.returns-clause-page
 returns-clause-page g c =
@@ -52,6 +60,19 @@ returns-in_err-rows-clause-err g c =
     (first_here self.session.now self.config.now list.profile.now list.mode list.settings.now c.in_ok-on.on self.head.now
     self.colour old new c.in_ok-on.ensures)
     c.in_err-rows.ensures.err)
+
+pub returns-in_err-scripts-clause-err : goal.returns-in_err-scripts-clause-err
+returns-in_err-scripts-clause-err g c =
+    let self = c.args.self.now in
+    let list = self.list in
+    let old = g.O.Write.contents c.args.out.now in
+    let new = g.O.Write.contents c.write_rows.new.out in
+    passed_stop _ c.from_residual-in_err-scripts.result faults.Memory c.from_residual-in_err-scripts.ensures.1
+    (inl (first_here self.session.now self.config.now list.profile.now list.mode list.settings.now c.in_ok-on.on
+    self.head.now self.colour old new c.in_ok-on.ensures
+    (all_first list.mode (profile_meaning (marks_view names_of) c.in_ok-on.on) list.settings.now self.head.now
+    self.colour (all_tests (list_view self.session.now.tests)) c.in_ok-rows.rows.tests.items old new
+    c.in_ok-rows.ensures.tests c.in_ok-rows.ensures.page)))
 
 pub returns-in_err-unused-clause-err : goal.returns-in_err-unused-clause-err
 returns-in_err-unused-clause-err g c =

@@ -1,0 +1,104 @@
+//! Parts of a report, by the words of a line.
+use crate::line::{Line, RowError};
+use rinqebo_report::{
+    ConditionAnswer, Expression, Lines, Origin, Part, Place, Scalar, Span, Verdict, Written,
+};
+use std::alloc::Global;
+
+/// The verdict of these words.
+pub fn verdict_of(words: &str) -> Option<Verdict> {
+    match words {
+        "platform no" => Some(Verdict::PlatformNo),
+        "filter no" => Some(Verdict::FilterNo),
+        "sets nothing" => Some(Verdict::SetsNothing),
+        "decided before" => Some(Verdict::DecidedBefore),
+        "decides" => Some(Verdict::Decides),
+        "fallback" => Some(Verdict::Fallback),
+        _ => None,
+    }
+}
+
+/// The answer of this word.
+pub fn answer_of(word: &str) -> Option<ConditionAnswer> {
+    match word {
+        "absent" => Some(ConditionAnswer::Absent),
+        "yes" => Some(ConditionAnswer::Yes),
+        "no" => Some(ConditionAnswer::No),
+        "unknown" => Some(ConditionAnswer::Unknown),
+        "unasked" => Some(ConditionAnswer::Unasked),
+        _ => None,
+    }
+}
+
+/// The scalar whose kind stands at a place, and whose text behind it.
+pub fn scalar_of(alloc: Global, line: &Line, place: usize) -> Result<Scalar, RowError> {
+    let text = line.word(place.saturating_add(1))?;
+    match line.word(place)? {
+        "boolean" => Ok(Scalar::Boolean(text == "true")),
+        "integer" => match text.parse::<i64>() {
+            Ok(number) => Ok(Scalar::Integer(number)),
+            Err(_) => Err(RowError::NoRow),
+        },
+        "text" => Ok(Scalar::Text(String::from_str(alloc, text)?)),
+        "duration" => match text.parse::<u128>() {
+            Ok(nanoseconds) => Ok(Scalar::Duration(nanoseconds)),
+            Err(_) => Err(RowError::NoRow),
+        },
+        _ => Err(RowError::NoRow),
+    }
+}
+
+/// The place whose source stands at a place of the line, and whose lines behind it.
+pub fn place_of(line: &Line, place: usize) -> Result<Place, RowError> {
+    let source = line.number(place)? as usize;
+    let first = line.optional_number(place.saturating_add(1))?;
+    let last = line.optional_number(place.saturating_add(2))?;
+    let lines = match (first, last) {
+        (Some(first), Some(last)) => Some(Lines { first, last }),
+        _ => None,
+    };
+    Ok(Place { source, lines })
+}
+
+/// The origin of a line.
+pub fn origin_of(alloc: Global, line: &Line) -> Result<Origin, RowError> {
+    match line.word(0)? {
+        "built-in" => Ok(Origin::BuiltIn),
+        "default-table" => Ok(Origin::DefaultTable),
+        "file" => Ok(Origin::File(place_of(line, 1)?)),
+        _ => written_of(alloc, line, 0),
+    }
+}
+
+/// What is written in a file, whose kind stands at a place of the line.
+pub fn written_of(alloc: Global, line: &Line, place: usize) -> Result<Origin, RowError> {
+    let index = line.optional_number(place.saturating_add(2))?;
+    let part = match (line.word(place)?, index) {
+        ("profile", None) => Part::Fields,
+        ("override", Some(index)) => Part::Override(index as usize),
+        ("script", Some(index)) => Part::Script(index as usize),
+        _ => return Err(RowError::NoRow),
+    };
+    Ok(Origin::Written(Written {
+        place: place_of(line, place.saturating_add(3))?,
+        profile: line.text(alloc, place.saturating_add(1))?,
+        part,
+    }))
+}
+
+/// The expression of a line.
+pub fn expression_of(alloc: Global, line: &Line) -> Result<Expression, RowError> {
+    let from = line.optional_number(2)?;
+    let to = line.optional_number(3)?;
+    let span = match (from, to) {
+        (Some(from), Some(to)) => Some(Span {
+            from: from as usize,
+            to: to as usize,
+        }),
+        _ => None,
+    };
+    Ok(Expression {
+        text: line.text(alloc, 1)?,
+        span,
+    })
+}
