@@ -54,10 +54,10 @@ static int has_text(const struct rinqebo_profile *profile, uint32_t kind, size_t
 }
 
 static const char *REQUEST =
-    "{\"root\": \"/w\", \"file\": {\"path\": \"/w/.config/nextest.toml\", \"text\":"
+    "{\"root\": \"/w\", \"file\": {\"path\": \"/w/.config/nextest.toml\", \"outcome\": \"text\", \"text\":"
     " \"[profile.ci]\\nretries = 1\\n[test-groups.db]\\nmax-threads = 2\\n[[profile.ci.overrides]]\\n"
     "filter = 'test(/^db::/)'\\ntest-group = 'db'\\nthreads-required = 4\\nslow-timeout = '20s'\\npriority = 50\\n\"},"
-    " \"tools\": [], \"features\": {\"setup-scripts\": false, \"wrapper-scripts\": false}, \"metadata\": null,"
+    " \"config-file\": null, \"tools\": [], \"features\": {\"setup-scripts\": false, \"wrapper-scripts\": false}, \"metadata\": null,"
     " \"host\": {\"triple\": \"x86_64-unknown-linux-gnu\", \"cfg\": null}, \"target\": null}";
 
 // Settings of one profile. 0, or the number of the first check that fails.
@@ -125,12 +125,19 @@ static uint8_t *run(const char *request, size_t length, uint32_t *status, size_t
     return answer;
 }
 
-// A request for a run: one over FILE, where PROFILE is asked of the tests of LIST.
-#define RUN_REQUEST(FILE, PROFILE, LIST) \
-    "{\"root\": \"/w\", \"file\": {\"path\": \"/w/.config/nextest.toml\", \"text\": \"" FILE "\"}, \"tools\": []," \
+// What came of reading a file: OUTCOME, with TEXT, which is JSON.
+#define READ(PATH, OUTCOME, TEXT) "{\"path\": \"" PATH "\", \"outcome\": \"" OUTCOME "\", \"text\": " TEXT "}"
+
+// A request for a run over files, each as READ has it, where PROFILE is asked of the tests of LIST.
+#define RUN_OVER(FILE, CONFIG_FILE, PROFILE, LIST) \
+    "{\"root\": \"/w\", \"file\": " FILE ", \"config-file\": " CONFIG_FILE ", \"tools\": []," \
     " \"features\": {\"setup-scripts\": false, \"wrapper-scripts\": false}, \"metadata\": null," \
     " \"host\": {\"triple\": \"x86_64-unknown-linux-gnu\", \"cfg\": null}, \"target\": null," \
     " \"profile\": \"" PROFILE "\", \"mode\": \"test\", \"list\": \"" LIST "\"}"
+
+// The same over the repository's own file, of this text.
+#define RUN_REQUEST(TEXT, PROFILE, LIST) \
+    RUN_OVER(READ("/w/.config/nextest.toml", "text", "\"" TEXT "\""), "null", PROFILE, LIST)
 
 #define LIST \
     "{\\\"rust-suites\\\": {\\\"api\\\": {\\\"package-name\\\": \\\"api\\\", \\\"package-id\\\": \\\"api 1\\\", \\\"binary-id\\\": \\\"api\\\"," \
@@ -168,6 +175,24 @@ static int check_run(void) {
     return 0;
 }
 
+// What came of reading files, in a session and in a run. 0, or the number of the first check that fails.
+static int check_outcomes(void) {
+    static const char *missing = RUN_OVER(READ("/f", "not-found", "null"), "null", "default", LIST);
+    static const char *failed = RUN_OVER(READ("/f", "failed", "\"no UTF-8\""), "null", "default", LIST);
+    static const char *named = RUN_OVER(READ("/f", "failed", "\"no UTF-8\""), READ("/g", "text", "\"\""), "default", LIST);
+    static const char *lost = RUN_OVER(READ("/f", "text", "\"\""), READ("/g", "not-a-directory", "null"), "default", LIST);
+    static const char *unknown = RUN_OVER(READ("/f", "found", "null"), "null", "default", LIST);
+    if (!ends_with(missing, RINQEBO_DONE, "\"priority\"")) return 70;
+    if (!ends_with(failed, RINQEBO_REFUSED, "no UTF-8")) return 71;
+    if (!ends_with(named, RINQEBO_DONE, "\"kind\":\"explicit\",\"path\":\"/g\"")) return 72;
+    if (!ends_with(lost, RINQEBO_REFUSED, "no directory")) return 73;
+    if (!ends_with(unknown, RINQEBO_NOT_UNDERSTOOD, "`file.outcome`")) return 74;
+    int refused = check_refused(failed, RINQEBO_REFUSED);
+    if (refused == 0) refused = check_refused(lost, RINQEBO_REFUSED);
+    if (refused == 0) refused = check_refused(unknown, RINQEBO_NOT_UNDERSTOOD);
+    return refused;
+}
+
 static int check(void) {
     struct rinqebo_session *session = load(REQUEST);
     if (session == NULL) return 1;
@@ -188,7 +213,8 @@ static int check(void) {
     failed = check_refused("", RINQEBO_NOT_UNDERSTOOD);
     if (failed == 0) failed = check_refused("{}", RINQEBO_NOT_UNDERSTOOD);
     if (failed == 0) failed = check_refused("\xff", RINQEBO_NOT_TEXT);
-    return failed == 0 ? check_run() : failed;
+    if (failed == 0) failed = check_run();
+    return failed == 0 ? check_outcomes() : failed;
 }
 
 // The text of a file, ended by a zero, or NULL.

@@ -37,7 +37,7 @@ use serde::{Deserialize, Serialize};
 pub use settings::{
     Backoff, Display, Group, GroupThreads, LeakTimeout, Outcome, Report, Retries, SlowTimeout, TestSettings, Threads,
 };
-pub use sources::{Features, File, Machine, Sources, ToolFile};
+pub use sources::{Features, File, Machine, ReadOutcome, Sources, ToolFile};
 use std::marker::PhantomData;
 
 const DONE: u32 = 0;

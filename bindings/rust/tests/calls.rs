@@ -2,6 +2,7 @@
 
 use rinqebo::{Backoff, Config, Display, Error, Group, GroupThreads, Machine, Mode, Outcome, Platform, Sources, Test, Threads};
 use rinqebo::{resolve, resolve_json, Document, Level, ListWrapper, OriginKind, RunRequest, SourceKind};
+use rinqebo::{File, ReadOutcome, Refusal, ToolFile};
 use serde_json::json;
 use std::sync::{Arc, Mutex};
 use std::time::Duration;
@@ -154,11 +155,8 @@ fn refusals_tell_why() {
 /// A request for a session, whose members the next tests spoil one by one.
 fn request() -> serde_json::Value {
     let mut sources = Sources::of_file("/w", "", TRIPLE);
-    sources.tools.push(rinqebo::ToolFile {
-        tool: "tool".to_owned(),
-        path: "/t.toml".to_owned(),
-        text: Some(String::new()),
-    });
+    sources.config_file = Some(File::of("/c.toml", ""));
+    sources.tools.push(ToolFile { tool: "tool".to_owned(), file: File::of("/t.toml", "") });
     sources.target = Some(Machine { triple: TRIPLE.to_owned(), cfg: None });
     serde_json::to_value(&sources).unwrap()
 }
@@ -207,10 +205,16 @@ fn each_member_left_out_or_of_another_kind_is_told() {
         ("/root", "root"),
         ("/file", "file"),
         ("/file/path", "file.path"),
+        ("/file/outcome", "file.outcome"),
         ("/file/text", "file.text"),
+        ("/config-file", "config-file"),
+        ("/config-file/path", "config-file.path"),
+        ("/config-file/outcome", "config-file.outcome"),
+        ("/config-file/text", "config-file.text"),
         ("/tools", "tools"),
         ("/tools/0/tool", "tools[0].tool"),
         ("/tools/0/path", "tools[0].path"),
+        ("/tools/0/outcome", "tools[0].outcome"),
         ("/tools/0/text", "tools[0].text"),
         ("/features", "features"),
         ("/features/setup-scripts", "features.setup-scripts"),
@@ -248,6 +252,102 @@ fn words_that_stand_for_nothing_are_told() {
     assert_eq!(run_error(&request), Some(told));
 }
 
+/// Why a request is not understood: a load and a run say the same.
+fn reason_of(request: &serde_json::Value) -> String {
+    let Some(Error::NotUnderstood(reason)) = load_error(request) else { panic!("it is understood") };
+    assert_eq!(run_error(request), Some(Error::NotUnderstood(reason.clone())));
+    reason
+}
+
+#[test]
+fn an_outcome_goes_with_its_text() {
+    for (holder, place) in [("/file", "file"), ("/config-file", "config-file"), ("/tools/0", "tools[0]")] {
+        let told = |outcome: &str, text: serde_json::Value| {
+            let mut request = run_request();
+            let file = request.pointer_mut(holder).unwrap();
+            file["outcome"] = json!(outcome);
+            file["text"] = text;
+            reason_of(&request)
+        };
+        let words = "text, not-found, not-a-directory or failed";
+        // The word is read first.
+        assert_eq!(told("found", json!(7)), format!("expected {words} at `{place}.outcome`"));
+        for outcome in ["text", "failed"] {
+            assert_eq!(told(outcome, json!(null)), format!("expected a text at `{place}.text`"));
+        }
+        for outcome in ["not-found", "not-a-directory"] {
+            assert_eq!(told(outcome, json!("")), format!("expected null at `{place}.text`"));
+        }
+    }
+}
+
+/// How the files are refused: the words of a load, and the findings of a run.
+fn refusal_of(sources: &Sources) -> (String, Refusal) {
+    let list = example("list.json");
+    let run = resolve(&RunRequest { sources, profile: "default", mode: Mode::Test, list: &list });
+    match (Config::load(sources).err(), run) {
+        (Some(Error::Refused(load)), Err(Error::Refused(run))) => (load.reason, run),
+        other => panic!("{other:?}"),
+    }
+}
+
+#[test]
+fn a_file_that_could_not_be_read_is_refused_with_its_message() {
+    let message = "stream did not contain valid UTF-8";
+    let mut sources = Sources::of_file("/w", "", TRIPLE);
+    sources.file.outcome = ReadOutcome::Failed(message.to_owned());
+    let (reason, refusal) = refusal_of(&sources);
+    assert!(reason.contains("ReadError") && reason.contains(message), "{reason}");
+    assert_eq!(refusal.findings.len(), 1);
+    assert_eq!((refusal.findings[0].code.as_str(), refusal.findings[0].message.as_str()), ("ReadError", message));
+}
+
+#[test]
+fn a_file_that_a_user_named_counts_in_place_of_the_own_one() {
+    let mut sources = Sources::of_file("/w", "[profile.ci]\nretries = 1\n", TRIPLE);
+    sources.config_file = Some(File::of("/named.toml", "[profile.ci]\nretries = 3\n"));
+    // What came of the own one does not count then.
+    for outcome in [sources.file.outcome.clone(), ReadOutcome::Failed("not read".to_owned())] {
+        sources.file.outcome = outcome;
+        let config = Config::load(&sources).unwrap();
+        assert_eq!(config.profile("ci").unwrap().settings(&Test::of("a", "b")).unwrap().retries.count, 3);
+        let list = example("list.json");
+        let run = RunRequest { sources: &sources, profile: "ci", mode: Mode::Test, list: &list };
+        let document = resolve(&run).unwrap();
+        let source = document.sources.last().unwrap();
+        assert_eq!((source.kind, source.path.as_deref()), (SourceKind::Explicit, Some("/named.toml")));
+        assert!(document.tests.iter().all(|test| test.settings["retries"].value == json!(3)));
+    }
+}
+
+#[test]
+fn a_file_may_be_missing_only_in_its_own_place() {
+    let missing = [(ReadOutcome::NotFound, "no such file"), (ReadOutcome::NotADirectory, "no directory")];
+    for (outcome, message) in missing {
+        let mut own = Sources::of_file("/w", "", TRIPLE);
+        own.file.outcome = outcome.clone();
+        assert!(Config::load(&own).is_ok());
+        let file = File { path: "/named.toml".to_owned(), outcome };
+        let mut tool = own.clone();
+        tool.tools.push(ToolFile { tool: "tool".to_owned(), file: file.clone() });
+        own.config_file = Some(file);
+        for sources in [own, tool] {
+            let (reason, refusal) = refusal_of(&sources);
+            assert!(reason.contains("/named.toml") && reason.contains(message), "{reason}");
+            assert!(refusal.findings[0].message.contains(message), "{}", refusal.reason);
+        }
+    }
+}
+
+#[test]
+fn files_are_as_the_disk_has_them() {
+    let outcome = |path: &str| File::read(&format!("{ROOT}/{path}")).outcome;
+    assert_eq!(outcome("list.json"), ReadOutcome::Text(example("list.json")));
+    assert_eq!(outcome("no-list.json"), ReadOutcome::NotFound);
+    assert_eq!(outcome("list.json/file"), ReadOutcome::NotADirectory);
+    assert!(matches!(outcome(""), ReadOutcome::Failed(_)));
+}
+
 #[test]
 fn bytes_that_are_no_request() {
     assert_eq!(Config::from_json(b"").err(), Some(Error::NotUnderstood("the request is no JSON".to_owned())));
@@ -258,6 +358,7 @@ fn bytes_that_are_no_request() {
     }
     assert_eq!(resolve_json(b"\xff\xfe").err(), Some(Error::NotText));
     assert_eq!(place_of(resolve_json(b"7").err()), "profile");
+    assert_eq!(place_of(Config::from_json(b"{}").err()), "root");
 }
 
 /// The answer to a run over the worked example.

@@ -32,11 +32,11 @@ abbrev pub is_on : Switches → ConfigExperimental → Bool
 is_on switches SetupScripts = switches.setup_scripts
 is_on switches WrapperScripts = switches.wrapper_scripts
 
--- the files of a request
+-- the files of a request: none is the organisation's
 abbrev pub files_of : RequestText → LoadInputs
 files_of asked = record {
   shared = asked.shared;
-  explicit = None;
+  explicit = asked.config_file;
   organisation = None;
   tools = asked.tools;
 }

@@ -46,7 +46,7 @@ fn config_of(
         asked.paths.workspace_root.as_str(),
         &asked.paths.shared,
         &engines,
-        None,
+        asked.config_file.as_ref(),
         &asked.tools,
         features,
     )

@@ -1,7 +1,7 @@
 -- Parts of a JSON value, and what it is to read them.
-use Rattle.std.specs.Prelude.{◌≡◌, ◌≢◌, ℕ, List, Bool, Option, None, Some, option_map, option_and_then, Result, MatchResult}
+use Rattle.std.specs.Prelude.{◌≡◌, ◌≢◌, ℕ, List, Bool, Option, None, Some, option_map, option_and_then, Result, MatchResult, ⊤}
 use Rattle.serde_json.specs.Data.{Data, null, boolean, number, string, array, object}
-use Rattle.serde_json.specs.Find.{get, as_str, as_bool, as_array}
+use Rattle.serde_json.specs.Find.{get, as_null, as_str, as_bool, as_array}
 use Rattle.package_graph.specs.Metadata.{listed}
 use Rattle.session_forms.specs.declared.fault.RequestFault.{RequestFault}
 use Rattle.session_forms.specs.declared.fault.RequestFault.TheVariants.{Memory}
@@ -28,6 +28,10 @@ optional_text (object ms) = None
 -- the text under a key, or nothing where `null` stands there
 abbrev pub optional_text_at : List ℕ → Data → Option (Option (List ℕ))
 optional_text_at key value = option_and_then optional_text (get key value)
+
+-- the `null` under a key
+abbrev pub null_at : List ℕ → Data → Option ⊤
+null_at key value = option_and_then as_null (get key value)
 
 -- the flag under a key
 abbrev pub flag_at : List ℕ → Data → Option Bool

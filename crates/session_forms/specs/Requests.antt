@@ -1,10 +1,13 @@
 -- What a request in JSON says.
 use Rattle.std.specs.Prelude.{ℕ, List, [], ◌∷◌, Option, None, Some, codes, option_and_then, option_map, map, string_bytes, if◌then◌else◌}
+use Rattle.std.specs.Str.{bytes_eq}
 use Rattle.serde_json.specs.Data.{Data}
 use Rattle.serde_json.specs.Read.{read}
-use Rattle.nextest_sources.specs.Sources.{Outcome, text, not_found, InputFile, file_view, ToolFile, tool_file_view}
+use Rattle.nextest_sources.specs.Sources.{Outcome, text, not_found, not_a_directory, failed, InputFile, file_view, ToolFile, tool_file_view}
 use Rattle.nextest_texts.specs.Identifier.{is_part}
-use Rattle.session_forms.specs.Parts.{text_at, optional_text_at, flag_at, list_at, object_at, optional_object_at}
+use Rattle.session_forms.specs.Parts.{text_at, optional_text_at, null_at, flag_at, list_at, object_at, optional_object_at}
+use Rattle.session_forms.specs.declared.outcome.OutcomeKind.{OutcomeKind}
+use Rattle.session_forms.specs.declared.outcome.OutcomeKind.TheVariants as outcomes
 use Rattle.session_forms.specs.declared.request.Machine.{Machine}
 use Rattle.session_forms.specs.declared.request.Switches.{Switches}
 use Rattle.session_forms.specs.declared.request.LoadRequest.{LoadRequest}
@@ -18,6 +21,7 @@ pub record MachineText : Type 0 where
 pub record RequestText : Type 0 where
   pub root : List ℕ
   pub shared : InputFile
+  pub config_file : Option InputFile
   pub tools : List ToolFile
   pub features : Switches
   pub metadata : Option (List ℕ)
@@ -33,6 +37,7 @@ abbrev pub request_view : LoadRequest → RequestText
 request_view r = record {
   root = string_bytes r.paths.workspace_root;
   shared = file_view r.paths.shared;
+  config_file = option_map file_view r.config_file;
   tools = map tool_file_view r.tools.items;
   features = r.features;
   metadata = option_map string_bytes r.metadata;
@@ -42,16 +47,47 @@ request_view r = record {
 
 -- ---- parts of a request
 
--- what came of reading a file of this text; without one there is no file
-abbrev pub outcome_of : Option (List ℕ) → Outcome
-outcome_of None = not_found
-outcome_of (Some t) = text t
+-- what came of reading a file, by the word that stands for it
+abbrev pub kind_of : List ℕ → Option OutcomeKind
+kind_of word =
+    if bytes_eq word (codes "text") then Some outcomes.Text
+    else (if bytes_eq word (codes "not-found") then Some outcomes.NotFound
+    else (if bytes_eq word (codes "not-a-directory") then Some outcomes.NotADirectory
+    else (if bytes_eq word (codes "failed") then Some outcomes.Failed else None)))
 
--- the file that an object says, by `path` and `text`
+-- the same of the word under a key
+abbrev pub kind_at : List ℕ → Data → Option OutcomeKind
+kind_at key value = option_and_then kind_of (text_at key value)
+
+-- what came of reading a file, where its `text` is what such an outcome has: its text, or the message
+-- of a failure, or else `null`
+abbrev pub outcome_of : OutcomeKind → Data → Option Outcome
+outcome_of outcomes.Text value = option_map text (text_at (codes "text") value)
+outcome_of outcomes.NotFound value = option_map (λ nothing. not_found) (null_at (codes "text") value)
+outcome_of outcomes.NotADirectory value =
+    option_map (λ nothing. not_a_directory) (null_at (codes "text") value)
+outcome_of outcomes.Failed value = option_map failed (text_at (codes "text") value)
+
+-- what came of reading the file that an object says, by `outcome` and `text`
+abbrev pub outcome_in : Data → Option Outcome
+outcome_in value =
+    option_and_then (λ kind. outcome_of kind value) (kind_at (codes "outcome") value)
+
+-- the file that an object says, by `path`, `outcome` and `text`
 abbrev pub file_in : Data → Option InputFile
 file_in value =
-    option_and_then (λ path. option_map (λ t. record { path = path; outcome = outcome_of t })
-    (optional_text_at (codes "text") value)) (text_at (codes "path") value)
+    option_and_then (λ path. option_map (λ outcome. record { path = path; outcome = outcome })
+    (outcome_in value)) (text_at (codes "path") value)
+
+-- the file of an object, or none where there is no object
+abbrev pub file_if : Option Data → Option (Option InputFile)
+file_if None = Some None
+file_if (Some value) = option_map Some (file_in value)
+
+-- the file that a user named in place of the repository's own: the object under `config-file`, or none
+-- where `null` stands there
+abbrev pub config_file_in : Data → Option (Option InputFile)
+config_file_in value = option_and_then file_if (optional_object_at (codes "config-file") value)
 
 -- the name of a tool that an object says
 abbrev pub tool_name_in : Data → Option (List ℕ)
@@ -99,11 +135,13 @@ switches_in value =
 
 -- ---- the request
 
--- what a value says: its `root`, `file`, `tools`, `features`, `metadata`, `host` and `target`
+-- what a value says: its `root`, `file`, `config-file`, `tools`, `features`, `metadata`, `host` and
+-- `target`
 unfoldable pub request_in : Data → Option RequestText
 request_in value =
     option_and_then (λ root.
     option_and_then (λ shared.
+    option_and_then (λ config_file.
     option_and_then (λ tools.
     option_and_then (λ features.
     option_and_then (λ metadata.
@@ -111,6 +149,7 @@ request_in value =
     option_map (λ target. record {
       root = root;
       shared = shared;
+      config_file = config_file;
       tools = tools;
       features = features;
       metadata = metadata;
@@ -121,6 +160,7 @@ request_in value =
     (optional_text_at (codes "metadata") value))
     (option_and_then switches_in (object_at (codes "features") value)))
     (option_and_then tools_in (list_at (codes "tools") value)))
+    (config_file_in value))
     (option_and_then file_in (object_at (codes "file") value)))
     (text_at (codes "root") value)
 

@@ -8,8 +8,10 @@ use thiserror::Error;
 pub enum Holder {
     /// The request itself.
     Request,
-    /// The repository's file.
+    /// The repository's own file.
     File,
+    /// The file that a user named in its place.
+    ConfigFile,
     /// The file of a tool, by its place.
     Tool(usize),
     /// The experimental features.
@@ -25,6 +27,7 @@ impl fmt::Display for Holder {
         match self {
             Holder::Request => Ok(()),
             Holder::File => f.write_str("file."),
+            Holder::ConfigFile => f.write_str("config-file."),
             Holder::Tool(place) => write!(f, "tools[{place}]."),
             Holder::Features => f.write_str("features."),
             Holder::Host => f.write_str("host."),
@@ -55,6 +58,8 @@ pub enum Wanted {
     Text,
     /// A text or `null`.
     TextOrNull,
+    /// `null`.
+    Null,
     /// `true` or `false`.
     Flag,
     /// A list.
@@ -65,6 +70,8 @@ pub enum Wanted {
     ObjectOrNull,
     /// The name of a tool.
     ToolName,
+    /// What came of reading a file.
+    Outcome,
     /// For what tests are run.
     Mode,
 }
@@ -74,11 +81,13 @@ impl fmt::Display for Wanted {
         f.write_str(match self {
             Wanted::Text => "a text",
             Wanted::TextOrNull => "a text or null",
+            Wanted::Null => "null",
             Wanted::Flag => "true or false",
             Wanted::List => "a list",
             Wanted::Object => "an object",
             Wanted::ObjectOrNull => "an object or null",
             Wanted::ToolName => "the name of a tool",
+            Wanted::Outcome => "text, not-found, not-a-directory or failed",
             Wanted::Mode => "test or benchmark",
         })
     }

@@ -5,6 +5,7 @@
 mod fault;
 mod machines;
 mod numbers;
+mod outcome;
 mod request;
 mod run_request;
 mod values;

@@ -1,16 +1,17 @@
 //! A request for a session, read from JSON.
 ghost use Rattle.std.specs.Prelude.{◌≡◌, IfOk, MatchResult, map, option_map, string_bytes};
 ghost use Rattle.serde_json.specs.View.{view};
-ghost use Rattle.nextest_sources.specs.Sources.{file_view, outcome_view, tool_file_view};
+ghost use Rattle.nextest_sources.specs.Sources.{file_view, tool_file_view};
 ghost use Rattle.session_forms.specs.Parts.{Reads};
-ghost use Rattle.session_forms.specs.Requests.{outcome_of, file_in, tool_in, tools_in, machine_in, machine_view, switches_in, target_in, request_in, request_view, request_of, tool_name_in};
+ghost use Rattle.session_forms.specs.Requests.{config_file_in, file_in, tool_in, tools_in, machine_in, machine_view, switches_in, target_in, request_in, request_view, request_of, tool_name_in};
 ghost use Rattle.nextest_texts.specs.IdentifierText.{tool_name_text};
 
 use crate::fault::{Holder, Place, RequestFault, Wanted};
+use crate::outcome::outcome_in;
 use crate::values::{
     flag_at, list_at, object_at, optional_object_at, optional_string_at, string_at, text_at,
 };
-use nextest_sources::{ConfigPath, ConfigPaths, FileInput, ReadOutcome, ToolConfigFile};
+use nextest_sources::{ConfigPath, ConfigPaths, FileInput, ToolConfigFile};
 use nextest_texts::{InvalidIdentifier, ToolName};
 use serde_json::Value;
 use std::alloc::Global;
@@ -36,8 +37,10 @@ pub struct Switches {
 /// What a session is made of.
 #[derive(Drop)]
 pub struct LoadRequest {
-    /// The workspace's root, and the repository's file.
+    /// The workspace's root, and the repository's own file.
     pub paths: ConfigPaths,
+    /// The repository's file that a user named, which counts in place of its own.
+    pub config_file: Option<FileInput>,
     /// The files of tools: the first is the highest.
     pub tools: Vec<ToolConfigFile>,
     /// The experimental features that are switched on.
@@ -48,16 +51,6 @@ pub struct LoadRequest {
     pub host: Machine,
     /// The machine that is built for, where it is another one.
     pub target: Option<Machine>,
-}
-
-/// What came of reading a file of this text, if there is one.
-fn outcome_of(text: Option<String>) -> ReadOutcome
-    ensures { outcome_view result ≡ outcome_of (option_map string_bytes text) }
-{
-    match text {
-        Some(text) => ReadOutcome::Text(text),
-        None => ReadOutcome::NotFound,
-    }
 }
 
 /// The file that an object says.
@@ -71,18 +64,29 @@ fn file_in(alloc: Global, value: &Value, holder: Holder) -> Result<FileInput, Re
             key: "path",
         },
     )?;
-    let text = optional_string_at(
-        alloc,
+    let outcome = outcome_in(alloc, value, holder)?;
+    Ok(FileInput {
+        path: ConfigPath::new(alloc, path)?,
+        outcome,
+    })
+}
+
+/// The repository's file that a user named, if the object says one.
+fn config_file_in(alloc: Global, value: &Value) -> Result<Option<FileInput>, RequestFault>
+    ensures { Reads (λ file. option_map file_view file) result
+        (config_file_in (view value.now)) }
+{
+    let holder = Holder::Request;
+    match optional_object_at(
         value,
         Place {
             holder,
-            key: "text",
+            key: "config-file",
         },
-    )?;
-    Ok(FileInput {
-        path: ConfigPath::new(alloc, path)?,
-        outcome: outcome_of(text),
-    })
+    )? {
+        Some(file) => Ok(Some(file_in(alloc, file, Holder::ConfigFile)?)),
+        None => Ok(None),
+    }
 }
 
 /// The name of a tool that an object says.
@@ -200,6 +204,7 @@ impl LoadRequest {
     {
         let workspace_root = string_at(alloc, value, at("root"))?;
         let shared = file_in(alloc, object_at(value, at("file"))?, Holder::File)?;
+        let config_file = config_file_in(alloc, value)?;
         let tools = tools_in(alloc, list_at(value, at("tools"))?)?;
         let features = switches_in(object_at(value, at("features"))?)?;
         let metadata = optional_string_at(alloc, value, at("metadata"))?;
@@ -211,6 +216,7 @@ impl LoadRequest {
         };
         Ok(LoadRequest {
             paths,
+            config_file,
             tools,
             features,
             metadata,

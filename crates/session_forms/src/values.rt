@@ -1,7 +1,7 @@
 //! Parts of a JSON value.
 ghost use Rattle.std.specs.Prelude.{◌≡◌, map, option_map, string_bytes};
 ghost use Rattle.serde_json.specs.View.{view};
-ghost use Rattle.session_forms.specs.Parts.{Reads, text_at, optional_text_at, flag_at, list_at, object_at, optional_object_at, optional_text};
+ghost use Rattle.session_forms.specs.Parts.{Reads, text_at, optional_text_at, null_at, flag_at, list_at, object_at, optional_object_at, optional_text};
 
 use crate::fault::{Place, RequestFault, Wanted};
 use serde_json::Value;
@@ -54,6 +54,16 @@ pub fn optional_string_at(
     match value.get(place.key) {
         Some(found) => optional_string(alloc, found, place),
         None => Err(RequestFault::Expected(Wanted::TextOrNull, place)),
+    }
+}
+
+/// The `null` at a place.
+pub fn null_at(value: &Value, place: Place) -> Result<(), RequestFault>
+    ensures { Reads (λ nothing. nothing) result (null_at place.key.now (view value.now)) }
+{
+    match value.get(place.key) {
+        Some(found) if found.is_null() => Ok(()),
+        _ => Err(RequestFault::Expected(Wanted::Null, place)),
     }
 }
 
