@@ -32,7 +32,13 @@ impl<const ROOM: usize> Search<'_, ROOM> {
     }
 
     // Makes the step at this position, from the one list to the other in turn.
-    fn turn(&self, name: &[u8], at: usize, even: &mut StateList<ROOM>, odd: &mut StateList<ROOM>) -> bool
+    fn turn(
+        &self,
+        name: &[u8],
+        at: usize,
+        even: &mut StateList<ROOM>,
+        odd: &mut StateList<ROOM>,
+    ) -> bool
         requires at { at ≤ length name.now }
         requires states { AreStates self.now.nfa.now (in_turn at even.old odd.old) }
         ensures states { AreStates self.now.nfa.now (in_turn (at + 1) even.new odd.new) }
@@ -48,7 +54,13 @@ impl<const ROOM: usize> Search<'_, ROOM> {
 
     // Whether a match ends here that begins at this position or began before it, in one of these
     // states. If none does, the states behind the byte at the position are left in `next`.
-    fn step(&self, name: &[u8], at: usize, states: &mut StateList<ROOM>, next: &mut StateList<ROOM>) -> bool
+    fn step(
+        &self,
+        name: &[u8],
+        at: usize,
+        states: &mut StateList<ROOM>,
+        next: &mut StateList<ROOM>,
+    ) -> bool
         requires at { at ≤ length name.now }
         requires states { AreStates self.now.nfa.now states.old }
         ensures states { AreStates self.now.nfa.now next.new }

@@ -5,13 +5,13 @@ use Rattle.name_matchers.proofs.machine.search.Search.turn.Goals as goal
 pub step-requires : goal.step-requires
 step-requires g c =
     let states = states_even c.args.self.now.nfa.now c.args.at c.args.even.now c.args.odd.now (omega arith)
-        c.requires.states in
+    c.requires.states in
     (search rules, (search rules, (c.requires.at, states)))
 
 pub step-requires-else-at-eq0 : goal.step-requires-else-at-eq0
 step-requires-else-at-eq0 g c =
     let states = states_odd c.args.self.now.nfa.now c.args.at c.args.even.now c.args.odd.now (λ even. omega arith)
-        c.requires.states in
+    c.requires.states in
     (search rules, (search rules, (c.requires.at, states)))
 
 pub returns-then-at-eq0-clause-states : goal.returns-then-at-eq0-clause-states
