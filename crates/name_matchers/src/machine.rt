@@ -14,11 +14,13 @@ use regex_nfa::Nfa;
 use search::Search;
 use std::alloc::{AllocError, Global};
 
-// The most states of an automaton, and less for those that take less room to search by.
+// The most states of an automaton.
 const MOST_STATES: usize = 4096;
 
+// The most states of an automaton that is searched by with some of that room.
 const MANY_STATES: usize = 512;
 
+// The most states of an automaton that is searched by with little room.
 const FEW_STATES: usize = 64;
 
 // The most bytes that the tables of an automaton may take.

@@ -39,6 +39,18 @@ fn regexes(rt: HostRuntime) -> Result<(), Fail> {
 }
 
 #[test]
+fn large_regexes(rt: HostRuntime) -> Result<(), Fail> {
+    let alloc = rt.alloc();
+    let few = "x".repeat(alloc, 99)?;
+    let many = "x".repeat(alloc, 900)?;
+    assert!(rt; finds(alloc, "^x{99}$", few.as_str())?);
+    assert!(rt; !finds(alloc, "^x{98}$", few.as_str())?);
+    assert!(rt; finds(alloc, "^x{900}$", many.as_str())?);
+    assert!(rt; !finds(alloc, "^x{900}$", few.as_str())?);
+    Ok(())
+}
+
+#[test]
 fn no_regexes(rt: HostRuntime) {
     let alloc = rt.alloc();
     for text in ["a(", "[z-a]", r"\q"] {

@@ -46,7 +46,7 @@ impl<const ROOM: usize> StateFlags<ROOM> {
         new
     }
 
-    /// Takes these states out.
+    /// Takes these states out, in time in proportion to their number.
     pub fn remove_all(&mut self, states: &[u16])
         requires { All (λ state. state < length self.old) states.now }
         ensures { self.new ≡ without self.old states.now }

@@ -53,7 +53,7 @@ impl<const ROOM: usize> StateList<ROOM> {
         StateId::from(states[index])
     }
 
-    /// Takes all states out, in time in proportion to how many there are.
+    /// Takes all states out, in time in proportion to their number.
     pub fn clear(&mut self)
         ensures { self.new ≡ [] }
     {

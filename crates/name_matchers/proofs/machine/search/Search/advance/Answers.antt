@@ -3,7 +3,10 @@ use Rattle.name_matchers.proofs.Reading.{reads_none, reads_more, reads_all, with
 use Rattle.name_matchers.proofs.machine.search.Search.advance.Goals as goal
 
 pub read-requires : goal.read-requires
-read-requires g c = (search rules, (search rules, within_at c.args.self.now.nfa.now c.args.states.now c.loop-i.i _ c.requires (omega arith) c.get.ensures))
+read-requires g c =
+    let within = within_at c.args.self.now.nfa.now c.args.states.now c.loop-i.i _ c.requires (omega arith)
+    c.get.ensures in
+    (search rules, (search rules, within))
 
 pub loop-i-init : goal.loop-i-init
 loop-i-init g c = reads_none _ _ _

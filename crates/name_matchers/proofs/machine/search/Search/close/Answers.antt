@@ -4,14 +4,10 @@ use Rattle.name_matchers.proofs.Reading.{within_at}
 use Rattle.name_matchers.proofs.machine.search.Search.close.Goals as goal
 
 pub follow-requires : goal.follow-requires
-follow-requires g c = (
-  search rules,
-  (
-    search rules,
-    within_at c.args.self.now.nfa.now c.loop-done.states c.loop-done.done _ c.loop-done.invariant.within
-        (omega arith) c.get-id.ensures,
-  ),
-)
+follow-requires g c =
+    let within = within_at c.args.self.now.nfa.now c.loop-done.states c.loop-done.done _ c.loop-done.invariant.within
+    (omega arith) c.get-id.ensures in
+    (search rules, (search rules, within))
 
 pub loop-done-init : goal.loop-done-init
 loop-done-init g c = none_followed _ _ _ _ c.requires.states

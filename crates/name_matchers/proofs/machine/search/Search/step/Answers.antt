@@ -26,7 +26,8 @@ returns-then-at-name-clause-step g c =
     (rw c.if-close.false at c.close.ensures.closes))
 
 pub returns-clause-states : goal.returns-clause-states
-returns-clause-states g c = reads_within _ _ _ _ _ c.advance.ensures (none_within c.args.self.now.nfa.now _ c.clear.ensures)
+returns-clause-states g c =
+    reads_within _ _ _ _ _ c.advance.ensures (none_within c.args.self.now.nfa.now _ c.clear.ensures)
 
 pub returns-clause-step : goal.returns-clause-step
 returns-clause-step g c =
