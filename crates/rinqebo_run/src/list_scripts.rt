@@ -36,7 +36,8 @@ pub fn scripts_of_list<'c>(
         IfOk result (AreScriptsTold filter_holds filter_holds_binary
         (profile_meaning (marks_view names_of) profile.now) (all_tests list) (all_binaries list)) }
 {
-    let rules = rules_of(alloc, config.layers(), chain)?;
+    let layers = config.layers();
+    let rules = rules_of(alloc, layers, chain)?;
     let tests = session.tests.queries(alloc)?;
     let binaries = session.tests.binary_queries(alloc)?;
     let mut tally = NextestTally::new();
