@@ -127,6 +127,7 @@ pub fn parted(run: RunRequest) -> (Asked, Gathered)
     } = run;
     let LoadRequest {
         paths,
+        config_file,
         tools,
         features,
         metadata,
@@ -144,7 +145,7 @@ pub fn parted(run: RunRequest) -> (Asked, Gathered)
     };
     let gathered = Gathered {
         paths,
-        config_file: None,
+        config_file,
         tools,
         host_cfg: cfg,
         target_cfg,
