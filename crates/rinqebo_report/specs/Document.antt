@@ -16,18 +16,6 @@ pub record AskedData : Type 0 where
   pub profile : Data
   pub target : Data
 
--- What a report answers, as the document tells it.
-pub record AnswersData : Type 0 where
-  pub entries : Data
-  pub findings : Data
-  pub list_wrappers : Data
-  pub rules : Data
-  pub setup_scripts : Data
-  pub sources : Data
-  pub tests : Data
-  pub unreached : Data
-  pub unused : Data
-
 -- nothing was asked for
 abbrev pub nothing_asked : AskedData
 nothing_asked =
@@ -109,20 +97,6 @@ list_wrappers_data (contents.List asked tests unused scripts) =
 list_wrappers_data (contents.ShowConfig asked entries) = array no_items
 list_wrappers_data contents.Check = array no_items
 
--- this is answered
-abbrev pub answers_data : Report → AnswersData
-answers_data report = record {
-  entries = entries_data report.content;
-  findings = list_data finding_data report.findings.items;
-  list_wrappers = list_wrappers_data report.content;
-  rules = rules_data report.content;
-  setup_scripts = setup_scripts_data report.content;
-  sources = list_data source_data report.sources.items;
-  tests = tests_data report.content;
-  unreached = list_data unreached_data report.unreached.items;
-  unused = unused_data report.content;
-}
-
 -- members, with what was asked for
 abbrev pub with_asked : AskedData → Members → Members
 with_asked asked members =
@@ -131,13 +105,20 @@ with_asked asked members =
     (put (codes "chain") asked.chain members))))
 
 -- members, with what is answered
-abbrev pub with_answers : AnswersData → Members → Members
-with_answers answers members =
-    put (codes "unused") answers.unused (put (codes "unreached") answers.unreached
-    (put (codes "tests") answers.tests (put (codes "sources") answers.sources
-    (put (codes "setup-scripts") answers.setup_scripts (put (codes "rules") answers.rules
-    (put (codes "list-wrappers") answers.list_wrappers (put (codes "findings") answers.findings
-    (put (codes "entries") answers.entries members))))))))
+abbrev pub with_answers : Content → Members → Members
+with_answers content members =
+    put (codes "unused") (unused_data content) (put (codes "tests") (tests_data content)
+    (put (codes "setup-scripts") (setup_scripts_data content)
+    (put (codes "rules") (rules_data content)
+    (put (codes "list-wrappers") (list_wrappers_data content)
+    (put (codes "entries") (entries_data content) members)))))
+
+-- members, with the sources, and with what was found in them
+abbrev pub with_sources : Report → Members → Members
+with_sources report members =
+    put (codes "unreached") (list_data unreached_data report.unreached.items)
+    (put (codes "sources") (list_data source_data report.sources.items)
+    (put (codes "findings") (list_data finding_data report.findings.items) members))
 
 -- members, with the command, the root of the workspace, and the version of the document
 abbrev pub with_title : Report → Members → Members
@@ -146,27 +127,27 @@ with_title report members =
     (put (codes "command") (string (command_word report.content)) members))
 
 -- the document of a report, with its keys in the order of bytes
-abbrev pub document_with : AskedData → AnswersData → Report → Data
-document_with asked answers report =
+abbrev pub document_with : AskedData → Report → Data
+document_with asked report =
     object (member (codes "chain") asked.chain
     (member (codes "command") (string (command_word report.content))
-    (member (codes "entries") answers.entries
-    (member (codes "findings") answers.findings
+    (member (codes "entries") (entries_data report.content)
+    (member (codes "findings") (list_data finding_data report.findings.items)
     (member (codes "host") asked.host
-    (member (codes "list-wrappers") answers.list_wrappers
+    (member (codes "list-wrappers") (list_wrappers_data report.content)
     (member (codes "mode") asked.mode
     (member (codes "profile") asked.profile
     (member (codes "root") (text_data report.root)
-    (member (codes "rules") answers.rules
-    (member (codes "setup-scripts") answers.setup_scripts
-    (member (codes "sources") answers.sources
+    (member (codes "rules") (rules_data report.content)
+    (member (codes "setup-scripts") (setup_scripts_data report.content)
+    (member (codes "sources") (list_data source_data report.sources.items)
     (member (codes "target") asked.target
-    (member (codes "tests") answers.tests
-    (member (codes "unreached") answers.unreached
-    (member (codes "unused") answers.unused
+    (member (codes "tests") (tests_data report.content)
+    (member (codes "unreached") (list_data unreached_data report.unreached.items)
+    (member (codes "unused") (unused_data report.content)
     (member (codes "version") (count_data 1) no_members)))))))))))))))))
 
 -- the document of a report
 abbrev pub document_data : Report → Data
 document_data report =
-    document_with (content_asked report.content) (answers_data report) report
+    document_with (content_asked report.content) report

@@ -10,6 +10,5 @@ pub mod Groups
 pub mod Rendered
 pub mod Documents
 pub mod Document
-pub mod DocumentViews
 pub mod Uncoloured
 pub mod Hints

@@ -3,8 +3,7 @@ ghost use Rattle.std.specs.Prelude.{◌≡◌, ◌++◌, [], ◌∷◌, Some, If
 ghost use Rattle.serde_json.specs.Read.{read};
 ghost use Rattle.serde_json.specs.View.{members_view, view};
 ghost use Rattle.serde_json.specs.Written.{compact_text};
-ghost use Rattle.rinqebo_report.specs.DocumentViews.{asked_view, answers_view};
-ghost use Rattle.rinqebo_report.specs.Document.{asked_data, content_asked, command_word, rules_data, tests_data, entries_data, unused_data, setup_scripts_data, list_wrappers_data, answers_data, with_asked, with_answers, with_title, document_data};
+ghost use Rattle.rinqebo_report.specs.Document.{asked_data, nothing_asked, content_asked, command_word, rules_data, tests_data, entries_data, unused_data, setup_scripts_data, list_wrappers_data, with_asked, with_answers, with_sources, with_title, document_data};
 
 use crate::json_findings::findings_json;
 use crate::json_parts::{
@@ -15,46 +14,66 @@ use crate::report::{Asked, Content, Report};
 use serde_json::{Map, Value, json, put};
 use std::alloc::{AllocError, Global};
 
-/// What was asked for, as the document tells it.
-#[derive(Drop)]
-struct AskedJson {
-    chain: Value,
-    host: Value,
-    mode: Value,
-    profile: Value,
-    target: Value,
+/// Puts among members what was asked for.
+fn put_asked(
+    members: &mut Map<String, Value>,
+    alloc: Global,
+    asked: &Asked,
+) -> Result<(), AllocError>
+    ensures { OnOk result (members_view members.new.entries
+        ≡ with_asked (asked_data asked.now) (members_view members.old.entries)) }
+{
+    put(members, alloc, "chain", texts_json(alloc, &asked.chain)?)?;
+    put(
+        members,
+        alloc,
+        "host",
+        Value::try_from_str(alloc, asked.host.as_str())?,
+    )?;
+    put(
+        members,
+        alloc,
+        "mode",
+        Value::try_from_str(alloc, asked.mode.word())?,
+    )?;
+    put(
+        members,
+        alloc,
+        "profile",
+        Value::try_from_str(alloc, asked.profile.as_str())?,
+    )?;
+    put(
+        members,
+        alloc,
+        "target",
+        optional_text_json(alloc, &asked.target)?,
+    )
 }
 
-/// This was asked for.
-fn asked_json(alloc: Global, asked: &Asked) -> Result<AskedJson, AllocError>
-    ensures { IfOk result (λ json. asked_view json ≡ asked_data asked.now) }
+/// Puts among members that nothing was asked for.
+fn put_nothing_asked(members: &mut Map<String, Value>, alloc: Global) -> Result<(), AllocError>
+    ensures { OnOk result (members_view members.new.entries
+        ≡ with_asked nothing_asked (members_view members.old.entries)) }
 {
-    Ok(AskedJson {
-        chain: texts_json(alloc, &asked.chain)?,
-        host: Value::try_from_str(alloc, asked.host.as_str())?,
-        mode: Value::try_from_str(alloc, asked.mode.word())?,
-        profile: Value::try_from_str(alloc, asked.profile.as_str())?,
-        target: optional_text_json(alloc, &asked.target)?,
-    })
+    put(members, alloc, "chain", Value::Array(Vec::new(alloc)))?;
+    put(members, alloc, "host", Value::Null)?;
+    put(members, alloc, "mode", Value::Null)?;
+    put(members, alloc, "profile", Value::Null)?;
+    put(members, alloc, "target", Value::Null)
 }
 
 impl Content {
-    /// What was asked for.
-    fn asked_json(&self, alloc: Global) -> Result<AskedJson, AllocError>
-        ensures { IfOk result (λ json. asked_view json ≡ content_asked self.now) }
+    /// Puts among members what was asked for.
+    fn put_asked(&self, members: &mut Map<String, Value>, alloc: Global) -> Result<(), AllocError>
+        ensures { OnOk result (members_view members.new.entries
+            ≡ with_asked (content_asked self.now) (members_view members.old.entries)) }
     {
         match self {
-            Content::Explain { asked, .. } => asked_json(alloc, asked),
-            Content::Why { asked, .. } => asked_json(alloc, asked),
-            Content::List { asked, .. } => asked_json(alloc, asked),
-            Content::ShowConfig { asked, .. } => asked_json(alloc, asked),
-            Content::Check => Ok(AskedJson {
-                chain: Value::Array(Vec::new(alloc)),
-                host: Value::Null,
-                mode: Value::Null,
-                profile: Value::Null,
-                target: Value::Null,
-            }),
+            Content::Explain { asked, .. }
+            | Content::Why { asked, .. }
+            | Content::List { asked, .. }
+            | Content::ShowConfig { asked, .. } => put_asked(members, alloc, asked),
+            Content::Check => put_nothing_asked(members, alloc),
         }
     }
 
@@ -150,71 +169,60 @@ impl Content {
     }
 }
 
-/// What a report answers, as the document tells it.
-#[derive(Drop)]
-struct AnswersJson {
-    entries: Value,
-    findings: Value,
-    list_wrappers: Value,
-    rules: Value,
-    setup_scripts: Value,
-    sources: Value,
-    tests: Value,
-    unreached: Value,
-    unused: Value,
-}
-
-/// This is answered.
-fn answers_json(alloc: Global, report: &Report) -> Result<AnswersJson, AllocError>
-    ensures { IfOk result (λ json. answers_view json ≡ answers_data report.now) }
-{
-    Ok(AnswersJson {
-        entries: report.content.entries_json(alloc)?,
-        findings: findings_json(alloc, &report.findings)?,
-        list_wrappers: report.content.list_wrappers_json(alloc)?,
-        rules: report.content.rules_json(alloc)?,
-        setup_scripts: report.content.setup_scripts_json(alloc)?,
-        sources: sources_json(alloc, &report.sources)?,
-        tests: report.content.tests_json(alloc)?,
-        unreached: all_unreached_json(alloc, &report.unreached)?,
-        unused: report.content.unused_json(alloc)?,
-    })
-}
-
-/// Puts what was asked for among members.
-fn put_asked(
-    members: &mut Map<String, Value>,
-    alloc: Global,
-    asked: AskedJson,
-) -> Result<(), AllocError>
-    ensures { OnOk result (members_view members.new.entries
-        ≡ with_asked (asked_view asked) (members_view members.old.entries)) }
-{
-    put(members, alloc, "chain", asked.chain)?;
-    put(members, alloc, "host", asked.host)?;
-    put(members, alloc, "mode", asked.mode)?;
-    put(members, alloc, "profile", asked.profile)?;
-    put(members, alloc, "target", asked.target)
-}
-
-/// Puts what is answered among members.
+/// Puts among members what a report answers.
 fn put_answers(
     members: &mut Map<String, Value>,
     alloc: Global,
-    answers: AnswersJson,
+    content: &Content,
 ) -> Result<(), AllocError>
     ensures { OnOk result (members_view members.new.entries
-        ≡ with_answers (answers_view answers) (members_view members.old.entries)) }
+        ≡ with_answers content.now (members_view members.old.entries)) }
 {
-    put(members, alloc, "entries", answers.entries)?;
-    put(members, alloc, "findings", answers.findings)?;
-    put(members, alloc, "list-wrappers", answers.list_wrappers)?;
-    put(members, alloc, "rules", answers.rules)?;
-    put(members, alloc, "setup-scripts", answers.setup_scripts)?;
-    put(members, alloc, "sources", answers.sources)?;
-    put(members, alloc, "tests", answers.tests)?;
-    put(members, alloc, "unreached", answers.unreached)?;
-    put(members, alloc, "unused", answers.unused)
+    put(members, alloc, "entries", content.entries_json(alloc)?)?;
+    put(
+        members,
+        alloc,
+        "list-wrappers",
+        content.list_wrappers_json(alloc)?,
+    )?;
+    put(members, alloc, "rules", content.rules_json(alloc)?)?;
+    put(
+        members,
+        alloc,
+        "setup-scripts",
+        content.setup_scripts_json(alloc)?,
+    )?;
+    put(members, alloc, "tests", content.tests_json(alloc)?)?;
+    put(members, alloc, "unused", content.unused_json(alloc)?)
+}
+
+/// Puts among members the sources of a report, and what was found in them.
+fn put_sources(
+    members: &mut Map<String, Value>,
+    alloc: Global,
+    report: &Report,
+) -> Result<(), AllocError>
+    ensures { OnOk result (members_view members.new.entries
+        ≡ with_sources report.now (members_view members.old.entries)) }
+{
+    put(
+        members,
+        alloc,
+        "findings",
+        findings_json(alloc, &report.findings)?,
+    )?;
+    put(
+        members,
+        alloc,
+        "sources",
+        sources_json(alloc, &report.sources)?,
+    )?;
+    put(
+        members,
+        alloc,
+        "unreached",
+        all_unreached_json(alloc, &report.unreached)?,
+    )
 }
 
 /// Puts among members which document this is.
@@ -237,11 +245,10 @@ fn put_title(
 pub fn document(alloc: Global, report: &Report) -> Result<Value, AllocError>
     ensures { IfOk result (λ value. view value ≡ document_data report.now) }
 {
-    let asked = report.content.asked_json(alloc)?;
-    let answers = answers_json(alloc, report)?;
     let mut members = Map::new(alloc);
-    put_asked(&mut members, alloc, asked)?;
-    put_answers(&mut members, alloc, answers)?;
+    report.content.put_asked(&mut members, alloc)?;
+    put_answers(&mut members, alloc, &report.content)?;
+    put_sources(&mut members, alloc, report)?;
     put_title(&mut members, alloc, report)?;
     Ok(Value::Object(members))
 }
