@@ -1,9 +1,8 @@
 -- The layers of tools, from the last one on.
-use Rattle.std.proofs.Common.{◌≡◌, ◌<◌, ◌-◌, ◌+◌, ◌∙◌, ℕ, List, [], ◌∷◌, ◌++◌, Option, ap, append_assoc, arith, get_or, length, map, reverse, sym, take}
+use Rattle.std.proofs.Common.{◌≡◌, ◌<◌, ◌-◌, ◌+◌, ◌∙◌, ℕ, List, [], ◌∷◌, ◌++◌, ap, append_assoc, arith, get_or, length, map, reverse, sym, take}
 use Rattle.std.proofs.lemmas.List.{get_or-reverse, length-reverse, map-append, take_all, take_more}
 use Rattle.nextest_sources.specs.declared.sources.ToolConfigFile.{ToolConfigFile}
-use Rattle.nextest_tree.specs.Node.{Node}
-use Rattle.rinqebo_files.specs.Layers.{layer_tree, tool_tree}
+use Rattle.rinqebo_files.specs.Layers.{LayerRead, layer_view, tool_layer}
 use Rattle.rinqebo_files.specs.declared.layers.Layer.{Layer}
 
 -- one element more from the end of a list
@@ -17,21 +16,21 @@ reversed_more xs k m at x within next where_at is =
     ∙ ap (λ y. take k (reverse xs) ++ y ∷ []) here
 
 -- one tool more
-pub tools_more : (tools : List ToolConfigFile) (k m at : ℕ) (tool : ToolConfigFile) (start : List (Option Node))
+pub tools_more : (tools : List ToolConfigFile) (k m at : ℕ) (tool : ToolConfigFile) (start : List LayerRead)
     (old new : List Layer) (layer : Layer) → k < length tools → m ≡ k + 1 → at ≡ length tools - 1 - k
-    → tool ≡ get_or tools at tool → map layer_tree old ≡ start ++ map tool_tree (take k (reverse tools))
-    → layer_tree layer ≡ tool_tree tool → new ≡ old ++ layer ∷ []
-    → map layer_tree new ≡ start ++ map tool_tree (take m (reverse tools))
+    → tool ≡ get_or tools at tool → map layer_view old ≡ start ++ map tool_layer (take k (reverse tools))
+    → layer_view layer ≡ tool_layer tool → new ≡ old ++ layer ∷ []
+    → map layer_view new ≡ start ++ map tool_layer (take m (reverse tools))
 tools_more tools k m at tool start old new layer within next where_at is before same more =
-    ap (map layer_tree) more ∙ map-append layer_tree old (layer ∷ [])
+    ap (map layer_view) more ∙ map-append layer_view old (layer ∷ [])
     ∙ (λ i. before i ++ same i ∷ [])
-    ∙ append_assoc start (map tool_tree (take k (reverse tools))) (tool_tree tool ∷ [])
-    ∙ ap (λ rest. start ++ rest) (sym (map-append tool_tree (take k (reverse tools)) (tool ∷ [])))
-    ∙ ap (λ rest. start ++ map tool_tree rest) (sym (reversed_more tools k m at tool within next where_at is))
+    ∙ append_assoc start (map tool_layer (take k (reverse tools))) (tool_layer tool ∷ [])
+    ∙ ap (λ rest. start ++ rest) (sym (map-append tool_layer (take k (reverse tools)) (tool ∷ [])))
+    ∙ ap (λ rest. start ++ map tool_layer rest) (sym (reversed_more tools k m at tool within next where_at is))
 
 -- all tools
-pub tools_all : (tools : List ToolConfigFile) (k : ℕ) (start now : List (Option Node)) → k ≡ length tools
-    → now ≡ start ++ map tool_tree (take k (reverse tools)) → now ≡ start ++ map tool_tree (reverse tools)
+pub tools_all : (tools : List ToolConfigFile) (k : ℕ) (start now : List LayerRead) → k ≡ length tools
+    → now ≡ start ++ map tool_layer (take k (reverse tools)) → now ≡ start ++ map tool_layer (reverse tools)
 tools_all tools k start now all before =
-    before ∙ ap (λ rest. start ++ map tool_tree rest)
+    before ∙ ap (λ rest. start ++ map tool_layer rest)
     (take_all k (reverse tools) (omega (arith, length-reverse tools)))

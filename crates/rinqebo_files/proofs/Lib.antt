@@ -1,2 +1,3 @@
 mod Switching
 mod Layering
+mod Seeking

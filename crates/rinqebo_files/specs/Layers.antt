@@ -1,29 +1,71 @@
--- The trees of the sources of a run.
-use Rattle.std.specs.Prelude.{List, ◌∷◌, ◌++◌, [], Option, Some, map, option_map, reverse}
+-- The sources of a run: which files they are, their texts and their trees.
+use Rattle.std.specs.Prelude.{ℕ, List, ◌∷◌, ◌++◌, [], Option, Some, None, map, option_map, reverse, string_bytes}
+use Rattle.std.specs.Option.{option_map_or}
+use Rattle.nextest_sources.specs.Sources.{Source, SourceKind, path_view, tool_file, explicit_file, discovered_file}
 use Rattle.nextest_sources.specs.declared.sources.FileInput.{FileInput}
+use Rattle.nextest_sources.specs.declared.sources.ReadOutcome.{ReadOutcome}
+use Rattle.nextest_sources.specs.declared.sources.ReadOutcome.TheVariants as outcomes
 use Rattle.nextest_sources.specs.declared.sources.ToolConfigFile.{ToolConfigFile}
 use Rattle.nextest_tables.specs.Defaults.{defaults}
+use Rattle.nextest_texts.specs.IdentifierText.{tool_name_text}
 use Rattle.nextest_tree.specs.Node.{Node}
 use Rattle.nextest_tree.specs.View.{tree_view}
-use Rattle.rinqebo_files.specs.Features.{repository_file, tree_read}
+use Rattle.rinqebo_files.specs.Features.{tree_read}
+use Rattle.rinqebo_files.specs.Origins.{file_of, told_file}
 use Rattle.rinqebo_files.specs.declared.files.Gathered.{Gathered}
 use Rattle.rinqebo_files.specs.declared.layers.Layer.{Layer}
+
+-- the text of what was read, if it is one
+abbrev pub text_read : ReadOutcome → Option (List ℕ)
+text_read (outcomes.Text text) = Some (string_bytes text)
+text_read outcomes.NotFound = None
+text_read outcomes.NotADirectory = None
+text_read (outcomes.Failed message) = None
+
+-- A source: which file it is, if it is one, its text, if one was read, and its tree, if the text is a
+-- document.
+pub record LayerRead : Type 0 where
+  pub file : Option Source
+  pub text : Option (List ℕ)
+  pub tree : Option Node
 
 -- the tree of a layer, if it is a document
 abbrev pub layer_tree : Layer → Option Node
 layer_tree layer = option_map tree_view layer.tree
 
--- the tree of a file, if a text was read that is a document
-abbrev pub file_tree : FileInput → Option Node
-file_tree file = tree_read file.outcome
+-- a layer as code holds it
+abbrev pub layer_view : Layer → LayerRead
+layer_view layer = record {
+  file = told_file layer.source;
+  text = layer.places;
+  tree = layer_tree layer;
+}
 
--- the tree of a tool's file, if a text was read that is a document
-abbrev pub tool_tree : ToolConfigFile → Option Node
-tool_tree tool = file_tree tool.config_file
+-- the default table, which is no file
+abbrev pub default_layer : LayerRead
+default_layer = record { file = None; text = None; tree = Some defaults }
 
--- The trees of a run, the lowest first: the default table, the files of tools, of which the first is
--- the highest, and the repository's file.
-abbrev pub trees_read : Gathered → List (Option Node)
-trees_read gathered =
-    Some defaults ∷ (map tool_tree (reverse gathered.tools.items)
-    ++ file_tree (repository_file gathered) ∷ [])
+-- a file that is brought by something, if that brings files
+abbrev pub file_layer : Option SourceKind → FileInput → LayerRead
+file_layer kind file = record {
+  file = file_of kind (path_view file.path);
+  text = text_read file.outcome;
+  tree = tree_read file.outcome;
+}
+
+-- the file of a tool
+abbrev pub tool_layer : ToolConfigFile → LayerRead
+tool_layer tool = file_layer (Some (tool_file (tool_name_text tool.tool))) tool.config_file
+
+-- the repository's file: a user named it, or it was looked for
+abbrev pub repository_layer : Gathered → LayerRead
+repository_layer gathered =
+    option_map_or (file_layer (Some explicit_file)) gathered.config_file
+    (file_layer (Some discovered_file) gathered.paths.shared)
+
+-- The sources of a run, the lowest first: the default table, the files of tools, of which the first
+-- is the highest, and the repository's file.
+abbrev pub layers_read : Gathered → List LayerRead
+layers_read gathered =
+    default_layer ∷ (map tool_layer (reverse gathered.tools.items)
+    ++ repository_layer gathered ∷ [])

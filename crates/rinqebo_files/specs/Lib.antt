@@ -1,2 +1,3 @@
 pub mod Features
+pub mod Origins
 pub mod Layers

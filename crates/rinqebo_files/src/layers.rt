@@ -1,10 +1,11 @@
 //! The sources of a run, with their texts and trees.
-ghost use Rattle.std.specs.Prelude.{◌≡◌, ◌++◌, Some, IfOk, OnOk, map, option_map, reverse};
+ghost use Rattle.std.specs.Prelude.{◌≡◌, ◌++◌, ◌↔◌, Some, IfOk, IsTrue, MatchOption, OnOk, map, option_map, reverse, string_bytes};
 ghost use Rattle.nextest_documents.specs.Text.{tree_of as document_of};
+ghost use Rattle.nextest_sources.specs.Sources.{source_kind_view, source_view};
 ghost use Rattle.nextest_tree.specs.View.{tree_view};
-ghost use Rattle.rinqebo_files.specs.Features.{repository_file, tree_read};
-ghost use Rattle.rinqebo_files.specs.Layers.{layer_tree, file_tree, tool_tree, trees_read};
-ghost use Rattle.nextest_tables.specs.Defaults.{defaults};
+ghost use Rattle.rinqebo_files.specs.Features.{tree_read};
+ghost use Rattle.rinqebo_files.specs.Layers.{default_layer, file_layer, layer_view, layers_read, repository_layer, text_read, tool_layer};
+ghost use Rattle.rinqebo_files.specs.Origins.{HasNoFile, IsFileAt, told_file, told_kind};
 
 use crate::files::Gathered;
 use config_places::Places;
@@ -16,29 +17,15 @@ use nextest_documents::{TextFault, tree_from_text};
 use nextest_tables::default_tree;
 use rinqebo_report::{Source, SourceKind};
 use std::alloc::{AllocError, Global};
-use std::cell::OnceCell;
 
 /// A source.
 #[derive(Drop)]
 pub struct Layer<'t> {
     pub source: Source,
-    /// The text of its file, if there is one. The defaults have none.
-    pub text: Option<&'t str>,
+    /// The places in the text of its file, if there is one. The defaults have none.
+    pub places: Option<Places<'t>>,
     /// The tree of its text, if that is a document.
     pub tree: Option<Tree>,
-    /// The places in its text, once one was asked for.
-    places: OnceCell<Places<'t>>,
-}
-
-impl<'t> Layer<'t> {
-    /// The places in its text, if it has one. The text is read for them once.
-    pub(crate) fn places(&self, alloc: Global) -> Result<Option<&Places<'t>>, AllocError> {
-        let Some(text) = self.text else {
-            return Ok(None);
-        };
-        let places = self.places.get_or_try_init(|| Places::of(alloc, text))?;
-        Ok(Some(places))
-    }
 }
 
 /// The tree of a text, if it is a document.
@@ -62,60 +49,60 @@ pub fn tree_of(alloc: Global, outcome: &ReadOutcome) -> Result<Option<Tree>, All
     }
 }
 
-/// The text that was read, if one was.
-fn text_of(outcome: &ReadOutcome) -> Option<&str> {
+/// The places in the text that was read, if one was.
+fn places_of<'t>(alloc: Global, outcome: &'t ReadOutcome) -> Result<Option<Places<'t>>, AllocError>
+    ensures { IfOk result (λ places. places ≡ text_read outcome.entry.now) }
+{
     match outcome {
-        ReadOutcome::Text(text) => Some(text.as_str()),
-        ReadOutcome::NotFound | ReadOutcome::NotADirectory | ReadOutcome::Failed(_) => None,
+        ReadOutcome::Text(text) => Ok(Some(Places::of(alloc, text.as_str())?)),
+        ReadOutcome::NotFound | ReadOutcome::NotADirectory | ReadOutcome::Failed(_) => Ok(None),
     }
 }
 
-/// The layer of a file.
+/// The layer of a file that something brings.
 fn layer_of<'t>(
     alloc: Global,
     kind: SourceKind,
     file: &'t FileInput,
 ) -> Result<Layer<'t>, AllocError>
-    ensures { IfOk result (λ layer. layer_tree layer ≡ file_tree file.entry.now) }
+    ensures { IfOk result (λ layer.
+        layer_view layer ≡ file_layer (told_kind kind) file.entry.now) }
 {
     Ok(Layer {
         source: Source {
             kind,
             path: Some(String::from_str(alloc, file.path.absolute_path())?),
         },
-        text: text_of(&file.outcome),
+        places: places_of(alloc, &file.outcome)?,
         tree: tree_of(alloc, &file.outcome)?,
-        places: OnceCell::new(),
     })
 }
 
 /// The layer of the defaults.
-fn default_layer<'t>(alloc: Global) -> Result<Layer<'t>, AllocError>
-    ensures { IfOk result (λ layer. layer_tree layer ≡ Some defaults) }
+fn defaults_layer<'t>(alloc: Global) -> Result<Layer<'t>, AllocError>
+    ensures { IfOk result (λ layer. layer_view layer ≡ default_layer) }
 {
     Ok(Layer {
         source: Source {
             kind: SourceKind::Default,
             path: None,
         },
-        text: None,
+        places: None,
         tree: Some(default_tree(alloc)?),
-        places: OnceCell::new(),
     })
 }
 
 /// The layer of a tool's file.
-fn tool_layer<'t>(alloc: Global, tool: &'t ToolConfigFile) -> Result<Layer<'t>, AllocError>
-    ensures { IfOk result (λ layer. layer_tree layer ≡ tool_tree tool.entry.now) }
+fn layer_of_tool<'t>(alloc: Global, tool: &'t ToolConfigFile) -> Result<Layer<'t>, AllocError>
+    ensures { IfOk result (λ layer. layer_view layer ≡ tool_layer tool.entry.now) }
 {
-    let kind = SourceKind::Tool(tool.tool.to_string(alloc)?);
+    let kind = SourceKind::Tool(String::from_str(alloc, tool.tool.as_str())?);
     layer_of(alloc, kind, &tool.config_file)
 }
 
 /// The layer of the repository's file.
-fn repository_layer<'t>(alloc: Global, gathered: &'t Gathered) -> Result<Layer<'t>, AllocError>
-    ensures { IfOk result (λ layer.
-        layer_tree layer ≡ file_tree (repository_file gathered.entry.now)) }
+fn layer_of_repository<'t>(alloc: Global, gathered: &'t Gathered) -> Result<Layer<'t>, AllocError>
+    ensures { IfOk result (λ layer. layer_view layer ≡ repository_layer gathered.entry.now) }
 {
     match &gathered.config_file {
         Some(file) => layer_of(alloc, SourceKind::Explicit, file),
@@ -129,12 +116,12 @@ fn add_tools<'t>(
     tools: &'t [ToolConfigFile],
     layers: &mut Vec<Layer<'t>>,
 ) -> Result<(), AllocError>
-    ensures { OnOk result (map layer_tree layers.new.items
-        ≡ map layer_tree layers.old.items ++ map tool_tree (reverse tools.entry.now)) }
+    ensures { OnOk result (map layer_view layers.new.items
+        ≡ map layer_view layers.old.items ++ map tool_layer (reverse tools.entry.now)) }
 {
     let count = tools.len();
     'down: for back in 0..count {
-        let layer = tool_layer(alloc, &tools[count - 1 - back])?;
+        let layer = layer_of_tool(alloc, &tools[count - 1 - back])?;
         layers.push(layer)?;
     }
     Ok(())
@@ -143,17 +130,19 @@ fn add_tools<'t>(
 /// The layers of a run, the lowest first: the defaults, the files of tools, and the repository's.
 pub fn layers_of<'t>(alloc: Global, gathered: &'t Gathered) -> Result<Vec<Layer<'t>>, AllocError>
     ensures { IfOk result (λ layers.
-        map layer_tree layers.items ≡ trees_read gathered.entry.now) }
+        map layer_view layers.items ≡ layers_read gathered.entry.now) }
 {
     let mut layers = Vec::new(alloc);
-    layers.push(default_layer(alloc)?)?;
+    layers.push(defaults_layer(alloc)?)?;
     add_tools(alloc, &gathered.tools, &mut layers)?;
-    layers.push(repository_layer(alloc, gathered)?)?;
+    layers.push(layer_of_repository(alloc, gathered)?)?;
     Ok(layers)
 }
 
 /// A copy of a kind of source.
-fn copied_kind(kind: &SourceKind) -> Result<SourceKind, AllocError> {
+fn copied_kind(kind: &SourceKind) -> Result<SourceKind, AllocError>
+    ensures { IfOk result (λ copy. told_kind copy ≡ told_kind kind.now) }
+{
     match kind {
         SourceKind::Default => Ok(SourceKind::Default),
         SourceKind::Tool(name) => Ok(SourceKind::Tool(name.clone()?)),
@@ -162,38 +151,72 @@ fn copied_kind(kind: &SourceKind) -> Result<SourceKind, AllocError> {
     }
 }
 
+/// A copy of a path, if there is one.
+fn copied_path(path: &Option<String>) -> Result<Option<String>, AllocError>
+    ensures { IfOk result (λ copy.
+        option_map string_bytes copy ≡ option_map string_bytes path.now) }
+{
+    match path {
+        Some(path) => Ok(Some(path.clone()?)),
+        None => Ok(None),
+    }
+}
+
+/// A copy of a source.
+fn copied(source: &Source) -> Result<Source, AllocError>
+    ensures { IfOk result (λ copy. told_file copy ≡ told_file source.now) }
+{
+    Ok(Source {
+        kind: copied_kind(&source.kind)?,
+        path: copied_path(&source.path)?,
+    })
+}
+
 /// The sources of layers.
-pub fn sources_of(alloc: Global, layers: &[Layer]) -> Result<Vec<Source>, AllocError> {
+pub fn sources_of(alloc: Global, layers: &[Layer]) -> Result<Vec<Source>, AllocError>
+    ensures { IfOk result (λ sources. map told_file sources.items
+        ≡ map (λ layer. told_file layer.source) layers.now) }
+{
     let mut sources = Vec::new(alloc);
     for layer in layers {
-        let source = &layer.source;
-        sources.push(Source {
-            kind: copied_kind(&source.kind)?,
-            path: source.path.clone()?,
-        })?;
+        sources.push(copied(&layer.source)?)?;
     }
     Ok(sources)
 }
 
-/// Whether a file that is reported is a source of a load: of its kind, at its path.
-fn is_source(reported: &Source, source: &ConfigSource) -> bool {
-    let is_kind = match (&reported.kind, source.kind()) {
+/// Whether what brings a file is told so.
+fn is_kind(told: &SourceKind, kind: &ConfigSourceKind) -> bool
+    ensures { IsTrue result ↔ (told_kind told.now ≡ Some (source_kind_view kind.now)) }
+{
+    match (told, kind) {
         (SourceKind::Tool(name), ConfigSourceKind::Tool(tool)) => name.as_str() == tool.as_str(),
         (SourceKind::Explicit, ConfigSourceKind::ExplicitRepository) => true,
         (SourceKind::Discovered, ConfigSourceKind::DiscoveredRepository) => true,
         _ => false,
-    };
-    match &reported.path {
-        Some(path) => is_kind && path.as_str() == source.path().absolute_path(),
-        None => false,
     }
 }
 
+/// Whether a file that is reported is a source of a load: of its kind, at its path.
+fn is_source(told: &Source, source: &ConfigSource) -> bool
+    ensures { IsTrue result ↔ (told_file told.now ≡ Some (source_view source.now)) }
+{
+    let Some(path) = &told.path else {
+        return false;
+    };
+    is_kind(&told.kind, source.kind()) && path.as_str() == source.path().absolute_path()
+}
+
 /// The place of a source of a load among layers.
-pub fn place_of(layers: &[Layer], source: &ConfigSource) -> Option<usize> {
-    layers
-        .iter()
-        .position(|layer| is_source(&layer.source, source))
+pub fn place_of(layers: &[Layer], source: &ConfigSource) -> Option<usize>
+    ensures { MatchOption result (HasNoFile layers.now (source_view source.now))
+        (IsFileAt layers.now (source_view source.now)) }
+{
+    for (place, layer) in layers.iter().enumerate() {
+        if is_source(&layer.source, source) {
+            return Some(place);
+        }
+    }
+    None
 }
 
 /// Whether a file that is reported is the one that a tool provides, or with no tool the

@@ -1,5 +1,5 @@
 //! The lines of files that bring what stands at a path.
-ghost use Rattle.std.specs.Prelude.{◌≡◌, IfOk};
+ghost use Rattle.rinqebo_files.specs.Origins.{AreLinesAt, IsPathPlace};
 
 use crate::layers::Layer;
 use config_places::Step;
@@ -9,32 +9,25 @@ use std::alloc::{AllocError, Global};
 use std::collections::BTreeMap;
 
 /// The lines of a layer that bring what stands at a path, as they are reported.
-fn lines_in(alloc: Global, layer: &Layer, path: &[Step]) -> Result<Option<Lines>, AllocError> {
-    let Some(places) = layer.places(alloc)? else {
-        return Ok(None);
-    };
-    Ok(
-        places.lines_at(path).map(|lines| Lines {
-            first: lines.first as u64,
-            last: lines.last as u64,
-        }),
-    )
+fn lines_in(layer: &Layer, path: &[Step]) -> Option<Lines>
+    ensures { AreLinesAt layer.now.places path.now result }
+{
+    let lines = layer.places.as_ref()?.lines_at(path)?;
+    Some(Lines {
+        first: lines.first as u64,
+        last: lines.last as u64,
+    })
 }
 
 /// The place of what stands at a path in the layer at a position.
-pub fn path_place(
-    alloc: Global,
-    layers: &[Layer],
-    source: usize,
-    path: &[Step],
-) -> Result<Place, AllocError>
-    ensures { IfOk result (λ place. place.source ≡ source) }
+pub fn path_place(layers: &[Layer], source: usize, path: &[Step]) -> Place
+    ensures { IsPathPlace layers.now source path.now result }
 {
     let lines = match layers.get(source) {
-        Some(layer) => lines_in(alloc, layer, path)?,
+        Some(layer) => lines_in(layer, path),
         None => None,
     };
-    Ok(Place { source, lines })
+    Place { source, lines }
 }
 
 /// A way into a tree that a text begins to spell: its steps so far, what they lead to, and the part
@@ -159,7 +152,7 @@ fn spelled_lines(alloc: Global, layer: &Layer, path: &str) -> Result<Option<Line
     };
     let mut lines = None;
     for way in ways_of(alloc, tree, path)? {
-        lines = earlier(lines, lines_in(alloc, layer, &way.steps)?);
+        lines = earlier(lines, lines_in(layer, &way.steps));
     }
     Ok(lines)
 }

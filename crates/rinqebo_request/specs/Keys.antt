@@ -1,5 +1,6 @@
 -- The keys of settings, as files write them.
-use Rattle.std.specs.Prelude.{ℕ, List, ◌++◌, Option, None, Some, codes}
+use Rattle.std.specs.Prelude.{ℕ, Bool, false, List, ◌++◌, Option, None, Some, codes}
+use Rattle.std.specs.Str.{bytes_eq}
 use Rattle.nextest_elements.specs.declared.run_mode.NextestRunMode.{NextestRunMode}
 use Rattle.nextest_elements.specs.declared.run_mode.NextestRunMode.TheVariants.{Benchmark}
 use Rattle.nextest_settings.specs.Settings.{setting_name}
@@ -23,6 +24,11 @@ key_name at.JunitStoreFailureOutput = codes "store-failure-output"
 key_name at.JunitReportSkipped = codes "report-skipped"
 key_name at.JunitFlakyFailStatus = codes "flaky-fail-status"
 key_name s = setting_name s
+
+-- whether a table is that of a report
+abbrev pub is_report : Option (List ℕ) → Bool
+is_report None = false
+is_report (Some name) = bytes_eq name (codes "junit")
 
 -- a key behind its table, with a dot between them
 abbrev pub dotted : Option (List ℕ) → List ℕ → List ℕ

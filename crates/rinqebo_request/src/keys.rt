@@ -2,7 +2,7 @@
 ghost use Rattle.std.specs.Prelude.{◌≡◌, ◌≢◌, ◌↔◌, IfOk, IsTrue, MatchOption, Some, codes, map, option_map, string_bytes};
 ghost use Rattle.nextest_settings.specs.Settings.{settings};
 ghost use Rattle.nextest_settings.specs.declared.setting.Setting.{Setting};
-ghost use Rattle.rinqebo_request.specs.Keys.{key_table, key_name, dotted, key_text};
+ghost use Rattle.rinqebo_request.specs.Keys.{key_table, key_name, is_report, dotted, key_text};
 
 use nextest_config::{NextestRunMode, Setting};
 use std::alloc::{AllocError, Global};
@@ -50,8 +50,13 @@ impl SettingKey {
     }
 
     /// Whether it stands in the report's table.
-    pub fn is_of_report(self) -> bool {
-        self.table == Some("junit")
+    pub fn is_of_report(self) -> bool
+        ensures { result ≡ is_report (option_map (λ table. table.now) self.table) }
+    {
+        match self.table {
+            Some(table) => table == "junit",
+            None => false,
+        }
     }
 
     /// The keys with a dot between them.

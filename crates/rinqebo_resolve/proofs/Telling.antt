@@ -11,11 +11,11 @@ use Rattle.rinqebo_request.specs.declared.request.Question.{Question}
 use Rattle.rinqebo_request.specs.declared.request.Question.TheVariants as questions
 use Rattle.rinqebo_request.specs.declared.request.Request.{Request}
 use Rattle.rinqebo_run.specs.Answered.{AnswersQuestion, IsAnswer}
-use Rattle.rinqebo_run.specs.Refused.{AreRefusedFor, Fails, LackProfileFor}
+use Rattle.rinqebo_run.specs.Refused.{Fails}
 use Rattle.rinqebo_run.specs.declared.answer.Answer.{Answer}
-use Rattle.rinqebo_run.specs.declared.answer.Failure.{Failure}
-use Rattle.rinqebo_run.specs.declared.answer.Failure.TheVariants as failures
-use Rattle.rinqebo_run.specs.declared.session.Session.{Session}
+use Rattle.rinqebo_load.specs.declared.failure.Failure.{Failure}
+use Rattle.rinqebo_load.specs.declared.failure.Failure.TheVariants as failures
+use Rattle.rinqebo_load.specs.declared.session.Session.{Session}
 use Rattle.rinqebo_run.proofs.Refused.{failure_told}
 use Rattle.session_forms.specs.Runs.{RunText}
 use Rattle.rinqebo_resolve.specs.Asking.{AskedText, AreFilesOf, AsksForAll, IsRequestFor, asked_of}

@@ -1,5 +1,5 @@
 -- A run as the program is asked for it.
-use Rattle.std.specs.Prelude.{◌≡◌, ℕ, List, Bool, Option, None, Some, option_and_then, option_map, string_bytes}
+use Rattle.std.specs.Prelude.{◌≡◌, ℕ, List, Option, None, Some, option_and_then, option_map, string_bytes}
 use Rattle.nextest_elements.specs.declared.experimental.ConfigExperimental.{ConfigExperimental}
 use Rattle.nextest_elements.specs.declared.run_mode.NextestRunMode.{NextestRunMode}
 use Rattle.nextest_rules.specs.KnownView.{features_view}
@@ -11,7 +11,7 @@ use Rattle.rinqebo_request.specs.declared.request.EngineOptions.{EngineOptions}
 use Rattle.rinqebo_request.specs.declared.request.Question.{Question}
 use Rattle.rinqebo_request.specs.declared.request.Question.TheVariants as questions
 use Rattle.rinqebo_request.specs.declared.request.Request.{Request}
-use Rattle.rinqebo_run.specs.Sessions.{files_view}
+use Rattle.rinqebo_load.specs.Sessions.{files_view}
 use Rattle.rinqebo_session.specs.Loading.{files_of, is_on}
 use Rattle.session_forms.specs.Runs.{RunText}
 use Rattle.session_forms.specs.declared.request.Switches.{Switches}

@@ -1,5 +1,5 @@
 -- How a run ends, and what is told of it.
-use Rattle.std.specs.Prelude.{◌≡◌, ◌⊎◌, ◌<◌, ◌≤◌, ◌++◌, ℕ, List, [], Option, None, Some, Result, Ok, Err, drop, length, string_bytes}
+use Rattle.std.specs.Prelude.{◌≡◌, ◌⊎◌, ◌<◌, ◌≤◌, ◌++◌, ℕ, List, [], None, Some, Result, Ok, Err, drop, length, string_bytes}
 use Rattle.std.specs.Str.{IsUtf8}
 use Rattle.rinqebo_files.specs.declared.files.Gathered.{Gathered}
 use Rattle.rinqebo_report.specs.Rendered.{rendered}
@@ -10,8 +10,8 @@ use Rattle.rinqebo_request.specs.declared.request.Request.{Request}
 use Rattle.rinqebo_run.specs.Answered.{IsAnswer}
 use Rattle.rinqebo_run.specs.Refused.{AreRefusedFor, LackProfileFor}
 use Rattle.rinqebo_run.specs.declared.answer.Answer.{Answer}
-use Rattle.rinqebo_run.specs.declared.answer.Failure.{Failure}
-use Rattle.rinqebo_run.specs.declared.answer.Failure.TheVariants as failures
+use Rattle.rinqebo_load.specs.declared.failure.Failure.{Failure}
+use Rattle.rinqebo_load.specs.declared.failure.Failure.TheVariants as failures
 use Rattle.rinqebo_session.specs.declared.status.TheConstants.{DONE, REFUSED, SMALL, NOT_TEXT, MEMORY, NOT_UNDERSTOOD, NO_ENGINES, NO_PROFILE}
 use Rattle.session_forms.specs.Runs.{RunText, run_of}
 use Rattle.rinqebo_resolve.specs.Asking.{AskedText, AreFilesOf, IsRequestFor, asked_of}

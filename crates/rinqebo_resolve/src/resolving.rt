@@ -12,8 +12,9 @@ use crate::asking::{Asked, parted};
 use crate::ending::Ending;
 use rinqebo_files::Gathered;
 use rinqebo_list::Untold;
+use rinqebo_load::Failure;
 use rinqebo_report::{Colour, Format, Report, render};
-use rinqebo_run::{Answer, Failure, answer_of};
+use rinqebo_run::{Answer, answer_of};
 use session_forms::{RequestFault, RunRequest};
 use std::alloc::{AllocError, Global};
 

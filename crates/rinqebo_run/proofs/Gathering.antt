@@ -26,14 +26,14 @@ use Rattle.target_language.specs.Expressions.{spec_view}
 use Rattle.target_language.specs.declared.expression.TargetSpec.{TargetSpec}
 use Rattle.target_platforms.specs.declared.Platform.{Platform}
 use Rattle.rinqebo_run.proofs.Meant.{reasons_of_texts}
-use Rattle.rinqebo_run.specs.Checked.{AreAccepted}
-use Rattle.rinqebo_run.specs.Conditions.{is_met_by, filter_matches, default_filter_here}
+use Rattle.rinqebo_load.specs.Accepted.{AreAccepted}
+use Rattle.rinqebo_rules.specs.Conditions.{is_met_by, filter_matches, default_filter_here}
 use Rattle.rinqebo_run.specs.Reasons.{AreRulesTold}
-use Rattle.rinqebo_run.specs.RuleViews.{Rule as ReadRule}
-use Rattle.rinqebo_run.specs.Sessions.{files_view, readings, IsLoadedFrom}
-use Rattle.rinqebo_run.specs.SettingRules.{rules_for}
+use Rattle.rinqebo_rules.specs.RuleViews.{Rule as ReadRule}
+use Rattle.rinqebo_load.specs.Sessions.{files_view, readings, IsLoadedFrom}
+use Rattle.rinqebo_rules.specs.SettingRules.{rules_for}
 use Rattle.rinqebo_run.specs.TellsReasons.{AreReasons, AreReasonsIn, configured_by, IfWhy, TellsReasons}
-use Rattle.rinqebo_run.specs.declared.session.Session.{Session}
+use Rattle.rinqebo_load.specs.declared.session.Session.{Session}
 
 -- what is told of the rules of a chain for a setting, and then of the fallback
 pub reasons_here : (platforms : BuildPlatforms Platform) (test : TestName) (query : TestQuery) (s : Setting)

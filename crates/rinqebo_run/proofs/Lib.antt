@@ -4,7 +4,6 @@ pub mod Loads
 pub mod Rows
 pub mod Reasons
 pub mod Pairs
-pub mod InOrder
 pub mod Meant
 pub mod Gathering
 pub mod Listing

@@ -1,28 +1,26 @@
 -- What is told of the tests of a list and of the rules that hold for none.
-use Rattle.std.proofs.Common.{◌≡◌, ◌∙◌, List, [], ◌∷◌, ◌++◌, Bool, true, false, cond, not, map, Option, ap, filter, refl, string_bytes, subst, sym}
+use Rattle.std.proofs.Common.{◌≡◌, ◌∙◌, List, [], ◌∷◌, ◌++◌, Bool, true, false, cond, not, map, Option, ap, refl, string_bytes, subst, sym}
 use Rattle.std.proofs.lemmas.List.{map-append}
 use Rattle.std.specs.List.{AllZip}
 use Rattle.filter_language.specs.Filtersets.{marks_view}
 use Rattle.filter_language.specs.declared.filterset.Filterset.{Filterset}
 use Rattle.nextest_elements.specs.declared.run_mode.NextestRunMode.{NextestRunMode}
-use Rattle.nextest_engines.specs.Engines.{Test}
 use Rattle.nextest_engines.specs.declared.queries.BuildPlatforms.{BuildPlatforms}
 use Rattle.nextest_filters.specs.Compiling.{names_of}
 use Rattle.nextest_filters.specs.Engine.{Filter}
 use Rattle.nextest_filters.specs.declared.compiling.FieldMatcher.{FieldMatcher}
 use Rattle.nextest_inheritance.proofs.Chains.{lead_default_one}
-use Rattle.nextest_inheritance.specs.Parents.{parents_in, with_default, IsChain}
+use Rattle.nextest_inheritance.specs.Parents.{parents_in, with_default}
 use Rattle.nextest_load.specs.Config.{ConfigModel, config_parents}
 use Rattle.nextest_load.specs.Load.{Loaded}
 use Rattle.nextest_profiles.proofs.MeaningOfTexts.{profile_means}
 use Rattle.nextest_profiles.specs.Meaning.{configured_meaning, profile_meaning}
 use Rattle.nextest_profiles.specs.Profiles.{IsChainAndDefault}
 use Rattle.nextest_rules.specs.Rules.{Compiled, Layer, OverrideUse}
-use Rattle.nextest_settings.specs.Chains.{in_order, overrides_of, script_rules_of}
+use Rattle.nextest_settings.specs.Chains.{overrides_of, script_rules_of}
 use Rattle.nextest_settings.specs.Deciding.{QueryContext}
 use Rattle.nextest_settings.specs.Platforms.{EvaluatedRule, rule_on}
 use Rattle.nextest_settings.specs.Profile.{Configured, EvaluatableModel, profile_of, profile_on}
-use Rattle.nextest_settings.specs.Queries.{query_in}
 use Rattle.nextest_settings.specs.View.{evaluated_override_meaning, evaluated_script_rule_meaning}
 use Rattle.nextest_tables.specs.FileTexts.{ScriptUse, names_in, IsIn}
 use Rattle.nextest_tables.specs.Written.{Name}
@@ -40,18 +38,20 @@ use Rattle.target_language.specs.Expressions.{Spec, spec_view}
 use Rattle.target_language.specs.declared.expression.TargetSpec.{TargetSpec}
 use Rattle.test_lists.specs.ListView.{list_view}
 use Rattle.test_lists.specs.Lists.{all_binaries, all_tests}
-use Rattle.rinqebo_run.specs.Checked.{AreAccepted}
-use Rattle.rinqebo_run.specs.Conditions.{is_met_by}
-use Rattle.rinqebo_run.specs.ListRules.{bare, writing, placed_view, placed_override, listed_script, AreRulesOf}
+use Rattle.rinqebo_load.specs.Accepted.{AreAccepted}
+use Rattle.rinqebo_rules.specs.Conditions.{is_met_by}
+use Rattle.rinqebo_run.specs.ListRules.{bare, placed_view, placed_override, listed_script, AreRulesOf}
 use Rattle.rinqebo_run.specs.Listed.{IsProfileOn, bare_on, placed_on, AreUnused, AreTestsOf, IfListed, TellsTests}
 use Rattle.rinqebo_run.specs.ListedBy.{read_by, listed_by, AreUnusedPlaces}
-use Rattle.rinqebo_run.specs.RulePlaces.{Place, place_view, IsOriginOf}
-use Rattle.rinqebo_run.specs.RuleViews.{setting_rule_view}
-use Rattle.rinqebo_run.specs.Sessions.{files_view, readings, IsLoadedFrom}
-use Rattle.rinqebo_run.specs.SettingRules.{for_setting, wrapper_written}
-use Rattle.rinqebo_run.specs.declared.chain_rules.SettingRule.{SettingRule}
-use Rattle.rinqebo_run.specs.declared.rule_places.RulePlace.{RulePlace}
-use Rattle.rinqebo_run.specs.declared.session.Session.{Session}
+use Rattle.rinqebo_files.specs.declared.layers.Layer.{Layer as FileLayer}
+use Rattle.rinqebo_rules.specs.Origins.{IsOriginOf}
+use Rattle.rinqebo_rules.specs.RulePlaces.{Place, place_view}
+use Rattle.rinqebo_rules.specs.RuleViews.{setting_rule_view}
+use Rattle.rinqebo_load.specs.Sessions.{files_view, readings, IsLoadedFrom}
+use Rattle.rinqebo_rules.specs.SettingRules.{for_setting, wrapper_written}
+use Rattle.rinqebo_rules.specs.declared.chain_rules.SettingRule.{SettingRule}
+use Rattle.rinqebo_rules.specs.declared.rule_places.RulePlace.{RulePlace}
+use Rattle.rinqebo_load.specs.declared.session.Session.{Session}
 
 -- what holds of each and what is told of it holds of what is made of each
 pub zip_mapped : {A B C : Type 0} (f : A → B) (R : B → C → Type 0) (xs : List A) (ys : List C)
@@ -61,10 +61,13 @@ zip_mapped f R [] (y ∷ ys) all = absurd all
 zip_mapped f R (x ∷ xs) [] all = absurd all
 zip_mapped f R (x ∷ xs) (y ∷ ys) all = (all.0, zip_mapped f R xs ys all.1)
 
--- origins tell the same rules by another name
-pub told_of : (rules others : List RulePlace) (origins : List Origin) → rules ≡ others
-    → AllZip IsOriginOf (map place_view rules) origins → AllZip IsOriginOf (map place_view others) origins
-told_of rules others origins same told = subst (λ rs. AllZip IsOriginOf (map place_view rs) origins) same told
+-- origins tell the same rules, in the same layers, by other names
+pub told_of : (files layers : List FileLayer) (rules others : List RulePlace) (origins : List Origin) → files ≡ layers
+    → rules ≡ others → AllZip (λ place. IsOriginOf files place []) (map place_view rules) origins
+    → AllZip (λ place. IsOriginOf layers place []) (map place_view others) origins
+told_of files layers rules others origins same_files same told =
+    subst (λ fs. AllZip (λ place. IsOriginOf fs place []) (map place_view others) origins) same_files
+    (subst (λ rs. AllZip (λ place. IsOriginOf files place []) (map place_view rs) origins) same told)
 
 -- script rules as lists take them are those with the run wrappers that they name, but for what they write
 pub bare_scripts : (rules : List SettingRule)
@@ -171,11 +174,12 @@ module _ {E N M K P : Type 0} (f : E → M) (g : N → K) (meets : K → P → O
         ∙ ap (λ p. p.script_rules) (sym is.is_profile)
 
     -- the rules that hold for no test are told
-    pub unused_told : (names : List Name) (tests : List (QueryContext M)) (rules : List (Compiled E N Place))
-        (unused : List Origin) → names ≡ with_default is.chain → AreRulesOf c.config.layers names rules
-        → AllZip IsOriginOf (map (λ rule. rule.writes) (unused_among tests (map meant_here rules))) unused
-        → AreUnused tests (profile_meaning f on) unused
-    unused_told names tests rules unused same are told =
+    pub unused_told : (files : List FileLayer) (names : List Name) (tests : List (QueryContext M))
+        (rules : List (Compiled E N Place)) (unused : List Origin) → names ≡ with_default is.chain → AreRulesOf c.config.layers names rules
+        → AllZip (λ place. IsOriginOf files place [])
+        (map (λ rule. rule.writes) (unused_among tests (map meant_here rules))) unused
+        → AreUnused files tests (profile_meaning f on) unused
+    unused_told files names tests rules unused same are told =
         let chain = with_default is.chain in
         let layers = c.config.layers in
         let profile = profile_on read_meets platforms (profile_of c name is.chain) in
@@ -195,8 +199,8 @@ module _ {E N M K P : Type 0} (f : E → M) (g : N → K) (meets : K → P → O
               ∙ ap (λ ns. map meant_here (map bare (script_rules_of layers ns))) same
               ∙ sym (scripts_meant (script_rules_of layers chain))
               ∙ ap (λ p. map bare_on (profile_meaning f p).script_rules) (sym is.is_profile);
-          told = subst (λ rs. AllZip IsOriginOf (map (λ rule. rule.writes) (unused_among tests rs)) unused)
-              rules_meant told;
+          told = subst (λ rs. AllZip (λ place. IsOriginOf files place [])
+              (map (λ rule. rule.writes) (unused_among tests rs)) unused) rules_meant told;
         }
 
 -- the script rules of a chain that was loaded are those of the profile
@@ -224,7 +228,7 @@ pub listed_here : (session : Session) (loaded : Loaded (Filterset FieldMatcher) 
     asked (all_tests (list_view session.tests)) tests
     → AreUnusedPlaces session.engines.platforms loaded.config.layers names (profile_meaning (marks_view names_of) on)
     (all_tests (list_view session.tests)) places
-    → AllZip IsOriginOf places unused
+    → AllZip (λ place. IsOriginOf session.layers.items place []) places unused
     → AreScriptsTold (readings session.engines.filters).matches_test (readings session.engines.filters).matches_binary
     (profile_meaning (marks_view names_of) on) (all_tests (list_view session.tests))
     (all_binaries (list_view session.tests)) scripts
@@ -238,9 +242,10 @@ listed_here session loaded name mode asked on names places tests unused scripts 
       profile = profile_meaning f on;
       is_profile = given_means f spec_view engines.meets platforms c name on is;
       tests_told = told;
-      unused_told = unused_told f spec_view engines.meets platforms c name on is names _ are.rules unused
+      unused_told = unused_told f spec_view engines.meets platforms c name on is session.layers.items names _
+          are.rules unused
           (same_names f spec_view engines.meets platforms c name on is names chain) are.are_rules
-          (subst (λ ps. AllZip IsOriginOf ps unused) are.are origins);
+          (subst (λ ps. AllZip (λ place. IsOriginOf session.layers.items place []) ps unused) are.are origins);
       scripts_told = scripted;
     }
 
@@ -258,7 +263,7 @@ tells_tests session profile mode asked report content loaded accepted from there
       root = string_bytes session.gathered.now.paths.workspace_root;
       config = config;
       scripts = loaded.scripts;
-    }) profile mode asked (list_view session.tests)) in
+    }) profile mode asked session.layers.items (list_view session.tests)) in
     record {
       acceptance = accepted;
       scripts = loaded.scripts;

@@ -1,24 +1,11 @@
 -- What comes of loads.
-use Rattle.std.proofs.Common.{◌≡◌, ◌⊎◌, inl, inr, ℕ, true, is_some, Option, None, Some, Result, Ok, Err, IfOk, arith}
-use Rattle.nextest_sources.specs.Causes.{LoadCause}
-use Rattle.nextest_sources.specs.Endings.{ending_at, ending_with, no_memory, IsMemory}
-use Rattle.nextest_sources.specs.Errors.{cause_view}
-use Rattle.nextest_sources.specs.Sources.{Source}
+use Rattle.std.proofs.Common.{◌≡◌, ◌⊎◌, inl, inr, ℕ, Result, Ok, Err, IfOk, arith}
+use Rattle.nextest_sources.specs.Endings.{IsMemory}
 use Rattle.nextest_sources.specs.declared.error.ConfigParseError.{ConfigParseError}
-use Rattle.nextest_sources.specs.declared.error.ConfigParseErrorKind.{ConfigParseErrorKind}
-use Rattle.rinqebo_run.specs.Checked.{AreAccepted, IsCheckStatus}
+use Rattle.rinqebo_load.specs.Accepted.{AreAccepted}
+use Rattle.rinqebo_run.specs.Checked.{IsCheckStatus}
 use Rattle.rinqebo_run.specs.declared.answer.Answer.{Answer}
-use Rattle.rinqebo_run.specs.declared.session.Session.{Session}
-
-at_cause : (source : Source) (cause : Option LoadCause) → ending_at source cause ≡ no_memory → ⊥
-at_cause source (Some cause) is = cc
-at_cause source None is = cc
-
--- a refusal with a source is not want of memory
-pub no_want : (source : Option Source) (kind : ConfigParseErrorKind) → is_some source ≡ true
-    → ending_with source kind ≡ no_memory → ⊥
-no_want (Some source) kind is memory = at_cause source (cause_view kind) memory
-no_want None kind is memory = cc
+use Rattle.rinqebo_load.specs.declared.session.Session.{Session}
 
 -- the status of a check whose load accepts
 pub accepts : (session : Session) (n : ℕ) → AreAccepted session → (n ≡ 0) ⊎ (n ≡ 1) → IsCheckStatus session n

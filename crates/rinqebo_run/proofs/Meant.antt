@@ -25,13 +25,14 @@ use Rattle.rule_verdicts.proofs.VerdictsOf.{verdicts-facts}
 use Rattle.rule_verdicts.specs.Verdicts.{facts_of, verdicts_of}
 use Rattle.rule_verdicts.specs.VerdictsBy.{verdicts_by}
 use Rattle.rule_verdicts.specs.declared.verdict.Verdict.{Verdict}
-use Rattle.rinqebo_run.specs.Conditions.{told_condition, is_met, asked_if}
-use Rattle.rinqebo_run.specs.Reasons.{answers_by, IsRuleTold, AreRulesTold, answers_told, verdicts_here, AreRulesToldHere}
-use Rattle.rinqebo_run.specs.RuleViews.{Rule as ReadRule, setting_rule_view}
-use Rattle.rinqebo_run.specs.SettingRules.{RuleFor, for_setting, override_writes, wrapper_written, is_of_scripts, rules_for}
+use Rattle.rinqebo_rules.specs.Conditions.{told_condition, is_met, asked_if}
+use Rattle.rinqebo_rules.specs.RuleAnswers.{answers_by, answers_told}
+use Rattle.rinqebo_run.specs.Reasons.{IsRuleTold, AreRulesTold, verdicts_here, AreRulesToldHere}
+use Rattle.rinqebo_rules.specs.RuleViews.{Rule as ReadRule, setting_rule_view}
+use Rattle.rinqebo_rules.specs.SettingRules.{RuleFor, for_setting, override_writes, wrapper_written, is_of_scripts, rules_for}
 use Rattle.rinqebo_run.specs.TellsReasons.{AreReasons, AreReasonsIn}
-use Rattle.rinqebo_run.specs.declared.chain_rules.SettingRule.{SettingRule}
-use Rattle.rinqebo_run.specs.declared.conditions.Asking.{Asking}
+use Rattle.rinqebo_rules.specs.declared.chain_rules.SettingRule.{SettingRule}
+use Rattle.rinqebo_rules.specs.declared.conditions.Asking.{Asking}
 
 -- what is told of pairs is told of them with the first of each turned into something else
 pub zip_moved : {A B V Y : Type 0} (h : A → B) (R : A × V → Y → Type 0) (S : B × V → Y → Type 0)

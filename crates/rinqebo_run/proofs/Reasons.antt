@@ -1,5 +1,5 @@
 -- What is told of rules is what comes of them.
-use Rattle.std.proofs.Common.{◌≡◌, ◌∙◌, ◌&&◌, ◌||◌, Bool, true, false, List, [], ◌∷◌, map, Option, None, Some, Result, Ok, Err, IfOk, ap, is_some, refl, sym, unwrap_or}
+use Rattle.std.proofs.Common.{◌≡◌, ◌∙◌, ◌&&◌, ◌||◌, Bool, true, false, List, [], ◌∷◌, map, Option, None, Some, ap, is_some, refl, sym, unwrap_or}
 use Rattle.std.specs.List.{AllZip}
 use Rattle.nextest_engines.specs.declared.queries.BuildPlatform.{BuildPlatform}
 use Rattle.nextest_engines.specs.declared.queries.BuildPlatform.TheVariants.{Host, Target}
@@ -10,10 +10,11 @@ use Rattle.rule_verdicts.proofs.VerdictsOf.{verdicts-facts}
 use Rattle.rule_verdicts.specs.Verdicts.{facts_of}
 use Rattle.rule_verdicts.specs.VerdictsBy.{verdict_by, decides_by, verdicts_by}
 use Rattle.rule_verdicts.specs.declared.verdict.RuleFacts.{RuleFacts}
-use Rattle.rinqebo_run.specs.Conditions.{told_answer, told_condition, told_filter, is_met_by, is_met, is_matched, asked_if}
-use Rattle.rinqebo_run.specs.Reasons.{asked_query, rule_here, facts_told, verdicts_here}
-use Rattle.rinqebo_run.specs.RuleViews.{Rule}
-use Rattle.rinqebo_run.specs.declared.conditions.Asking.{Asking}
+use Rattle.rinqebo_rules.specs.Conditions.{told_answer, told_condition, told_filter, is_met_by, is_met, is_matched, asked_if}
+use Rattle.rinqebo_rules.specs.RuleAnswers.{asked_query, facts_told}
+use Rattle.rinqebo_run.specs.Reasons.{rule_here, verdicts_here}
+use Rattle.rinqebo_rules.specs.RuleViews.{Rule}
+use Rattle.rinqebo_rules.specs.declared.conditions.Asking.{Asking}
 
 -- an answer counts as met where what is told of it does not stand against the rule
 met_told : (answer : Option Bool) → unwrap_or answer true ≡ is_met (told_answer answer)
@@ -114,9 +115,3 @@ module _ (asking : Asking) where
   told_verdicts rules =
       same_verdicts false _ _ (all_same rules)
       ∙ sym (verdicts-facts (asked_query asking) is_some (map (rule_here asking) rules))
-
--- what is made of a result, by an equation
-pub ok_same : {T E X : Type 0} (f : T → X) (r : Result T E) (a b : X) → a ≡ b → IfOk r (λ t. f t ≡ a)
-    → IfOk r (λ t. f t ≡ b)
-ok_same f (Ok t) a b same is = is ∙ same
-ok_same f (Err e) a b same is = tt

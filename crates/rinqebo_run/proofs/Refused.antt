@@ -28,15 +28,16 @@ use Rattle.rinqebo_request.specs.declared.request.Request.{Request as Asked}
 use Rattle.rinqebo_request.specs.declared.request.TestName.{TestName}
 use Rattle.rinqebo_run.proofs.Statuses.{shown_low}
 use Rattle.rinqebo_run.specs.Answered.{AnswersQuestion, IsAnswer}
-use Rattle.rinqebo_run.specs.Checked.{AreAccepted}
+use Rattle.rinqebo_load.specs.Accepted.{AreAccepted}
 use Rattle.rinqebo_run.specs.Explained.{Asks}
-use Rattle.rinqebo_run.specs.Refused.{AreRefusedFor, Fails, IsFailureAbout, IsFailureIn, IsLoadFailure, IsProfileFailure, IsRunFailure, IsToldBy, LackProfileFor, LacksProfile, LacksProfileOf}
-use Rattle.rinqebo_run.specs.SessionOf.{IsSessionOf}
-use Rattle.rinqebo_run.specs.Sessions.{files_view, readings, IsLoadedFrom}
+use Rattle.rinqebo_run.specs.Refused.{AreRefusedFor, Fails, IsFailureIn, IsToldBy, LackProfileFor, LacksProfileOf}
+use Rattle.rinqebo_findings.specs.Failures.{IsFailureAbout, IsLoadFailure, IsProfileFailure, IsRunFailure, LacksProfile}
+use Rattle.rinqebo_load.specs.SessionOf.{IsSessionOf}
+use Rattle.rinqebo_load.specs.Sessions.{files_view, readings, IsLoadedFrom}
 use Rattle.rinqebo_run.specs.Statuses.{failure_status}
-use Rattle.rinqebo_run.specs.declared.answer.Failure.{Failure}
-use Rattle.rinqebo_run.specs.declared.answer.Failure.TheVariants as failures
-use Rattle.rinqebo_run.specs.declared.session.Session.{Session}
+use Rattle.rinqebo_load.specs.declared.failure.Failure.{Failure}
+use Rattle.rinqebo_load.specs.declared.failure.Failure.TheVariants as failures
+use Rattle.rinqebo_load.specs.declared.session.Session.{Session}
 use Rattle.target_language.specs.declared.expression.TargetSpec.{TargetSpec}
 use Rattle.target_platforms.specs.declared.Platform.{Platform}
 

@@ -1,8 +1,7 @@
 -- Settings of a row, and the rows of a test.
-use Rattle.std.proofs.Common.{◌≡◌, ◌∙◌, ◌<◌, ◌+◌, ℕ, List, [], ◌∷◌, ◌++◌, Some, None, Result, Ok, Err, IfOk, ap, map, refl, subst, sym, length, string_bytes, take, get_or, unwrap_or}
-use Rattle.std.proofs.lemmas.List.{take_more}
-use Rattle.std.specs.List.{AllZip, slice_get}
-use Rattle.nextest_config.proofs.AreRows.{zip_push}
+use Rattle.std.proofs.Common.{◌≡◌, ◌∙◌, ℕ, List, [], ◌∷◌, Some, None, Result, Ok, Err, IfOk, ap, map, refl, subst, sym, string_bytes, unwrap_or}
+use Rattle.std.specs.List.{slice_get}
+use Rattle.filter_language.specs.declared.filterset.Filterset.{Filterset}
 use Rattle.nextest_config.specs.Headline.{Request, Row, Resolves}
 use Rattle.nextest_config.specs.RowView.{row_view}
 use Rattle.nextest_config.specs.RunView.{request_view, run_view}
@@ -10,27 +9,26 @@ use Rattle.nextest_config.specs.declared.run.Inputs.{Inputs}
 use Rattle.nextest_config.specs.declared.run.row.TestRow.{TestRow}
 use Rattle.nextest_engines.specs.Engines.{test_view}
 use Rattle.nextest_engines.specs.declared.queries.TestQuery.{TestQuery}
+use Rattle.nextest_filters.specs.declared.compiling.FieldMatcher.{FieldMatcher}
 use Rattle.nextest_filters.specs.declared.engine.NextestFilters.{NextestFilters}
+use Rattle.nextest_inheritance.specs.Parents.{parents_in}
+use Rattle.nextest_load.specs.Config.{config_parents}
+use Rattle.nextest_load.specs.Load.{Loaded}
+use Rattle.nextest_profiles.specs.Profiles.{IsChainAndDefault}
 use Rattle.nextest_rules.specs.KnownView.{features_view}
 use Rattle.nextest_settings.specs.declared.setting.Setting.{Setting}
 use Rattle.nextest_sources.specs.Inputs.{load_inputs_view}
 use Rattle.nextest_sources.specs.Warnings.{Warning}
+use Rattle.nextest_tables.specs.Written.{Name}
+use Rattle.rinqebo_files.specs.declared.layers.Layer.{Layer}
 use Rattle.rinqebo_report.specs.declared.report.Content.{Content}
 use Rattle.rinqebo_report.specs.declared.report.Report.{Report}
+use Rattle.target_language.specs.declared.expression.TargetSpec.{TargetSpec}
 use Rattle.target_platforms.specs.declared.Platform.{Platform}
-use Rattle.rinqebo_run.specs.Explained.{Asks, AreRowsOf, IfExplained, IsTestTold, Explains}
-use Rattle.rinqebo_run.specs.Sessions.{files_view, readings}
+use Rattle.rinqebo_run.specs.Explained.{Asks, AreRowsOf, AreSettingsTold, IfExplained, IsTestTold, Explains}
+use Rattle.rinqebo_load.specs.Sessions.{files_view, readings, IsLoadedFrom}
 use Rattle.rinqebo_request.specs.declared.request.TestName.{TestName}
-use Rattle.rinqebo_run.specs.declared.session.Session.{Session}
-
--- one more of each of two lists
-pub zip_more : {A B : Type 0} (R : A → B → Type 0) (xs : List A) (i : ℕ) (x d : A) → i < length xs
-    → x ≡ get_or xs i d → (now new : List B) (y : B) → AllZip R (take i xs) now → R x y
-    → new ≡ now ++ y ∷ [] → AllZip R (take (i + 1) xs) new
-zip_more R xs i x d below same now new y before is more =
-    let taken : take (i + 1) xs ≡ take i xs ++ x ∷ [] = take_more xs i d below
-    ∙ ap (λ z. take i xs ++ z ∷ []) (sym same) in
-    rw (taken, more) (zip_push R (take i xs) now x y before is)
+use Rattle.rinqebo_load.specs.declared.session.Session.{Session}
 
 -- the first view is that of the first row
 at_first : {X Y : Type 0} (view : X → Y) (P : Y → Type 0) (rows : List X) (first : X) (row : Y)
@@ -91,18 +89,34 @@ rows_of session profile test filters request rows old new before after same asks
   resolves = subst (λ f. Resolves (readings f) request (run_view (Ok rows) old new before after)) same resolves;
 }
 
+-- settings are told by a configuration that was loaded
+pub settings_told : (session : Session) (profile : Name) (test : TestName) (settings : List Setting) (rows : List Row)
+    (loaded : Loaded (Filterset FieldMatcher) TargetSpec) (layers : List Layer) (chain names : List Name)
+    (content : Content)
+    → IsLoadedFrom (readings session.engines.filters) (files_view session.gathered.now) loaded
+    → IsChainAndDefault (parents_in (config_parents loaded.config)) profile names → layers ≡ session.layers.items
+    → chain ≡ names
+    → IfExplained content (λ told. (row : Row) → slice_get rows 0 ≡ Some row
+    → IsTestTold layers chain row test settings told)
+    → AreSettingsTold session profile test settings rows content
+settings_told session profile test settings rows loaded layers chain names content from is same_layers same told = record {
+  chain = names;
+  is_chain = subst (λ config. IsChainAndDefault (parents_in (config_parents config)) profile names) from.means is;
+  told = subst (λ ls. IfExplained content (λ told. (row : Row) → slice_get rows 0 ≡ Some row
+      → IsTestTold ls names row test settings told)) same_layers
+      (subst (λ ns. IfExplained content (λ told. (row : Row) → slice_get rows 0 ≡ Some row
+      → IsTestTold layers ns row test settings told)) same told);
+}
+
 -- a report explains a test by its rows
 pub explains : (session : Session) (profile : List ℕ) (test : TestName) (settings : List Setting) (report : Report)
     (content : Content) (rows read : List TestRow) → report.content ≡ content → read ≡ rows
     → AreRowsOf session profile test (map row_view rows)
-    → IfExplained content (λ told. (row : Row) → slice_get (map row_view read) 0 ≡ Some row
-    → IsTestTold row test settings told)
+    → AreSettingsTold session profile test settings (map row_view read) content
     → Explains session profile test settings report
 explains session profile test settings report content rows read same same_rows are told = record {
   rows = map row_view rows;
   are_rows = are;
-  told = subst (λ xs. IfExplained report.content (λ told. (row : Row) → slice_get (map row_view xs) 0 ≡ Some row
-      → IsTestTold row test settings told)) same_rows
-      (subst (λ content. IfExplained content (λ told. (row : Row) → slice_get (map row_view read) 0 ≡ Some row
-      → IsTestTold row test settings told)) (sym same) told);
+  told = subst (λ xs. AreSettingsTold session profile test settings (map row_view xs) report.content) same_rows
+      (subst (λ content. AreSettingsTold session profile test settings (map row_view read) content) (sym same) told);
 }

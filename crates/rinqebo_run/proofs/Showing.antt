@@ -6,24 +6,9 @@ use Rattle.std.proofs.lemmas.Slice.Zip.{all_zipped_more}
 use Rattle.std.specs.List.{AllZip}
 use Rattle.config_grounds.specs.Entries.{Leaf, leaf_view}
 use Rattle.config_grounds.specs.declared.entries.Entry.{Entry as Found}
-use Rattle.filter_language.specs.Filtersets.{marks_view}
-use Rattle.filter_language.specs.declared.filterset.Filterset.{Filterset}
-use Rattle.nextest_filters.specs.Compiling.{names_of}
-use Rattle.nextest_filters.specs.declared.compiling.FieldMatcher.{FieldMatcher}
-use Rattle.nextest_inheritance.specs.Parents.{parents_in}
-use Rattle.nextest_load.specs.Config.{config_parents}
-use Rattle.nextest_load.specs.Load.{Loaded}
-use Rattle.nextest_tables.specs.FileTexts.{names_in, IsIn}
-use Rattle.nextest_tables.specs.Written.{Name}
 use Rattle.rinqebo_entries.specs.LeafValue.{is_tellable}
-use Rattle.rinqebo_report.specs.declared.report.Content.{Content}
 use Rattle.rinqebo_report.specs.declared.report.Entry.{Entry}
-use Rattle.rinqebo_report.specs.declared.report.Report.{Report}
-use Rattle.rinqebo_run.specs.Checked.{AreAccepted}
-use Rattle.rinqebo_run.specs.Sessions.{files_view, readings, IsLoadedFrom}
-use Rattle.rinqebo_run.specs.ShownConfig.{TellsLeaf, TellLeaves, IsShownIn, shown_status, ShowsConfig}
-use Rattle.rinqebo_run.specs.declared.session.Session.{Session}
-use Rattle.target_language.specs.declared.expression.TargetSpec.{TargetSpec}
+use Rattle.rinqebo_run.specs.ShownConfig.{TellsLeaf, TellLeaves}
 
 -- whether a leaf is told
 abbrev pub tells : Leaf → Bool
@@ -64,19 +49,3 @@ told_less found n m leaf old new within at next before none kept =
     let same = ap (filter tells) (next_leaf found n m leaf within at next)
     ∙ ended leaves (leaf_view leaf) false none ∙ append-nil (filter tells leaves) in
     subst (λ ls. AllZip TellsLeaf ls new) (sym same) (subst (AllZip TellsLeaf (filter tells leaves)) (sym kept) before)
-
--- a report shows the leaves of what was loaded
-pub shows : (session : Session) (profile : Name) (keys : List (List ℕ)) (with_hidden : Bool) (report : Report)
-    (status : ℕ) (content : Content) (loaded : Loaded (Filterset FieldMatcher) TargetSpec) → AreAccepted session
-    → IsLoadedFrom (readings session.engines.filters) (files_view session.gathered.now) loaded
-    → IsIn (names_in loaded.config.profiles) profile → report.content ≡ content
-    → IsShownIn session (parents_in (config_parents loaded.config)) profile keys with_hidden content
-    → status ≡ shown_status content → ShowsConfig session profile keys with_hidden report status
-shows session profile keys with_hidden report status content loaded accepted from there same shown status_is = record {
-  acceptance = accepted;
-  known = subst (λ config. IsIn (names_in config.profiles) profile) from.means there;
-  shown = subst (λ config. IsShownIn session (parents_in (config_parents config)) profile keys with_hidden
-      report.content) from.means
-      (subst (IsShownIn session (parents_in (config_parents loaded.config)) profile keys with_hidden) (sym same) shown);
-  status_is = status_is ∙ ap shown_status (sym same);
-}

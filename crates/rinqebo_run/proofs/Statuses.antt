@@ -1,24 +1,25 @@
 -- Exit statuses: those of answers, and those of failures.
 use Rattle.std.proofs.Common.{◌≡◌, ◌≤◌, ◌⊎◌, inl, inr, ℕ, zero, suc, List, [], ◌∷◌, Option, Result, Ok, Err, IfOk, arith, refl, subst, sym}
 use Rattle.std.specs.Io.KnownBytes.{Appends}
+use Rattle.rinqebo_findings.specs.Reports.{IsReportOf}
 use Rattle.rinqebo_report.specs.Rendered.{rendered}
 use Rattle.rinqebo_report.specs.declared.report.Content.{Content}
 use Rattle.rinqebo_report.specs.declared.report.Content.TheVariants as contents
 use Rattle.rinqebo_report.specs.declared.report.Entry.{Entry}
 use Rattle.rinqebo_report.specs.declared.report.Report.{Report}
 use Rattle.rinqebo_run.specs.Answered.{AnswersQuestion, IsAnswer, Tells}
-use Rattle.rinqebo_run.specs.SessionOf.{IsSessionOf}
+use Rattle.rinqebo_load.specs.SessionOf.{IsSessionOf}
 use Rattle.rinqebo_run.specs.Refused.{Fails, IsFailureIn}
 use Rattle.rinqebo_run.specs.ShownConfig.{entries_status, shown_status}
 use Rattle.rinqebo_run.specs.Statuses.{IsAnswerStatus, IsStatus, failure_status}
 use Rattle.rinqebo_run.specs.declared.answer.Answer.{Answer}
-use Rattle.rinqebo_run.specs.declared.answer.Failure.{Failure}
-use Rattle.rinqebo_run.specs.declared.answer.Failure.TheVariants as failures
+use Rattle.rinqebo_load.specs.declared.failure.Failure.{Failure}
+use Rattle.rinqebo_load.specs.declared.failure.Failure.TheVariants as failures
 use Rattle.rinqebo_files.specs.declared.files.Gathered.{Gathered}
 use Rattle.rinqebo_request.specs.declared.request.Question.{Question}
 use Rattle.rinqebo_request.specs.declared.request.Question.TheVariants as questions
 use Rattle.rinqebo_request.specs.declared.request.Request.{Request}
-use Rattle.rinqebo_run.specs.declared.session.Session.{Session}
+use Rattle.rinqebo_load.specs.declared.session.Session.{Session}
 
 -- an answer is not want of memory
 no_five : (q : Question) → IsAnswerStatus q 5 → ⊥
@@ -163,10 +164,12 @@ answer_status request gathered report n m answer (inr fails) = inr fails
 pub is_answered : (request : Request) (gathered : Gathered) (session : Session) (answer : Result Answer Failure)
     → IsSessionOf request gathered session
     → IfOk answer (λ a. AnswersQuestion request.question session a.report a.status)
+    → IfOk answer (λ a. IsReportOf session a.report)
     → IfOk answer (λ a. IsAnswer request gathered a.report a.status)
-is_answered request gathered session (Ok answer) begun answers = record {
+is_answered request gathered session (Ok answer) begun answers about = record {
   session = session;
   begun = begun;
+  about = about;
   answers = answers;
 }
-is_answered request gathered session (Err failure) begun answers = tt
+is_answered request gathered session (Err failure) begun answers about = tt

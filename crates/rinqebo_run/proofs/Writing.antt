@@ -1,5 +1,5 @@
 -- Lists that are written as their tests are asked.
-use Rattle.std.proofs.Common.{◌≡◌, ◌∙◌, ◌⊎◌, inl, inr, ℕ, List, [], ◌∷◌, ◌++◌, Bool, Option, Result, Ok, Err, IfErr, IsErrAnd, ap, arith, flat_map, length, map, refl, string_bytes, subst, sym, take}
+use Rattle.std.proofs.Common.{◌≡◌, ◌∙◌, ◌⊎◌, inl, inr, ℕ, List, [], ◌∷◌, ◌++◌, Option, Result, Ok, Err, IfErr, IsErrAnd, ap, arith, flat_map, length, map, refl, string_bytes, subst, sym, take}
 use Rattle.std.proofs.KnownBytes.{Appends-trans}
 use Rattle.std.proofs.lemmas.Grind.{flat_map-append}
 use Rattle.std.proofs.lemmas.List.{append-nil, take-map, take_all}
@@ -46,21 +46,23 @@ use Rattle.rinqebo_run.proofs.Refused.{failure_told}
 use Rattle.rinqebo_run.proofs.Statuses.{failed_silent, failed_status}
 use Rattle.rinqebo_run.specs.Answered.{AnswersQuestion, Tells}
 use Rattle.rinqebo_run.specs.Begun.{tests_text, AreFirstOf, AreFirstWritten, BeginsList, BeginsPage, IsBegun}
-use Rattle.rinqebo_run.specs.Checked.{AreAccepted}
-use Rattle.rinqebo_run.specs.Conditions.{is_met_by}
+use Rattle.rinqebo_load.specs.Accepted.{AreAccepted}
+use Rattle.rinqebo_rules.specs.Conditions.{is_met_by}
 use Rattle.rinqebo_run.specs.Listed.{IfListed, IsProfileOn, TellsTests}
 use Rattle.rinqebo_run.specs.ListedBy.{listed_by, read_by}
-use Rattle.rinqebo_run.specs.Refused.{Fails, IsFailureAbout, IsFailureIn, IsToldBy}
-use Rattle.rinqebo_run.specs.SessionOf.{IsSessionOf}
-use Rattle.rinqebo_run.specs.Sessions.{files_view, readings, IsLoadedFrom}
+use Rattle.rinqebo_run.specs.Refused.{Fails, IsFailureIn, IsToldBy}
+use Rattle.rinqebo_findings.specs.Failures.{IsFailureAbout}
+use Rattle.rinqebo_load.specs.SessionOf.{IsSessionOf}
+use Rattle.rinqebo_load.specs.Sessions.{files_view, readings, IsLoadedFrom}
 use Rattle.rinqebo_run.specs.Statuses.{IsAnswerStatus, IsStatus}
+use Rattle.rinqebo_findings.specs.Reports.{IsReportOf}
 use Rattle.rinqebo_run.specs.Written.{AreFirstBy, AsksList, IsStopStatus, StopsList, WritesList}
-use Rattle.rinqebo_run.specs.declared.answer.Failure.{Failure}
-use Rattle.rinqebo_run.specs.declared.answer.Failure.TheVariants as failures
+use Rattle.rinqebo_load.specs.declared.failure.Failure.{Failure}
+use Rattle.rinqebo_load.specs.declared.failure.Failure.TheVariants as failures
 use Rattle.rinqebo_run.specs.declared.list_fault.ListFault.{ListFault}
 use Rattle.rinqebo_run.specs.declared.list_fault.ListFault.TheVariants as faults
 use Rattle.rinqebo_run.specs.declared.list_page.AskedList.{AskedList}
-use Rattle.rinqebo_run.specs.declared.session.Session.{Session}
+use Rattle.rinqebo_load.specs.declared.session.Session.{Session}
 
 -- a fault is passed on
 pub passed_stop : {A : Type 0} (P : ListFault → Type 0) (r : Result A ListFault) (fault : ListFault)
@@ -189,12 +191,13 @@ pub writes_list : (session : Session) (profile : Name) (mode : NextestRunMode) (
     (head : Report) (content : Content) (loaded : Loaded (Filterset FieldMatcher) TargetSpec)
     (old new : Option (List ℕ)) → AreAccepted session
     → IsLoadedFrom (readings session.engines.filters) (files_view session.gathered.now) loaded
-    → IsIn (names_in loaded.config.profiles) profile
+    → IsIn (names_in loaded.config.profiles) profile → IsReportOf session head
     → IfListed content (listed_by session loaded profile mode asked)
     → Appends old new (page_text tint (content_runs head content))
     → WritesList session profile mode asked tint old new
-writes_list session profile mode asked tint head content loaded old new accepted from there listed page = record {
+writes_list session profile mode asked tint head content loaded old new accepted from there about listed page = record {
   report = record head { content = content };
+  about = record { root = about.root; sources = about.sources };
   tells = tells_tests session profile mode asked (record head { content = content }) content loaded accepted from there
       refl listed;
   page = page_of_list head tint content (listed_by session loaded profile mode asked) old new listed page;
@@ -260,6 +263,7 @@ list_told request gathered list session old new begun asks is_text writes = reco
   is_answer = record {
     session = session;
     begun = begun;
+    about = writes.about;
     answers = answers_list request.question list session writes.report asks writes.tells;
   };
   page = subst (λ format. Appends old new (rendered writes.report format request.colour)) (sym is_text) writes.page;

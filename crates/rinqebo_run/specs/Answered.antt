@@ -2,19 +2,20 @@
 use Rattle.std.specs.Prelude.{◌≡◌, ℕ, List, Option}
 use Rattle.std.specs.Io.KnownBytes.{Appends}
 use Rattle.config_grounds.specs.Layers.{keys_view}
+use Rattle.rinqebo_findings.specs.Reports.{IsReportOf}
 use Rattle.rinqebo_report.specs.Rendered.{rendered}
 use Rattle.rinqebo_report.specs.declared.report.Report.{Report}
 use Rattle.rinqebo_run.specs.Checked.{IsCheckStatus}
 use Rattle.rinqebo_run.specs.Explained.{Explains}
 use Rattle.rinqebo_run.specs.Listed.{TellsTests}
-use Rattle.rinqebo_run.specs.SessionOf.{IsSessionOf}
+use Rattle.rinqebo_load.specs.SessionOf.{IsSessionOf}
 use Rattle.rinqebo_run.specs.ShownConfig.{ShowsConfig}
 use Rattle.rinqebo_run.specs.TellsReasons.{TellsReasons}
 use Rattle.rinqebo_files.specs.declared.files.Gathered.{Gathered}
 use Rattle.rinqebo_request.specs.declared.request.Question.{Question}
 use Rattle.rinqebo_request.specs.declared.request.Question.TheVariants as questions
 use Rattle.rinqebo_request.specs.declared.request.Request.{Request}
-use Rattle.rinqebo_run.specs.declared.session.Session.{Session}
+use Rattle.rinqebo_load.specs.declared.session.Session.{Session}
 
 -- A report and a status answer a question of a session.
 abbrev pub AnswersQuestion : Question → Session → Report → ℕ → Type 0
@@ -29,11 +30,13 @@ AnswersQuestion (questions.ShowConfig profile keys with_hidden) session report s
 AnswersQuestion (questions.Check deny_warnings) session report status =
     IsCheckStatus session status
 
--- A report and a status answer a request over the files that were read.
+-- A report and a status answer a request over the files that were read: the report is one of a
+-- session of the request, and answers the question of it.
 pub record IsAnswer (request : Request) (gathered : Gathered) (report : Report) (status : ℕ)
     : Type 0 where
   pub session : Session
   pub begun : IsSessionOf request gathered session
+  pub about : IsReportOf session report
   pub answers : AnswersQuestion request.question session report status
 
 -- A writer was given the page of an answer: known bytes grew by exactly the report, in the format

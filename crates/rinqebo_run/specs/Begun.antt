@@ -4,7 +4,6 @@ use Rattle.std.specs.Io.KnownBytes.{Appends}
 use Rattle.nextest_elements.specs.declared.run_mode.NextestRunMode.{NextestRunMode}
 use Rattle.nextest_engines.specs.Engines.{Test}
 use Rattle.nextest_engines.specs.declared.queries.BuildPlatforms.{BuildPlatforms}
-use Rattle.nextest_filters.specs.Engine.{Filter}
 use Rattle.nextest_load.specs.Config.{ScriptTables}
 use Rattle.nextest_load.specs.Scripts.{AreScriptsOf}
 use Rattle.nextest_settings.specs.Profile.{Configured, EvaluatableModel}
@@ -25,12 +24,12 @@ use Rattle.rinqebo_request.specs.declared.request.Question.TheVariants as questi
 use Rattle.rinqebo_request.specs.declared.request.Request.{Request}
 use Rattle.test_lists.specs.ListView.{list_view}
 use Rattle.test_lists.specs.Lists.{all_tests}
-use Rattle.rinqebo_run.specs.Checked.{AreAccepted}
+use Rattle.rinqebo_load.specs.Accepted.{AreAccepted}
 use Rattle.rinqebo_run.specs.Listed.{IsProfileOn}
-use Rattle.rinqebo_run.specs.SessionOf.{IsSessionOf}
-use Rattle.rinqebo_run.specs.Sessions.{files_view, readings}
+use Rattle.rinqebo_load.specs.SessionOf.{IsSessionOf}
+use Rattle.rinqebo_load.specs.Sessions.{files_view, readings}
 use Rattle.rinqebo_run.specs.TellsReasons.{configured_by}
-use Rattle.rinqebo_run.specs.declared.session.Session.{Session}
+use Rattle.rinqebo_load.specs.declared.session.Session.{Session}
 
 -- the lines of tests on the page of a report
 abbrev pub tests_text : Report → Colour → List TestRows → List ℕ

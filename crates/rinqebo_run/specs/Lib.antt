@@ -1,17 +1,9 @@
 pub mod Statuses
-pub mod Sessions
 pub mod Explained
 pub mod Checked
 pub mod Answered
 pub mod Refused
-pub mod Triples
-pub mod Engines
-pub mod SessionOf
-pub mod Conditions
-pub mod SettingRules
-pub mod RulePlaces
 pub mod ListRules
-pub mod RuleViews
 pub mod Reasons
 pub mod TellsReasons
 pub mod Listed

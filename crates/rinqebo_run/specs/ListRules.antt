@@ -6,9 +6,9 @@ use Rattle.nextest_rules.specs.Rules.{Compiled, Layer, OverrideUse}
 use Rattle.nextest_settings.specs.Chains.{overrides_of, script_rules_of}
 use Rattle.nextest_tables.specs.Written.{Name}
 use Rattle.target_language.specs.declared.expression.TargetSpec.{TargetSpec}
-use Rattle.rinqebo_run.specs.RulePlaces.{Place, id_place, place_view}
-use Rattle.rinqebo_run.specs.declared.chain_rules.SettingRule.{SettingRule}
-use Rattle.rinqebo_run.specs.declared.rule_places.RulePlace.{RulePlace}
+use Rattle.rinqebo_rules.specs.RulePlaces.{Place, id_place, place_view}
+use Rattle.rinqebo_rules.specs.declared.chain_rules.SettingRule.{SettingRule}
+use Rattle.rinqebo_rules.specs.declared.rule_places.RulePlace.{RulePlace}
 
 -- a rule without what it writes
 abbrev pub bare : {M K W : Type 0} → Compiled M K W → Compiled M K (Unit {0})

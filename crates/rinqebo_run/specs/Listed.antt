@@ -1,10 +1,9 @@
 -- What is told of the tests of a list, and of the rules that hold for none of them.
-use Rattle.std.specs.Prelude.{◌≡◌, ◌++◌, Bool, List, map, Option, string_bytes}
+use Rattle.std.specs.Prelude.{◌≡◌, ◌++◌, [], Bool, List, map, Option}
 use Rattle.std.specs.List.{AllZip}
 use Rattle.nextest_elements.specs.declared.run_mode.NextestRunMode.{NextestRunMode}
 use Rattle.nextest_engines.specs.Engines.{Test}
 use Rattle.nextest_engines.specs.declared.queries.BuildPlatforms.{BuildPlatforms}
-use Rattle.nextest_filters.specs.Engine.{Filter}
 use Rattle.nextest_inheritance.specs.Parents.{parents_in, IsChain}
 use Rattle.nextest_load.specs.Closed.{BinaryMatch}
 use Rattle.nextest_load.specs.Config.{ScriptTables, config_parents}
@@ -17,6 +16,7 @@ use Rattle.nextest_settings.specs.Queries.{query_in}
 use Rattle.nextest_sources.specs.Inputs.{sources_in}
 use Rattle.nextest_tables.specs.FileTexts.{names_in, IsIn}
 use Rattle.nextest_tables.specs.Written.{Name}
+use Rattle.rinqebo_files.specs.declared.layers.Layer.{Layer}
 use Rattle.rinqebo_list.specs.Rows.{AreTestsTold}
 use Rattle.rinqebo_list.specs.Scripts.{AreScriptsTold}
 use Rattle.rinqebo_list.specs.Unused.{unused_among}
@@ -27,14 +27,14 @@ use Rattle.rinqebo_report.specs.declared.report.ListScripts.{ListScripts}
 use Rattle.rinqebo_report.specs.declared.report.Report.{Report}
 use Rattle.rinqebo_report.specs.declared.report.TestRows.{TestRows}
 use Rattle.rinqebo_request.specs.declared.request.AskedSettings.{AskedSettings}
-use Rattle.target_language.specs.Expressions.{Spec}
 use Rattle.test_lists.specs.ListView.{list_view}
 use Rattle.test_lists.specs.Lists.{all_binaries, all_tests, TestList}
-use Rattle.rinqebo_run.specs.Checked.{AreAccepted}
-use Rattle.rinqebo_run.specs.RulePlaces.{Place, id_place, IsOriginOf}
-use Rattle.rinqebo_run.specs.Sessions.{files_view, readings}
+use Rattle.rinqebo_load.specs.Accepted.{AreAccepted}
+use Rattle.rinqebo_rules.specs.Origins.{IsOriginOf}
+use Rattle.rinqebo_rules.specs.RulePlaces.{Place, id_place}
+use Rattle.rinqebo_load.specs.Sessions.{files_view, readings}
 use Rattle.rinqebo_run.specs.TellsReasons.{configured_by}
-use Rattle.rinqebo_run.specs.declared.session.Session.{Session}
+use Rattle.rinqebo_load.specs.declared.session.Session.{Session}
 
 -- A profile on the platforms of a build is that of a name: it is the one of the name's chain.
 pub record IsProfileOn {M K P : Type 0} (meets : K → P → Option Bool) (platforms : BuildPlatforms P)
@@ -62,12 +62,12 @@ placed_on rule = record {
 }
 
 -- Origins tell the rules of a profile that hold for none of the tests, and no others: the overrides
--- in order, and then the script rules in order.
-pub record AreUnused {M : Type 0} (tests : List (QueryContext M)) (profile : EvaluatableModel M)
-    (unused : List Origin) : Type 0 where
+-- in order, and then the script rules in order, each with its place in the layers.
+pub record AreUnused {M : Type 0} (layers : List Layer) (tests : List (QueryContext M))
+    (profile : EvaluatableModel M) (unused : List Origin) : Type 0 where
   pub scripts : List (EvaluatedRule M Place)
   pub same_scripts : map bare_on scripts ≡ map bare_on profile.script_rules
-  pub told : AllZip IsOriginOf
+  pub told : AllZip (λ place. IsOriginOf layers place [])
       (map (λ rule. rule.writes)
       (unused_among tests (map placed_on profile.overrides ++ scripts)))
       unused
@@ -76,12 +76,13 @@ pub record AreUnused {M : Type 0} (tests : List (QueryContext M)) (profile : Eva
 -- rules those that hold for none, and the scripts that it gives to the list.
 pub record AreTestsOf {M K P : Type 0} (meets : K → P → Option Bool) (matches : M → Test → M → Bool)
     (matches_binary : BinaryMatch M) (platforms : BuildPlatforms P) (configured : Configured M K)
-    (name : Name) (mode : NextestRunMode) (asked : AskedSettings) (list : TestList)
-    (tests : List TestRows) (unused : List Origin) (scripts : ListScripts) : Type 0 where
+    (name : Name) (mode : NextestRunMode) (asked : AskedSettings) (layers : List Layer)
+    (list : TestList) (tests : List TestRows) (unused : List Origin) (scripts : ListScripts)
+    : Type 0 where
   pub profile : EvaluatableModel M
   pub is_profile : IsProfileOn meets platforms configured name profile
   pub tests_told : AreTestsTold matches mode profile asked (all_tests list) tests
-  pub unused_told : AreUnused (map (query_in matches profile) (all_tests list)) profile unused
+  pub unused_told : AreUnused layers (map (query_in matches profile) (all_tests list)) profile unused
   pub scripts_told : AreScriptsTold matches matches_binary profile (all_tests list)
       (all_binaries list) scripts
 
@@ -107,4 +108,5 @@ pub record TellsTests (session : Session) (profile : Name) (mode : NextestRunMod
       (AreTestsOf (readings session.engines.filters).meets
       (readings session.engines.filters).matches_test
       (readings session.engines.filters).matches_binary session.engines.platforms
-      (configured_by session scripts) profile mode asked (list_view session.tests))
+      (configured_by session scripts) profile mode asked session.layers.items
+      (list_view session.tests))

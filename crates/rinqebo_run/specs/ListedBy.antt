@@ -24,12 +24,12 @@ use Rattle.target_language.specs.Expressions.{spec_view}
 use Rattle.target_language.specs.declared.expression.TargetSpec.{TargetSpec}
 use Rattle.target_platforms.specs.declared.Platform.{Platform}
 use Rattle.test_lists.specs.ListView.{list_view}
-use Rattle.rinqebo_run.specs.Conditions.{is_met_by}
+use Rattle.rinqebo_rules.specs.Conditions.{is_met_by}
 use Rattle.rinqebo_run.specs.ListRules.{AreRulesOf}
 use Rattle.rinqebo_run.specs.Listed.{AreTestsOf}
-use Rattle.rinqebo_run.specs.RulePlaces.{Place}
-use Rattle.rinqebo_run.specs.Sessions.{readings}
-use Rattle.rinqebo_run.specs.declared.session.Session.{Session}
+use Rattle.rinqebo_rules.specs.RulePlaces.{Place}
+use Rattle.rinqebo_load.specs.Sessions.{readings}
+use Rattle.rinqebo_load.specs.declared.session.Session.{Session}
 
 -- a configuration that was loaded in a session
 abbrev pub read_by : Session → Loaded (Filterset FieldMatcher) TargetSpec
@@ -59,4 +59,4 @@ listed_by session loaded profile mode asked =
     (readings session.engines.filters).matches_test
     (readings session.engines.filters).matches_binary session.engines.platforms
     (configured_meaning (marks_view names_of) spec_view (read_by session loaded)) profile mode
-    asked (list_view session.tests)
+    asked session.layers.items (list_view session.tests)

@@ -1,40 +1,24 @@
 -- What comes of the rules of a setting, and how it is told.
-use Rattle.std.specs.Prelude.{◌≡◌, ◌&&◌, Bool, List, map, Option, Some, is_some, option_map}
+use Rattle.std.specs.Prelude.{◌≡◌, Bool, List, map, Option, is_some, option_map}
 use Rattle.std.specs.List.{AllZip, zip}
 use Rattle.filter_language.specs.declared.filterset.Filterset.{Filterset}
-use Rattle.nextest_engines.specs.Engines.{test_view}
 use Rattle.nextest_engines.specs.declared.queries.BuildPlatforms.{BuildPlatforms}
 use Rattle.nextest_filters.specs.declared.compiling.FieldMatcher.{FieldMatcher}
-use Rattle.nextest_rules.specs.Rules.{Compiled}
 use Rattle.nextest_settings.specs.Deciding.{QueryContext}
-use Rattle.nextest_settings.specs.Platforms.{EvaluatedRule, rule_on, runs_on}
+use Rattle.nextest_settings.specs.Platforms.{EvaluatedRule, rule_on}
 use Rattle.rinqebo_report.specs.declared.report.Rule.{Rule}
 use Rattle.rinqebo_report.specs.declared.report.Verdict as report
 use Rattle.rinqebo_report.specs.declared.report.Verdict.TheVariants as told
 use Rattle.rinqebo_values.specs.Told.{ToldValue, value_view}
 use Rattle.rule_verdicts.specs.Verdicts.{verdicts_of}
-use Rattle.rule_verdicts.specs.declared.verdict.RuleFacts.{RuleFacts}
 use Rattle.rule_verdicts.specs.declared.verdict.Verdict.{Verdict}
 use Rattle.rule_verdicts.specs.declared.verdict.Verdict.TheVariants as verdicts
-use Rattle.rinqebo_run.specs.Conditions.{told_condition, is_met_by, filter_matches, is_met, is_matched, asked_if}
-use Rattle.rinqebo_run.specs.RuleViews.{Rule as ReadRule}
-use Rattle.rinqebo_run.specs.SettingRules.{RuleFor}
-use Rattle.rinqebo_run.specs.declared.conditions.Answers.{Answers}
-use Rattle.rinqebo_run.specs.declared.conditions.Asking.{Asking}
-
--- what the conditions of a rule say: its filter is asked where its platforms hold
-abbrev pub answers_by : {M K P W : Type 0} → (K → P → Option Bool) → BuildPlatforms P
-    → QueryContext M → Compiled M K W → Answers
-answers_by meets platforms query rule =
-    let host = told_condition (λ spec. meets spec platforms.host) rule.host in
-    let runs = runs_on platforms query.platform in
-    let target = told_condition (λ spec. meets spec runs) rule.target in
-    record {
-      host = host;
-      target = target;
-      filter = asked_if (is_met host && is_met target)
-          (told_condition (λ filter. Some (query.matches filter)) rule.filter);
-    }
+use Rattle.rinqebo_rules.specs.Conditions.{is_met_by}
+use Rattle.rinqebo_rules.specs.RuleAnswers.{answers_by, asked_query}
+use Rattle.rinqebo_rules.specs.RuleViews.{Rule as ReadRule}
+use Rattle.rinqebo_rules.specs.SettingRules.{RuleFor}
+use Rattle.rinqebo_rules.specs.declared.conditions.Answers.{Answers}
+use Rattle.rinqebo_rules.specs.declared.conditions.Asking.{Asking}
 
 -- a verdict, as it is told
 abbrev pub told_verdict : Verdict → report.Verdict
@@ -62,30 +46,9 @@ AreRulesTold {M} {K} meets platforms query rules told = AllZip
     (zip rules (verdicts_of query is_some (map (rule_on meets platforms) rules)))
     told
 
--- the test that is asked about, as rules are judged for it
-abbrev pub asked_query : Asking → QueryContext (Filterset FieldMatcher)
-asked_query asking = record {
-  platform = asking.test.now.platform;
-  matches = λ filter. filter_matches filter (test_view asking.query.now) asking.default_filter.now;
-}
-
--- what the conditions of a rule say to what is asked
-abbrev pub answers_told : Asking → ReadRule → Answers
-answers_told asking rule = answers_by is_met_by asking.platforms.now (asked_query asking) rule
-
 -- a rule on the platforms of the build
 abbrev pub rule_here : Asking → ReadRule → EvaluatedRule (Filterset FieldMatcher) (Option ToldValue)
 rule_here asking rule = rule_on is_met_by asking.platforms.now rule
-
--- what is known of a rule, by what its conditions say
-abbrev pub facts_told : Asking → ReadRule → RuleFacts
-facts_told asking rule =
-    let answers = answers_told asking rule in
-    record {
-      is_on = is_met answers.host && is_met answers.target;
-      matches = is_matched answers.filter;
-      writes = is_some rule.writes;
-    }
 
 -- What comes of rules for a setting, in their order: of the one that decides, those before it and
 -- those behind it.

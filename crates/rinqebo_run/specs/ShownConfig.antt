@@ -1,32 +1,24 @@
 -- What is told of the leaves of a configuration.
-use Rattle.std.specs.Prelude.{◌≡◌, ℕ, List, [], ◌∷◌, Bool, Option, Some, None, filter, map, unwrap_or}
+use Rattle.std.specs.Prelude.{◌≡◌, ℕ, List, [], ◌∷◌, Bool, filter}
 use Rattle.std.specs.List.{AllZip}
 use Rattle.config_grounds.specs.Entries.{AreEntries, Leaf}
-use Rattle.nextest_filters.specs.Engine.{Filter}
 use Rattle.nextest_inheritance.specs.Parents.{Parents, parents_in}
-use Rattle.nextest_load.specs.Config.{ConfigModel, config_of, config_parents}
+use Rattle.nextest_load.specs.Config.{config_parents}
 use Rattle.nextest_profiles.specs.Profiles.{IsChainAndDefault}
-use Rattle.nextest_sources.specs.Inputs.{sources_in}
 use Rattle.nextest_tables.specs.FileTexts.{names_in, IsIn}
 use Rattle.nextest_tables.specs.Written.{Name}
-use Rattle.nextest_tree.specs.Node.{Node, table, no_entries}
+use Rattle.nextest_tree.specs.Node.{Node}
 use Rattle.rinqebo_entries.specs.LeafValue.{is_tellable}
 use Rattle.rinqebo_entries.specs.Reporting.{IsEntryOf}
-use Rattle.rinqebo_files.specs.Layers.{layer_tree}
-use Rattle.rinqebo_files.specs.declared.layers.Layer.{Layer}
+use Rattle.rinqebo_rules.specs.Trees.{trees_of}
 use Rattle.rinqebo_report.specs.declared.origin.Place.{Place}
 use Rattle.rinqebo_report.specs.declared.report.Content.{Content}
 use Rattle.rinqebo_report.specs.declared.report.Content.TheVariants as contents
 use Rattle.rinqebo_report.specs.declared.report.Entry.{Entry}
 use Rattle.rinqebo_report.specs.declared.report.Report.{Report}
-use Rattle.target_language.specs.Expressions.{Spec}
-use Rattle.rinqebo_run.specs.Checked.{AreAccepted}
-use Rattle.rinqebo_run.specs.Sessions.{files_view, readings}
-use Rattle.rinqebo_run.specs.declared.session.Session.{Session}
-
--- the trees of layers; a layer without a document writes nothing
-abbrev pub trees_of : List Layer → List Node
-trees_of layers = map (λ layer. unwrap_or (layer_tree layer) (table no_entries)) layers
+use Rattle.rinqebo_load.specs.Accepted.{AreAccepted}
+use Rattle.rinqebo_load.specs.Meant.{config_meant}
+use Rattle.rinqebo_load.specs.declared.session.Session.{Session}
 
 -- An entry tells a leaf, at a place in the file of the leaf's layer.
 pub record TellsLeaf (leaf : Leaf) (entry : Entry) : Type 0 where
@@ -60,11 +52,6 @@ entries_status (entry ∷ entries) = 0
 abbrev pub shown_status : Content → ℕ
 shown_status (contents.ShowConfig asked entries) = entries_status entries.items
 shown_status _ = 0
-
--- what the files of a session mean
-abbrev pub config_meant : Session → ConfigModel Filter Spec
-config_meant session =
-    config_of (readings session.engines.filters) (sources_in (files_view session.gathered.now))
 
 -- What a report tells of a session is the leaves of a profile below keys, where these are the parents
 -- of all profiles: the profiles that count are those of its chain, and then `default`.

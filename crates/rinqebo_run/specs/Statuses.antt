@@ -1,7 +1,7 @@
 -- The exit statuses of a run.
 use Rattle.std.specs.Prelude.{ℕ, ◌≡◌, ◌⊎◌, ◌≤◌}
-use Rattle.rinqebo_run.specs.declared.answer.Failure.{Failure}
-use Rattle.rinqebo_run.specs.declared.answer.Failure.TheVariants as failures
+use Rattle.rinqebo_load.specs.declared.failure.Failure.{Failure}
+use Rattle.rinqebo_load.specs.declared.failure.Failure.TheVariants as failures
 use Rattle.rinqebo_request.specs.declared.request.Question.{Question}
 use Rattle.rinqebo_request.specs.declared.request.Question.TheVariants as questions
 
@@ -26,10 +26,3 @@ IsAnswerStatus (questions.Why profile test setting) n = n ≡ 0
 IsAnswerStatus (questions.List profile mode list asked) n = n ≡ 0
 IsAnswerStatus (questions.ShowConfig profile keys with_hidden) n = (n ≡ 0) ⊎ (n ≡ 1)
 IsAnswerStatus (questions.Check deny_warnings) n = (n ≡ 0) ⊎ (n ≡ 1) ⊎ (n ≡ 3)
-
--- A failure of what all commands begin with: the engines, or want of memory.
-abbrev pub IsBeginningFailure : Failure → Type 0
-IsBeginningFailure (failures.Engines fault) = Unit {0}
-IsBeginningFailure (failures.Refused report) = ⊥
-IsBeginningFailure (failures.NoProfile report) = ⊥
-IsBeginningFailure failures.Memory = Unit {0}

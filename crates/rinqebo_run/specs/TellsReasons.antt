@@ -20,11 +20,11 @@ use Rattle.rinqebo_report.specs.declared.report.Verdict.TheVariants as told
 use Rattle.rinqebo_request.specs.Keys.{key_text}
 use Rattle.rinqebo_request.specs.declared.request.TestName.{TestName}
 use Rattle.target_language.specs.Expressions.{Spec}
-use Rattle.rinqebo_run.specs.Checked.{AreAccepted}
+use Rattle.rinqebo_load.specs.Accepted.{AreAccepted}
 use Rattle.rinqebo_run.specs.Reasons.{AreRulesTold}
-use Rattle.rinqebo_run.specs.Sessions.{files_view, readings}
-use Rattle.rinqebo_run.specs.SettingRules.{rules_for}
-use Rattle.rinqebo_run.specs.declared.session.Session.{Session}
+use Rattle.rinqebo_load.specs.Sessions.{files_view, readings}
+use Rattle.rinqebo_rules.specs.SettingRules.{rules_for}
+use Rattle.rinqebo_load.specs.declared.session.Session.{Session}
 
 -- The rules of a setting are told for a test of a name: each override of a profile, in order, or
 -- for a run wrapper each script rule, with what comes of it on the platforms of a build, and then

@@ -13,6 +13,7 @@ use Rattle.nextest_settings.specs.Deciding.{QueryContext}
 use Rattle.nextest_settings.specs.Profile.{EvaluatableModel}
 use Rattle.nextest_tables.specs.Written.{Name}
 use Rattle.rinqebo_list.specs.Rows.{IsTestTold}
+use Rattle.rinqebo_findings.specs.Reports.{IsReportOf}
 use Rattle.rinqebo_report.specs.Pages.{listed_runs}
 use Rattle.rinqebo_report.specs.Pieces.{page_text}
 use Rattle.rinqebo_report.specs.Rendered.{rendered}
@@ -30,13 +31,13 @@ use Rattle.test_lists.specs.Lists.{all_tests}
 use Rattle.rinqebo_run.specs.Begun.{AreFirstOf}
 use Rattle.rinqebo_run.specs.Listed.{TellsTests}
 use Rattle.rinqebo_run.specs.ListedBy.{read_by}
-use Rattle.rinqebo_run.specs.Sessions.{readings}
+use Rattle.rinqebo_load.specs.Sessions.{readings}
 use Rattle.rinqebo_run.specs.Statuses.{failure_status}
-use Rattle.rinqebo_run.specs.declared.answer.Failure.{Failure}
+use Rattle.rinqebo_load.specs.declared.failure.Failure.{Failure}
 use Rattle.rinqebo_run.specs.declared.list_fault.ListFault.{ListFault}
 use Rattle.rinqebo_run.specs.declared.list_fault.ListFault.TheVariants as faults
 use Rattle.rinqebo_run.specs.declared.list_page.AskedList.{AskedList}
-use Rattle.rinqebo_run.specs.declared.session.Session.{Session}
+use Rattle.rinqebo_load.specs.declared.session.Session.{Session}
 
 -- a question asks for a list
 abbrev pub AsksList : Question → AskedList → Type 0
@@ -67,13 +68,14 @@ AreFirstBy session loaded profile mode asked =
 pub record WritesList (session : Session) (profile : Name) (mode : NextestRunMode)
     (asked : AskedSettings) (tint : Colour) (old new : Option (List ℕ)) : Type 0 where
   pub report : Report
+  pub about : IsReportOf session report
   pub tells : TellsTests session profile mode asked report
   pub page : Appends old new (rendered report formats.Text tint)
 
 -- A list was not written whole: a run refuses for a reason, and nothing went out; or memory ran out,
 -- and the first tests went out, or nothing; or a write failed.
-abbrev pub StopsList : (Failure → Type 0) → Type 0 → Option (List ℕ) → Option (List ℕ) → ListFault
-    → Type 0
+abbrev pub StopsList : (Failure → Type 0) → Type 0 → Option (List ℕ) → Option (List ℕ)
+    → ListFault → Type 0
 StopsList refuses begun old new (faults.Refused failure) = refuses failure × (new ≡ old)
 StopsList refuses begun old new faults.Memory = begun ⊎ (new ≡ old)
 StopsList refuses begun old new faults.Write = Unit {0}

@@ -1,7 +1,5 @@
 //! What a run answers.
-use crate::engines::EngineFault;
 use rinqebo_report::Report;
-use std::alloc::AllocError;
 
 /// What a run answers.
 #[derive(Drop)]
@@ -10,41 +8,4 @@ pub struct Answer {
     pub report: Report,
     /// The exit status.
     pub status: u8,
-}
-
-/// Why a run answers nothing.
-#[derive(Drop)]
-pub enum Failure {
-    /// The platforms or the metadata are not understood. It holds the message.
-    Engines(EngineFault),
-    /// The files are refused. The report has what is wrong with them.
-    Refused(Report),
-    /// There is no such profile. The report has this one finding.
-    NoProfile(Report),
-    /// Want of memory.
-    Memory,
-}
-
-impl From<AllocError> for Failure {
-    ghost use Rattle.std.specs.Prelude.{◌≡◌};
-    ghost use Rattle.rinqebo_run.specs.declared.answer.Failure.TheVariants.{Memory};
-
-    ghost from_gives = { λ _ failure. failure ≡ Memory };
-
-    fn from(_error: AllocError) -> Failure {
-        Failure::Memory
-    }
-}
-
-impl From<EngineFault> for Failure {
-    ghost use Rattle.rinqebo_run.specs.Statuses.{IsBeginningFailure};
-
-    ghost from_gives = { λ _ failure. IsBeginningFailure failure };
-
-    fn from(fault: EngineFault) -> Failure {
-        match fault {
-            EngineFault::Memory => Failure::Memory,
-            fault => Failure::Engines(fault),
-        }
-    }
 }

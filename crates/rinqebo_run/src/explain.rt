@@ -1,27 +1,23 @@
 //! The settings of a test.
-ghost use Rattle.std.specs.Prelude.{◌≡◌, IfErr, IfOk, Some, map, slice_get, string_bytes};
+ghost use Rattle.std.specs.Prelude.{◌≡◌, IfErr, IfOk, Some, map, option_map, slice_get};
 ghost use Rattle.std.specs.List.{AllZip};
 ghost use Rattle.nextest_config.specs.Headline.{Row};
-ghost use Rattle.nextest_config.specs.RowView.{row_view};
-ghost use Rattle.nextest_tables.specs.Written.{Name};
-ghost use Rattle.rinqebo_run.specs.Explained.{AreRowsOf, IfExplained, IsTold, IsTestTold, Explains};
-ghost use Rattle.rinqebo_run.specs.Refused.{IsFailureAbout};
+ghost use Rattle.nextest_config.specs.RowView.{origin_view, row_view};
+ghost use Rattle.nextest_inheritance.specs.View.{borrowed_view};
+ghost use Rattle.rinqebo_run.specs.Explained.{AreOriginsBy, AreRowsOf, AreSettingsTold, IsTold, IsTestTold, Explains};
+ghost use Rattle.rinqebo_findings.specs.Failures.{IsFailureAbout};
+ghost use Rattle.rinqebo_findings.specs.Reports.{IsReportOf};
 
-use crate::answer::Failure;
-use crate::binary::query_of;
-use crate::check::{failure_of_load, failure_of_run, report_of};
-use crate::findings::warning_findings;
-use crate::grounds::{built_in, profile_grounds};
-use crate::rule_places::{RuleKind, RulePlace};
-use crate::rules::{chain_of_profile, copied_names};
-use crate::session::{Config, Session};
-use crate::wrappers::wrapping_place;
+use crate::asked::asked_of;
 use nextest_config::run::{PlainSource, TestRow, resolve};
 use nextest_config::{BuildPlatform, DefaultConfigWarnings, NextestRunMode, Setting};
 use nextest_filters::NextestTally;
 use rinqebo_files::Layer;
-use rinqebo_report::{Asked, Content, Origin, Platform, Report, RunMode, SettingRow, TestRows};
+use rinqebo_findings::{config_with, failure_of_run, report_of, warning_findings};
+use rinqebo_load::{Failure, Session, chain_of_profile};
+use rinqebo_report::{Content, Origin, Platform, Report, SettingRow, TestRows};
 use rinqebo_request::{SettingKey, TestName};
+use rinqebo_rules::{RuleKind, RulePlace, built_in, profile_grounds, query_of, wrapping_place};
 use rinqebo_values::{reported_if_set, value_in_row};
 use std::alloc::{AllocError, Global};
 
@@ -52,7 +48,11 @@ fn origins_of(
     grounds: &Grounds<'_, '_>,
     source: Option<&PlainSource>,
     key: SettingKey,
-) -> Result<Vec<Origin>, AllocError> {
+) -> Result<Vec<Origin>, AllocError>
+    ensures { IfOk result (λ origins. AreOriginsBy grounds.now.layers.now
+        (borrowed_view grounds.now.chain.now) (option_map (λ table. table.now) key.table)
+        key.key.now (option_map (λ source. origin_view source.now) source.entry) origins.items) }
+{
     match source {
         None => Ok(Vec::new(alloc)),
         Some(PlainSource::Script) => wrapping_origins(alloc, grounds, key),
@@ -84,7 +84,8 @@ fn setting_row(
     setting: Setting,
     mode: NextestRunMode,
 ) -> Result<SettingRow, AllocError>
-    ensures { IfOk result (IsTold (row_view row.now) mode setting) }
+    ensures { IfOk result (IsTold grounds.now.layers.now (borrowed_view grounds.now.chain.now)
+        (row_view row.now) mode setting) }
 {
     let key = SettingKey::of(setting, mode);
     Ok(SettingRow {
@@ -102,7 +103,8 @@ fn setting_rows(
     settings: &[Setting],
     mode: NextestRunMode,
 ) -> Result<Vec<SettingRow>, AllocError>
-    ensures { IfOk result (λ rows. AllZip (IsTold (row_view row.now) mode) settings.now rows.items) }
+    ensures { IfOk result (λ rows. AllZip (IsTold grounds.now.layers.now
+        (borrowed_view grounds.now.chain.now) (row_view row.now) mode) settings.now rows.items) }
 {
     let mut rows = Vec::new(alloc);
     for setting in settings {
@@ -121,7 +123,8 @@ fn first_settings(
 ) -> Result<Vec<SettingRow>, AllocError>
     ensures { IfOk result (λ told. (row : Row)
         → slice_get (map row_view rows.now) 0 ≡ Some row
-        → AllZip (IsTold row mode) settings.now told.items) }
+        → AllZip (IsTold grounds.now.layers.now (borrowed_view grounds.now.chain.now) row mode)
+        settings.now told.items) }
 {
     match rows.first() {
         Some(row) => setting_rows(alloc, grounds, row, settings, mode),
@@ -135,31 +138,6 @@ fn reported_platform(platform: BuildPlatform) -> Platform {
         BuildPlatform::Host => Platform::Host,
         BuildPlatform::Target => Platform::Target,
     }
-}
-
-/// For what tests are run, as it is reported.
-fn reported_mode(mode: NextestRunMode) -> RunMode {
-    match mode {
-        NextestRunMode::Test => RunMode::Test,
-        NextestRunMode::Benchmark => RunMode::Benchmark,
-    }
-}
-
-/// What is asked about.
-pub fn asked_of(
-    alloc: Global,
-    session: &Session<'_>,
-    profile: &str,
-    chain: &[&str],
-    mode: NextestRunMode,
-) -> Result<Asked, AllocError> {
-    Ok(Asked {
-        profile: String::from_str(alloc, profile)?,
-        chain: copied_names(alloc, chain)?,
-        mode: reported_mode(mode),
-        host: session.triples.host.clone()?,
-        target: session.triples.target.clone()?,
-    })
 }
 
 /// The one row of a test.
@@ -201,7 +179,8 @@ fn test_rows(
 ) -> Result<TestRows, AllocError>
     ensures { IfOk result (λ told. (row : Row)
         → slice_get (map row_view rows.now) 0 ≡ Some row
-        → IsTestTold row test.now settings.now told) }
+        → IsTestTold grounds.now.layers.now (borrowed_view grounds.now.chain.now) row test.now
+        settings.now told) }
 {
     Ok(TestRows {
         binary: String::from_str(alloc, test.binary)?,
@@ -211,18 +190,7 @@ fn test_rows(
     })
 }
 
-/// The configuration of a session. Its warnings were told before.
-fn load_again(alloc: Global, session: &Session<'_>) -> Result<Config, Failure>
-    ensures { (profile : Name) → IfErr result (IsFailureAbout session.now profile) }
-{
-    let mut warnings = DefaultConfigWarnings::new(alloc);
-    match session.load(alloc, &mut warnings) {
-        Ok(config) => Ok(config),
-        Err(error) => Err(failure_of_load(alloc, session, &warnings, &error)?),
-    }
-}
-
-/// The settings of a test, by its rows.
+/// The settings of a test, by its rows. Its warnings were told before.
 fn explained(
     alloc: Global,
     session: &Session<'_>,
@@ -231,17 +199,21 @@ fn explained(
     settings: &[Setting],
     rows: &[TestRow],
 ) -> Result<Content, Failure>
-    ensures ok { IfOk result (λ content. IfExplained content (λ told. (row : Row)
-        → slice_get (map row_view rows.now) 0 ≡ Some row
-        → IsTestTold row test.now settings.now told)) }
+    ensures ok { IfOk result (AreSettingsTold session.now profile.now test.now settings.now
+        (map row_view rows.now)) }
     ensures err { IfErr result (IsFailureAbout session.now profile.now) }
 {
-    let config = load_again(alloc, session)?;
+    let config = config_with(
+        alloc,
+        session,
+        profile,
+        &mut DefaultConfigWarnings::new(alloc),
+    )?;
     let chain = chain_of_profile(alloc, &config, profile)?;
     let grounds = Grounds {
         layers: &session.layers,
         chain: &chain,
-        wrapping: wrapping_place(alloc, session, &config, &chain, test)?,
+        wrapping: wrapping_place(alloc, &session.engines.platforms, &config, &chain, test)?,
     };
     Ok(Content::Explain {
         asked: asked_of(alloc, session, profile, &chain, test.mode)?,
@@ -258,6 +230,7 @@ pub fn explain(
     settings: &[Setting],
 ) -> Result<Report, Failure>
     ensures ok { IfOk result (Explains session.now profile.now test.now settings.now) }
+    ensures about { IfOk result (IsReportOf session.now) }
     ensures err { IfErr result (IsFailureAbout session.now profile.now) }
 {
     let mut warnings = DefaultConfigWarnings::new(alloc);

@@ -5,22 +5,10 @@
 //! files. [`answer_of`] gives the answer as a value.
 #![tactic(auto)]
 
-mod above;
 mod answer;
-mod binary;
-mod chain_rules;
+mod asked;
 mod check;
-mod conditions;
-mod engines;
-mod expected;
 mod explain;
-mod expressions;
-mod fallback;
-mod fault_words;
-mod findings;
-mod given;
-mod grounds;
-mod hints;
 mod list;
 mod list_fault;
 mod list_origins;
@@ -28,19 +16,10 @@ mod list_page;
 mod list_rules;
 mod list_scripts;
 mod list_text;
-mod loading;
 mod progress;
-mod refusals;
-mod rule_places;
-mod rules;
 mod run;
-mod session;
 mod show;
-mod triples;
-mod unknown_names;
 mod why;
-mod wrappers;
 
-pub use answer::{Answer, Failure};
-pub use engines::EngineFault;
+pub use answer::Answer;
 pub use run::{answer_of, perform, print_schema, refuse_gathering, refuse_words};

@@ -9,28 +9,25 @@ ghost use Rattle.nextest_tables.specs.FileTexts.{names_in, IsIn};
 ghost use Rattle.test_lists.specs.ListView.{list_view};
 ghost use Rattle.test_lists.specs.Lists.{all_tests};
 ghost use Rattle.rinqebo_list.specs.Rows.{AreTestsTold};
-ghost use Rattle.rinqebo_run.specs.Conditions.{is_met_by};
+ghost use Rattle.rinqebo_rules.specs.Conditions.{is_met_by};
 ghost use Rattle.rinqebo_run.specs.Listed.{IfListed, IsProfileOn, TellsTests};
 ghost use Rattle.rinqebo_run.specs.ListedBy.{read_by, listed_by, AreUnusedPlaces};
-ghost use Rattle.rinqebo_run.specs.Refused.{IsFailureAbout};
-ghost use Rattle.rinqebo_run.specs.RulePlaces.{place_view};
+ghost use Rattle.rinqebo_findings.specs.Failures.{IsFailureAbout};
+ghost use Rattle.rinqebo_findings.specs.Reports.{IsReportOf};
+ghost use Rattle.rinqebo_rules.specs.RulePlaces.{place_view};
 
-use crate::answer::Failure;
-use crate::check::report_of;
-use crate::explain::asked_of;
-use crate::findings::warning_findings;
+use crate::asked::asked_of;
 use crate::list_origins::{Origins, origins_of_rules};
 use crate::list_rules::{all_rules, wrapper_rules};
 use crate::list_scripts::scripts_of_list;
-use crate::loading::config_with;
-use crate::rule_places::RulePlace;
-use crate::rules::chain_of_profile;
-use crate::session::{Config, Session};
 use nextest_config::{DefaultConfigWarnings, EarlyProfile, EvaluatableProfile, NextestRunMode};
 use nextest_filters::{NextestFilters, NextestTally};
+use rinqebo_findings::{config_with, report_of, warning_findings};
 use rinqebo_list::{Asking, ListedRows, Progress, RuleUse};
+use rinqebo_load::{Config, Failure, Session, chain_of_profile};
 use rinqebo_report::{Content, Report};
 use rinqebo_request::AskedSettings;
+use rinqebo_rules::RulePlace;
 use std::alloc::{AllocError, Global};
 use target_language::TargetSpecs;
 
@@ -139,6 +136,7 @@ pub fn list<P: Progress>(
     progress: &mut P,
 ) -> Result<Report, Failure>
     ensures ok { IfOk result (TellsTests session.now profile.now mode asked.now) }
+    ensures about { IfOk result (IsReportOf session.now) }
     ensures err { IfErr result (IsFailureAbout session.now profile.now) }
 {
     let mut warnings = DefaultConfigWarnings::new(alloc);

@@ -1,5 +1,5 @@
 //! Why the text of a list was not written whole.
-use crate::answer::Failure;
+use rinqebo_load::Failure;
 use std::alloc::AllocError;
 
 /// Why the text of a list was not written whole.

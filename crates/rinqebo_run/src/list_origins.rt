@@ -1,15 +1,15 @@
 //! Where the settings of the tests of a list come from. Each place is found once.
-ghost use Rattle.std.specs.Prelude.{IfOk, map};
+ghost use Rattle.std.specs.Prelude.{[], IfOk, map};
 ghost use Rattle.std.specs.List.{AllZip};
-ghost use Rattle.rinqebo_run.specs.RulePlaces.{place_view, IsOriginOf};
+ghost use Rattle.rinqebo_rules.specs.Origins.{IsOriginOf};
+ghost use Rattle.rinqebo_rules.specs.RulePlaces.{place_view};
 
-use crate::grounds::{built_in, profile_grounds};
-use crate::rule_places::{RuleKind, RulePlace};
 use nextest_config::ConfigSource;
 use rinqebo_files::Layer;
 use rinqebo_list::{Decider, OriginTeller};
 use rinqebo_report::{Origin, Written};
 use rinqebo_request::SettingKey;
+use rinqebo_rules::{RuleKind, RulePlace, built_in, profile_grounds};
 use std::alloc::{AllocError, Global};
 
 /// A rule that is known.
@@ -162,7 +162,8 @@ pub fn origins_of_rules(
     rules: &[RulePlace<'_>],
 ) -> Result<Vec<Origin>, AllocError>
     ensures { IfOk result (λ origins.
-        AllZip IsOriginOf (map place_view rules.now) origins.items) }
+        AllZip (λ place. IsOriginOf layers.now place []) (map place_view rules.now)
+        origins.items) }
 {
     let mut origins = Vec::new(alloc);
     for rule in rules {

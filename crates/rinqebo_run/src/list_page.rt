@@ -1,5 +1,5 @@
 //! The page of a list, which is written test after test, as they are asked.
-ghost use Rattle.std.specs.Prelude.{◌≡◌, ◌++◌, IfErr, IfOk, OnErr, OnOk, flat_map, length, map, string_bytes};
+ghost use Rattle.std.specs.Prelude.{◌≡◌, ◌++◌, [], IfErr, IfOk, OnErr, OnOk, flat_map, map, string_bytes};
 ghost use Rattle.std.specs.Io.KnownBytes.{Appends};
 ghost use Rattle.std.specs.List.{AllZip};
 ghost use Rattle.filter_language.specs.Filtersets.{marks_view};
@@ -16,30 +16,30 @@ ghost use Rattle.rinqebo_list.specs.RuleViews.{list_rule_view};
 ghost use Rattle.rinqebo_list.specs.Rows.{AreTestsTold};
 ghost use Rattle.rinqebo_list.specs.Unused.{unused_among};
 ghost use Rattle.rinqebo_list.specs.Uses.{meant_on};
-ghost use Rattle.rinqebo_report.specs.Pages.{content_runs, count_runs, listed_runs, unused_runs};
+ghost use Rattle.rinqebo_report.specs.Pages.{content_runs, count_runs, unused_runs};
 ghost use Rattle.rinqebo_report.specs.Pieces.{page_text};
-ghost use Rattle.rinqebo_run.specs.Conditions.{is_met_by};
+ghost use Rattle.rinqebo_rules.specs.Conditions.{is_met_by};
 ghost use Rattle.rinqebo_run.specs.Listed.{IfListed};
 ghost use Rattle.rinqebo_run.specs.ListedBy.{listed_by, AreUnusedPlaces};
-ghost use Rattle.rinqebo_run.specs.RulePlaces.{place_view, IsOriginOf};
+ghost use Rattle.rinqebo_rules.specs.Origins.{IsOriginOf};
+ghost use Rattle.rinqebo_rules.specs.RulePlaces.{place_view};
 ghost use Rattle.rinqebo_run.specs.Begun.{tests_text, AreFirstWritten};
 ghost use Rattle.rinqebo_run.specs.Written.{AddsTest, AreFirstBy, StopsList};
 ghost use Rattle.rinqebo_run.specs.declared.list_fault.ListFault.TheVariants as faults;
 
-use crate::explain::asked_of;
+use crate::asked::asked_of;
 use crate::list::{Profile, Rows, profile_on};
 use crate::list_fault::ListFault;
 use crate::list_origins::{Origins, origins_of_rules};
 use crate::list_rules::{Rule, all_rules, wrapper_rules};
 use crate::list_scripts::scripts_of_list;
-use crate::rule_places::RulePlace;
-use crate::rules::chain_of_profile;
-use crate::session::{Config, Session};
 use nextest_config::{NextestRunMode, TestQuery};
 use nextest_filters::{NextestFilters, NextestTally};
 use rinqebo_list::{Asking, ListedRows, Progress, RuleUse};
+use rinqebo_load::{Config, Session, chain_of_profile};
 use rinqebo_report::{Colour, Content, Origin, Report, TestRows, render_list_end, render_listed};
 use rinqebo_request::AskedSettings;
+use rinqebo_rules::RulePlace;
 use std::alloc::{AllocError, Global};
 use std::io::Write;
 use target_language::TargetSpecs;
@@ -220,7 +220,8 @@ impl<'c> ListPage<'c, '_> {
         out: &mut O,
     ) -> Result<Vec<Origin>, ListFault>
         ensures origins { IfOk result (λ origins.
-            AllZip IsOriginOf (map place_view unused.now) origins.items) }
+            AllZip (λ place. IsOriginOf self.now.session.now.layers.items place [])
+            (map place_view unused.now) origins.items) }
         ensures page { IfOk result (λ origins. Appends (O.contents out.old) (O.contents out.new)
             (page_text self.now.colour (count_runs count
             ++ flat_map (unused_runs (string_bytes self.now.head.now.root)

@@ -6,13 +6,12 @@ ghost use Rattle.nextest_settings.specs.View.{override_ref_view};
 ghost use Rattle.rinqebo_list.specs.RuleViews.{list_rule_view};
 ghost use Rattle.rinqebo_run.specs.ListRules.{placed_view, placed_override, listed_script, AreRulesOf};
 
-use crate::chain_rules::{SettingRule, script_rules};
-use crate::rule_places::RulePlace;
-use crate::session::Config;
 use nextest_config::CompiledOverride;
 use nextest_filters::NextestFilters;
 use nextest_settings::rules_of;
 use rinqebo_list::ListRule;
+use rinqebo_load::Config;
+use rinqebo_rules::{RulePlace, SettingRule, script_rules};
 use std::alloc::{AllocError, Global};
 use target_language::TargetSpecs;
 

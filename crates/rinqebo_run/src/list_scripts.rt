@@ -10,13 +10,13 @@ ghost use Rattle.nextest_settings.specs.Platforms.{rule_on};
 ghost use Rattle.test_lists.specs.ListView.{list_view};
 ghost use Rattle.test_lists.specs.Lists.{all_binaries, all_tests};
 ghost use Rattle.rinqebo_list.specs.Scripts.{AreScriptsTold};
-ghost use Rattle.rinqebo_run.specs.Conditions.{is_met_by};
+ghost use Rattle.rinqebo_rules.specs.Conditions.{is_met_by};
 
 use crate::list::Profile;
-use crate::session::{Config, Session};
 use nextest_filters::NextestTally;
 use nextest_settings::rules_of;
 use rinqebo_list::AskingScripts;
+use rinqebo_load::{Config, Session};
 use rinqebo_report::ListScripts;
 use std::alloc::{AllocError, Global};
 

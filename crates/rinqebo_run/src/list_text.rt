@@ -1,21 +1,21 @@
 //! Answers a list as a text, which goes out as its tests are asked.
-ghost use Rattle.std.specs.Prelude.{◌≡◌, ◌⊎◌, IfErr, OnOk};
+ghost use Rattle.std.specs.Prelude.{◌≡◌, ◌⊎◌, IfErr, IfOk, OnOk};
 ghost use Rattle.rinqebo_run.specs.Answered.{Tells};
-ghost use Rattle.rinqebo_run.specs.Refused.{Fails, IsFailureAbout};
+ghost use Rattle.rinqebo_run.specs.Refused.{Fails};
+ghost use Rattle.rinqebo_findings.specs.Failures.{IsFailureAbout};
 ghost use Rattle.rinqebo_run.specs.Begun.{BeginsList, IsBegun};
 ghost use Rattle.rinqebo_run.specs.Written.{AsksList, StopsList, WritesList};
 ghost use Rattle.rinqebo_run.specs.declared.list_fault.ListFault.TheVariants as faults;
+ghost use Rattle.rinqebo_findings.specs.Reports.{IsReportOf};
 ghost use Rattle.rinqebo_report.specs.declared.format.Format.TheVariants as formats;
 
-use crate::check::report_of;
-use crate::findings::warning_findings;
 use crate::list_fault::ListFault;
 use crate::list_page::{AskedList, ListPage, write_last};
-use crate::loading::config_with;
 use crate::progress::ProgressLine;
-use crate::session::Session;
 use nextest_config::DefaultConfigWarnings;
 use rinqebo_files::Gathered;
+use rinqebo_findings::{config_with, report_of, warning_findings};
+use rinqebo_load::Session;
 use rinqebo_report::{Colour, Content, Report, render_findings};
 use rinqebo_request::Request;
 use std::alloc::Global;
@@ -29,7 +29,8 @@ fn begin<E: Write>(
     colour: Colour,
     err: &mut E,
 ) -> Result<Report, ListFault>
-    ensures { IfErr result (λ fault. (fault ≡ faults.Memory) ⊎ (fault ≡ faults.Write)) }
+    ensures about { IfOk result (IsReportOf session.now) }
+    ensures err { IfErr result (λ fault. (fault ≡ faults.Memory) ⊎ (fault ≡ faults.Write)) }
 {
     let findings = warning_findings(alloc, &session.layers, warnings)?;
     let head = report_of(alloc, session, findings, Vec::new(alloc), Content::Check)?;

@@ -5,6 +5,7 @@ ghost use Rattle.std.specs.Result.{result_map_both};
 ghost use Rattle.config_shape.specs.FileForm.{file_form};
 ghost use Rattle.config_shape.specs.Page.{schema_data};
 ghost use Rattle.serde_json.specs.Written.{compact_text};
+ghost use Rattle.rinqebo_findings.specs.Reports.{IsReportOf};
 ghost use Rattle.rinqebo_report.specs.Rendered.{rendered};
 ghost use Rattle.rinqebo_run.specs.Answered.{AnswersQuestion, IsAnswer, Tells};
 ghost use Rattle.rinqebo_run.specs.Begun.{IsBegun};
@@ -13,7 +14,7 @@ ghost use Rattle.rinqebo_run.specs.Statuses.{IsStatus, IsAnswerStatus, failure_s
 ghost use Rattle.rinqebo_run.specs.Written.{AsksList, IsStopStatus};
 ghost use Rattle.rinqebo_report.specs.declared.format.Format.TheVariants as formats;
 
-use crate::answer::{Answer, Failure};
+use crate::answer::Answer;
 use crate::check::check;
 use crate::explain::explain;
 use crate::list::list;
@@ -21,13 +22,13 @@ use crate::list_fault::ListFault;
 use crate::list_page::AskedList;
 use crate::list_text::write_list;
 use crate::progress::ProgressLine;
-use crate::session::Session;
 use crate::show::show;
 use crate::why::why;
 use config_shape::schema_page;
 use nextest_explain::refuse_for_memory;
 use rinqebo_files::{GatherFault, Gathered};
 use rinqebo_list::Progress;
+use rinqebo_load::{Failure, Session};
 use rinqebo_report::{Colour, Content, Format, Report, render, render_findings};
 use rinqebo_request::{ParseStop, Question, Request};
 use std::alloc::{AllocError, Global};
@@ -70,6 +71,7 @@ fn answer_in<P: Progress>(
 ) -> Result<Answer, Failure>
     ensures ok { IfOk result (λ answer.
         AnswersQuestion request.now.question session.now answer.report answer.status) }
+    ensures about { IfOk result (λ answer. IsReportOf session.now answer.report) }
     ensures err { IfErr result (IsFailureIn session.now request.now.question) }
 {
     match &request.question {

@@ -1,38 +1,27 @@
 //! The leaves of a configuration, and what writes each.
 ghost use Rattle.std.specs.Prelude.{◌≡◌, false, IfErr, IfOk, MatchOption, map};
 ghost use Rattle.config_grounds.specs.Entries.{leaf_view};
-ghost use Rattle.config_grounds.specs.Layers.{keys_view, layers_view};
+ghost use Rattle.config_grounds.specs.Layers.{keys_view};
 ghost use Rattle.nextest_inheritance.specs.Parents.{parents_in};
 ghost use Rattle.nextest_load.specs.Config.{config_parents};
 ghost use Rattle.nextest_tables.specs.FileTexts.{names_in, IsIn};
 ghost use Rattle.rinqebo_entries.specs.LeafValue.{is_tellable};
-ghost use Rattle.rinqebo_run.specs.Refused.{IsFailureAbout};
-ghost use Rattle.rinqebo_run.specs.ShownConfig.{trees_of, TellsLeaf, TellLeaves, AreShown, IfShown, IsShownIn, shown_status, ShowsConfig};
+ghost use Rattle.rinqebo_findings.specs.Failures.{IsFailureAbout};
+ghost use Rattle.rinqebo_findings.specs.Reports.{IsReportOf};
+ghost use Rattle.rinqebo_rules.specs.Trees.{trees_of};
+ghost use Rattle.rinqebo_run.specs.ShownConfig.{TellsLeaf, TellLeaves, AreShown, IsShownIn, shown_status, ShowsConfig};
 
-use crate::answer::{Answer, Failure};
-use crate::check::report_of;
-use crate::explain::asked_of;
-use crate::findings::warning_findings;
-use crate::loading::config_with;
-use crate::rules::chain_of_profile;
-use crate::session::{Config, Session};
+use crate::answer::Answer;
+use crate::asked::asked_of;
 use config_grounds::{Entry as Leaf, entries_of};
-use nextest_config::{DefaultConfigWarnings, NextestRunMode, Tree};
+use nextest_config::{DefaultConfigWarnings, NextestRunMode};
 use rinqebo_entries::{reported_entry, steps_of};
 use rinqebo_files::{Layer, path_place};
+use rinqebo_findings::{config_with, report_of, warning_findings};
+use rinqebo_load::{Config, Failure, Session, chain_of_profile};
 use rinqebo_report::{Content, Entry};
+use rinqebo_rules::trees_of;
 use std::alloc::{AllocError, Global};
-
-/// The trees of layers.
-fn trees_of<'l>(alloc: Global, layers: &'l [Layer<'_>]) -> Result<Vec<Option<&'l Tree>>, AllocError>
-    ensures { IfOk result (λ trees. layers_view trees.items ≡ trees_of layers.entry.now) }
-{
-    let mut trees = Vec::new(alloc);
-    for layer in layers {
-        trees.push(layer.tree.as_ref())?;
-    }
-    Ok(trees)
-}
 
 /// A leaf as it is reported, with its place in the file of its layer. There is none where its value
 /// can't be told.
@@ -41,7 +30,7 @@ fn told_leaf(alloc: Global, layers: &[Layer], leaf: &Leaf<'_>) -> Result<Option<
         (is_tellable (leaf_view leaf.now).value ≡ false) (TellsLeaf (leaf_view leaf.now))) }
 {
     let path = steps_of(alloc, leaf)?;
-    let place = path_place(alloc, layers, leaf.layer, &path)?;
+    let place = path_place(layers, leaf.layer, &path);
     reported_entry(alloc, leaf, place)
 }
 
@@ -118,6 +107,7 @@ pub fn show(
 ) -> Result<Answer, Failure>
     ensures ok { IfOk result (λ answer. ShowsConfig session.now profile.now (keys_view keys.now)
         with_hidden answer.report answer.status) }
+    ensures about { IfOk result (λ answer. IsReportOf session.now answer.report) }
     ensures err { IfErr result (IsFailureAbout session.now profile.now) }
 {
     let mut warnings = DefaultConfigWarnings::new(alloc);

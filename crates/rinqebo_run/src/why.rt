@@ -9,29 +9,26 @@ ghost use Rattle.nextest_tables.specs.FileTexts.{names_in, IsIn};
 ghost use Rattle.nextest_tables.specs.Written.{Name};
 ghost use Rattle.rinqebo_report.specs.declared.report.Verdict.TheVariants as told;
 ghost use Rattle.rinqebo_request.specs.Keys.{key_text};
-ghost use Rattle.rinqebo_run.specs.Conditions.{is_met_by, filter_matches};
-ghost use Rattle.rinqebo_run.specs.Reasons.{told_verdict, answers_told, IsRuleTold, facts_told, verdicts_here, AreRulesToldHere};
-ghost use Rattle.rinqebo_run.specs.Refused.{IsFailureAbout};
-ghost use Rattle.rinqebo_run.specs.RuleViews.{setting_rule_view};
+ghost use Rattle.rinqebo_rules.specs.Conditions.{is_met_by, filter_matches};
+ghost use Rattle.rinqebo_run.specs.Reasons.{told_verdict, IsRuleTold, verdicts_here, AreRulesToldHere};
+ghost use Rattle.rinqebo_rules.specs.RuleAnswers.{answers_told, facts_told};
+ghost use Rattle.rinqebo_findings.specs.Failures.{IsFailureAbout};
+ghost use Rattle.rinqebo_findings.specs.Reports.{IsReportOf};
+ghost use Rattle.rinqebo_rules.specs.RuleViews.{setting_rule_view};
 ghost use Rattle.rinqebo_run.specs.TellsReasons.{AreReasons, AreReasonsIn, IfWhy, TellsReasons};
 ghost use Rattle.target_language.specs.declared.expression.TargetSpec.{TargetSpec};
 
-use crate::answer::Failure;
-use crate::binary::query_of;
-use crate::chain_rules::{SettingRule, rules_for};
-use crate::check::report_of;
-use crate::conditions::{Answers, Asking, answers_of, default_filter};
-use crate::explain::asked_of;
-use crate::fallback::fallback_value;
-use crate::findings::warning_findings;
-use crate::grounds::{built_in, profile_grounds};
-use crate::loading::config_with;
-use crate::rules::chain_of_profile;
-use crate::session::{Config, Session};
+use crate::asked::asked_of;
 use nextest_config::{DefaultConfigWarnings, NextestRunMode, Setting};
 use rinqebo_files::{Layer, host_text, target_text, text_at};
+use rinqebo_findings::{config_with, report_of, warning_findings};
+use rinqebo_load::{Config, Failure, Session, chain_of_profile};
 use rinqebo_report::{Condition, ConditionAnswer, Content, Origin, Report, Rule, Verdict};
 use rinqebo_request::{SettingKey, TestName};
+use rinqebo_rules::{
+    Asking, SettingRule, answers_to, built_in, default_filter, facts_of, fallback_value,
+    profile_grounds, query_of, rules_for,
+};
 use rinqebo_values::reported_if_set;
 use rule_verdicts::{RuleFacts, verdicts_of};
 use std::alloc::{AllocError, Global};
@@ -63,13 +60,6 @@ fn reported_verdict(verdict: rule_verdicts::Verdict) -> Verdict
     }
 }
 
-/// What the conditions of a rule say.
-fn answers_to(rule: &SettingRule<'_>, asking: &Asking<'_, '_>) -> Answers
-    ensures { result ≡ answers_told asking.now (setting_rule_view rule.now) }
-{
-    answers_of(rule.platforms, rule.filter, asking)
-}
-
 /// A rule with its verdict.
 fn reported_rule(
     alloc: Global,
@@ -91,18 +81,6 @@ fn reported_rule(
         filter: condition(alloc, text_at(table, "filter"), answers.filter)?,
         value: reported_if_set(alloc, rule.value)?,
     })
-}
-
-/// What is known of a rule.
-pub fn facts_of(rule: &SettingRule<'_>, asking: &Asking<'_, '_>) -> RuleFacts
-    ensures { result ≡ facts_told asking.now (setting_rule_view rule.now) }
-{
-    let answers = answers_to(rule, asking);
-    RuleFacts {
-        is_on: answers.is_on(),
-        matches: answers.matches(),
-        writes: rule.value.is_some(),
-    }
 }
 
 /// What is known of each rule.
@@ -273,6 +251,7 @@ pub fn why(
     setting: Setting,
 ) -> Result<Report, Failure>
     ensures ok { IfOk result (TellsReasons session.now profile.now test.now setting) }
+    ensures about { IfOk result (IsReportOf session.now) }
     ensures err { IfErr result (IsFailureAbout session.now profile.now) }
 {
     let mut warnings = DefaultConfigWarnings::new(alloc);

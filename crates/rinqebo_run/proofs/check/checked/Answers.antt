@@ -1,10 +1,11 @@
 use Rattle.rinqebo_run.proofs.Loads.{accepted_status, refused_status}
 use Rattle.rinqebo_run.proofs.check.checked.Goals as goal
 
-pub returns-in-Ok : goal.returns-in-Ok
-returns-in-Ok c = accepted_status c.args.session.now c.accepted.result c.in-Ok.ensures.verdict c.accepted.ensures
+pub returns-in-Ok-clause-status : goal.returns-in-Ok-clause-status
+returns-in-Ok-clause-status c =
+    accepted_status c.args.session.now c.accepted.result c.in-Ok.ensures.verdict c.accepted.ensures.status
 
-pub returns : goal.returns
-returns c =
+pub returns-clause-status : goal.returns-clause-status
+returns-clause-status c =
     refused_status c.args.session.now c.in-Err.error c.refused.result c.in-Err.ensures.verdict
     c.refused.ensures.status c.refused.ensures.cause

@@ -21,4 +21,4 @@ returns g c =
     c.args.profile.now (borrowed_view names)) (sym c.deref.ensures.value) (c.in_ok-chain.ensures c.requires) in
     listed_here c.args.session.now c.args.config.now c.args.profile.now c.args.mode c.args.asked.now
     c.in_ok-on.on _ _ _ _ _ c.in_ok-on.ensures chain c.in_ok-rows.ensures.tests c.in_ok-rows.ensures.unused
-    (told_of _ _ _ c.deref-4.ensures.value c.in_ok-origins_of_rules.ensures) c.in_ok-scripts_of_list.ensures
+    (told_of _ _ _ _ _ c.deref-3.ensures.value c.deref-4.ensures.value c.in_ok-origins_of_rules.ensures) c.in_ok-scripts_of_list.ensures

@@ -1,6 +1,6 @@
 use Rattle.std.proofs.Common.{◌∙◌, ap}
 use Rattle.nextest_settings.specs.Profile.{profile_on}
-use Rattle.rinqebo_run.specs.Conditions.{is_met_by}
+use Rattle.rinqebo_rules.specs.Conditions.{is_met_by}
 use Rattle.rinqebo_run.proofs.list.profile_on.Goals as goal
 
 pub returns-in-Ok : goal.returns-in-Ok

@@ -4,11 +4,10 @@ use Rattle.nextest_inheritance.specs.View.{borrowed_view}
 use Rattle.nextest_settings.specs.Chains.{in_order, overrides_of}
 use Rattle.nextest_settings.specs.View.{override_ref_view}
 use Rattle.rinqebo_list.specs.RuleViews.{list_rule_view}
-use Rattle.rinqebo_run.proofs.InOrder.{map-in_order}
+use Rattle.rinqebo_rules.proofs.InOrder.{map-in_order}
 use Rattle.rinqebo_run.proofs.Listing.{bare_wrappers, rules_of_chain}
 use Rattle.rinqebo_run.specs.ListRules.{bare, listed_script, placed_override}
-use Rattle.rinqebo_run.specs.RuleViews.{setting_rule_view}
-use Rattle.rinqebo_run.specs.SettingRules.{for_setting, wrapper_rules_in, wrapper_written}
+use Rattle.rinqebo_rules.specs.SettingRules.{for_setting, wrapper_rules_in, wrapper_written}
 use Rattle.rinqebo_run.proofs.list_rules.all_rules.Goals as goal
 
 pub returns : goal.returns

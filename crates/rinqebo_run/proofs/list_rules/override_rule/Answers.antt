@@ -1,5 +1,5 @@
 use Rattle.std.proofs.Common.{◌∙◌, ap}
-use Rattle.rinqebo_run.specs.RulePlaces.{id_place}
+use Rattle.rinqebo_rules.specs.RulePlaces.{id_place}
 use Rattle.rinqebo_run.proofs.list_rules.override_rule.Goals as goal
 
 pub returns : goal.returns

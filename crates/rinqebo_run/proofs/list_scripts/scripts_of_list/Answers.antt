@@ -9,7 +9,7 @@ use Rattle.nextest_settings.specs.Chains.{script_rules_of}
 use Rattle.nextest_settings.specs.Platforms.{rule_on}
 use Rattle.nextest_settings.specs.View.{script_rule_ref_view}
 use Rattle.rinqebo_list.specs.Scripts.{AreScriptsTold}
-use Rattle.rinqebo_run.specs.Conditions.{is_met_by}
+use Rattle.rinqebo_rules.specs.Conditions.{is_met_by}
 use Rattle.test_lists.specs.ListView.{list_view}
 use Rattle.test_lists.specs.Lists.{all_binaries}
 use Rattle.rinqebo_run.proofs.list_scripts.scripts_of_list.Goals as goal

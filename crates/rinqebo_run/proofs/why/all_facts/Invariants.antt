@@ -1,6 +1,6 @@
 use Rattle.std.proofs.Common.{◌≡◌, map, take}
-use Rattle.rinqebo_run.specs.Reasons.{facts_told}
-use Rattle.rinqebo_run.specs.RuleViews.{setting_rule_view}
+use Rattle.rinqebo_rules.specs.RuleAnswers.{facts_told}
+use Rattle.rinqebo_rules.specs.RuleViews.{setting_rule_view}
 use Rattle.rinqebo_run.proofs.why.all_facts.Given as goal
 
 -- the facts so far

@@ -1,7 +1,8 @@
 use Rattle.std.proofs.Common.{◌∙◌, ap, false, map}
 use Rattle.rule_verdicts.specs.VerdictsBy.{verdicts_by}
-use Rattle.rinqebo_run.proofs.Reasons.{ok_same, told_verdicts}
-use Rattle.rinqebo_run.specs.RuleViews.{setting_rule_view}
+use Rattle.rinqebo_rules.proofs.Results.{ok_same}
+use Rattle.rinqebo_run.proofs.Reasons.{told_verdicts}
+use Rattle.rinqebo_rules.specs.RuleViews.{setting_rule_view}
 use Rattle.rinqebo_run.proofs.why.all_verdicts.Goals as goal
 
 pub returns : goal.returns

@@ -1,9 +1,9 @@
 use Rattle.std.proofs.Common.{◌∙◌, ap, map, sym}
 use Rattle.nextest_inheritance.specs.View.{borrowed_view}
 use Rattle.nextest_settings.specs.Chains.{overrides_of, script_rules_of}
-use Rattle.rinqebo_run.specs.Conditions.{default_filter_here}
-use Rattle.rinqebo_run.specs.RuleViews.{setting_rule_view}
-use Rattle.rinqebo_run.specs.SettingRules.{rules_for}
+use Rattle.rinqebo_rules.specs.Conditions.{default_filter_here}
+use Rattle.rinqebo_rules.specs.RuleViews.{setting_rule_view}
+use Rattle.rinqebo_rules.specs.SettingRules.{rules_for}
 use Rattle.rinqebo_run.proofs.Gathering.{reasons_here}
 use Rattle.rinqebo_run.proofs.why.rules_and_fallback.Goals as goal
 

@@ -1,14 +1,13 @@
 use Rattle.std.proofs.Common.{refl}
-use Rattle.rinqebo_run.specs.Refused.{IsFailureAbout}
 use Rattle.rinqebo_run.proofs.Gathering.{tells}
-use Rattle.rinqebo_run.proofs.Refused.{passed_on, want_told}
+use Rattle.rinqebo_run.proofs.Refused.{want_told}
 use Rattle.rinqebo_run.proofs.why.why.Goals as goal
 
 pub returns-clause-ok : goal.returns-clause-ok
 returns-clause-ok c =
     let config = c.in_ok-config.ensures in
     tells c.args.session.now c.args.profile.now c.args.test.now c.args.setting c.in_ok-report.report
-    c.in_ok-content.content c.in_ok-config.config config.accepted config.means config.known c.in_ok-report.ensures
+    c.in_ok-content.content c.in_ok-config.config config.accepted config.means config.known c.in_ok-report.ensures.content
     (c.in_ok-content.ensures _ refl config.known)
 
 pub returns-in_err-findings-clause-err : goal.returns-in_err-findings-clause-err

@@ -1,4 +1,4 @@
-use Rattle.std.proofs.Common.{◌≡◌, arith, inl, length, subst, sym}
+use Rattle.std.proofs.Common.{◌≡◌, arith, inl, length, refl, subst, sym}
 use Rattle.filter_language.specs.Filtersets.{marks_view}
 use Rattle.nextest_filters.specs.Compiling.{names_of}
 use Rattle.nextest_filters.specs.Engine.{filter_holds}
@@ -35,7 +35,7 @@ returns-clause-told g c =
     list.profile.now (borrowed_view names)) (sym c.deref-2.ensures.value) (c.in_ok-chain.ensures c.requires) in
     listed_here self.session.now self.config.now list.profile.now list.mode list.settings.now c.in_ok-on.on _ _ _ _ _
     c.in_ok-on.ensures chain c.in_ok-rows.ensures.tests c.in_ok-rows.ensures.unused
-    (told_of _ _ _ c.deref-4.ensures.value c.in_ok-unused.ensures.origins) c.in_ok-scripts.ensures
+    (told_of _ _ _ _ _ refl c.deref-4.ensures.value c.in_ok-unused.ensures.origins) c.in_ok-scripts.ensures
 
 pub returns-clause-page : goal.returns-clause-page
 returns-clause-page g c =

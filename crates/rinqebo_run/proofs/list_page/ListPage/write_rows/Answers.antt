@@ -13,11 +13,11 @@ use Rattle.rinqebo_list.specs.Unused.{unused_among}
 use Rattle.rinqebo_list.specs.Uses.{meant_on}
 use Rattle.rinqebo_run.proofs.Listing.{places_unused}
 use Rattle.rinqebo_run.specs.Begun.{AreFirstWritten}
-use Rattle.rinqebo_run.specs.Conditions.{is_met_by}
+use Rattle.rinqebo_rules.specs.Conditions.{is_met_by}
 use Rattle.rinqebo_run.specs.ListRules.{placed_view}
-use Rattle.rinqebo_run.specs.RulePlaces.{place_view}
+use Rattle.rinqebo_rules.specs.RulePlaces.{place_view}
 use Rattle.rinqebo_run.specs.Written.{StopsList}
-use Rattle.rinqebo_run.specs.declared.rule_places.RulePlace.{RulePlace}
+use Rattle.rinqebo_rules.specs.declared.rule_places.RulePlace.{RulePlace}
 use Rattle.test_lists.specs.ListView.{list_view}
 use Rattle.test_lists.specs.Lists.{all_tests}
 use Rattle.rinqebo_run.proofs.list_page.ListPage.write_rows.Goals as goal

@@ -1,9 +1,8 @@
-use Rattle.std.proofs.Common.{◌≡◌, ◌∙◌, List, ap, inl, inr, map, refl, subst, sym, take}
-use Rattle.std.proofs.KnownBytes.{Appends-nil}
+use Rattle.std.proofs.Common.{◌≡◌, ◌∙◌, ap, inl, map, refl, subst, sym, take}
 use Rattle.std.proofs.lemmas.List.{take_all}
 use Rattle.std.specs.List.{AllZip}
 use Rattle.filter_language.specs.Filtersets.{marks_view}
-use Rattle.nextest_engines.specs.Engines.{Test, test_view}
+use Rattle.nextest_engines.specs.Engines.{test_view}
 use Rattle.nextest_engines.specs.declared.queries.TestQuery.{TestQuery}
 use Rattle.nextest_filters.specs.Compiling.{names_of}
 use Rattle.nextest_filters.specs.Engine.{Filter, filter_holds}
@@ -16,8 +15,7 @@ use Rattle.rinqebo_list.specs.Unused.{unused_among}
 use Rattle.rinqebo_list.specs.Uses.{AreMarked, meant_rules}
 use Rattle.rinqebo_list.proofs.Listing.{made_twice, meant_read, seen_more, zip_mapped}
 use Rattle.rinqebo_list.proofs.RowsMore.{zip_more}
-use Rattle.rinqebo_run.specs.Conditions.{is_met_by}
-use Rattle.rinqebo_run.specs.Written.{StopsList}
+use Rattle.rinqebo_rules.specs.Conditions.{is_met_by}
 use Rattle.rinqebo_run.specs.declared.list_fault.ListFault.TheVariants as faults
 use Rattle.rinqebo_run.proofs.Writing.{first_so_far, one_more, passed_stop}
 use Rattle.rinqebo_run.proofs.list_page.ListPage.write_tests.Goals as goal

@@ -12,7 +12,7 @@ use Rattle.rinqebo_list.specs.RuleViews.{list_rule_view}
 use Rattle.rinqebo_list.specs.Rows.{IsTestTold}
 use Rattle.rinqebo_list.specs.Uses.{AreMarked, rules_in}
 use Rattle.rinqebo_run.specs.Begun.{tests_text}
-use Rattle.rinqebo_run.specs.Conditions.{is_met_by}
+use Rattle.rinqebo_rules.specs.Conditions.{is_met_by}
 use Rattle.rinqebo_run.proofs.list_page.ListPage.write_tests.Given as goal
 
 -- The tests so far are told and went out, and each rule is marked that holds for one of them.

@@ -1,0 +1,50 @@
+-- Why a session answers nothing.
+use Rattle.std.specs.Prelude.{◌≡◌}
+use Rattle.nextest_config.specs.declared.run.fault.ResolveFault.{ResolveFault}
+use Rattle.nextest_config.specs.declared.run.fault.ResolveFault.TheVariants as faults
+use Rattle.nextest_load.specs.Config.{config_of}
+use Rattle.nextest_sources.specs.Endings.{IsMemory}
+use Rattle.nextest_sources.specs.Inputs.{sources_in}
+use Rattle.nextest_sources.specs.declared.error.ConfigParseError.{ConfigParseError}
+use Rattle.nextest_tables.specs.FileTexts.{names_in, IsIn}
+use Rattle.nextest_tables.specs.Written.{Name}
+use Rattle.rinqebo_load.specs.Accepted.{AreAccepted}
+use Rattle.rinqebo_load.specs.Sessions.{files_view, readings}
+use Rattle.rinqebo_load.specs.declared.failure.Failure.{Failure}
+use Rattle.rinqebo_load.specs.declared.failure.Failure.TheVariants as failures
+use Rattle.rinqebo_load.specs.declared.session.Session.{Session}
+
+-- A load failed with an error: files are refused, but not for want of memory, or memory ran out.
+abbrev pub IsLoadFailure : ConfigParseError → Failure → Type 0
+IsLoadFailure error (failures.Engines fault) = ⊥
+IsLoadFailure error (failures.Refused report) = ¬ IsMemory error
+IsLoadFailure error (failures.NoProfile report) = ⊥
+IsLoadFailure error failures.Memory = Unit {0}
+
+-- a failure tells that a profile is missing
+abbrev pub IsProfileFailure : Failure → Type 0
+IsProfileFailure (failures.Engines fault) = ⊥
+IsProfileFailure (failures.Refused report) = ⊥
+IsProfileFailure (failures.NoProfile report) = Unit {0}
+IsProfileFailure failures.Memory = ⊥
+
+-- a failure tells the fault of a run without rows
+abbrev pub IsRunFailure : ResolveFault → Failure → Type 0
+IsRunFailure (faults.Config error) failure = IsLoadFailure error failure
+IsRunFailure (faults.NoProfile missing) failure = IsProfileFailure failure
+IsRunFailure faults.Memory failure = failure ≡ failures.Memory
+
+-- The files of a session lack a profile: every written rule holds of them, and none of their
+-- profiles has the name.
+pub record LacksProfile (session : Session) (name : Name) : Type 0 where
+  pub acceptance : AreAccepted session
+  pub absent : ¬ IsIn (names_in (config_of (readings session.engines.filters)
+      (sources_in (files_view session.gathered.now))).profiles) name
+
+-- A session answers nothing about a profile: files are refused only where some written rule does
+-- not hold of them, and the profile is missing only where they lack it.
+abbrev pub IsFailureAbout : Session → Name → Failure → Type 0
+IsFailureAbout session profile (failures.Engines fault) = ⊥
+IsFailureAbout session profile (failures.Refused report) = ¬ AreAccepted session
+IsFailureAbout session profile (failures.NoProfile report) = LacksProfile session profile
+IsFailureAbout session profile failures.Memory = Unit {0}

@@ -1,0 +1,12 @@
+-- That a report is one of a session.
+use Rattle.std.specs.Prelude.{◌≡◌, map, string_bytes}
+use Rattle.rinqebo_files.specs.Origins.{told_file}
+use Rattle.rinqebo_load.specs.declared.session.Session.{Session}
+use Rattle.rinqebo_report.specs.declared.report.Report.{Report}
+
+-- A report is one of a session: it tells the root of the session, and its layers as the sources, in
+-- their order.
+pub record IsReportOf (session : Session) (report : Report) : Type 0 where
+  pub root : string_bytes report.root ≡ string_bytes session.gathered.now.paths.workspace_root
+  pub sources : map told_file report.sources.items
+      ≡ map (λ layer. told_file layer.source) session.layers.items

@@ -1,0 +1,22 @@
+//! What is wrong with the files of a session: the findings of warnings and of refusals, the reports
+//! that have them, and why a run answers nothing.
+#![tactic(auto)]
+
+mod above;
+mod expected;
+mod expressions;
+mod failures;
+mod fault_words;
+mod findings;
+mod given;
+mod hints;
+mod loading;
+mod refusals;
+mod report;
+mod unknown_names;
+mod unreached;
+
+pub use failures::failure_of_run;
+pub use findings::warning_findings;
+pub use loading::config_with;
+pub use report::{report_of, report_of_refusal};

@@ -1,0 +1,436 @@
+//! Findings of a refused configuration: one for each thing that is wrong.
+use crate::expected::expected_at;
+use crate::expressions::add_refused_texts;
+use crate::findings::{SourceAt, finding};
+use crate::given::given_at;
+use crate::hints::quoted_hint;
+use crate::unknown_names::{add_script_errors, add_unknown_group};
+use nextest_config::{
+    ConfigCompileError, ConfigCompileErrorKind, ConfigExperimental, ConfigParseError,
+    ConfigParseErrorKind, CustomTestGroup, ElementCause, ElementFault, InheritsError, ReadOutcome,
+    ScriptId, Tree,
+};
+use nextest_filters::NextestFilters;
+use rinqebo_files::{Layer, highest_place, place_at};
+use rinqebo_load::Session;
+use rinqebo_report::{Finding, Level, Lines, Place};
+use rinqebo_request::name_hint;
+use std::alloc::{AllocError, Global};
+use std::collections::BTreeSet;
+
+/// What is refused: the source, and the name of what is wrong. Findings go behind the others.
+#[derive(Drop)]
+pub struct Refused<'r, 't> {
+    pub alloc: Global,
+    pub filters: &'r NextestFilters,
+    pub source: SourceAt<'r, 't>,
+    pub code: &'static str,
+    pub findings: &'r mut Vec<Finding>,
+}
+
+impl Refused<'_, '_> {
+    /// Adds a finding with more than a message.
+    pub fn add_finding(&mut self, found: Finding) -> Result<(), AllocError> {
+        self.findings.push(found)?;
+        Ok(())
+    }
+
+    /// A finding at a path, told as the path and what is wrong there. A source that does not write
+    /// the path is refused for what it makes of those below it: the highest one counts that does.
+    pub fn at(&self, path: String, wrong: &str) -> Result<Finding, AllocError> {
+        let alloc = self.alloc;
+        let message = format!(in alloc; "{path}: {wrong}")?;
+        let mut found = self.finding(Some(path.clone()?), message)?;
+        if let Some(Place { lines: None, .. }) = found.place {
+            if let Some(place) = highest_place(alloc, self.source.layers, path.as_str())? {
+                found.place = Some(place);
+            }
+        }
+        Ok(found)
+    }
+
+    /// A finding with a message alone.
+    fn finding(&self, path: Option<String>, message: String) -> Result<Finding, AllocError> {
+        finding(
+            self.alloc,
+            Level::Error,
+            self.code,
+            self.source,
+            path,
+            message,
+        )
+    }
+
+    /// Adds what is wrong with the whole source.
+    fn add_whole(&mut self, wrong: &str) -> Result<(), AllocError> {
+        let found = self.finding(None, String::from_str(self.alloc, wrong)?)?;
+        self.add_finding(found)
+    }
+
+    /// Adds what is wrong at a path, and what to do.
+    pub fn add_at(
+        &mut self,
+        path: String,
+        wrong: &str,
+        help: Option<String>,
+    ) -> Result<(), AllocError> {
+        let mut found = self.at(path, wrong)?;
+        found.help = help;
+        self.add_finding(found)
+    }
+}
+
+/// What came of reading a file.
+fn add_outcome(refused: &mut Refused<'_, '_>, outcome: &ReadOutcome) -> Result<(), AllocError> {
+    match outcome {
+        ReadOutcome::Text(_) => Ok(()),
+        ReadOutcome::NotFound => refused.add_whole("no such file"),
+        ReadOutcome::NotADirectory => refused.add_whole("a part of its path is no directory"),
+        ReadOutcome::Failed(message) => refused.add_whole(message.as_str()),
+    }
+}
+
+/// The line and the column that the first line of the reader's message names.
+fn told_spot(first: &str) -> Option<(u64, u64)> {
+    let (_, spot) = first.split_once(" at line ")?;
+    let (line, column) = spot.split_once(", column ")?;
+    Some((line.parse::<u64>().ok()?, column.parse::<u64>().ok()?))
+}
+
+/// A text on one line.
+fn on_one_line(alloc: Global, text: &str) -> Result<String, AllocError> {
+    let mut joined = String::new(alloc);
+    for line in text.lines() {
+        if !joined.is_empty() {
+            joined.push(' ')?;
+        }
+        joined.push_str(line)?;
+    }
+    Ok(joined)
+}
+
+/// The text is no document: the first line of the reader's message has the place, and the others
+/// say why.
+fn add_no_document(refused: &mut Refused<'_, '_>, message: &str) -> Result<(), AllocError> {
+    let alloc = refused.alloc;
+    let (first, reason) = message.split_once('\n').unwrap_or((message, ""));
+    let Some((line, column)) = told_spot(first) else {
+        let found = refused.finding(None, on_one_line(alloc, message)?)?;
+        return refused.add_finding(found);
+    };
+    let mut found = refused.finding(None, on_one_line(alloc, reason)?)?;
+    if let Some(place) = &mut found.place {
+        place.lines = Some(Lines {
+            first: line,
+            last: line,
+        });
+        found.column = Some(column);
+    }
+    refused.add_finding(found)
+}
+
+/// What is wrong with a value of a wrong kind: the kind that it has.
+fn wrong_kind(alloc: Global, source: SourceAt<'_, '_>, path: &str) -> Result<String, AllocError> {
+    match given_at(source, path) {
+        Some(given) => format!(in alloc; "a value of the wrong kind: {given}"),
+        None => String::from_str(alloc, "a value of the wrong kind"),
+    }
+}
+
+/// What is wrong with a value, but for texts that are not taken.
+fn wrong_element(
+    alloc: Global,
+    source: SourceAt<'_, '_>,
+    cause: &ElementCause,
+    path: &str,
+) -> Result<String, AllocError> {
+    match cause {
+        ElementCause::WrongKind => wrong_kind(alloc, source, path),
+        cause => cause.to_string(alloc),
+    }
+}
+
+/// A value that may not stand where it does.
+fn add_element(refused: &mut Refused<'_, '_>, fault: &ElementFault) -> Result<(), AllocError> {
+    let alloc = refused.alloc;
+    let path = fault.path.clone()?;
+    match &fault.cause {
+        ElementCause::BadValue { given, expected } => {
+            let wrong = format!(in alloc; "invalid value `{given}`")?;
+            let mut found = refused.at(path, wrong.as_str())?;
+            found.expected = Some(String::from_str(alloc, *expected)?);
+            found.help = quoted_hint(alloc, given.as_str(), *expected)?;
+            refused.add_finding(found)
+        }
+        cause => {
+            let wrong = wrong_element(alloc, refused.source, cause, path.as_str())?;
+            let expected = expected_at(alloc, cause, path.as_str())?;
+            let mut found = refused.at(path, wrong.as_str())?;
+            found.expected = expected;
+            refused.add_finding(found)
+        }
+    }
+}
+
+/// Groups that a source may not define.
+fn add_groups(
+    refused: &mut Refused<'_, '_>,
+    groups: &BTreeSet<CustomTestGroup>,
+    wrong: &str,
+) -> Result<(), AllocError> {
+    for group in groups.iter() {
+        let path = format!(in refused.alloc; "test-groups.{group}")?;
+        refused.add_at(path, wrong, None)?;
+    }
+    Ok(())
+}
+
+/// Whether scripts of a kind have one of a name.
+fn has_script(tree: &Tree, kind: &str, name: &str) -> bool {
+    let Some(scripts) = tree.get("scripts") else {
+        return false;
+    };
+    match scripts.get(kind) {
+        Some(scripts) => scripts.get(name).is_some(),
+        None => false,
+    }
+}
+
+/// The table of a file that has a script of a name: the old one where no other has.
+fn script_table(tree: Option<&Tree>, name: &str) -> &'static str {
+    match tree {
+        Some(tree) if has_script(tree, "setup", name) => "scripts.setup",
+        Some(tree) if has_script(tree, "wrapper", name) => "scripts.wrapper",
+        _ => "script",
+    }
+}
+
+/// Scripts that a source may not define.
+fn add_scripts(
+    refused: &mut Refused<'_, '_>,
+    scripts: &BTreeSet<ScriptId>,
+    wrong: &str,
+) -> Result<(), AllocError> {
+    let alloc = refused.alloc;
+    for script in scripts.iter() {
+        let name = script.to_string(alloc)?;
+        let table = script_table(refused.source.tree(), name.as_str());
+        let path = format!(in alloc; "{table}.{name}")?;
+        refused.add_at(path, wrong, None)?;
+    }
+    Ok(())
+}
+
+/// The table that has the scripts of a file: the old one where it is alone.
+fn scripts_key(tree: Option<&Tree>) -> &'static str {
+    match tree {
+        Some(tree) if tree.get("scripts").is_none() => "script",
+        _ => "scripts",
+    }
+}
+
+/// Features that are not switched on.
+fn add_features(
+    refused: &mut Refused<'_, '_>,
+    features: &[ConfigExperimental],
+) -> Result<(), AllocError> {
+    let alloc = refused.alloc;
+    for feature in features {
+        let path = String::from_str(alloc, scripts_key(refused.source.tree()))?;
+        let wrong = format!(in alloc; "the feature `{feature}` is not switched on")?;
+        let help = format!(in alloc;
+            "write `experimental = [\"{feature}\"]`, or pass `--experimental {feature}`"
+        )?;
+        refused.add_at(path, wrong.as_str(), Some(help))?;
+    }
+    Ok(())
+}
+
+/// The names of the profiles of all layers.
+fn profile_names<'l>(alloc: Global, layers: &'l [Layer]) -> Result<Vec<&'l str>, AllocError> {
+    let mut names = Vec::new(alloc);
+    for layer in layers {
+        let Some(tree) = &layer.tree else {
+            continue;
+        };
+        let Some(profiles) = tree.get("profile") else {
+            continue;
+        };
+        let Some(members) = profiles.as_table() else {
+            continue;
+        };
+        for name in members.keys() {
+            names.push(name.as_str())?;
+        }
+    }
+    Ok(names)
+}
+
+/// The first profile of the first of some cycles.
+fn first_of(cycles: &[Vec<String>]) -> Option<&String> {
+    cycles.first()?.first()
+}
+
+/// What is wrong with a parent.
+fn add_parent(refused: &mut Refused<'_, '_>, error: &InheritsError) -> Result<(), AllocError> {
+    let alloc = refused.alloc;
+    let wrong = error.to_string(alloc)?;
+    match error {
+        InheritsError::DefaultProfileInheritance(profile)
+        | InheritsError::SelfReferentialInheritance(profile) => {
+            let path = format!(in alloc; "profile.{profile}.inherits")?;
+            refused.add_at(path, wrong.as_str(), None)
+        }
+        InheritsError::UnknownInheritance(profile, parent) => {
+            let path = format!(in alloc; "profile.{profile}.inherits")?;
+            let names = profile_names(alloc, refused.source.layers)?;
+            let help = name_hint(alloc, parent.as_str(), &names)?;
+            refused.add_at(path, wrong.as_str(), help)
+        }
+        InheritsError::InheritanceCycle(cycles) => match first_of(cycles) {
+            Some(profile) => {
+                let path = format!(in alloc; "profile.{profile}.inherits")?;
+                refused.add_at(path, wrong.as_str(), None)
+            }
+            None => refused.add_whole(wrong.as_str()),
+        },
+    }
+}
+
+/// What does not compile: each text that is refused, or else the whole section.
+fn add_compile(
+    refused: &mut Refused<'_, '_>,
+    error: &ConfigCompileError,
+) -> Result<(), AllocError> {
+    let alloc = refused.alloc;
+    let profile = error.profile_name.as_str();
+    let section = error.section;
+    let told = refused.findings.len();
+    if let ConfigCompileErrorKind::Parse { .. } = &error.kind {
+        add_refused_texts(refused, profile, section)?;
+    }
+    if refused.findings.len() > told {
+        return Ok(());
+    }
+    let path = format!(in alloc; "profile.{profile}.{section}")?;
+    let wrong = error.kind.to_string(alloc)?;
+    refused.add_at(path, wrong.as_str(), None)
+}
+
+/// Adds what the kind of a refusal tells.
+fn add_kind(refused: &mut Refused<'_, '_>, kind: &ConfigParseErrorKind) -> Result<(), AllocError> {
+    match kind {
+        ConfigParseErrorKind::DuplicateToolConfigFile { tool, first } => {
+            let wrong = format!(in refused.alloc; "the tool `{tool}` provides `{first}`, too")?;
+            refused.add_whole(wrong.as_str())
+        }
+        ConfigParseErrorKind::ReadError(outcome) => add_outcome(refused, outcome),
+        ConfigParseErrorKind::BuildError(message) => add_no_document(refused, message.as_str()),
+        ConfigParseErrorKind::DeserializeError(fault) => add_element(refused, fault),
+        ConfigParseErrorKind::BothScriptAndScriptsDefined => {
+            let path = String::from_str(refused.alloc, "scripts")?;
+            refused.add_at(path, "there is the old table `script` beside it", None)
+        }
+        ConfigParseErrorKind::ExperimentalFeaturesNotEnabled { missing_features } => {
+            add_features(refused, missing_features)
+        }
+        kind => add_name_kind(refused, kind),
+    }
+}
+
+/// Adds what a refusal of the names that a source defines tells.
+fn add_name_kind(
+    refused: &mut Refused<'_, '_>,
+    kind: &ConfigParseErrorKind,
+) -> Result<(), AllocError> {
+    match kind {
+        ConfigParseErrorKind::InvalidTestGroupsDefined(groups) => {
+            add_groups(
+                refused,
+                groups,
+                "this group is a tool's or the organisation's",
+            )
+        }
+        ConfigParseErrorKind::InvalidTestGroupsDefinedByTool(groups) => {
+            add_groups(refused, groups, "this group is not the tool's own")
+        }
+        ConfigParseErrorKind::InvalidTestGroupsDefinedByOrganisation(groups) => {
+            add_groups(refused, groups, "this group is not the organisation's own")
+        }
+        ConfigParseErrorKind::DuplicateConfigScriptNames(ids) => {
+            add_scripts(refused, ids, "this is a setup script and a wrapper script")
+        }
+        ConfigParseErrorKind::InvalidConfigScriptsDefined(ids) => {
+            add_scripts(
+                refused,
+                ids,
+                "this script is a tool's or the organisation's",
+            )
+        }
+        ConfigParseErrorKind::InvalidConfigScriptsDefinedByTool(ids) => {
+            add_scripts(refused, ids, "this script is not the tool's own")
+        }
+        ConfigParseErrorKind::InvalidConfigScriptsDefinedByOrganisation(ids) => {
+            add_scripts(refused, ids, "this script is not the organisation's own")
+        }
+        kind => add_rule_kind(refused, kind),
+    }
+}
+
+/// Adds what a refusal of the rules of a source tells.
+fn add_rule_kind(
+    refused: &mut Refused<'_, '_>,
+    kind: &ConfigParseErrorKind,
+) -> Result<(), AllocError> {
+    match kind {
+        ConfigParseErrorKind::InheritanceErrors(errors) => {
+            for error in errors {
+                add_parent(refused, error)?;
+            }
+        }
+        ConfigParseErrorKind::CompileErrors(errors) => {
+            for error in errors {
+                add_compile(refused, error)?;
+            }
+        }
+        ConfigParseErrorKind::UnknownTestGroups {
+            errors,
+            known_groups,
+        } => {
+            for error in errors {
+                add_unknown_group(refused, error, known_groups)?;
+            }
+        }
+        ConfigParseErrorKind::ProfileScriptErrors {
+            errors,
+            known_scripts,
+        } => add_script_errors(refused, errors, known_scripts)?,
+        _ => {}
+    }
+    Ok(())
+}
+
+/// The place among the layers of the file that is refused.
+pub fn refused_place(layers: &[Layer], error: &ConfigParseError) -> Option<usize> {
+    place_at(layers, error.tool(), error.config_file()?)
+}
+
+/// Adds the findings of a refusal.
+pub fn add_refusal(
+    alloc: Global,
+    session: &Session<'_>,
+    error: &ConfigParseError,
+    findings: &mut Vec<Finding>,
+) -> Result<(), AllocError> {
+    let mut refused = Refused {
+        alloc,
+        filters: &session.engines.filters,
+        source: SourceAt {
+            layers: &session.layers,
+            position: refused_place(&session.layers, error),
+        },
+        code: error.kind().name(),
+        findings,
+    };
+    add_kind(&mut refused, error.kind())
+}

@@ -1,0 +1,15 @@
+//! What all commands of the program `rinqebo` begin with: the list of tests, the engines, the features
+//! and the layers of a request's files, and the load of its configuration.
+#![tactic(auto)]
+
+mod engines;
+mod failure;
+mod profiles;
+mod session;
+mod triples;
+
+pub use engines::{EngineFault, Engines};
+pub use failure::Failure;
+pub use profiles::{chain_of_profile, has_profile, missing_profile};
+pub use session::{Config, Session};
+pub use triples::Triples;

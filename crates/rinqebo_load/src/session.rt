@@ -1,0 +1,170 @@
+//! What all commands begin with: a list of tests, engines, features, and the layers of the files.
+ghost use Rattle.std.specs.Prelude.{◌≡◌, IfOk, IfErr, None, option_map};
+ghost use Rattle.nextest_rules.specs.KnownView.{features_view};
+ghost use Rattle.nextest_sources.specs.Inputs.{load_inputs_view};
+ghost use Rattle.nextest_sources.specs.Sources.{file_view};
+ghost use Rattle.rinqebo_load.specs.SessionOf.{IsSessionOf};
+ghost use Rattle.rinqebo_load.specs.Sessions.{files_view, readings, IfLoaded, IsLoadedFrom};
+ghost use Rattle.rinqebo_load.specs.Beginning.{IsBeginningFailure};
+
+use crate::engines::Engines;
+use crate::failure::Failure;
+use crate::triples::{Triples, listed_tests, triples_for};
+use nextest_config::run::Inputs;
+use nextest_config::{
+    ConfigExperimental, ConfigFileSelection, ConfigParseError, ConfigPath, DefaultConfigWarnings,
+    FileInput, LoadedConfig, ParseContext, ReadOutcome, ToolConfigFile,
+};
+use nextest_filters::NextestFilters;
+use nextest_sources::ConfigInputs;
+use rinqebo_files::{Gathered, Layer, features_of, layers_of};
+use rinqebo_request::{ListFile, Request};
+use std::alloc::{AllocError, Global};
+use std::collections::BTreeSet;
+use target_language::TargetSpecs;
+use test_lists::ListedTests;
+
+/// A loaded configuration.
+pub type Config = LoadedConfig<NextestFilters, TargetSpecs>;
+
+/// What all commands begin with.
+#[derive(Drop)]
+pub struct Session<'g> {
+    pub gathered: &'g Gathered,
+    /// The tests of the list that is asked about. Without a list there are none.
+    pub tests: ListedTests,
+    /// The triples of the build.
+    pub triples: Triples,
+    pub engines: Engines,
+    pub features: BTreeSet<ConfigExperimental>,
+    /// The sources, the lowest first.
+    pub layers: Vec<Layer<'g>>,
+}
+
+impl<'g> Session<'g> {
+    /// The session of a request, over the files that it names.
+    pub fn new(
+        alloc: Global,
+        request: &Request<'_>,
+        gathered: &'g Gathered,
+    ) -> Result<Session<'g>, Failure>
+        ensures begun { IfOk result (IsSessionOf request.now gathered.now) }
+        ensures err { IfErr result IsBeginningFailure }
+    {
+        let path = request.list().map_or("", ListFile::path);
+        let tests = listed_tests(alloc, path, gathered)?;
+        let triples = triples_for(alloc, &request.engines, &tests)?;
+        Ok(Session {
+            gathered,
+            engines: Engines::new(alloc, &triples, gathered)?,
+            features: features_of(alloc, &request.features, gathered)?,
+            layers: layers_of(alloc, gathered)?,
+            tests,
+            triples,
+        })
+    }
+
+    /// The engines that read the texts of the files.
+    pub fn parse_context(&self) -> ParseContext<'_, NextestFilters, TargetSpecs>
+        ensures { result.filters.now ≡ self.now.engines.filters }
+    {
+        ParseContext {
+            filters: &self.engines.filters,
+            specs: &TargetSpecs,
+        }
+    }
+
+    /// The repository's file that a user named.
+    fn selection(&self) -> ConfigFileSelection<'_>
+        ensures config_file { option_map (λ file. file_view file.now) result.config_file
+            ≡ option_map file_view self.now.gathered.now.config_file }
+        ensures organisation { result.organisation_file ≡ None }
+    {
+        ConfigFileSelection::new(self.gathered.config_file.as_ref())
+    }
+
+    /// The files of a run, and its features.
+    pub fn inputs(&self) -> Inputs<'_>
+        ensures root { result.paths.now ≡ self.now.gathered.now.paths }
+        ensures files { load_inputs_view result.paths.now.shared result.selection result.tools.now
+            ≡ files_view self.now.gathered.now }
+        ensures features { result.features.now ≡ self.now.features }
+    {
+        Inputs {
+            paths: &self.gathered.paths,
+            selection: self.selection(),
+            tools: &self.gathered.tools,
+            features: &self.features,
+        }
+    }
+
+    /// Loads the configuration.
+    pub fn load(
+        &self,
+        alloc: Global,
+        warnings: &mut DefaultConfigWarnings,
+    ) -> Result<Config, ConfigParseError>
+        ensures verdict { IfLoaded (readings self.now.engines.filters)
+            (features_view self.now.features) (files_view self.now.gathered.now) result }
+        ensures means { IfOk result (IsLoadedFrom (readings self.now.engines.filters)
+            (files_view self.now.gathered.now)) }
+    {
+        let inputs = self.inputs();
+        let inputs = ConfigInputs {
+            shared: &inputs.paths.shared,
+            selection: inputs.selection,
+            tools: inputs.tools,
+            features: inputs.features,
+        };
+        match LoadedConfig::load(alloc, &inputs, &self.parse_context(), warnings) {
+            Ok(config) => Ok(config),
+            Err(error) => Err(error),
+        }
+    }
+
+    /// Why files are refused, if they are: the repository's, and those of tools.
+    fn refusal_of(
+        &self,
+        alloc: Global,
+        shared: &FileInput,
+        selection: ConfigFileSelection<'_>,
+        tools: &[ToolConfigFile],
+        warnings: &mut DefaultConfigWarnings,
+    ) -> Option<ConfigParseError> {
+        let inputs = ConfigInputs {
+            shared,
+            selection,
+            tools,
+            features: &self.features,
+        };
+        match LoadedConfig::load(alloc, &inputs, &self.parse_context(), warnings) {
+            Ok(_) => None,
+            Err(error) => Some(error),
+        }
+    }
+
+    /// Why the file at a place among the layers is refused without the other files, if it is.
+    /// Warnings are told as they are met.
+    pub fn refusal_alone(
+        &self,
+        alloc: Global,
+        place: usize,
+        warnings: &mut DefaultConfigWarnings,
+    ) -> Result<Option<ConfigParseError>, AllocError> {
+        let shared = &self.gathered.paths.shared;
+        let tools = self.gathered.tools.as_slice();
+        let Some(index) = tools.len().checked_sub(place) else {
+            return Ok(self.refusal_of(alloc, shared, self.selection(), &[], warnings));
+        };
+        if index >= tools.len() {
+            return Ok(None);
+        }
+        let absent = FileInput {
+            path: ConfigPath::new(alloc, shared.path.absolute_path())?,
+            outcome: ReadOutcome::NotFound,
+        };
+        let tool = &tools[index..index + 1];
+        let selection = ConfigFileSelection::new(None);
+        Ok(self.refusal_of(alloc, &absent, selection, tool, warnings))
+    }
+}

@@ -1,0 +1,109 @@
+//! The list of tests that a run is about, and the triples of its build.
+ghost use Rattle.std.specs.Prelude.{◌≡◌, IfErr, IfOk, option_map, string_bytes};
+ghost use Rattle.test_lists.specs.ListView.{list_view};
+ghost use Rattle.rinqebo_load.specs.EngineFaults.{NamesList};
+ghost use Rattle.rinqebo_load.specs.Triples.{host_for, target_for, IsListFor};
+
+use crate::engines::EngineFault;
+use rinqebo_files::Gathered;
+use rinqebo_request::{EngineOptions, HOST};
+use std::alloc::{AllocError, Global};
+use test_lists::{ListFault, ListedTests, tests_of};
+
+/// The triples of a build.
+#[derive(Drop)]
+pub struct Triples {
+    /// That of the host.
+    pub host: String,
+    /// That of the target. Without one, what is built for it runs on the host.
+    pub target: Option<String>,
+}
+
+/// The tests of the list that was read from a path: without a list there are none.
+pub fn listed_tests(
+    alloc: Global,
+    path: &str,
+    gathered: &Gathered,
+) -> Result<ListedTests, EngineFault>
+    ensures ok { IfOk result (IsListFor gathered.now.list) }
+    ensures err { IfErr result (NamesList path.now) }
+{
+    let Some(text) = &gathered.list else {
+        return Ok(ListedTests {
+            host: None,
+            target: None,
+            binaries: Vec::new(alloc),
+        });
+    };
+    match tests_of(alloc, text.as_str()) {
+        Ok(tests) => Ok(tests),
+        Err(ListFault::Memory) => Err(EngineFault::Memory),
+        Err(fault) => Err(EngineFault::List(String::from_str(alloc, path)?, fault)),
+    }
+}
+
+/// The triple of the host.
+fn host_for<'a>(options: &EngineOptions<'a>, tests: &'a ListedTests) -> &'a str
+    ensures { result.now ≡ host_for options.now (list_view tests.now) }
+{
+    if let Some(host) = options.host {
+        return host;
+    }
+    match &tests.host {
+        Some(host) => host.as_str(),
+        None => HOST,
+    }
+}
+
+/// The triple of the target of a list, if it has one.
+fn listed_target(tests: &ListedTests) -> Option<&str>
+    ensures { option_map (λ target. target.now) result
+        ≡ option_map string_bytes tests.now.target }
+{
+    match &tests.target {
+        Some(target) => Some(target.as_str()),
+        None => None,
+    }
+}
+
+/// The triple of the target, if there is one.
+fn target_for<'a>(options: &EngineOptions<'a>, tests: &'a ListedTests) -> Option<&'a str>
+    ensures { option_map (λ target. target.now) result
+        ≡ target_for options.now (list_view tests.now) }
+{
+    if options.target.is_some() {
+        return options.target;
+    }
+    if tests.host.is_some() {
+        return listed_target(tests);
+    }
+    options.build_target
+}
+
+/// A copy of a text, if there is one.
+fn copied(alloc: Global, text: Option<&str>) -> Result<Option<String>, AllocError>
+    ensures { IfOk result (λ copy. option_map string_bytes copy
+        ≡ option_map (λ text. text.now) text.entry) }
+{
+    match text {
+        Some(text) => Ok(Some(String::from_str(alloc, text)?)),
+        None => Ok(None),
+    }
+}
+
+/// The triples of a build: those that words name, else those of the list of tests.
+pub fn triples_for(
+    alloc: Global,
+    options: &EngineOptions<'_>,
+    tests: &ListedTests,
+) -> Result<Triples, AllocError>
+    ensures host { IfOk result (λ triples.
+        string_bytes triples.host ≡ host_for options.now (list_view tests.now)) }
+    ensures target { IfOk result (λ triples.
+        option_map string_bytes triples.target ≡ target_for options.now (list_view tests.now)) }
+{
+    Ok(Triples {
+        host: String::from_str(alloc, host_for(options, tests))?,
+        target: copied(alloc, target_for(options, tests))?,
+    })
+}

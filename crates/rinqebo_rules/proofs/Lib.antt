@@ -1,0 +1,4 @@
+pub mod Results
+pub mod Zips
+pub mod InOrder
+mod ProfileOrigins

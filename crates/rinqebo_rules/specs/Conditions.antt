@@ -1,0 +1,79 @@
+-- What the conditions of a rule say of a test.
+use Rattle.std.specs.Prelude.{Bool, true, false, List, map, Option, None, Some}
+use Rattle.filter_language.specs.Filtersets.{marks_view}
+use Rattle.filter_language.specs.declared.filterset.Filterset.{Filterset}
+use Rattle.nextest_engines.specs.Engines.{Test, test_view}
+use Rattle.nextest_engines.specs.declared.queries.BuildPlatforms.{BuildPlatforms}
+use Rattle.nextest_filters.specs.Compiling.{names_of}
+use Rattle.nextest_filters.specs.Engine.{filter_holds}
+use Rattle.nextest_filters.specs.declared.compiling.FieldMatcher.{FieldMatcher}
+use Rattle.nextest_load.specs.Config.{ConfigModel}
+use Rattle.nextest_settings.specs.Chains.{overrides_of, nearest_filter, match_all_filter}
+use Rattle.nextest_settings.specs.Platforms.{runs_on, rule_on, default_filter_of}
+use Rattle.nextest_tables.specs.Written.{Name}
+use Rattle.rinqebo_report.specs.declared.report.ConditionAnswer.{ConditionAnswer}
+use Rattle.rinqebo_report.specs.declared.report.ConditionAnswer.TheVariants as says
+use Rattle.target_language.specs.Expressions.{spec_view}
+use Rattle.target_language.specs.Values.{spec_value}
+use Rattle.target_language.specs.declared.expression.TargetSpec.{TargetSpec}
+use Rattle.target_platforms.specs.Platforms.{platform_view}
+use Rattle.target_platforms.specs.declared.Platform.{Platform}
+use Rattle.rinqebo_rules.specs.declared.conditions.Asking.{Asking}
+
+-- an answer that may be unknown, as it is told
+abbrev pub told_answer : Option Bool → ConditionAnswer
+told_answer (Some true) = says.Yes
+told_answer (Some false) = says.No
+told_answer None = says.Unknown
+
+-- the answer of a condition that may be absent, as it is told
+abbrev pub told_condition : {X : Type 0} → (X → Option Bool) → Option X → ConditionAnswer
+told_condition answer None = says.Absent
+told_condition answer (Some condition) = told_answer (answer condition)
+
+-- whether a spec that was read is met by a platform, or none where that is unknown
+abbrev pub is_met_by : TargetSpec → Platform → Option Bool
+is_met_by spec platform = spec_value (platform_view platform) (spec_view spec)
+
+-- whether a filter that was read matches a test, beside a default filter
+abbrev pub filter_matches : Filterset FieldMatcher → Test → Filterset FieldMatcher → Bool
+filter_matches filter test default =
+    filter_holds (marks_view names_of filter) test (marks_view names_of default)
+
+-- what the host says to a spec
+abbrev pub told_host : Asking → Option TargetSpec → ConditionAnswer
+told_host asking spec =
+    told_condition (λ s. is_met_by s asking.platforms.now.host) spec
+
+-- what the platform says to a spec on which the binary of the test runs
+abbrev pub told_target : Asking → Option TargetSpec → ConditionAnswer
+told_target asking spec = told_condition
+    (λ s. is_met_by s (runs_on asking.platforms.now asking.test.now.platform)) spec
+
+-- what a filter says of the test
+abbrev pub told_filter : Asking → Option (Filterset FieldMatcher) → ConditionAnswer
+told_filter asking filter = told_condition
+    (λ f. Some (filter_matches f (test_view asking.query.now) asking.default_filter.now)) filter
+
+-- An answer does not stand against a rule: one that is absent or unknown does not.
+abbrev pub is_met : ConditionAnswer → Bool
+is_met says.No = false
+is_met answer = true
+
+-- A filter that says yes matches, and one that is absent.
+abbrev pub is_matched : ConditionAnswer → Bool
+is_matched says.Yes = true
+is_matched says.Absent = true
+is_matched answer = false
+
+-- A filter is asked where the platforms hold.
+abbrev pub asked_if : Bool → ConditionAnswer → ConditionAnswer
+asked_if true answer = answer
+asked_if false answer = says.Unasked
+
+-- The default filter that counts for profiles of these names, on the platforms of a build.
+abbrev pub default_filter_here : BuildPlatforms Platform
+    → ConfigModel (Filterset FieldMatcher) TargetSpec → List Name → Filterset FieldMatcher
+default_filter_here platforms config names =
+    (default_filter_of (map (rule_on is_met_by platforms) (overrides_of config.layers names))
+    (nearest_filter config.layers names) (match_all_filter config.match_all)).filter

@@ -1,9 +1,0 @@
-use Rattle.rinqebo_run.proofs.chain_rules.script_rule.Goals as goal
-
-pub returns : goal.returns
-returns c = λ i. record {
-  host = c.platforms.ensures.host i;
-  target = c.platforms.ensures.target i;
-  filter = c.filter.ensures i;
-  writes = c.named_wrapper.ensures i;
-}
