@@ -21,6 +21,7 @@ use std::alloc::{AllocError, Global};
 /// A source.
 #[derive(Drop)]
 pub struct Layer<'t> {
+    /// What brings it, and the path of its file, as reports tell them.
     pub source: Source,
     /// The places in the text of its file, if there is one. The defaults have none.
     pub places: Option<Places<'t>>,

@@ -8,7 +8,9 @@ use std::alloc::{AllocError, Global};
 /// A source of a run, by its position among the layers, if it is known.
 #[derive(Clone, Copy)]
 pub struct SourceAt<'l, 't> {
+    /// The layers of the session, the lowest first.
     pub layers: &'l [Layer<'t>],
+    /// The position of the source among them.
     pub position: Option<usize>,
 }
 

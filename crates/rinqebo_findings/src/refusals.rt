@@ -22,9 +22,13 @@ use std::collections::BTreeSet;
 #[derive(Drop)]
 pub struct Refused<'r, 't> {
     pub alloc: Global,
+    /// The language of filters, which says where a refused filter is wrong.
     pub filters: &'r NextestFilters,
+    /// The source that is refused.
     pub source: SourceAt<'r, 't>,
+    /// The name of the refusal, the code of its findings.
     pub code: &'static str,
+    /// The findings so far.
     pub findings: &'r mut Vec<Finding>,
 }
 

@@ -15,7 +15,9 @@ use thiserror::Error;
 /// The language of filters, and the platforms of a build.
 #[derive(Drop)]
 pub struct Engines {
+    /// The language of filters, with the graph of packages where the metadata are given.
     pub filters: NextestFilters,
+    /// The platform of the host, and the one that is built for, if there is one.
     pub platforms: BuildPlatforms<Platform>,
 }
 

@@ -30,12 +30,15 @@ pub type Config = LoadedConfig<NextestFilters, TargetSpecs>;
 /// What all commands begin with.
 #[derive(Drop)]
 pub struct Session<'g> {
+    /// The files that the request names, as they were read.
     pub gathered: &'g Gathered,
     /// The tests of the list that is asked about. Without a list there are none.
     pub tests: ListedTests,
     /// The triples of the build.
     pub triples: Triples,
+    /// The languages of filters and platforms, as the request has them.
     pub engines: Engines,
+    /// The experimental features that are switched on, by words or by the repository's file.
     pub features: BTreeSet<ConfigExperimental>,
     /// The sources, the lowest first.
     pub layers: Vec<Layer<'g>>,

@@ -22,17 +22,24 @@ pub type Filter = <NextestFilters as Filters>::Expr;
 /// What rules are held against: a test, on the platforms of a build, and the default filter.
 #[derive(Clone, Copy)]
 pub struct Asking<'a, 't> {
+    /// The platforms of the build.
     pub platforms: &'a BuildPlatforms<Platform>,
+    /// The test, as words name it.
     pub test: &'a TestName<'t>,
+    /// The same test, as filters see it.
     pub query: &'a TestQuery<'t>,
+    /// What `default()` means in a filter.
     pub default_filter: &'a Filter,
 }
 
 /// What the conditions of a rule say.
 #[derive(Clone, Copy)]
 pub struct Answers {
+    /// What the host says to the rule's spec for it.
     pub host: ConditionAnswer,
+    /// What the platform says on which the binary runs.
     pub target: ConditionAnswer,
+    /// What the filter says: it is asked where both platforms hold.
     pub filter: ConditionAnswer,
 }
 
