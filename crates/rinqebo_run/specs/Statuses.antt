@@ -1,9 +1,14 @@
 -- The exit statuses of a run.
-use Rattle.std.specs.Prelude.{ℕ, ◌≡◌, ◌⊎◌, ◌≤◌}
+use Rattle.std.specs.Prelude.{ℕ, ◌≡◌, ◌⊎◌, ◌≤◌, List, Option, string_bytes}
+use Rattle.std.specs.Io.KnownBytes.{Appends}
+use Rattle.rinqebo_files.specs.declared.files.GatherFault.{GatherFault}
+use Rattle.rinqebo_files.specs.declared.files.GatherFault.TheVariants as gathering
 use Rattle.rinqebo_load.specs.declared.failure.Failure.{Failure}
 use Rattle.rinqebo_load.specs.declared.failure.Failure.TheVariants as failures
 use Rattle.rinqebo_request.specs.declared.request.Question.{Question}
 use Rattle.rinqebo_request.specs.declared.request.Question.TheVariants as questions
+use Rattle.rinqebo_request.specs.declared.words.ParseStop.{ParseStop}
+use Rattle.rinqebo_request.specs.declared.words.ParseStop.TheVariants as stops
 
 -- The exit status of a run: 0 with an answer; 1 for warnings that are denied, and where no leaf is
 -- found; 2 for words, a list of tests, platforms or metadata that are not understood; 3 where files
@@ -26,3 +31,24 @@ IsAnswerStatus (questions.Why profile test setting) n = n ≡ 0
 IsAnswerStatus (questions.List profile mode list asked) n = n ≡ 0
 IsAnswerStatus (questions.ShowConfig profile keys with_hidden) n = (n ≡ 0) ⊎ (n ≡ 1)
 IsAnswerStatus (questions.Check deny_warnings) n = (n ≡ 0) ⊎ (n ≡ 1) ⊎ (n ≡ 3)
+
+-- the exit status where the files of a request were not read
+abbrev pub IsGatherStatus : GatherFault → ℕ → Type 0
+IsGatherStatus gathering.Memory n = (n ≡ 5) ⊎ (n ≡ 6)
+IsGatherStatus fault n = (n ≡ 2) ⊎ (n ≡ 5) ⊎ (n ≡ 6)
+
+-- the exit status where words are no request
+abbrev pub IsWordsStatus : ParseStop → ℕ → Type 0
+IsWordsStatus (stops.Help text) n = (n ≡ 0) ⊎ (n ≡ 6)
+IsWordsStatus (stops.Usage text) n = (n ≡ 2) ⊎ (n ≡ 6)
+IsWordsStatus stops.Memory n = (n ≡ 5) ⊎ (n ≡ 6)
+
+-- Words that are no request are told: help goes to standard output, and why they are none to standard
+-- error, beside which standard output gets nothing.
+abbrev pub TellsWords : ParseStop → Option (List ℕ) → Option (List ℕ) → Option (List ℕ)
+    → Option (List ℕ) → Type 0
+TellsWords (stops.Help text) out_old out_new err_old err_new =
+    Appends out_old out_new (string_bytes text)
+TellsWords (stops.Usage text) out_old out_new err_old err_new =
+    (out_new ≡ out_old) × Appends err_old err_new (string_bytes text)
+TellsWords stops.Memory out_old out_new err_old err_new = out_new ≡ out_old

@@ -10,7 +10,7 @@ ghost use Rattle.rinqebo_report.specs.Rendered.{rendered};
 ghost use Rattle.rinqebo_run.specs.Answered.{AnswersQuestion, IsAnswer, Tells};
 ghost use Rattle.rinqebo_run.specs.Begun.{IsBegun};
 ghost use Rattle.rinqebo_run.specs.Refused.{Fails, IsFailureIn, IsToldBy};
-ghost use Rattle.rinqebo_run.specs.Statuses.{IsStatus, IsAnswerStatus, failure_status};
+ghost use Rattle.rinqebo_run.specs.Statuses.{IsStatus, IsAnswerStatus, IsGatherStatus, IsWordsStatus, TellsWords, failure_status};
 ghost use Rattle.rinqebo_run.specs.Written.{AsksList, IsStopStatus};
 ghost use Rattle.rinqebo_report.specs.declared.format.Format.TheVariants as formats;
 
@@ -328,8 +328,9 @@ pub fn print_schema<O: Write, E: Write>(alloc: Global, out: &mut O, err: &mut E)
 
 /// Tells why words are no request, and answers the exit status. Help goes to standard output.
 pub fn refuse_words<O: Write, E: Write>(stop: &ParseStop, out: &mut O, err: &mut E) -> u8
-    ensures status { (result ≡ 0) ⊎ (result ≡ 2) ⊎ (result ≡ 5) ⊎ (result ≡ 6) }
-    ensures quiet { (result ≡ 0) ⊎ (result ≡ 6) ⊎ (O.contents out.new ≡ O.contents out.old) }
+    ensures status { IsWordsStatus stop.now result }
+    ensures told { (result ≡ 6) ⊎ TellsWords stop.now (O.contents out.old) (O.contents out.new)
+        (E.contents err.old) (E.contents err.new) }
 {
     match stop {
         ParseStop::Help(text) => tell(text.as_str(), 0, out),
@@ -340,7 +341,7 @@ pub fn refuse_words<O: Write, E: Write>(stop: &ParseStop, out: &mut O, err: &mut
 
 /// Tells why the files of a request were not read, and answers the exit status.
 pub fn refuse_gathering<E: Write>(alloc: Global, fault: &GatherFault, err: &mut E) -> u8
-    ensures { (result ≡ 2) ⊎ (result ≡ 5) ⊎ (result ≡ 6) }
+    ensures { IsGatherStatus fault.now result }
 {
     match fault {
         GatherFault::Memory => refuse_for_memory(err),
