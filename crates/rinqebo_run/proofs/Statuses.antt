@@ -108,13 +108,14 @@ tells request gathered report n m old new answer same page = record {
 }
 
 -- what a run with a failure ends with is a status
-pub failed_status : (f : Failure) (n : ℕ) → (n ≡ failure_status f) ⊎ (n ≡ 5) ⊎ (n ≡ 6) → IsStatus n
-failed_status (failures.Engines fault) n (inl same) = omega arith
-failed_status (failures.Refused report) n (inl same) = omega arith
-failed_status (failures.NoProfile report) n (inl same) = omega arith
-failed_status failures.Memory n (inl same) = omega arith
-failed_status f n (inr (inl five)) = omega arith
-failed_status f n (inr (inr six)) = omega arith
+pub failed_status : (q : Question) (f : Failure) (n : ℕ) → (n ≡ failure_status f) ⊎ (n ≡ 5) ⊎ (n ≡ 6)
+    → IsStatus q n
+failed_status q (failures.Engines fault) n (inl same) = inr (omega arith, omega arith)
+failed_status q (failures.Refused report) n (inl same) = inr (omega arith, omega arith)
+failed_status q (failures.NoProfile report) n (inl same) = inr (omega arith, omega arith)
+failed_status q failures.Memory n (inl same) = inr (omega arith, omega arith)
+failed_status q f n (inr (inl five)) = inr (omega arith, omega arith)
+failed_status q f n (inr (inr six)) = inr (omega arith, omega arith)
 
 -- a run with a failure has no status of an answer
 pub failed_silent : {X : Type 0} (request : Request) (gathered : Gathered) (f : Failure) (n : ℕ)
@@ -159,6 +160,15 @@ answer_status request gathered report n m answer (inl same) =
     inl (subst (IsAnswerStatus request.question) (sym same)
     (status_of_answer request.question answer.session report m answer.answers))
 answer_status request gathered report n m answer (inr fails) = inr fails
+
+-- what a run with an answer ends with is a status
+pub answered_status : (request : Request) (gathered : Gathered) (report : Report) (n m : ℕ)
+    → IsAnswer request gathered report m → (n ≡ m) ⊎ (n ≡ 5) ⊎ (n ≡ 6) → IsStatus request.question n
+answered_status request gathered report n m answer (inl same) =
+    inl (subst (IsAnswerStatus request.question) (sym same)
+    (status_of_answer request.question answer.session report m answer.answers))
+answered_status request gathered report n m answer (inr (inl five)) = inr (omega arith, omega arith)
+answered_status request gathered report n m answer (inr (inr six)) = inr (omega arith, omega arith)
 
 -- what answers a question of a session answers the request
 pub is_answered : (request : Request) (gathered : Gathered) (session : Session) (answer : Result Answer Failure)

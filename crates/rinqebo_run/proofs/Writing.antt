@@ -293,10 +293,10 @@ list_stopped request gathered list session old new fault begun asks is_text stop
     }) stop
 
 -- what a run ends with whose list was not written whole is a status
-pub stop_status : (fault : ListFault) (n : ℕ) → IsStopStatus fault n → IsStatus n
-stop_status (faults.Refused failure) n ends = failed_status failure n ends
-stop_status faults.Memory n ends = failed_status failures.Memory n (inr ends)
-stop_status faults.Write n ends = failed_status failures.Memory n (inr (inr ends))
+pub stop_status : (q : Question) (fault : ListFault) (n : ℕ) → IsStopStatus fault n → IsStatus q n
+stop_status q (faults.Refused failure) n ends = failed_status q failure n ends
+stop_status q faults.Memory n ends = failed_status q failures.Memory n (inr ends)
+stop_status q faults.Write n ends = failed_status q failures.Memory n (inr (inr ends))
 
 -- what went out of a list that was not written whole
 pub stop_quiet : (request : Request) (gathered : Gathered) (old new : Option (List ℕ)) (fault : ListFault) (n : ℕ)

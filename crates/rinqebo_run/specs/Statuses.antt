@@ -10,12 +10,6 @@ use Rattle.rinqebo_request.specs.declared.request.Question.TheVariants as questi
 use Rattle.rinqebo_request.specs.declared.words.ParseStop.{ParseStop}
 use Rattle.rinqebo_request.specs.declared.words.ParseStop.TheVariants as stops
 
--- The exit status of a run: 0 with an answer; 1 for warnings that are denied, and where no leaf is
--- found; 2 for words, a list of tests, platforms or metadata that are not understood; 3 where files
--- are refused; 4 where there is no such profile; 5 for want of memory; 6 where a write failed.
-abbrev pub IsStatus : ℕ → Type 0
-IsStatus n = n ≤ 6
-
 -- the exit status of a run that answers nothing
 abbrev pub failure_status : Failure → ℕ
 failure_status (failures.Engines fault) = 2
@@ -31,6 +25,13 @@ IsAnswerStatus (questions.Why profile test setting) n = n ≡ 0
 IsAnswerStatus (questions.List profile mode list asked) n = n ≡ 0
 IsAnswerStatus (questions.ShowConfig profile keys with_hidden) n = (n ≡ 0) ⊎ (n ≡ 1)
 IsAnswerStatus (questions.Check deny_warnings) n = (n ≡ 0) ⊎ (n ≡ 1) ⊎ (n ≡ 3)
+
+-- The exit status of a run that is asked a question: that of an answer, 0, or 1 for warnings that are
+-- denied and where no leaf is found; or 2 for a list of tests, platforms or metadata that are not
+-- understood, 3 where files are refused, 4 where there is no such profile, 5 for want of memory, and
+-- 6 where a write failed.
+abbrev pub IsStatus : Question → ℕ → Type 0
+IsStatus question n = IsAnswerStatus question n ⊎ ((2 ≤ n) × (n ≤ 6))
 
 -- the exit status where the files of a request were not read
 abbrev pub IsGatherStatus : GatherFault → ℕ → Type 0

@@ -208,7 +208,7 @@ fn answer_whole<O: Write, E: Write>(
     out: &mut O,
     err: &mut E,
 ) -> u8
-    ensures status { IsStatus result }
+    ensures status { IsStatus request.now.question result }
     ensures quiet { IsAnswerStatus request.now.question result ⊎ (result ≡ 6)
         ⊎ (O.contents out.new ≡ O.contents out.old) }
     ensures page { IsAnswerStatus request.now.question result
@@ -271,7 +271,7 @@ fn answer_list<O: Write, E: Write>(
 ) -> u8
     requires question { AsksList request.now.question list.now }
     requires format { request.now.format ≡ formats.Text }
-    ensures status { IsStatus result }
+    ensures status { IsStatus request.now.question result }
     ensures quiet { IsAnswerStatus request.now.question result ⊎ (result ≡ 6)
         ⊎ (O.contents out.new ≡ O.contents out.old) ⊎ ((result ≡ 5)
         × IsBegun request.now gathered.now (O.contents out.old) (O.contents out.new)) }
@@ -299,7 +299,7 @@ pub fn perform<O: Write, E: Write>(
     out: &mut O,
     err: &mut E,
 ) -> u8
-    ensures status { IsStatus result }
+    ensures status { IsStatus request.now.question result }
     ensures quiet { IsAnswerStatus request.now.question result ⊎ (result ≡ 6)
         ⊎ (O.contents out.new ≡ O.contents out.old) ⊎ ((result ≡ 5)
         × IsBegun request.now gathered.now (O.contents out.old) (O.contents out.new)) }

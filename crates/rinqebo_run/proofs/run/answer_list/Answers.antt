@@ -2,7 +2,7 @@ use Rattle.rinqebo_run.proofs.Writing.{stop_quiet, stop_silent, stop_status, sto
 use Rattle.rinqebo_run.proofs.run.answer_list.Goals as goal
 
 pub returns-in-Err-clause-status : goal.returns-in-Err-clause-status
-returns-in-Err-clause-status g c = stop_status c.in-Err.fault _ c.refuse_list.ensures
+returns-in-Err-clause-status g c = stop_status c.args.request.now.question c.in-Err.fault _ c.refuse_list.ensures
 
 pub returns-in-Err-clause-quiet : goal.returns-in-Err-clause-quiet
 returns-in-Err-clause-quiet g c =

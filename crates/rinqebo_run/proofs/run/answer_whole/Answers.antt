@@ -1,6 +1,11 @@
 use Rattle.rinqebo_run.proofs.Refused.{answer_told, failure_told}
-use Rattle.rinqebo_run.proofs.Statuses.{answer_status, told_same, told_page, tells, failed_silent, failed_status}
+use Rattle.rinqebo_run.proofs.Statuses.{answer_status, answered_status, told_same, told_page, tells, failed_silent, failed_status}
 use Rattle.rinqebo_run.proofs.run.answer_whole.Goals as goal
+
+pub returns-in-Ok-clause-status : goal.returns-in-Ok-clause-status
+returns-in-Ok-clause-status g c =
+    answered_status c.args.request.now c.args.gathered.now c.in-Ok.answer.report _ _ c.in-Ok.ensures.ok
+    c.tell_answer.ensures.status
 
 pub returns-in-Ok-clause-quiet : goal.returns-in-Ok-clause-quiet
 returns-in-Ok-clause-quiet g c =
@@ -20,7 +25,7 @@ returns-in-Ok-clause-cause g c =
     c.tell_answer.ensures.status
 
 pub returns-in-Err-clause-status : goal.returns-in-Err-clause-status
-returns-in-Err-clause-status g c = failed_status c.in-Err.failure _ c.refuse.ensures
+returns-in-Err-clause-status g c = failed_status c.args.request.now.question c.in-Err.failure _ c.refuse.ensures
 
 pub returns-in-Err-clause-page : goal.returns-in-Err-clause-page
 returns-in-Err-clause-page g c answered =
