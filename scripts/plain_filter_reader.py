@@ -1,5 +1,5 @@
-"""A plain reader of filters, by recursion, beside the one that is proved. It prints the rows that
-`filter_rows` must print for the lines of standard input."""
+"""A plain reader of filters, by recursion, beside the one that is proved. It prints what `test_values`
+must print for the rows of filters on standard input."""
 import json
 import re
 import sys
@@ -388,10 +388,11 @@ def answer(line, graph):
 def main():
     graph = None
     for line in sys.stdin.read().split("\n"):
-        if line.startswith("graph\t"):
-            graph = json.loads(line[6:])
-        elif line and not (line.startswith("#") and "\t" not in line):
-            print(line + "\t" + answer(line, graph))
+        kind, _, row = line.partition("\t")
+        if kind == "filter" and row.startswith("graph\t"):
+            graph = json.loads(row[6:])
+        elif kind == "filter":
+            print(row + "\t" + answer(row, graph))
 
 
 if __name__ == "__main__":

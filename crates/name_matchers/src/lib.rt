@@ -8,8 +8,6 @@ mod glob;
 mod machine;
 mod name_matcher;
 mod regex_matcher;
-#[cfg(test)]
-mod tests;
 
 pub use glob::{GlobFault, GlobMatcher};
 pub use name_matcher::{NameMatcher, law_decided_globs, law_plain_glob};

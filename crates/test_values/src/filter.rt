@@ -1,31 +1,55 @@
-//! A line: a filter, and the test about which it is asked.
-use crate::escapes::{push_quoted, unescaped};
+//! Filters, and what they say of tests.
+//!
+//! A row has nine columns with tabs between: the text of a filter, for what it is read (`override`,
+//! `default` or `test`), of a test the id of its package, the id, kind and name of its binary, the
+//! platform (`host` or `target`) and its name, and the text of the default filter, where an empty one is
+//! `all()`. In a column `\n`, `\t`, `\r` and `\\` are written for characters. A row that is the word
+//! `graph`, a tab and the JSON of `cargo metadata` gives the packages of the workspace for the rows
+//! below, and prints nothing.
+//!
+//! Each other row is printed with a tab behind it, and then, with tabs between,
+//!
+//! | What comes of it | Printed |
+//! |---|---|
+//! | the text is refused | `refused`, the name of the fault, where it starts and how long it is, in bytes |
+//! | a filter | `ok`, whether it matches the test, whether it matches the binary, the reading, and the parts that only a test can answer |
+//!
+//! Whether it matches the binary may also be `unknown`. The texts of a reading and those parts are in
+//! double quotes, in which `\n`, `\r`, `\t`, `\"` and `\\` are written for characters.
+use crate::escapes::{Escapes, push_escaped, unescaped};
+use crate::row::{RowError, name_of};
 use nextest_engines::{BinaryQuery, BuildPlatform, FiltersetKind, TestQuery};
-use nextest_filters::{FieldMatcher, Filterset, FiltersetFault, NextestFilters, ParseFault};
+use nextest_filters::{
+    FieldMatcher, Filterset, FiltersetFault, NextestFilters, PackageGraph, ParseFault,
+};
 use std::alloc::{AllocError, Global};
 
-/// Why a line has no answer.
-#[derive(Clone, Copy, Debug, PartialEq, Eq)]
-pub enum RowError {
-    /// It has not the columns of a row, or a default filter that is refused.
-    NoRow,
-    /// Want of memory.
-    Memory,
-}
-
-impl From<AllocError> for RowError {
-    fn from(_error: AllocError) -> RowError {
-        RowError::Memory
+/// What is printed for a row, if it gives no packages.
+pub fn answer_to(
+    alloc: Global,
+    filters: &mut NextestFilters,
+    row: &str,
+) -> Result<Option<String>, RowError> {
+    match row.strip_prefix("graph\t") {
+        Some(metadata) => match PackageGraph::from_metadata(alloc, metadata) {
+            Ok(graph) => {
+                *filters = NextestFilters::with_graph(graph);
+                Ok(None)
+            }
+            Err(fault) => Err(RowError::NoGraph(fault)),
+        },
+        None => {
+            let answer = answer(alloc, filters, row)?;
+            Ok(Some(format!(in alloc; "{row}\t{answer}")?))
+        }
     }
 }
 
-/// What comes of reading the filter of a line, and of asking it.
-pub fn answer_to(alloc: Global, filters: &NextestFilters, line: &str) -> Result<String, RowError> {
+/// What comes of reading the filter of a row, and of asking it.
+fn answer(alloc: Global, filters: &NextestFilters, row: &str) -> Result<String, RowError> {
     let mut columns = Vec::new(alloc);
-    for column in line.split('\t') {
-        columns
-            .push(unescaped(alloc, column)?)
-            .map_err(AllocError::from)?;
+    for column in row.split('\t') {
+        columns.push(unescaped(alloc, column, Escapes::Named)?)?;
     }
     let [
         text,
@@ -53,7 +77,7 @@ pub fn answer_to(alloc: Global, filters: &NextestFilters, line: &str) -> Result<
     };
     let default = default_filter(alloc, filters, default.as_str())?;
     match Filterset::parse(filters, alloc, text.as_str(), kind_of(kind.as_str())?) {
-        Ok(filter) => Ok(answer(alloc, &filter, &default, &query)?),
+        Ok(filter) => Ok(matches(alloc, &filter, &default, &query)?),
         Err(ParseFault::Refused(fault)) => Ok(refusal(alloc, fault)?),
         Err(ParseFault::Memory) => Err(RowError::Memory),
     }
@@ -94,18 +118,15 @@ fn default_filter(
 
 /// What a filter says of a test and of its binary, how it was read, and the parts that only a test
 /// can answer.
-fn answer(
+fn matches(
     alloc: Global,
     filter: &Filterset<FieldMatcher>,
     default: &Filterset<FieldMatcher>,
     query: &TestQuery<'_>,
 ) -> Result<String, AllocError> {
     let test = filter.matches_test::<NextestFilters>(query, default);
-    let binary = match filter.matches_binary::<NextestFilters>(&query.binary_query, default) {
-        Some(true) => "true",
-        Some(false) => "false",
-        None => "unknown",
-    };
+    let binary = filter.matches_binary::<NextestFilters>(&query.binary_query, default);
+    let binary = name_of(binary);
     let mut line = format!(in alloc; "ok\t{test}\t{binary}\t{filter}\t")?;
     let leaves = filter.runtime_only_leaves::<NextestFilters>(alloc)?;
     for (place, leaf) in leaves.iter().enumerate() {
@@ -115,6 +136,18 @@ fn answer(
         push_quoted(&mut line, leaf.as_str())?;
     }
     Ok(line)
+}
+
+/// Adds a text in double quotes.
+fn push_quoted(line: &mut String, text: &str) -> Result<(), AllocError> {
+    line.push('"')?;
+    for character in text.chars() {
+        match character {
+            '"' => line.push_str("\\\"")?,
+            other => push_escaped(line, other)?,
+        }
+    }
+    line.push('"')
 }
 
 /// A fault by its name, and the bytes of the text where it is.

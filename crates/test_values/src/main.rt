@@ -1,0 +1,108 @@
+//! Reads rows of several kinds, one a line, and prints what each of them says.
+//!
+//! A line of standard input is the word of a kind, a tab and the row. Empty lines and lines that
+//! begin with `#` print nothing.
+//!
+//! | Word | A row of the kind |
+//! |---|---|
+//! | `value` | a value of a configuration, as its reader reads it (`value.rt`) |
+//! | `place` | a path in a text, whose lines are printed (`place.rt`) |
+//! | `schema` | a place of a configuration file, and what its shape says of it (`schema.rt`) |
+//! | `platform` | the spec of platforms, read, or evaluated on a platform (`platform.rt`) |
+//! | `filter` | a filter and a test (`filter.rt`) |
+//!
+//! For a line of another form the program prints an error on standard error, and ends with status 2.
+#![tactic(auto)]
+
+mod escapes;
+mod filter;
+mod place;
+mod platform;
+mod row;
+mod schema;
+mod value;
+
+use nextest_filters::NextestFilters;
+use row::RowError;
+use std::alloc::Global;
+use std::io;
+use std::process::ExitCode;
+use target_platforms::TargetRow;
+
+/// What the rows of a line are about.
+#[derive(Clone, Copy)]
+enum Kind {
+    Value,
+    Place,
+    Schema,
+    Platform,
+    Filter,
+}
+
+impl Kind {
+    /// The kind of this word.
+    fn of(word: &str) -> Result<Kind, RowError> {
+        match word {
+            "value" => Ok(Kind::Value),
+            "place" => Ok(Kind::Place),
+            "schema" => Ok(Kind::Schema),
+            "platform" => Ok(Kind::Platform),
+            "filter" => Ok(Kind::Filter),
+            _ => Err(RowError::NoRow),
+        }
+    }
+}
+
+/// What rows define for the rows below them.
+#[derive(Drop)]
+struct Defined<'a> {
+    /// The platforms, in the order of their rows.
+    platforms: Vec<TargetRow<'a>>,
+    /// The engine of filters, with the packages of the last row that gives some.
+    filters: NextestFilters,
+}
+
+impl<'a> Defined<'a> {
+    /// What is printed for a line, if it defines nothing.
+    fn answer_to(&mut self, alloc: Global, line: &'a str) -> Result<Option<String>, RowError> {
+        let (word, row) = line.split_once('\t').ok_or(RowError::NoRow)?;
+        match Kind::of(word)? {
+            Kind::Value => value::answer_to(alloc, row).map(Some),
+            Kind::Place => place::answer_to(alloc, row).map(Some),
+            Kind::Schema => schema::answer_to(alloc, row).map(Some),
+            Kind::Platform => platform::answer_to(alloc, &mut self.platforms, row),
+            Kind::Filter => filter::answer_to(alloc, &mut self.filters, row),
+        }
+    }
+}
+
+fn main(rt: HostRuntime) -> io::Result<ExitCode> {
+    let alloc = rt.alloc();
+    let text = io::read_to_string(alloc, rt.stdin())?;
+    let mut defined = Defined {
+        platforms: Vec::new(alloc),
+        filters: NextestFilters::new(),
+    };
+    for line in text.lines() {
+        if line.is_empty() || line.starts_with("#") {
+            continue;
+        }
+        match defined.answer_to(alloc, line) {
+            Ok(Some(answer)) => println!(rt; "{answer}")?,
+            Ok(None) => {}
+            Err(RowError::NoRow) => {
+                eprintln!(rt; "error: no row: `{line}`")?;
+                return Ok(ExitCode::from(2));
+            }
+            Err(RowError::NoGraph(fault)) => {
+                eprintln!(rt; "error: {fault}")?;
+                return Ok(ExitCode::from(2));
+            }
+            Err(RowError::Memory) => {
+                eprintln!(rt; "error: out of memory")?;
+                return Ok(ExitCode::from(2));
+            }
+        }
+    }
+    Ok(ExitCode::SUCCESS)
+}
