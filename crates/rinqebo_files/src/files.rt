@@ -6,7 +6,7 @@ use crate::root::root_above;
 use nextest_config::{
     CONFIG_PATH, ConfigPath, ConfigPaths, FileInput, ReadOutcome, ToolConfigFile, join_paths,
 };
-use nextest_explain::FileReader;
+use nextest_files::FileReader;
 use rinqebo_request::{ConfigFile, Environment, FileOptions, ListFile, Request, ToolFile};
 use std::alloc::{AllocError, Global};
 use thiserror::Error;

@@ -1,6 +1,6 @@
 //! The cases: files in memory, the environment, and the command lines that run over them.
 use nextest_config::ReadOutcome;
-use nextest_explain::FileReader;
+use nextest_files::FileReader;
 use rinqebo_request::{Environment, RunVariables};
 use std::alloc::{AllocError, Global};
 use thiserror::Error;
