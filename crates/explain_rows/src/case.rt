@@ -79,6 +79,10 @@ impl FileReader for Beginnings<'_> {
             None => Ok(ReadOutcome::NotFound),
         }
     }
+
+    fn has_folder(&self, _path: &str) -> bool {
+        true
+    }
 }
 
 /// The command line of a run.

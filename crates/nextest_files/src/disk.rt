@@ -18,6 +18,13 @@ impl<R: Files + AllocGlobal> FileReader for DiskFiles<'_, R> {
     fn read(&self, alloc: Global, path: &str) -> Result<ReadOutcome, AllocError> {
         outcome_of(alloc, fs::read_to_string(self.rt, path))
     }
+
+    fn has_folder(&self, path: &str) -> bool {
+        match fs::metadata(self.rt, path) {
+            Ok(found) => found.is_dir(),
+            Err(_) => false,
+        }
+    }
 }
 
 /// Returns the outcome of a read, of a file or of standard input.

@@ -17,4 +17,7 @@ pub trait FileReader {
     /// [`AllocError`] where memory runs out. A file that can't be read is an outcome.
     fn read(&self, alloc: Global, path: &str) -> Result<ReadOutcome, AllocError>
         ensures { IfOk result (λ outcome. MayGive self.now path.now (outcome_view outcome)) };
+
+    /// Whether there is a folder at a path.
+    fn has_folder(&self, path: &str) -> bool;
 }

@@ -20,6 +20,10 @@ impl FileReader for OneFile {
             _ => Ok(ReadOutcome::NotFound),
         }
     }
+
+    fn has_folder(&self, _path: &str) -> bool {
+        false
+    }
 }
 
 /// A writer that takes this many bytes and then fails, and counts what comes after that.

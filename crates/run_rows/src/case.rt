@@ -31,6 +31,14 @@ struct StoredFile<'a> {
     stored: Stored,
 }
 
+/// Whether the path of a file leads through a folder.
+fn lies_in(path: &str, folder: &str) -> bool {
+    match path.strip_prefix(folder) {
+        Some(rest) => rest.starts_with('/') || folder.ends_with('/'),
+        None => false,
+    }
+}
+
 /// The files of a case. There are no others.
 #[derive(Drop)]
 pub struct StoredFiles<'a>(Vec<StoredFile<'a>>);
@@ -43,6 +51,10 @@ impl FileReader for StoredFiles<'_> {
             Some(file) => file.stored.read(alloc),
             None => Ok(ReadOutcome::NotFound),
         }
+    }
+
+    fn has_folder(&self, path: &str) -> bool {
+        self.0.iter().any(|file| lies_in(file.path, path))
     }
 }
 
