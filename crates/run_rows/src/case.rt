@@ -39,7 +39,7 @@ fn lies_in(path: &str, folder: &str) -> bool {
     }
 }
 
-/// The files of a case. There are no others.
+/// The files of a case, and the folder `/w`. There are no others.
 #[derive(Drop)]
 pub struct StoredFiles<'a>(Vec<StoredFile<'a>>);
 
@@ -54,7 +54,7 @@ impl FileReader for StoredFiles<'_> {
     }
 
     fn has_folder(&self, path: &str) -> bool {
-        self.0.iter().any(|file| lies_in(file.path, path))
+        path == "/w" || self.0.iter().any(|file| lies_in(file.path, path))
     }
 }
 
