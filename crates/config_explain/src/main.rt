@@ -2,10 +2,8 @@
 //! comes from.
 #![tactic(auto)]
 
-mod files;
-
-use files::DiskFiles;
 use nextest_explain::{explain, refuse_for_memory};
+use nextest_files::DiskFiles;
 use std::process::ExitCode;
 use std::rt::Env;
 use std::{env, io};

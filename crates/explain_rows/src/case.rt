@@ -1,6 +1,6 @@
 //! The cases: files in memory, and the command lines that run over them.
 use nextest_config::ReadOutcome;
-use nextest_explain::FileReader;
+use nextest_files::FileReader;
 use std::alloc::{AllocError, Global};
 use thiserror::Error;
 
@@ -78,6 +78,10 @@ impl FileReader for Beginnings<'_> {
             Some(file) => file.stored.read(alloc, self.limit),
             None => Ok(ReadOutcome::NotFound),
         }
+    }
+
+    fn has_folder(&self, _path: &str) -> bool {
+        true
     }
 }
 

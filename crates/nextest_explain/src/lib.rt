@@ -4,13 +4,11 @@
 
 mod command;
 mod failure;
-mod files;
 mod lines;
 mod options;
 mod program;
 mod sources;
 mod writing;
 
-pub use files::FileReader;
 pub use program::{explain, refuse_for_memory};
 pub use writing::{ExplainFault, explain_all};

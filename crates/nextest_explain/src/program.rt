@@ -11,12 +11,12 @@ ghost use Rattle.nextest_explain.specs.Statuses.{IsRefusalStatus, IsStatus};
 
 use crate::command::Command;
 use crate::failure::{Failure, OUT_OF_MEMORY};
-use crate::files::FileReader;
 use crate::options::Places;
 use crate::sources::Sources;
 use crate::writing::{ExplainFault, write_rows};
 use nextest_config::run::{ResolveFault, TestRow, resolve};
 use nextest_config::{BinaryQuery, BuildPlatforms, DefaultConfigWarnings, ParseContext, TestQuery};
+use nextest_files::FileReader;
 use std::alloc::{AllocError, Global};
 use std::io::{self, Write};
 use toy_engines::filters::{ToyFilters, ToyTally};

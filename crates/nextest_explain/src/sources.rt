@@ -6,13 +6,13 @@ ghost use Rattle.nextest_sources.specs.Sources.{file_view, tool_file_view};
 ghost use Rattle.nextest_explain.specs.Files.{sources_view, IsFileAt, IsSharedFile, IsNamedFile, IsToolFile, AreFilesOf};
 
 use crate::command::Command;
-use crate::files::FileReader;
 use crate::options::{Options, ToolFile};
 use nextest_config::run::Inputs;
 use nextest_config::{
     CONFIG_PATH, ConfigFileSelection, ConfigPath, ConfigPaths, FileInput, ReadOutcome,
     ToolConfigFile, join_paths,
 };
+use nextest_files::FileReader;
 use std::alloc::{AllocError, Global};
 
 /// The files that a command names, as they were read.

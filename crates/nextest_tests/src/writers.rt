@@ -1,6 +1,7 @@
 //! Writers that fail: nothing follows, and the status says so.
 use nextest_config::ReadOutcome;
-use nextest_explain::{FileReader, explain};
+use nextest_explain::explain;
+use nextest_files::FileReader;
 use std::alloc::{AllocError, Global};
 use std::io::{self, ErrorKind, Write};
 use std::process::Abort;
@@ -18,6 +19,10 @@ impl FileReader for OneFile {
             "full" => Err(AllocError),
             _ => Ok(ReadOutcome::NotFound),
         }
+    }
+
+    fn has_folder(&self, _path: &str) -> bool {
+        false
     }
 }
 

@@ -6,7 +6,7 @@ use crate::root::root_above;
 use nextest_config::{
     CONFIG_PATH, ConfigPath, ConfigPaths, FileInput, ReadOutcome, ToolConfigFile, join_paths,
 };
-use nextest_explain::FileReader;
+use nextest_files::FileReader;
 use rinqebo_request::{ConfigFile, Environment, FileOptions, ListFile, Request, ToolFile};
 use std::alloc::{AllocError, Global};
 use thiserror::Error;
@@ -36,6 +36,9 @@ pub enum GatherFault {
     /// No folder upward is the root of a workspace.
     #[error("no workspace here or above: name its folder by `--root`")]
     NoRoot,
+    /// There is no folder at the path that `--root` names.
+    #[error("`--root {0}`: no such directory")]
+    NoFolder(String),
     /// The file at a path that an option names has no text: the path, and why.
     #[error("cannot read `{0}`: {1}")]
     Unreadable(String, String),
@@ -50,6 +53,34 @@ impl From<AllocError> for GatherFault {
     }
 }
 
+/// The root that an option names.
+fn named_root<R: FileReader>(alloc: Global, root: &str, files: &R) -> Result<String, GatherFault>
+    ensures { IfOk result (λ named. string_bytes named ≡ root.now) }
+{
+    let root = String::from_str(alloc, root)?;
+    if files.has_folder(root.as_str()) {
+        Ok(root)
+    } else {
+        Err(GatherFault::NoFolder(root))
+    }
+}
+
+/// The root that is found upward from a folder. Where there is none, and a user names the repository's
+/// file, it is the folder itself.
+fn found_root<R: FileReader>(
+    alloc: Global,
+    config_file: ConfigFile<'_>,
+    folder: &str,
+    files: &R,
+) -> Result<String, GatherFault> {
+    let root = match (root_above(alloc, folder, files)?, config_file) {
+        (Some(root), _) => root,
+        (None, ConfigFile::Named(_) | ConfigFile::Input(_)) => folder,
+        (None, ConfigFile::Discovered) => return Err(GatherFault::NoRoot),
+    };
+    Ok(String::from_str(alloc, root)?)
+}
+
 /// The root of the workspace.
 fn root_of<R: FileReader>(
     alloc: Global,
@@ -60,12 +91,14 @@ fn root_of<R: FileReader>(
     ensures { IfOk result (λ root. ForSome options.now.root
         (λ named. string_bytes root ≡ named.now)) }
 {
-    if let Some(root) = options.root {
-        return Ok(String::from_str(alloc, root)?);
-    }
-    match root_above(alloc, environment.folder.as_str(), files)? {
-        Some(root) => Ok(String::from_str(alloc, root)?),
-        None => Err(GatherFault::NoRoot),
+    match options.root {
+        Some(root) => named_root(alloc, root, files),
+        None => found_root(
+            alloc,
+            options.config_file,
+            environment.folder.as_str(),
+            files,
+        ),
     }
 }
 

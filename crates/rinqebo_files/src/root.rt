@@ -1,7 +1,7 @@
 //! The root of a workspace, looked for from a folder upward.
 use crate::layers::tree_of;
 use nextest_config::{CONFIG_PATH, ReadOutcome, join_paths};
-use nextest_explain::FileReader;
+use nextest_files::FileReader;
 use std::alloc::{AllocError, Global};
 
 /// What tells that a folder is the root of a workspace.

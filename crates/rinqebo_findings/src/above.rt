@@ -1,4 +1,5 @@
 //! What is wrong with the files above one that is refused, each by itself.
+use crate::checks::{Scope, scope_of};
 use crate::findings::warning_findings;
 use crate::refusals::{add_refusal, refused_place};
 use crate::unreached::unreached_at;
@@ -6,11 +7,6 @@ use nextest_config::{ConfigParseError, DefaultConfigWarnings};
 use rinqebo_load::Session;
 use rinqebo_report::{Finding, Unreached};
 use std::alloc::{AllocError, Global};
-
-/// Whether a refusal of this number depends on no other file.
-fn is_of_one_file(kind: u8) -> bool {
-    matches!(kind, 2..=11 | 13)
-}
 
 /// Adds what is wrong with the file at a place among the layers by itself: its warnings, and its
 /// refusal, if no lower file can keep it off.
@@ -32,7 +28,7 @@ fn add_alone(
     if error.config_file().is_none() {
         return Err(AllocError);
     }
-    if is_of_one_file(error.kind().number()) {
+    if scope_of(error.kind()) == Scope::Own {
         add_refusal(alloc, session, &error, findings)?;
         if let Some(checks) = unreached_at(alloc, &session.layers, &error)? {
             unreached.push(checks)?;

@@ -3,6 +3,7 @@
 #![tactic(auto)]
 
 mod above;
+mod checks;
 mod expected;
 mod expressions;
 mod failures;

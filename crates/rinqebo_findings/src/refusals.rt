@@ -7,8 +7,8 @@ use crate::hints::quoted_hint;
 use crate::unknown_names::{add_script_errors, add_unknown_group};
 use nextest_config::{
     ConfigCompileError, ConfigCompileErrorKind, ConfigExperimental, ConfigParseError,
-    ConfigParseErrorKind, CustomTestGroup, ElementCause, ElementFault, InheritsError, ReadOutcome,
-    ScriptId, Tree,
+    ConfigParseErrorKind, ConfigPath, CustomTestGroup, ElementCause, ElementFault, InheritsError,
+    ReadOutcome, ScriptId, ToolName, Tree, UnknownTestGroupError,
 };
 use nextest_filters::NextestFilters;
 use rinqebo_files::{Layer, highest_place, place_at};
@@ -321,33 +321,70 @@ fn add_compile(
     refused.add_at(path, wrong.as_str(), None)
 }
 
-/// Adds what the kind of a refusal tells.
+/// A second file of a tool.
+fn add_second_file(
+    refused: &mut Refused<'_, '_>,
+    tool: &ToolName,
+    first: &ConfigPath,
+) -> Result<(), AllocError> {
+    let wrong = format!(in refused.alloc; "the tool `{tool}` provides `{first}`, too")?;
+    refused.add_whole(wrong.as_str())
+}
+
+/// Scripts under the old key and under the new one.
+fn add_both_keys(refused: &mut Refused<'_, '_>) -> Result<(), AllocError> {
+    let path = String::from_str(refused.alloc, "scripts")?;
+    refused.add_at(path, "there is the old table `script` beside it", None)
+}
+
+/// Parents that profiles may not have.
+fn add_parents(refused: &mut Refused<'_, '_>, errors: &[InheritsError]) -> Result<(), AllocError> {
+    for error in errors {
+        add_parent(refused, error)?;
+    }
+    Ok(())
+}
+
+/// Filters and platforms that do not compile.
+fn add_compiles(
+    refused: &mut Refused<'_, '_>,
+    errors: &[ConfigCompileError],
+) -> Result<(), AllocError> {
+    for error in errors {
+        add_compile(refused, error)?;
+    }
+    Ok(())
+}
+
+/// Groups that rules set and no file defines.
+fn add_unknown_groups(
+    refused: &mut Refused<'_, '_>,
+    errors: &[UnknownTestGroupError],
+    known_groups: &BTreeSet<String>,
+) -> Result<(), AllocError> {
+    for error in errors {
+        add_unknown_group(refused, error, known_groups)?;
+    }
+    Ok(())
+}
+
+/// Adds the findings of a refusal of this kind.
+///
+/// # Errors
+///
+/// [`AllocError`] where memory runs out, now or in the load.
 fn add_kind(refused: &mut Refused<'_, '_>, kind: &ConfigParseErrorKind) -> Result<(), AllocError> {
     match kind {
         ConfigParseErrorKind::DuplicateToolConfigFile { tool, first } => {
-            let wrong = format!(in refused.alloc; "the tool `{tool}` provides `{first}`, too")?;
-            refused.add_whole(wrong.as_str())
+            add_second_file(refused, tool, first)
         }
         ConfigParseErrorKind::ReadError(outcome) => add_outcome(refused, outcome),
         ConfigParseErrorKind::BuildError(message) => add_no_document(refused, message.as_str()),
         ConfigParseErrorKind::DeserializeError(fault) => add_element(refused, fault),
-        ConfigParseErrorKind::BothScriptAndScriptsDefined => {
-            let path = String::from_str(refused.alloc, "scripts")?;
-            refused.add_at(path, "there is the old table `script` beside it", None)
-        }
+        ConfigParseErrorKind::BothScriptAndScriptsDefined => add_both_keys(refused),
         ConfigParseErrorKind::ExperimentalFeaturesNotEnabled { missing_features } => {
             add_features(refused, missing_features)
         }
-        kind => add_name_kind(refused, kind),
-    }
-}
-
-/// Adds what a refusal of the names that a source defines tells.
-fn add_name_kind(
-    refused: &mut Refused<'_, '_>,
-    kind: &ConfigParseErrorKind,
-) -> Result<(), AllocError> {
-    match kind {
         ConfigParseErrorKind::InvalidTestGroupsDefined(groups) => {
             add_groups(
                 refused,
@@ -377,41 +414,18 @@ fn add_name_kind(
         ConfigParseErrorKind::InvalidConfigScriptsDefinedByOrganisation(ids) => {
             add_scripts(refused, ids, "this script is not the organisation's own")
         }
-        kind => add_rule_kind(refused, kind),
-    }
-}
-
-/// Adds what a refusal of the rules of a source tells.
-fn add_rule_kind(
-    refused: &mut Refused<'_, '_>,
-    kind: &ConfigParseErrorKind,
-) -> Result<(), AllocError> {
-    match kind {
-        ConfigParseErrorKind::InheritanceErrors(errors) => {
-            for error in errors {
-                add_parent(refused, error)?;
-            }
-        }
-        ConfigParseErrorKind::CompileErrors(errors) => {
-            for error in errors {
-                add_compile(refused, error)?;
-            }
-        }
+        ConfigParseErrorKind::InheritanceErrors(errors) => add_parents(refused, errors),
+        ConfigParseErrorKind::CompileErrors(errors) => add_compiles(refused, errors),
         ConfigParseErrorKind::UnknownTestGroups {
             errors,
             known_groups,
-        } => {
-            for error in errors {
-                add_unknown_group(refused, error, known_groups)?;
-            }
-        }
+        } => add_unknown_groups(refused, errors, known_groups),
         ConfigParseErrorKind::ProfileScriptErrors {
             errors,
             known_scripts,
-        } => add_script_errors(refused, errors, known_scripts)?,
-        _ => {}
+        } => add_script_errors(refused, errors, known_scripts),
+        ConfigParseErrorKind::Memory => Err(AllocError),
     }
-    Ok(())
 }
 
 /// The place among the layers of the file that is refused.

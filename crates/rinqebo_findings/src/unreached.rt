@@ -1,4 +1,5 @@
 //! The checks that were not reached of a source that is refused.
+use crate::checks::{CHECKS, Check, check_of};
 use crate::refusals::refused_place;
 use nextest_config::{
     ConfigParseError, ConfigParseErrorKind, DefaultConfigWarnings, InheritsError,
@@ -8,41 +9,17 @@ use rinqebo_load::Session;
 use rinqebo_report::Unreached;
 use std::alloc::{AllocError, Global};
 
-/// What a load checks of a source, in order, and then of all of them.
-const CHECKS: [&str; 8] = [
-    "elements",
-    "names",
-    "features",
-    "inheritance",
-    "compilation",
-    "groups",
-    "script rules",
-    "merged tree",
-];
-
-/// How many checks are behind a refusal of this number.
-fn checks_done(kind: u8) -> usize {
-    match kind {
-        4 => 1,
-        5..=7 | 17 => 2,
-        8..=11 | 18 => 3,
-        12 => 4,
-        13 => 5,
-        14 => 6,
-        15 => 7,
-        _ => 0,
-    }
+/// Whether a refusal reports a cycle of profiles.
+fn has_cycle(kind: &ConfigParseErrorKind) -> bool {
+    let ConfigParseErrorKind::InheritanceErrors(errors) = kind else {
+        return false;
+    };
+    errors.iter().any(|error| matches!(error, InheritsError::InheritanceCycle(_)))
 }
 
-/// Whether a refusal tells of a cycle of profiles.
-fn has_cycle(kind: &ConfigParseErrorKind) -> bool {
-    match kind {
-        ConfigParseErrorKind::InheritanceErrors(errors) => errors.iter().any(|error| matches!(
-            error,
-            InheritsError::InheritanceCycle(_)
-        )),
-        _ => false,
-    }
+/// Whether a refusal reports a value.
+fn is_of_element(kind: &ConfigParseErrorKind) -> bool {
+    matches!(kind, ConfigParseErrorKind::DeserializeError(_))
 }
 
 /// Whether all files together are refused, and none by itself: for an element or a cycle that the
@@ -54,16 +31,35 @@ fn is_of_all_files(
 ) -> Result<bool, AllocError> {
     let last = session.layers.len().saturating_sub(1);
     let is_last = refused_place(&session.layers, error) == Some(last);
-    let is_element = error.kind().number() == 4;
+    let is_element = is_of_element(error.kind());
     if !is_last || !(is_element || has_cycle(error.kind())) {
         return Ok(false);
     }
     let mut warnings = DefaultConfigWarnings::new(alloc);
     match session.refusal_alone(alloc, last, &mut warnings)? {
-        Some(alone) if is_element => Ok(alone.kind().number() != 4),
+        Some(alone) if is_element => Ok(!is_of_element(alone.kind())),
         Some(alone) => Ok(!has_cycle(alone.kind())),
         None => Ok(true),
     }
+}
+
+/// Whether a check comes after the one that failed.
+fn is_after(check: Check, failed: Option<Check>) -> bool {
+    match failed {
+        Some(failed) => check > failed,
+        None => true,
+    }
+}
+
+/// The names of the checks after the one that failed.
+fn names_after(alloc: Global, failed: Option<Check>) -> Result<Vec<String>, AllocError> {
+    let mut names = Vec::new(alloc);
+    for check in &CHECKS {
+        if is_after(*check, failed) {
+            names.push(String::from_str(alloc, check.name())?)?;
+        }
+    }
+    Ok(names)
 }
 
 /// The checks of the refused source that were not reached.
@@ -75,10 +71,7 @@ pub fn unreached_at(
     let Some(source) = refused_place(layers, error) else {
         return Ok(None);
     };
-    let mut checks = Vec::new(alloc);
-    for check in CHECKS.iter().skip(checks_done(error.kind().number())) {
-        checks.push(String::from_str(alloc, *check)?)?;
-    }
+    let checks = names_after(alloc, check_of(error.kind()))?;
     Ok(Some(Unreached { source, checks }))
 }
 

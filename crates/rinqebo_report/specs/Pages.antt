@@ -2,6 +2,7 @@
 use Rattle.std.specs.Prelude.{ℕ, ◌+◌, ◌-◌, max, Bool, true, false, List, [], ◌∷◌, ◌++◌, Option, None, Some, is_some, option_map, length, fold, flat_map, unwrap_or, count_by, codes, decimal, take, String, string_bytes, if◌then◌else◌, not}
 use Rattle.std.specs.declared.alloc.Global.{Global}
 use Rattle.std.specs.Str.{chars}
+use Rattle.unicode_width.specs.Width.{str_width}
 use Rattle.rinqebo_report.specs.declared.finding.Expression.{Expression}
 use Rattle.rinqebo_report.specs.declared.finding.Finding.{Finding}
 use Rattle.rinqebo_report.specs.declared.finding.Level.{Level}
@@ -40,9 +41,9 @@ use Rattle.rinqebo_report.specs.TomlText.{value_text}
 abbrev pub plain : List ℕ → Run
 plain text = styled styles.Plain text
 
--- how many characters a text has
+-- the number of columns that a text takes in a terminal
 abbrev pub width : List ℕ → ℕ
-width text = length (chars text)
+width text = str_width false (chars text)
 
 -- how wide the key of a row is: a row without a value counts for nothing
 abbrev pub key_width : SettingRow → ℕ

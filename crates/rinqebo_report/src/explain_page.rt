@@ -10,15 +10,16 @@ use crate::piece::{Colour, Piece, Style, add_pieces};
 use crate::report::{Asked, Platform, RunMode, SettingRow, TestRows};
 use crate::toml_text::value_text;
 use std::alloc::{AllocError, Global};
+use unicode_width::UnicodeWidthStr;
 
-/// How many characters a value's column has at least.
+/// The least number of columns that a value takes.
 const VALUE_WIDTH: usize = 12;
 
-/// How many characters a text has.
+/// The number of columns that a text takes in a terminal.
 pub(crate) fn width(text: &str) -> usize
     ensures { result ≡ width text.now }
 {
-    text.chars().count()
+    UnicodeWidthStr::width(text)
 }
 
 /// How wide the key of a row is: a row without a value counts for nothing.

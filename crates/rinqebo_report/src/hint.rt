@@ -1,8 +1,8 @@
 //! Hints: which known name a wrong one most likely means.
-ghost use Rattle.std.specs.Prelude.{◌≡◌, ◌<◌, All, MatchOption, IfOk};
+ghost use Rattle.std.specs.Prelude.{◌≡◌, ◌<◌, All, MatchOption, IfOk, length};
+ghost use Rattle.std.specs.Str.{chars};
 ghost use Rattle.rinqebo_report.specs.Hints.{distance, reach, IsNearest, comes_before, first_of};
 
-use crate::explain_page::width;
 use std::alloc::{AllocError, Global};
 use strsim::levenshtein;
 
@@ -35,6 +35,13 @@ fn first_of<'a>(best: Option<Candidate<'a>>, other: Candidate<'a>) -> Candidate<
     }
 }
 
+/// The number of characters of a text.
+fn char_count(text: &str) -> usize
+    ensures { result ≡ length (chars text.now) }
+{
+    text.chars().count()
+}
+
 /// The known name that is nearest to a name, if one is near: at most a third of the name's
 /// characters have to change, or one. Of names that are as near the first by bytes is taken.
 pub fn nearest_name<'a>(
@@ -46,7 +53,7 @@ pub fn nearest_name<'a>(
         (All (λ other. reach name.now < distance name.now other.now) known.now)
         (λ nearest. IsNearest name.now known.now nearest.now)) }
 {
-    let reach = (width(name) / 3).max(1);
+    let reach = (char_count(name) / 3).max(1);
     let mut nearest: Option<Candidate<'a>> = None;
     for other in known {
         let candidate = Candidate {

@@ -2,17 +2,104 @@
 use clap::{Arg, ArgAction, Command};
 use std::alloc::{AllocError, Global};
 
+/// The version of the program.
+const VERSION: &str = "0.1.0";
+
 /// The formats of answers.
 const ANSWER_FORMATS: &[&str] = &["text", "json"];
+
+/// The help of the option that chooses among them.
+const ANSWER_FORMATS_HELP: &str = "Output format: text or json\n[default: text]";
 
 /// The formats of findings.
 const CHECK_FORMATS: &[&str] = &["text", "json", "concise", "github"];
 
+/// The help of the option that chooses among them.
+const CHECK_FORMATS_HELP: &str = "Format: text, json, concise or github\n[default: text]";
+
 /// When colours are used.
 const COLOURS: &[&str] = &["auto", "always", "never"];
 
-/// For what tests are run.
+/// The run modes.
 const MODES: &[&str] = &["test", "benchmark"];
+
+/// What stands below the help of the program.
+const PROGRAM_NOTES: &str = "\
+Examples:
+  rinqebo explain api::smoke smoke::whole -P ci
+  rinqebo check
+
+`rinqebo <COMMAND> --help` has the examples and exit statuses of a command.";
+
+/// What stands below the help of `explain`.
+const EXPLAIN_NOTES: &str = "\
+Examples:
+  rinqebo explain api::smoke smoke::whole
+  rinqebo explain api::smoke smoke::whole -P ci retries slow-timeout
+  rinqebo explain api::smoke smoke::whole --why retries
+
+Exit status:
+  0  success
+  2  invalid command line, metadata or platform
+  3  error in a configuration file
+  4  no such profile
+  5  out of memory
+  6  the output could not be written";
+
+/// What stands below the help of `list`.
+const LIST_NOTES: &str = "\
+Examples:
+  cargo nextest list --message-format json | rinqebo list -P ci -
+  rinqebo list list.json retries slow-timeout
+  rinqebo list list.json --by test-group
+
+Exit status:
+  0  success
+  2  invalid command line, list, metadata or platform
+  3  error in a configuration file
+  4  no such profile
+  5  out of memory
+  6  the output could not be written";
+
+/// What stands below the help of `show-config`.
+const SHOW_NOTES: &str = "\
+Examples:
+  rinqebo show-config -P ci
+  rinqebo show-config -P ci retries junit.path --hidden
+
+Exit status:
+  0  success
+  1  nothing is set under any KEY
+  2  invalid command line or metadata
+  3  error in a configuration file
+  4  no such profile
+  5  out of memory
+  6  the output could not be written";
+
+/// What stands below the help of `schema`.
+const SCHEMA_NOTES: &str = "\
+Examples:
+  rinqebo schema > nextest.schema.json
+
+Exit status:
+  0  success
+  5  out of memory
+  6  the output could not be written";
+
+/// What stands below the help of `check`.
+const CHECK_NOTES: &str = "\
+Examples:
+  rinqebo check
+  rinqebo check --deny-warnings --format github
+  rinqebo check - --stdin-path .config/nextest.toml < edited.toml
+
+Exit status:
+  0  no errors
+  1  warnings, with --deny-warnings
+  2  invalid command line or metadata
+  3  error in a configuration file
+  5  out of memory
+  6  the output could not be written";
 
 /// An option with a value.
 fn option<'a>(alloc: Global, name: &'a str, value: &'a str, help: &'a str) -> Arg<'a> {
@@ -31,7 +118,9 @@ fn choice<'a>(
     words: &'a [&'a str],
     help: &'a str,
 ) -> Arg<'a> {
-    option(alloc, name, value, help).value_parser(words)
+    option(alloc, name, value, help)
+        .value_parser(words)
+        .hide_possible_values(true)
 }
 
 /// A flag.
@@ -56,34 +145,34 @@ fn with_files<'a>(alloc: Global, command: Command<'a>) -> Result<Command<'a>, Al
         alloc,
         "tool-config-file",
         "TOOL:PATH",
-        "A file that a tool provides, once for each: the first is the highest",
+        "Configuration file of a tool; repeatable,\nthe first has the highest precedence",
     );
     let features = option(
         alloc,
         "experimental",
         "NAME",
-        "Switches setup-scripts or wrapper-scripts on, beside what the repository's file says",
+        "Enable setup-scripts or wrapper-scripts,\nin addition to the repository file",
     );
     command
         .arg(option(
             alloc,
             "root",
             "DIR",
-            "The workspace's root [default: looked for from the current folder upward]",
+            "Workspace root [default: search upward]",
         ))?
         .arg(option(
             alloc,
             "config-file",
-            "P",
-            "The repository's file [default: .config/nextest.toml below the root]",
+            "FILE",
+            "Repository file\n[default: .config/nextest.toml]",
         ))?
         .arg(tools.action(ArgAction::Append))?
         .arg(features.action(ArgAction::Append))?
         .arg(option(
             alloc,
             "metadata",
-            "F",
-            "A file with what `cargo metadata --format-version 1` prints, for deps and rdeps",
+            "FILE",
+            "File with the output of `cargo metadata\n--format-version 1`, for deps and rdeps",
         ))
 }
 
@@ -92,15 +181,17 @@ fn with_output<'a>(
     alloc: Global,
     command: Command<'a>,
     formats: &'a [&'a str],
+    help: &'a str,
 ) -> Result<Command<'a>, AllocError> {
+    let format = choice(alloc, "format", "FORMAT", formats, help);
     command
-        .arg(choice(alloc, "format", "F", formats, "How it is written").default_value("text"))?
+        .arg(format.default_value("text").hide_default_value(true))?
         .arg(choice(
             alloc,
             "color",
-            "W",
+            "WHEN",
             COLOURS,
-            "When colours are used [default: CARGO_TERM_COLOR, else auto]",
+            "When to use colour: auto, always or never\n[default: CARGO_TERM_COLOR, else auto]",
         ))
 }
 
@@ -112,19 +203,19 @@ fn with_platforms<'a>(
     target: &'a str,
 ) -> Result<Command<'a>, AllocError> {
     command
-        .arg(option(alloc, "host", "T", host))?
-        .arg(option(alloc, "target", "T", target))?
+        .arg(option(alloc, "host", "TRIPLE", host))?
+        .arg(option(alloc, "target", "TRIPLE", target))?
         .arg(option(
             alloc,
             "host-cfg",
-            "F",
-            "A file with what `rustc --print cfg` prints [default: a table of known triples]",
+            "FILE",
+            "Output of `rustc --print cfg` for the host\n[default: built-in table of targets]",
         ))?
         .arg(option(
             alloc,
             "target-cfg",
-            "F",
-            "A file with what `rustc --print cfg --target T` prints [default: the table]",
+            "FILE",
+            "Output of `rustc --print cfg --target T`\n[default: built-in table of targets]",
         ))
 }
 
@@ -142,45 +233,49 @@ fn profile<'a>(alloc: Global) -> Arg<'a> {
     option(
         alloc,
         "profile",
-        "P",
-        "The profile [default: NEXTEST_PROFILE, else default]",
+        "PROFILE",
+        "Profile\n[default: NEXTEST_PROFILE, else default]",
     )
     .short('P')
 }
 
 /// The options that say which profile counts, and for what tests run.
 fn with_profile<'a>(alloc: Global, command: Command<'a>) -> Result<Command<'a>, AllocError> {
-    let mode = choice(alloc, "mode", "M", MODES, "For what the test runs").default_value("test");
-    command.arg(profile(alloc))?.arg(mode)
+    let help = "Run mode: test or benchmark\n[default: test]";
+    let mode = choice(alloc, "mode", "MODE", MODES, help);
+    command
+        .arg(profile(alloc))?
+        .arg(mode.default_value("test").hide_default_value(true))
 }
 
 /// The command that explains the settings of a test.
 fn explain_command<'a>(alloc: Global) -> Result<Command<'a>, AllocError> {
     let command = Command::new(alloc, "explain")
-        .about("Tells the settings of a test, and what decides each")
-        .arg(word(alloc, "BINARY", "The id of the test's binary").required(true))?
-        .arg(word(alloc, "TEST", "The name of the test").required(true))?
-        .arg(keys(alloc, "Settings, as files spell them [default: all]"))?
+        .about("Show the settings of one test, and where each value comes from")
+        .after_help(EXPLAIN_NOTES)
+        .arg(word(alloc, "BINARY", "Binary id, such as api::smoke").required(true))?
+        .arg(word(alloc, "TEST", "Test name").required(true))?
+        .arg(keys(alloc, "Settings to show [default: all]"))?
         .arg(option(
             alloc,
             "why",
             "KEY",
-            "Tells each rule of this setting with its verdict, instead of settings",
+            "List each rule that could set KEY, and\nwhether and why it applies",
         ))?;
     let command = with_profile(alloc, command)?;
     let command = with_files(alloc, command)?;
     let command = with_platforms(
         alloc,
         command,
-        "The triple of the host [default: x86_64-unknown-linux-gnu]",
-        "The triple of the target [default: CARGO_BUILD_TARGET, else the host]",
+        "Host triple\n[default: x86_64-unknown-linux-gnu]",
+        "Target triple\n[default: CARGO_BUILD_TARGET, else host]",
     )?
     .arg(flag(
         alloc,
         "host-binary",
-        "The test's binary is built for the host, as that of a build script",
+        "The binary is built for the host, as those\nof proc-macros are",
     ))?;
-    with_output(alloc, command, ANSWER_FORMATS)
+    with_output(alloc, command, ANSWER_FORMATS, ANSWER_FORMATS_HELP)
 }
 
 /// The command that lists the tests of a workspace with their settings.
@@ -188,82 +283,77 @@ fn list_command<'a>(alloc: Global) -> Result<Command<'a>, AllocError> {
     let list = word(
         alloc,
         "LIST",
-        "A file with what `cargo nextest list --message-format json` prints, or -",
+        "Output of `cargo nextest list --message-format json`,\nor - for standard input",
     );
     let command = Command::new(alloc, "list")
-        .about("Tells the settings of each test of a list, and the rules that hold for none")
+        .about("Show the settings of every test, and rules that match none")
+        .after_help(LIST_NOTES)
         .arg(list.required(true))?
-        .arg(keys(
-            alloc,
-            "Settings, as files spell them [default: those that rules decide]",
-        ))?
-        .arg(flag(alloc, "all", "Tells all settings of each test"))?
-        .arg(option(
-            alloc,
-            "by",
-            "KEY",
-            "Puts the tests of each value of this setting together, instead of settings",
-        ))?;
+        .arg(keys(alloc, "Settings to show [default: those that a rule sets]"))?
+        .arg(flag(alloc, "all", "Show all settings of each test"))?
+        .arg(option(alloc, "by", "KEY", "Group the tests by their value of KEY"))?;
     let command = with_profile(alloc, command)?;
     let command = with_files(alloc, command)?;
     let command = with_platforms(
         alloc,
         command,
-        "The triple of the host [default: that of LIST, else x86_64-unknown-linux-gnu]",
-        "The triple of the target [default: that of LIST, else CARGO_BUILD_TARGET or the host]",
+        "Host triple [default: that of LIST, else\nx86_64-unknown-linux-gnu]",
+        "Target triple [default: that of LIST, else\nCARGO_BUILD_TARGET, else host]",
     )?;
-    with_output(alloc, command, ANSWER_FORMATS)
+    with_output(alloc, command, ANSWER_FORMATS, ANSWER_FORMATS_HELP)
 }
 
 /// The command that shows the leaves of the configuration.
 fn show_command<'a>(alloc: Global) -> Result<Command<'a>, AllocError> {
-    let hidden = flag(
-        alloc,
-        "hidden",
-        "Tells leaves too that higher files or nearer profiles hide",
-    );
+    let hidden = flag(alloc, "hidden", "Also show overridden values");
     let command = Command::new(alloc, "show-config")
-        .about("Tells what files write for a profile, and which of them")
+        .about("Show a profile's configuration, and where each value comes from")
+        .after_help(SHOW_NOTES)
         .arg(keys(
             alloc,
-            "Keys of the profile, or of store, test-groups and scripts [default: all]",
+            "Keys of the profile, or of store, test-groups and scripts\n[default: all]",
         ))?
         .arg(hidden)?
         .arg(profile(alloc))?;
     let command = with_files(alloc, command)?;
-    with_output(alloc, command, ANSWER_FORMATS)
+    with_output(alloc, command, ANSWER_FORMATS, ANSWER_FORMATS_HELP)
 }
 
 /// The command that prints the schema of a file.
 fn schema_command<'a>(alloc: Global) -> Command<'a> {
-    Command::new(alloc, "schema").about("Prints the JSON schema of a file, for editors")
+    Command::new(alloc, "schema")
+        .about("Print the JSON schema of a configuration file, for editors")
+        .after_help(SCHEMA_NOTES)
 }
 
 /// The command that checks files.
 fn check_command<'a>(alloc: Global) -> Result<Command<'a>, AllocError> {
     let command = Command::new(alloc, "check")
-        .about("Tells what is wrong with the files")
+        .about("Report errors and warnings in the configuration files")
+        .after_help(CHECK_NOTES)
         .arg(word(
             alloc,
             "FILE",
-            "The repository's file, or - for standard input [default: as `--config-file` says]",
+            "Repository file, or - for standard input\n[default: see --config-file]",
         ))?
         .arg(option(
             alloc,
             "stdin-path",
-            "P",
-            "The path that standard input is shown with [default: -]",
+            "PATH",
+            "Path to report for standard input\n[default: -]",
         ))?
-        .arg(flag(alloc, "deny-warnings", "A warning is no success: status 1"))?;
+        .arg(flag(alloc, "deny-warnings", "Exit with status 1 on warnings"))?;
     let command = with_files(alloc, command)?;
-    with_output(alloc, command, CHECK_FORMATS)
+    with_output(alloc, command, CHECK_FORMATS, CHECK_FORMATS_HELP)
 }
 
 /// The program's commands.
 pub fn program<'a>(alloc: Global) -> Result<Command<'a>, AllocError> {
     Command::new(alloc, "rinqebo")
         .bin_name("rinqebo")?
-        .about("Tells what a configuration of nextest gives to tests")
+        .about("Explain and check the configuration of cargo nextest")
+        .version(VERSION)
+        .after_help(PROGRAM_NOTES)
         .subcommand_required(true)
         .subcommand(explain_command(alloc)?)?
         .subcommand(check_command(alloc)?)?

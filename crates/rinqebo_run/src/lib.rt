@@ -22,4 +22,6 @@ mod show;
 mod why;
 
 pub use answer::Answer;
-pub use run::{answer_of, perform, print_schema, refuse_gathering, refuse_words};
+pub use run::{
+    answer_of, perform, print_schema, refuse_for_memory, refuse_gathering, refuse_words,
+};

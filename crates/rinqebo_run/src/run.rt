@@ -25,7 +25,6 @@ use crate::progress::ProgressLine;
 use crate::show::show;
 use crate::why::why;
 use config_shape::schema_page;
-use nextest_explain::refuse_for_memory;
 use rinqebo_files::{GatherFault, Gathered};
 use rinqebo_list::Progress;
 use rinqebo_load::{Failure, Session};
@@ -120,6 +119,19 @@ fn tell<W: Write>(text: &str, status: u8, out: &mut W) -> u8
         return 6;
     }
     status_of_write(out.flush(), status)
+}
+
+/// The message of a run that ends because memory ran out.
+const OUT_OF_MEMORY: &str = "error: out of memory\n";
+
+/// Reports that memory ran out, which takes none, and returns the exit status: 5, or 6 where the
+/// message can't be written.
+pub fn refuse_for_memory<E: Write>(err: &mut E) -> u8
+    ensures status { (result ≡ 5) ⊎ (result ≡ 6) }
+    ensures message { (result ≡ 6)
+        ⊎ Appends (E.contents err.old) (E.contents err.new) OUT_OF_MEMORY.now }
+{
+    tell(OUT_OF_MEMORY, 5, err)
 }
 
 /// What standard error is told beside a page: its findings, where the page does not have them.

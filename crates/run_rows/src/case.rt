@@ -1,6 +1,6 @@
 //! The cases: files in memory, the environment, and the command lines that run over them.
 use nextest_config::ReadOutcome;
-use nextest_explain::FileReader;
+use nextest_files::FileReader;
 use rinqebo_request::{Environment, RunVariables};
 use std::alloc::{AllocError, Global};
 use thiserror::Error;
@@ -31,7 +31,15 @@ struct StoredFile<'a> {
     stored: Stored,
 }
 
-/// The files of a case. There are no others.
+/// Whether the path of a file leads through a folder.
+fn lies_in(path: &str, folder: &str) -> bool {
+    match path.strip_prefix(folder) {
+        Some(rest) => rest.starts_with('/') || folder.ends_with('/'),
+        None => false,
+    }
+}
+
+/// The files of a case, and the folder `/w`. There are no others.
 #[derive(Drop)]
 pub struct StoredFiles<'a>(Vec<StoredFile<'a>>);
 
@@ -43,6 +51,10 @@ impl FileReader for StoredFiles<'_> {
             Some(file) => file.stored.read(alloc),
             None => Ok(ReadOutcome::NotFound),
         }
+    }
+
+    fn has_folder(&self, path: &str) -> bool {
+        path == "/w" || self.0.iter().any(|file| lies_in(file.path, path))
     }
 }
 

@@ -1,7 +1,7 @@
 //! What is printed of a run.
 use crate::case::Case;
 use nextest_config::ReadOutcome;
-use nextest_explain::FileReader;
+use nextest_files::FileReader;
 use rinqebo_files::gather;
 use rinqebo_request::{Command, parse};
 use rinqebo_run::{perform, print_schema, refuse_gathering, refuse_words};

@@ -1,9 +1,9 @@
 -- The characters that were gone through are the first ones of the text.
-use Rattle.std.proofs.Common.{[], length, string_bytes, ap, ◌∙◌}
+use Rattle.std.proofs.Common.{[], string_bytes, ap, ◌∙◌}
 use Rattle.std.proofs.lemmas.Iterator.{YieldsList-from_chars, YieldsList-from_take}
 use Rattle.std.proofs.lemmas.Iterator.Consumers.{YieldsList-end}
-use Rattle.std.specs.Str.{chars}
 use Rattle.rinqebo_report.proofs.WholeTexts.{written_whole}
+use Rattle.rinqebo_report.specs.Pages.{width}
 use Rattle.rinqebo_report.specs.Pieces.{shown_char}
 use Rattle.rinqebo_report.proofs.check_page.shown_width.Goals as goal
 
@@ -14,4 +14,4 @@ returns c =
     c.loop-c.yielded _ c.loop-c.yielded_by _ _ c.in-None.is c.next.ensures.steps in
     let written = written_whole shown_char [] (string_bytes c.loop-c.front) c.loop-c.yielded _ whole.0
     c.loop-c.invariant in
-    c.width.ensures ∙ ap (λ t. length (chars t)) (c.as_str.ensures.value ∙ written)
+    c.width.ensures ∙ ap width (c.as_str.ensures.value ∙ written)

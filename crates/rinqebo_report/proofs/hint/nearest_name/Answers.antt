@@ -18,7 +18,7 @@ loop-other-preserved c =
     (take_at_read known c.loop-other.other-index none c.loop-other-test.true).1 in
     let candidate : Candidate = record { name = other; distance = c.in_ok-levenshtein.field-0 } in
     let is : candidate.distance ≡ distance name other.now = c.in_ok-levenshtein.ensures.value in
-    let limit : c.max-reach.result ≡ reach name = omega (arith, c.max-reach.ensures, c.width.ensures) in
+    let limit : c.max-reach.result ≡ reach name = omega (arith, c.max-reach.ensures, c.char_count.ensures) in
     elim c.if-candidate-reach.branch [
       | then-candidate-reach w ↦ (
           let near : candidate.distance ≤ reach name = omega (arith, w.if-candidate-reach.true) in

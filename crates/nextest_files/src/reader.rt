@@ -2,15 +2,22 @@
 ghost use Rattle.std.specs.Prelude.{ℕ, List, IfOk};
 ghost use Rattle.nextest_sources.specs.Sources.{Outcome, outcome_view};
 
-use nextest_config::ReadOutcome;
+use nextest_sources::ReadOutcome;
 use std::alloc::{AllocError, Global};
 
-/// What reads files: the disk, or a table in memory.
+/// A source of files: the disk, or a table in memory.
 pub trait FileReader {
-    /// What may come of reading the file at a path. Of a disk nothing is known.
+    /// The outcomes that reading the file at a path may have. Of a disk nothing is known.
     ghost MayGive: { Self → List ℕ → Outcome → Type 0 };
 
-    /// What comes of reading the file at a path.
+    /// Reads the file at a path.
+    ///
+    /// # Errors
+    ///
+    /// [`AllocError`] where memory runs out. A file that can't be read is an outcome.
     fn read(&self, alloc: Global, path: &str) -> Result<ReadOutcome, AllocError>
         ensures { IfOk result (λ outcome. MayGive self.now path.now (outcome_view outcome)) };
+
+    /// Whether there is a folder at a path.
+    fn has_folder(&self, path: &str) -> bool;
 }

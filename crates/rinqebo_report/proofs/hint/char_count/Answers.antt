@@ -1,7 +1,7 @@
 -- What is counted are the characters.
 use Rattle.std.proofs.lemmas.Iterator.{YieldsList-from_chars}
 use Rattle.std.proofs.lemmas.Iterator.Consumers.{count_from_yields_List}
-use Rattle.rinqebo_report.proofs.explain_page.width.Goals as goal
+use Rattle.rinqebo_report.proofs.hint.char_count.Goals as goal
 
 pub returns : goal.returns
 returns c =
