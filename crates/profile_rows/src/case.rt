@@ -178,15 +178,18 @@ impl<'a> Case<'a> {
     }
 }
 
-/// The cases of a text.
-pub fn read_cases(alloc: Global, text: &str) -> Result<Vec<Case<'_>>, CaseError<'_>> {
-    let mut cases: Vec<Case<'_>> = Vec::new(alloc);
+/// Adds the cases of a text.
+pub fn read_cases<'a>(
+    alloc: Global,
+    text: &'a str,
+    cases: &mut Vec<Case<'a>>,
+) -> Result<(), CaseError<'a>> {
     for line in text.lines() {
         if line.is_empty() || line.starts_with("#") {
             continue;
         }
         if let Some(name) = line.strip_prefix("case ") {
-            push(&mut cases, Case::new(alloc, name)?)?;
+            push(cases, Case::new(alloc, name)?)?;
             continue;
         }
         match cases.last_mut() {
@@ -194,5 +197,5 @@ pub fn read_cases(alloc: Global, text: &str) -> Result<Vec<Case<'_>>, CaseError<
             None => return Err(CaseError::Line(line)),
         }
     }
-    Ok(cases)
+    Ok(())
 }

@@ -1,11 +1,10 @@
 //! The lines of a report.
-use crate::refusal::Refusal;
 use nextest_config::ConfigSource;
 use std::alloc::{AllocError, Global};
 use std::fmt::Debug;
 
-/// A call that may answer want of memory.
-#[derive(Clone, Copy, Debug, PartialEq, Eq)]
+/// A call that may want memory.
+#[derive(Debug, Drop)]
 pub enum Call {
     FromSources,
     Lines,
@@ -19,40 +18,43 @@ pub enum Call {
     Resolve,
 }
 
-/// The lines of a report, of which those are kept that are shown, and the last call that was made
-/// once more.
+/// What a call returns, which is made once more where it returns want of memory.
+macro_rules! once_more {
+    ($lines:ident, $call:ident, $memory:pat, $answer:expr) => {
+        match $answer {
+            $memory => {
+                $lines.note_again(Call::$call);
+                $answer
+            }
+            answer => answer,
+        }
+    };
+}
+
+pub(crate) use once_more;
+
+/// The lines of a report, of which those are kept that are shown.
+///
+/// Want of memory is kept too, and returned at the end in place of the lines.
 #[derive(Drop)]
 pub struct Lines<'a> {
     text: String,
     shown: Option<&'a str>,
     again: Option<Call>,
+    wants_memory: bool,
 }
 
 impl<'a> Lines<'a> {
-    /// No lines. Of those that are added, only those are kept that begin with one of some words, or
-    /// all without them.
-    pub fn new(alloc: Global, shown: Option<&'a str>) -> Lines<'a> {
+    /// The first two lines alone: the names of a case and of a profile. Of those that are added,
+    /// only those are kept that begin with one of some words, or all without them.
+    pub fn new(alloc: Global, case: &str, profile: &str, shown: Option<&'a str>) -> Lines<'a> {
+        let mut text = String::new(alloc);
+        let wants_memory = write!(text, "case {case}\nprofile {profile}\n").is_err();
         Lines {
-            text: String::new(alloc),
+            text,
             shown,
             again: None,
-        }
-    }
-
-    /// The answer of a call, which is made once more after want of memory.
-    pub fn ask<T, E: Refusal, F: Fn() -> Result<T, E>>(
-        &mut self,
-        call: Call,
-        answer: F,
-    ) -> Result<T, E>
-        requires { F.IsAlwaysCallable answer }
-    {
-        match answer() {
-            Err(error) if error.is_memory() => {
-                self.note_again(call);
-                answer()
-            }
-            answered => answered,
+            wants_memory,
         }
     }
 
@@ -61,41 +63,51 @@ impl<'a> Lines<'a> {
         self.again = Some(call);
     }
 
-    /// Adds a line: a name, and a value.
-    pub fn add<V: Debug>(
-        &mut self,
-        alloc: Global,
-        name: &str,
-        value: &V,
-    ) -> Result<(), AllocError> {
-        if self.shows(name) {
-            let line = format!(in alloc; "  {name}: {value:?}\n")?;
-            self.text.push_str(line.as_str())?;
+    /// Keeps that memory is wanted.
+    pub fn want_memory(&mut self) {
+        self.wants_memory = true;
+    }
+
+    /// What was made, or `None` where memory is wanted, which is kept.
+    pub fn made<T>(&mut self, made: Result<T, AllocError>) -> Option<T> {
+        match made {
+            Ok(value) => Some(value),
+            Err(AllocError) => {
+                self.want_memory();
+                None
+            }
         }
-        Ok(())
+    }
+
+    /// Adds a line: a name, and a value.
+    pub fn add<V: Debug>(&mut self, name: &str, value: &V) {
+        if self.shows(name) && write!(self.text, "  {name}: {value:?}\n").is_err() {
+            self.want_memory();
+        }
     }
 
     /// Adds a line: a name, what is asked of, and a value.
-    pub fn add_of<V: Debug>(
-        &mut self,
-        alloc: Global,
-        name: &str,
-        of: &str,
-        value: &V,
-    ) -> Result<(), AllocError> {
-        if self.shows(name) {
-            let line = format!(in alloc; "  {name} {of}: {value:?}\n")?;
-            self.text.push_str(line.as_str())?;
+    pub fn add_of<V: Debug>(&mut self, name: &str, of: &str, value: &V) {
+        if self.shows(name) && write!(self.text, "  {name} {of}: {value:?}\n").is_err() {
+            self.want_memory();
         }
-        Ok(())
     }
 
     /// The text of all lines. The last names the last call that was made once more, if one was.
-    pub fn into_text(self, alloc: Global) -> Result<String, AllocError> {
-        let Lines { text, again, .. } = self;
-        match again {
-            Some(call) => format!(in alloc; "{text}  again: {call:?}\n"),
-            None => Ok(text),
+    pub fn into_text(self) -> Result<String, AllocError> {
+        let Lines {
+            mut text,
+            again,
+            wants_memory,
+            ..
+        } = self;
+        if let Some(call) = again {
+            write!(text, "  again: {call:?}\n")?;
+        }
+        if wants_memory {
+            Err(AllocError)
+        } else {
+            Ok(text)
         }
     }
 

@@ -27,31 +27,44 @@ mod case;
 mod lines;
 mod numbers;
 mod profile;
-mod refusal;
 mod report;
 mod rows;
+mod run;
 mod tests;
 
-use case::read_cases;
+use case::{Case, read_cases};
 use report::report_of;
+use run::{Run, all_features, platforms_of};
+use std::alloc::{AllocError, Global};
 use std::io;
 use std::process::ExitCode;
 
 fn main(rt: HostRuntime) -> io::Result<ExitCode> {
     let alloc = rt.alloc();
     let text = io::read_to_string(alloc, rt.stdin())?;
-    let cases = match read_cases(alloc, text.as_str()) {
-        Ok(cases) => cases,
-        Err(error) => {
-            eprintln!(rt; "error: {error}")?;
-            return Ok(ExitCode::from(2));
-        }
-    };
+    let mut cases = Vec::new(alloc);
+    if let Err(error) = read_cases(alloc, text.as_str(), &mut cases) {
+        eprintln!(rt; "error: {error}")?;
+        return Ok(ExitCode::from(2));
+    }
     for case in &cases {
         for profile in &case.profiles {
-            let report = report_of(alloc, case, profile)?;
+            let report = report_on(alloc, case, profile)?;
             print!(rt; "{report}")?;
         }
     }
     Ok(ExitCode::SUCCESS)
+}
+
+/// The report on a profile of a case.
+fn report_on(alloc: Global, case: &Case<'_>, profile: &str) -> Result<String, AllocError> {
+    let features = all_features(alloc)?;
+    let platforms = platforms_of(alloc, case)?;
+    report_of(&Run {
+        alloc,
+        case,
+        profile,
+        features: &features,
+        platforms: &platforms,
+    })
 }

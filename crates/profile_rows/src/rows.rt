@@ -1,98 +1,82 @@
 //! The rows of a whole run, from the texts of files on.
-use crate::case::Case;
-use crate::lines::{Call, Lines, override_text};
-use crate::report::{ENGINES, selection_of};
+use crate::lines::{Call, Lines, once_more, override_text};
+use crate::run::{ENGINES, Run};
 use nextest_config::run::{Inputs, PlainSource, ResolveFault, TestRow, resolve};
-use nextest_config::{
-    BuildPlatforms, ConfigExperimental, DefaultConfigWarnings, NextestRunMode, Setting,
-};
+use nextest_config::{DefaultConfigWarnings, NextestRunMode, Setting};
 use std::alloc::{AllocError, Global};
-use std::collections::BTreeSet;
+use std::fmt::Debug;
 use toy_engines::filters::ToyTally;
 
 /// Adds how many rows the tests of a case have, and what some settings of each are.
-pub fn add_rows(
-    alloc: Global,
-    lines: &mut Lines<'_>,
-    case: &Case<'_>,
-    features: &BTreeSet<ConfigExperimental>,
-    profile: &str,
-    platforms: &BuildPlatforms<String>,
-) -> Result<(), AllocError> {
-    let rows = lines.ask(Call::Resolve, || {
-        rows_of(alloc, case, features, profile, platforms)
-    });
-    match rows {
+pub fn add_rows(run: &Run<'_>, lines: &mut Lines<'_>) {
+    match once_more!(lines, Resolve, Err(ResolveFault::Memory), rows_of(run)) {
         Ok(rows) => {
-            lines.add(alloc, "rows", &rows.len())?;
+            lines.add("rows", &rows.len());
             for row in &rows {
-                add_row(alloc, lines, row)?;
+                add_row(run.alloc, lines, row);
             }
-            Ok(())
         }
-        Err(fault) => lines.add(alloc, "no-rows", &fault),
+        Err(fault) => lines.add("no-rows", &fault),
     }
 }
 
 /// Adds two settings of a row with their sources.
-fn add_row(alloc: Global, lines: &mut Lines<'_>, row: &TestRow) -> Result<(), AllocError> {
-    let source = row.source(Setting::ThreadsRequired);
-    lines.add(
-        alloc,
-        "row-threads",
-        &(row.threads_required, source_text(alloc, source)?),
-    )?;
-    let source = row.source(Setting::Retries);
-    lines.add(
-        alloc,
-        "row-retries",
-        &(row.retries, source_text(alloc, source)?),
-    )
+fn add_row(alloc: Global, lines: &mut Lines<'_>, row: &TestRow) {
+    let threads = &row.threads_required;
+    let source = source_text(alloc, row.source(Setting::ThreadsRequired));
+    add_setting(lines, "row-threads", threads, source);
+    let source = source_text(alloc, row.source(Setting::Retries));
+    add_setting(lines, "row-retries", &row.retries, source);
+}
+
+/// Adds a setting with what decides it.
+fn add_setting<V: Debug>(
+    lines: &mut Lines<'_>,
+    name: &str,
+    value: &V,
+    source: Result<String, AllocError>,
+) {
+    if let Some(source) = lines.made(source) {
+        lines.add(name, &(value, source));
+    }
 }
 
 /// What decides a setting of a row.
 fn source_text(alloc: Global, source: Option<&PlainSource>) -> Result<String, AllocError> {
-    match source {
-        None => String::from_str(alloc, "none"),
-        Some(PlainSource::Default) => String::from_str(alloc, "default"),
-        Some(PlainSource::Profile) => String::from_str(alloc, "profile"),
-        Some(PlainSource::Script) => String::from_str(alloc, "script"),
+    let word = match source {
+        None => "none",
+        Some(PlainSource::Default) => "default",
+        Some(PlainSource::Profile) => "profile",
+        Some(PlainSource::Script) => "script",
         Some(
             PlainSource::Override {
                 source,
                 profile,
                 index,
             },
-        ) => override_text(alloc, source, profile.as_str(), *index),
-    }
+        ) => return override_text(alloc, source, profile.as_str(), *index),
+    };
+    String::from_str(alloc, word)
 }
 
 /// The rows of a case's tests in a profile.
-fn rows_of<'a>(
-    alloc: Global,
-    case: &'a Case<'_>,
-    features: &'a BTreeSet<ConfigExperimental>,
-    profile: &str,
-    platforms: &BuildPlatforms<String>,
-) -> Result<Vec<TestRow>, ResolveFault> {
+fn rows_of(run: &Run<'_>) -> Result<Vec<TestRow>, ResolveFault> {
+    let case = run.case;
     let inputs = Inputs {
         paths: &case.paths,
-        selection: selection_of(case),
+        selection: run.selection(),
         tools: &case.tools,
-        features,
+        features: run.features,
     };
-    let mode = NextestRunMode::Test;
-    let mut sink = DefaultConfigWarnings::new(alloc);
-    let mut tally = ToyTally::new();
     resolve(
-        alloc,
+        run.alloc,
         &inputs,
         &ENGINES,
-        profile,
-        platforms,
-        mode,
+        run.profile,
+        run.platforms,
+        NextestRunMode::Test,
         &case.tests,
-        &mut sink,
-        &mut tally,
+        &mut DefaultConfigWarnings::new(run.alloc),
+        &mut ToyTally::new(),
     )
 }

@@ -1,11 +1,12 @@
 //! What a profile gives to tests and binaries.
-use crate::lines::{Call, Lines, override_text};
-use crate::profile::Profile;
+use crate::lines::{Call, Lines, once_more, override_text};
+use crate::run::{Profile, Run};
 use nextest_config::{
-    BinaryQuery, EvalContext, Filters, GroupLookup, NameMatcher, NextestRunMode,
+    BinaryQuery, EvalContext, Filters, GroupLookup, NameMatcher, NextestRunMode, OverrideId,
     PrecomputedGroupMembership, SettingSource, SetupScript, TestQuery, TestSettings,
 };
 use std::alloc::{AllocError, Global};
+use std::fmt::Debug;
 use toy_engines::filters::{ToyFilters, ToyTally};
 use toy_engines::platforms::ToySpecs;
 
@@ -14,115 +15,99 @@ type Source<'cfg> = SettingSource<'cfg, ToyFilters, ToySpecs>;
 /// Settings that know where they come from.
 type Settings<'cfg> = TestSettings<'cfg, ToyFilters, ToySpecs, Source<'cfg>>;
 
-/// What decides a setting, by a copy of an override's id.
-fn source_text(alloc: Global, source: &Source<'_>) -> Result<String, AllocError> {
-    match source {
-        SettingSource::Default => String::from_str(alloc, "default"),
-        SettingSource::Profile => String::from_str(alloc, "profile"),
-        SettingSource::Script(_) => String::from_str(alloc, "script"),
-        SettingSource::Override(rule) => {
-            let id = rule.id().clone().or_else(|_| rule.id().clone())?;
-            override_text(alloc, &id.config_source, id.profile_name.as_str(), id.index)
-        }
-    }
-}
-
 /// Adds whether the default filter holds for a test, and some of its settings with their sources.
 pub fn add_test(
     alloc: Global,
     lines: &mut Lines<'_>,
     profile: &Profile<'_>,
     test: &TestQuery<'_>,
-) -> Result<(), AllocError> {
+) {
     let mut tally = ToyTally::new();
     let context = profile.filterset_ecx();
-    let is_default = ToyFilters::matches_test(
-        context.default_filter,
-        0,
-        test,
-        &context,
-        &mut tally,
-    );
-    lines.add_of(alloc, "is-default", test.test_name, &is_default)?;
+    let filter = context.default_filter;
+    let is_default = ToyFilters::matches_test(filter, 0, test, &context, &mut tally);
+    lines.add_of("is-default", test.test_name, &is_default);
     let settings = profile.settings_with_source_for(NextestRunMode::Test, test, &mut tally);
-    add_settings(alloc, lines, test.test_name, &settings)
+    add_settings(alloc, lines, test.test_name, &settings);
 }
 
 /// Adds some settings of a test with their sources.
-fn add_settings(
+fn add_settings(alloc: Global, lines: &mut Lines<'_>, test: &str, settings: &Settings<'_>) {
+    let (threads, source) = settings.threads_required_with_source();
+    add_setting(alloc, lines, "threads-of", test, &threads, source);
+    let (retries, source) = settings.retries_with_source();
+    add_setting(alloc, lines, "retries-of", test, &retries, source);
+    let (slow, source) = settings.slow_timeout_with_source();
+    add_setting(alloc, lines, "slow-timeout-of", test, &slow, source);
+    let (leak, source) = settings.leak_timeout_with_source();
+    add_setting(alloc, lines, "leak-timeout-of", test, &leak, source);
+    let (group, source) = settings.test_group_with_source();
+    if let Some(group) = lines.made(group.to_string(alloc)) {
+        add_setting(alloc, lines, "test-group-of", test, &group, source);
+    }
+}
+
+/// Adds a setting of a test with what decides it.
+fn add_setting<V: Debug>(
     alloc: Global,
     lines: &mut Lines<'_>,
+    name: &str,
     test: &str,
-    settings: &Settings<'_>,
-) -> Result<(), AllocError> {
-    let (threads, source) = settings.threads_required_with_source();
-    lines.add_of(
-        alloc,
-        "threads-of",
-        test,
-        &(threads, source_text(alloc, &source)?),
-    )?;
-    let (retries, source) = settings.retries_with_source();
-    lines.add_of(
-        alloc,
-        "retries-of",
-        test,
-        &(retries, source_text(alloc, &source)?),
-    )?;
-    let (slow, source) = settings.slow_timeout_with_source();
-    lines.add_of(
-        alloc,
-        "slow-timeout-of",
-        test,
-        &(slow, source_text(alloc, &source)?),
-    )?;
-    let (leak, source) = settings.leak_timeout_with_source();
-    lines.add_of(
-        alloc,
-        "leak-timeout-of",
-        test,
-        &(leak, source_text(alloc, &source)?),
-    )?;
-    let (group, source) = settings.test_group_with_source();
-    lines.add_of(
-        alloc,
-        "test-group-of",
-        test,
-        &(group.to_string(alloc)?, source_text(alloc, &source)?),
-    )
+    value: &V,
+    source: Source<'_>,
+) {
+    if let Some(source) = lines.made(source_text(alloc, source)) {
+        lines.add_of(name, test, &(value, source));
+    }
+}
+
+/// What decides a setting.
+fn source_text(alloc: Global, source: Source<'_>) -> Result<String, AllocError> {
+    let word = match source {
+        SettingSource::Default => "default",
+        SettingSource::Profile => "profile",
+        SettingSource::Script(_) => "script",
+        SettingSource::Override(rule) => return id_text(alloc, rule.id()),
+    };
+    String::from_str(alloc, word)
+}
+
+/// An override by a copy of its id, which is made once more after want of memory.
+fn id_text(alloc: Global, id: &OverrideId) -> Result<String, AllocError> {
+    let copy = match id.clone() {
+        Ok(copy) => copy,
+        Err(_) => id.clone()?,
+    };
+    override_text(alloc, &copy.config_source, copy.profile_name.as_str(), copy.index)
 }
 
 /// Adds the program that wraps the listing of a binary's tests.
-pub fn add_binary(
-    alloc: Global,
-    lines: &mut Lines<'_>,
-    profile: &Profile<'_>,
-    binary: &BinaryQuery<'_>,
-) -> Result<(), AllocError> {
-    let mut tally = ToyTally::new();
-    let settings = profile.list_settings_for(binary, &mut tally);
-    let program = settings
-        .list_wrapper()
-        .map(|wrapper| wrapper.command.program.as_str());
-    lines.add_of(alloc, "list-wrapper-of", binary.binary_id, &program)
+pub fn add_binary(lines: &mut Lines<'_>, profile: &Profile<'_>, binary: &BinaryQuery<'_>) {
+    let settings = profile.list_settings_for(binary, &mut ToyTally::new());
+    let program = match settings.list_wrapper() {
+        Some(wrapper) => Some(wrapper.command.program.as_str()),
+        None => None,
+    };
+    lines.add_of("list-wrapper-of", binary.binary_id, &program);
 }
 
 /// Adds the setup scripts that tests enable, in order, and which test enables which.
-pub fn add_setup_scripts(
-    alloc: Global,
-    lines: &mut Lines<'_>,
-    profile: &Profile<'_>,
-    tests: &[TestQuery<'_>],
-) -> Result<(), AllocError> {
+pub fn add_setup_scripts(run: &Run<'_>, lines: &mut Lines<'_>, profile: &Profile<'_>) {
+    let tests = &run.case.tests;
+    let made = once_more!(
+        lines,
+        SetupScripts,
+        Err(AllocError),
+        profile.setup_scripts(run.alloc, tests, &mut ToyTally::new())
+    );
+    let Some(scripts) = lines.made(made) else {
+        return;
+    };
+    lines.add("setup-scripts", &scripts.len());
     let context = profile.filterset_ecx();
-    let scripts = lines.ask(Call::SetupScripts, || {
-        profile.setup_scripts(alloc, tests, &mut ToyTally::new())
-    })?;
-    lines.add(alloc, "setup-scripts", &scripts.len())?;
     for script in scripts.iter() {
-        add_setup_script(alloc, lines, &script, tests, &context)?;
+        add_setup_script(run.alloc, lines, &script, tests, &context);
     }
-    Ok(())
 }
 
 /// Adds the program of a setup script, and the names of the tests that enable it.
@@ -132,17 +117,29 @@ fn add_setup_script(
     script: &SetupScript<'_, '_, ToyFilters, ToySpecs>,
     tests: &[TestQuery<'_>],
     context: &EvalContext<'_, <ToyFilters as Filters>::Expr>,
-) -> Result<(), AllocError> {
-    let mut tally = ToyTally::new();
+) {
+    if let Some(names) = lines.made(names_of(alloc, script, tests, context)) {
+        let id = script.id().as_identifier().as_str();
+        let program = script.config().command.program.as_str();
+        lines.add_of("setup-script", id, &(program, names));
+    }
+}
+
+/// The names of the tests that enable a setup script.
+fn names_of<'a>(
+    alloc: Global,
+    script: &SetupScript<'_, '_, ToyFilters, ToySpecs>,
+    tests: &[TestQuery<'a>],
+    context: &EvalContext<'_, <ToyFilters as Filters>::Expr>,
+) -> Result<Vec<&'a str>, AllocError> {
     let mut names = Vec::new(alloc);
+    let mut tally = ToyTally::new();
     for test in tests {
         if script.is_enabled(test, context, &mut tally) {
             names.push(test.test_name)?;
         }
     }
-    let id = script.id().as_identifier().as_str();
-    let program = script.config().command.program.as_str();
-    lines.add_of(alloc, "setup-script", id, &(program, names))
+    Ok(names)
 }
 
 /// Matches one name.
@@ -160,22 +157,23 @@ impl<'a> NameMatcher for Named<'a> {
 }
 
 /// Adds how many tests are in groups, and the names of the members of some groups.
-pub fn add_groups(
-    alloc: Global,
-    lines: &mut Lines<'_>,
-    profile: &Profile<'_>,
-    tests: &[TestQuery<'_>],
-    groups: &[&str],
-) -> Result<(), AllocError> {
-    let members = lines.ask(Call::PrecomputeGroupMemberships, || {
-        profile.precompute_group_memberships(alloc, tests, &mut ToyTally::new())
-    })?;
-    lines.add(alloc, "memberships", &members)?;
-    for group in groups {
-        let names = members_of(alloc, &members, tests, group)?;
-        lines.add_of(alloc, "members-of", group, &names)?;
+pub fn add_groups(run: &Run<'_>, lines: &mut Lines<'_>, profile: &Profile<'_>) {
+    let tests = &run.case.tests;
+    let made = once_more!(
+        lines,
+        PrecomputeGroupMemberships,
+        Err(AllocError),
+        profile.precompute_group_memberships(run.alloc, tests, &mut ToyTally::new())
+    );
+    let Some(members) = lines.made(made) else {
+        return;
+    };
+    lines.add("memberships", &members);
+    for group in &run.case.groups {
+        if let Some(names) = lines.made(members_of(run.alloc, &members, tests, group)) {
+            lines.add_of("members-of", group, &names);
+        }
     }
-    Ok(())
 }
 
 /// The names of the tests that are members of a group.

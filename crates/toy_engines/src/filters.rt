@@ -1,5 +1,5 @@
 //! The engine of filters.
-ghost use Rattle.std.specs.Prelude.{◌≡◌, ◌++◌, [], Ok, Err, IfOk, IfErr, map, refl, string_bytes};
+ghost use Rattle.std.specs.Prelude.{◌≡◌, ◌++◌, ◌∷◌, [], Ok, Err, IfOk, IfErr, map, refl, string_bytes};
 ghost use Rattle.std.specs.List.{flat_map, list_any};
 ghost use Rattle.nextest_engines.specs.Engines.{IfFilterRefused};
 ghost use Rattle.toy_engines.specs.FilterValues.{Filter, match_all as nothing_asked, term_of, lists_of, filter_of, subject_of};
@@ -15,9 +15,14 @@ use nextest_engines::{
 };
 use std::alloc::{AllocError, Global};
 
-/// The rules that were evaluated. It has no bytes.
+/// How many numbers of rules a tally keeps, at most.
+const KEPT_COUNT: usize = 32;
+
+/// The rules that were evaluated, and the numbers of the first of them.
 #[derive(Drop)]
 pub struct ToyTally {
+    first: [usize; KEPT_COUNT],
+    count: usize,
     rules: RuleHistory,
 }
 
@@ -31,8 +36,26 @@ impl ToyTally {
         ensures { result.rules ≡ [] }
     {
         ToyTally {
+            first: [0; KEPT_COUNT],
+            count: 0,
             rules: RuleHistory::new(),
         }
+    }
+
+    /// Adds a rule's number, which is kept if there is room.
+    fn note(&mut self, rule: usize)
+        ensures { self.new.rules ≡ self.old.rules ++ rule ∷ [] }
+    {
+        if let Some(number) = self.first.get_mut(self.count) {
+            *number = rule;
+            self.count = self.count.saturating_add(1);
+        }
+        self.rules.push(rule);
+    }
+
+    /// The numbers of the rules that were evaluated first, in order.
+    pub fn first_rules(&self) -> &[usize] {
+        &self.first[..self.count.min(KEPT_COUNT)]
     }
 }
 
@@ -171,7 +194,7 @@ impl Filters for ToyFilters {
         cx: &EvalContext<'_, ToyExpr>,
         tally: &mut ToyTally,
     ) -> bool {
-        tally.rules.push(rule);
+        tally.note(rule);
         let subject = Subject {
             binary_id: query.binary_query.binary_id,
             test_name: Some(query.test_name),
@@ -186,7 +209,7 @@ impl Filters for ToyFilters {
         cx: &EvalContext<'_, ToyExpr>,
         tally: &mut ToyTally,
     ) -> Option<bool> {
-        tally.rules.push(rule);
+        tally.note(rule);
         let subject = Subject {
             binary_id: query.binary_id,
             test_name: None,
