@@ -21,8 +21,6 @@
 mod escapes;
 mod platforms;
 mod row;
-#[cfg(test)]
-mod tests;
 
 use platforms::defined_row;
 use row::{RowError, answer_to};

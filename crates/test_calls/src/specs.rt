@@ -1,11 +1,11 @@
-//! The engine of platforms, asked through its trait.
+//! The engine of platforms, called through its trait.
 use nextest_engines::{SpecFault, Specs};
 use std::alloc::{AllocError, Global};
 use std::test::Fail;
 use target_language::TargetSpecs;
 use target_platforms::Platform;
 
-/// What a text is worth on a platform, or the message with which the engine refuses it.
+/// The value of a spec on a platform as it prints, or the message that refuses its text.
 fn answer<S: Specs>(
     engine: &S,
     alloc: Global,
@@ -25,7 +25,7 @@ fn answer<S: Specs>(
 fn answers_through_the_trait(rt: HostRuntime) -> Result<(), Fail> {
     let alloc = rt.alloc();
     let platform = Platform::builtin(alloc, "x86_64-unknown-linux-gnu")?;
-    for (text, told) in [
+    for (text, wanted) in [
         ("cfg(unix)", "Some(true)"),
         ("cfg(windows)", "Some(false)"),
         ("cfg(target_feature = \"sse2\")", "None"),
@@ -52,7 +52,7 @@ fn answers_through_the_trait(rt: HostRuntime) -> Result<(), Fail> {
         ),
     ] {
         let answer = answer(&TargetSpecs, alloc, text, &platform)?;
-        assert_eq!(rt; answer.as_str(), told, "of {text:?}");
+        assert_eq!(rt; answer.as_str(), wanted, "of {text:?}");
     }
     Ok(())
 }
