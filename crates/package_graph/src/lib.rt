@@ -9,8 +9,6 @@ mod laws;
 mod member_set;
 mod metadata;
 mod search;
-#[cfg(test)]
-mod tests;
 mod values;
 
 pub use fault::{MetadataFault, Place};

@@ -10,7 +10,12 @@ pub fn add_early(run: &Run<'_>, lines: &mut Lines<'_>, early: &Early<'_>) {
     lines.add("early-store-dir", &early.store_dir());
     lines.add("has-junit", &early.has_junit());
     lines.add("test-groups", &early.test_group_config().len());
-    let made = once_more!(lines, KnownGroups, Err(AllocError), early.known_groups(run.alloc));
+    let made = once_more!(
+        lines,
+        KnownGroups,
+        Err(AllocError),
+        early.known_groups(run.alloc)
+    );
     if let Some(groups) = lines.made(made) {
         lines.add("known-groups", &groups);
     }
@@ -35,12 +40,7 @@ fn add_names(run: &Run<'_>, lines: &mut Lines<'_>, profile: &Profile<'_>) {
 }
 
 /// Adds the ids of a table of scripts, in order.
-fn add_ids<V>(
-    alloc: Global,
-    lines: &mut Lines<'_>,
-    name: &str,
-    scripts: &IndexMap<ScriptId, V>,
-) {
+fn add_ids<V>(alloc: Global, lines: &mut Lines<'_>, name: &str, scripts: &IndexMap<ScriptId, V>) {
     if let Some(ids) = lines.made(ids_of(alloc, scripts)) {
         lines.add(name, &ids);
     }
@@ -63,7 +63,12 @@ fn add_places(run: &Run<'_>, lines: &mut Lines<'_>, profile: &Profile<'_>) {
         lines.add("junit", &junit);
     }
     let filter = profile.default_filter();
-    let made = once_more!(lines, DisplayConfig, Err(AllocError), filter.display_config(run.alloc));
+    let made = once_more!(
+        lines,
+        DisplayConfig,
+        Err(AllocError),
+        filter.display_config(run.alloc)
+    );
     if let Some(place) = lines.made(made) {
         lines.add("default-filter", &place);
     }

@@ -85,7 +85,12 @@ fn add_config(run: &Run<'_>, lines: &mut Lines<'_>, config: &Config) {
 
 /// Adds the lines of the warnings that a configuration kept.
 fn add_warnings(run: &Run<'_>, lines: &mut Lines<'_>, config: &Config) {
-    let made = once_more!(lines, Lines, Err(AllocError), config.warnings().lines(run.alloc));
+    let made = once_more!(
+        lines,
+        Lines,
+        Err(AllocError),
+        config.warnings().lines(run.alloc)
+    );
     if let Some(warnings) = lines.made(made) {
         lines.add("warnings", &warnings);
     }

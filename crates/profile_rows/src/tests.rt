@@ -16,12 +16,7 @@ type Source<'cfg> = SettingSource<'cfg, ToyFilters, ToySpecs>;
 type Settings<'cfg> = TestSettings<'cfg, ToyFilters, ToySpecs, Source<'cfg>>;
 
 /// Adds whether the default filter holds for a test, and some of its settings with their sources.
-pub fn add_test(
-    alloc: Global,
-    lines: &mut Lines<'_>,
-    profile: &Profile<'_>,
-    test: &TestQuery<'_>,
-) {
+pub fn add_test(alloc: Global, lines: &mut Lines<'_>, profile: &Profile<'_>, test: &TestQuery<'_>) {
     let mut tally = ToyTally::new();
     let context = profile.filterset_ecx();
     let filter = context.default_filter;
@@ -78,7 +73,12 @@ fn id_text(alloc: Global, id: &OverrideId) -> Result<String, AllocError> {
         Ok(copy) => copy,
         Err(_) => id.clone()?,
     };
-    override_text(alloc, &copy.config_source, copy.profile_name.as_str(), copy.index)
+    override_text(
+        alloc,
+        &copy.config_source,
+        copy.profile_name.as_str(),
+        copy.index,
+    )
 }
 
 /// Adds the program that wraps the listing of a binary's tests.

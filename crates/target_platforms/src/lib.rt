@@ -13,8 +13,6 @@ pub mod laws;
 mod lines;
 mod row;
 mod table;
-#[cfg(test)]
-mod tests;
 
 pub use fault::PlatformFault;
 pub use row::TargetRow;

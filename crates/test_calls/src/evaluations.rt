@@ -141,7 +141,7 @@ fn is_listed(profile: &CountedProfile<'_>, asked: &Asked) -> bool {
         && is_counted(&tally.counts, OVERRIDES, is_wrapped)
 }
 
-/// Whether what is asked is answered, by as few evaluations as may be.
+/// Whether each row gets what it names, by as few evaluations as may be.
 fn are_answered(profile: &CountedProfile<'_>, rows: &[Asked]) -> bool {
     for asked in rows {
         if !is_decided(profile, asked) || !is_traced(profile, asked) || !is_listed(profile, asked) {
@@ -151,7 +151,7 @@ fn are_answered(profile: &CountedProfile<'_>, rows: &[Asked]) -> bool {
     true
 }
 
-/// Whether the profile `default` of the rules answers what is asked.
+/// Whether the profile `default` of the rules gives each row what it names.
 fn is_answered(alloc: Global, config: &CountedConfig) -> Result<bool, Fail> {
     let profile = profile_of(alloc, config, "default")?;
     Ok(are_answered(&profile, &ASKED))

@@ -1,11 +1,10 @@
 //! Writers that take little, nothing, or fail, while every setting of rows is written with its place:
 //! what they took is a beginning of the lines.
-use crate::loads::workspace_paths;
+use crate::inputs::{inputs_of, workspace_paths};
 use crate::queries::test_of;
-use nextest_config::run::{Inputs, ResolveFault, TestRow, resolve};
+use nextest_config::run::{ResolveFault, TestRow, resolve};
 use nextest_config::{
-    BuildPlatforms, ConfigExperimental, ConfigFileSelection, ConfigPaths, DefaultConfigWarnings,
-    NextestRunMode, ParseContext, TestQuery,
+    BuildPlatforms, DefaultConfigWarnings, NextestRunMode, ParseContext, TestQuery,
 };
 use nextest_explain::{ExplainFault, explain_all};
 use std::alloc::Global;
@@ -19,16 +18,6 @@ use toy_engines::platforms::ToySpecs;
 /// Two overrides, of which the first holds for both tests and the second for one.
 const FILE: &str =
     "[[profile.default.overrides]]\nfilter = 'test(a)'\nretries = 5\n[[profile.default.overrides]]\nfilter = 'test(ab)'\npriority = 10\n";
-
-/// The files of a run: those of a workspace alone.
-fn inputs_of<'a>(paths: &'a ConfigPaths, features: &'a BTreeSet<ConfigExperimental>) -> Inputs<'a> {
-    Inputs {
-        paths,
-        selection: ConfigFileSelection::new(None),
-        tools: &[],
-        features,
-    }
-}
 
 /// The rows of tests in the default profile.
 fn rows_of(alloc: Global, tests: &[TestQuery<'_>]) -> Result<Vec<TestRow>, ResolveFault> {
@@ -55,7 +44,7 @@ fn rows_of(alloc: Global, tests: &[TestQuery<'_>]) -> Result<Vec<TestRow>, Resol
     )
 }
 
-/// What a writer answers that takes no more.
+/// What a writer returns that takes no more.
 #[derive(Clone, Copy)]
 enum End {
     Error(ErrorKind),
@@ -94,7 +83,7 @@ impl Write for Reluctant {
     }
 }
 
-/// Writes rows to a reluctant writer, and gives it back with the answer.
+/// Writes rows to a reluctant writer, and returns it with the result.
 fn explained(
     alloc: Global,
     rows: &[TestRow],
@@ -113,7 +102,7 @@ fn explained(
     (out, answer)
 }
 
-/// Writes rows where there is room for some bytes alone, and asks that these are all that went out.
+/// Writes rows to a writer that has room for some bytes, and checks that it took these and no more.
 fn check_beginning(
     rt: &(impl AllocGlobal + Abort),
     rows: &[TestRow],

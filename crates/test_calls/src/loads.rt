@@ -1,22 +1,11 @@
 //! Loads of a file in memory, with all features.
+use crate::inputs::workspace_paths;
 use nextest_config::{
-    ConfigExperimental, ConfigParseError, ConfigPath, ConfigPaths, ConfigWarnings, FileInput,
-    Filters, NextestConfig, ParseContext, ReadOutcome, Specs, ToolConfigFile,
+    ConfigExperimental, ConfigParseError, ConfigPaths, ConfigWarnings, Filters, NextestConfig,
+    ParseContext, Specs, ToolConfigFile,
 };
 use std::alloc::{AllocError, Global};
 use std::collections::BTreeSet;
-
-/// The paths of a workspace whose own file has this text.
-pub fn workspace_paths(alloc: Global, text: &str) -> Result<ConfigPaths, AllocError> {
-    let shared = FileInput {
-        path: ConfigPath::new(alloc, "/w/.config/nextest.toml")?,
-        outcome: ReadOutcome::Text(String::from_str(alloc, text)?),
-    };
-    Ok(ConfigPaths {
-        workspace_root: String::from_str(alloc, "/w")?,
-        shared,
-    })
-}
 
 /// All features.
 fn all_features(alloc: Global) -> Result<BTreeSet<ConfigExperimental>, AllocError> {
@@ -26,7 +15,7 @@ fn all_features(alloc: Global) -> Result<BTreeSet<ConfigExperimental>, AllocErro
     Ok(features)
 }
 
-/// Loads the files of a workspace by engines, and tells warnings to a sink.
+/// Loads the files of a workspace by engines, and reports warnings to a sink.
 fn load_paths<F: Filters, S: Specs, W: ConfigWarnings>(
     alloc: Global,
     engines: &ParseContext<'_, F, S>,
@@ -42,7 +31,7 @@ fn load_paths<F: Filters, S: Specs, W: ConfigWarnings>(
     )
 }
 
-/// Loads a workspace whose own file has this text, by engines, and tells warnings to a sink.
+/// Loads a workspace whose own file has this text, by engines, and reports warnings to a sink.
 pub fn load_text<F: Filters, S: Specs, W: ConfigWarnings>(
     alloc: Global,
     engines: &ParseContext<'_, F, S>,
@@ -52,7 +41,7 @@ pub fn load_text<F: Filters, S: Specs, W: ConfigWarnings>(
     load_files(alloc, engines, text, &[], sink)
 }
 
-/// Loads a workspace whose own file has this text, and files of tools, by engines, and tells
+/// Loads a workspace whose own file has this text, and files of tools, by engines, and reports
 /// warnings to a sink.
 pub fn load_files<F: Filters, S: Specs, W: ConfigWarnings>(
     alloc: Global,

@@ -1,9 +1,9 @@
 //! A repository's file of usual shape: regexes, sets of packages, globs and platforms.
-use nextest_config::run::{Inputs, ResolveFault, TestRow, resolve};
+use crate::inputs::{inputs_of, workspace_paths};
+use nextest_config::run::{ResolveFault, TestRow, resolve};
 use nextest_config::{
-    BinaryQuery, BuildPlatform, BuildPlatforms, ConfigExperimental, ConfigFileSelection,
-    ConfigPath, ConfigPaths, DefaultConfigWarnings, FileInput, NextestRunMode, ParseContext,
-    ReadOutcome, Setting, TestQuery,
+    BinaryQuery, BuildPlatform, BuildPlatforms, DefaultConfigWarnings, NextestRunMode,
+    ParseContext, Setting, TestQuery,
 };
 use nextest_filters::{NextestFilters, NextestTally, PackageGraph};
 use std::alloc::{AllocError, Global};
@@ -77,34 +77,12 @@ fn test_of<'a>(binary_id: &'a str, kind: &'a str, test_name: &'a str) -> TestQue
     }
 }
 
-/// The paths of a workspace whose own file is that of these tests.
-fn workspace_paths(alloc: Global) -> Result<ConfigPaths, AllocError> {
-    let shared = FileInput {
-        path: ConfigPath::new(alloc, "/w/.config/nextest.toml")?,
-        outcome: ReadOutcome::Text(String::from_str(alloc, FILE)?),
-    };
-    Ok(ConfigPaths {
-        workspace_root: String::from_str(alloc, "/w")?,
-        shared,
-    })
-}
-
 /// The platforms of a build on Linux.
 fn platforms(alloc: Global) -> Result<BuildPlatforms<Platform>, Fail> {
     Ok(BuildPlatforms {
         host: Platform::builtin(alloc, "x86_64-unknown-linux-gnu")?,
         target: None,
     })
-}
-
-/// The files of a run: those of a workspace alone.
-fn inputs_of<'a>(paths: &'a ConfigPaths, features: &'a BTreeSet<ConfigExperimental>) -> Inputs<'a> {
-    Inputs {
-        paths,
-        selection: ConfigFileSelection::new(None),
-        tools: &[],
-        features,
-    }
 }
 
 /// What the profile `ci` of the file gives to tests.
@@ -114,7 +92,7 @@ fn rows_of(
     platforms: &BuildPlatforms<Platform>,
     tests: &[TestQuery<'_>],
 ) -> Result<Vec<TestRow>, ResolveFault> {
-    let paths = workspace_paths(alloc)?;
+    let paths = workspace_paths(alloc, FILE)?;
     let features = BTreeSet::new(alloc);
     let engines = ParseContext {
         filters,

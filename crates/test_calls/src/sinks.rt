@@ -7,7 +7,7 @@ use std::test::Fail;
 use toy_engines::filters::ToyFilters;
 use toy_engines::platforms::ToySpecs;
 
-/// The engines that a load asks.
+/// The engines of a load.
 const ENGINES: ParseContext<'static, ToyFilters, ToySpecs> = ParseContext {
     filters: &ToyFilters,
     specs: &ToySpecs,

@@ -96,7 +96,7 @@ fn check_whole(
     Ok((out.taken, err.taken))
 }
 
-/// Runs the program where both writers fail after so many bytes, which are too few, and asks how
+/// Runs the program where both writers fail after so many bytes, which are too few, and checks how
 /// many bytes each took.
 fn check_failing(
     rt: &(impl AllocGlobal + Abort),
