@@ -24,13 +24,15 @@ pub fn report_of(run: &Run<'_>) -> Result<String, AllocError> {
 
 /// Loads the files of a case, and once more after want of memory.
 fn load_once_more(run: &Run<'_>, lines: &mut Lines<'_>) -> Result<Config, ConfigParseError> {
-    match load(run) {
-        Err(error) if matches!(error.kind(), ConfigParseErrorKind::Memory) => {
-            lines.note_again(Call::FromSources);
-            load(run)
-        }
-        loaded => loaded,
+    let error = match load(run) {
+        Ok(config) => return Ok(config),
+        Err(error) => error,
+    };
+    if !matches!(error.kind(), ConfigParseErrorKind::Memory) {
+        return Err(error);
     }
+    lines.note_again(Call::FromSources);
+    load(run)
 }
 
 /// Loads the files of a case. Without a file of the organisation the warnings are kept.
