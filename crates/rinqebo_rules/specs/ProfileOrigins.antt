@@ -1,5 +1,5 @@
 -- Where values of profiles come from, as it is told.
-use Rattle.std.specs.Prelude.{◌≡◌, ◌≢◌, ◌⊎◌, ◌++◌, ℕ, zero, suc, List, [], ◌∷◌, Option, None, Some, Vec, codes, true}
+use Rattle.std.specs.Prelude.{◌≡◌, ◌≢◌, ◌⊎◌, ◌++◌, ℕ, zero, suc, List, [], ◌∷◌, Option, None, Some, Vec, codes, true, false}
 use Rattle.std.specs.declared.alloc.Global.{Global}
 use Rattle.std.specs.List.{AllByRecursion, AllZip}
 use Rattle.config_grounds.specs.Grounds.{AreGrounds, Writes, profile_path}
@@ -10,7 +10,7 @@ use Rattle.rinqebo_files.specs.declared.layers.Layer.{Layer}
 use Rattle.rinqebo_report.specs.declared.origin.Origin.{Origin}
 use Rattle.rinqebo_report.specs.declared.origin.Origin.TheVariants as kinds
 use Rattle.rinqebo_report.specs.declared.origin.Part.TheVariants as parts
-use Rattle.rinqebo_request.specs.Keys.{is_report}
+use Rattle.rinqebo_request.specs.Keys.{is_report, is_rule_key}
 use Rattle.rinqebo_rules.specs.Origins.{IsWrittenAt, key_steps}
 use Rattle.rinqebo_rules.specs.Trees.{trees_of}
 
@@ -63,10 +63,12 @@ AreOriginsWritten layers chain table name origins =
     (AreWrittenOrigins layers chain table name origins.items × (origins.items ≢ []))
     ⊎ (AreWrittenOrigins layers chain table name [] × (origins.items ≡ kinds.BuiltIn ∷ []))
 
--- Nothing that is written counts for a setting: it is one of a report and no profile of the chain has
--- one written, or no profile writes the setting, or only a table without leaves.
+-- Nothing that is written counts for a setting: rules alone write it, or it is one of a report and no
+-- profile of the chain has one written, or no profile writes the setting, or only a table without
+-- leaves.
 pub data IsBuiltIn (layers : List Layer) (chain : List Name) (table : Option (List ℕ))
     (name : List ℕ) : Type 0 where
+  no_key : is_rule_key table name ≡ true → IsBuiltIn layers chain table name
   no_report : HasNoReport (trees_of layers) chain table → IsBuiltIn layers chain table name
   no_profile : IsUnwritten (trees_of layers) chain (key_path table name)
       → IsBuiltIn layers chain table name
@@ -78,6 +80,6 @@ pub data AreProfileOrigins (layers : List Layer) (chain : List Name) (table : Op
     (name : List ℕ) (origins : List Origin) : Type 0 where
   built_in : IsBuiltIn layers chain table name → origins ≡ kinds.BuiltIn ∷ []
       → AreProfileOrigins layers chain table name origins
-  written : ¬ HasNoReport (trees_of layers) chain table
+  written : is_rule_key table name ≡ false → ¬ HasNoReport (trees_of layers) chain table
       → AreWrittenOrigins layers chain table name origins → origins ≢ []
       → AreProfileOrigins layers chain table name origins

@@ -133,8 +133,9 @@ fn written_origins(
     origins_at(alloc, layers, &grounds.layers, *profile, key)
 }
 
-/// Where the value at a key comes from, where no rule decides it: the layers that write the value of
-/// the nearest profile, or nothing that is written. Without a report nothing is stored in one.
+/// The origins of the value at a key that no rule sets: the layers that write the value of the nearest
+/// profile, or none where the default is built in. A key of rules alone is none of a profile, also where
+/// a file writes it there, and without a report nothing is stored in one.
 pub fn profile_grounds(
     alloc: Global,
     layers: &[Layer],
@@ -144,6 +145,9 @@ pub fn profile_grounds(
     ensures { IfOk result (λ origins. AreProfileOrigins layers.now (keys_view chain.now)
         (option_map (λ table. table.now) key.table) key.key.now origins.items) }
 {
+    if key.is_of_rules() {
+        return built_in(alloc);
+    }
     let trees = trees_of(alloc, layers)?;
     if !is_counted(alloc, &trees, chain, key)? {
         return built_in(alloc);
