@@ -1,5 +1,5 @@
 -- The keys of settings, as files write them.
-use Rattle.std.specs.Prelude.{ℕ, Bool, true, false, List, ◌++◌, Option, None, Some, codes, if◌then◌else◌}
+use Rattle.std.specs.Prelude.{ℕ, Bool, false, List, ◌++◌, Option, None, Some, codes}
 use Rattle.std.specs.Str.{bytes_eq}
 use Rattle.nextest_elements.specs.declared.run_mode.NextestRunMode.{NextestRunMode}
 use Rattle.nextest_elements.specs.declared.run_mode.NextestRunMode.TheVariants.{Benchmark}
@@ -29,14 +29,6 @@ key_name s = setting_name s
 abbrev pub is_report : Option (List ℕ) → Bool
 is_report None = false
 is_report (Some name) = bytes_eq name (codes "junit")
-
--- whether rules alone write a key: a profile has no such key
-abbrev pub is_rule_key : Option (List ℕ) → List ℕ → Bool
-is_rule_key None name =
-    if bytes_eq name (codes "priority") then true
-    else if bytes_eq name (codes "test-group") then true
-    else bytes_eq name (codes "run-wrapper")
-is_rule_key (Some table) name = false
 
 -- a key behind its table, with a dot between them
 abbrev pub dotted : Option (List ℕ) → List ℕ → List ℕ

@@ -2,7 +2,7 @@
 ghost use Rattle.std.specs.Prelude.{◌≡◌, ◌≢◌, ◌↔◌, IfOk, IsTrue, MatchOption, Some, codes, map, option_map, string_bytes};
 ghost use Rattle.nextest_settings.specs.Settings.{settings};
 ghost use Rattle.nextest_settings.specs.declared.setting.Setting.{Setting};
-ghost use Rattle.rinqebo_request.specs.Keys.{key_table, key_name, is_report, is_rule_key, dotted, key_text};
+ghost use Rattle.rinqebo_request.specs.Keys.{key_table, key_name, is_report, dotted, key_text};
 
 use nextest_config::{NextestRunMode, Setting};
 use std::alloc::{AllocError, Global};
@@ -56,18 +56,6 @@ impl SettingKey {
         match self.table {
             Some(table) => table == "junit",
             None => false,
-        }
-    }
-
-    /// Whether rules alone write it: a profile has no such key.
-    pub fn is_of_rules(self) -> bool
-        ensures { result ≡ is_rule_key (option_map (λ table. table.now) self.table) self.key.now }
-    {
-        match self.table {
-            Some(_) => false,
-            None => {
-                self.key == "priority" || self.key == "test-group" || self.key == "run-wrapper"
-            }
         }
     }
 

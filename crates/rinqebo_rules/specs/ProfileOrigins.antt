@@ -1,7 +1,8 @@
 -- Where values of profiles come from, as it is told.
-use Rattle.std.specs.Prelude.{◌≡◌, ◌≢◌, ◌⊎◌, ◌++◌, ℕ, zero, suc, List, [], ◌∷◌, Option, None, Some, Vec, codes, true, false}
+use Rattle.std.specs.Prelude.{◌≡◌, ◌≢◌, ◌⊎◌, ◌++◌, ℕ, zero, suc, List, [], ◌∷◌, Option, None, Some, Vec, Bool, true, false, codes, if◌then◌else◌}
 use Rattle.std.specs.declared.alloc.Global.{Global}
 use Rattle.std.specs.List.{AllByRecursion, AllZip}
+use Rattle.std.specs.Str.{bytes_eq}
 use Rattle.config_grounds.specs.Grounds.{AreGrounds, Writes, profile_path}
 use Rattle.nextest_documents.specs.Shown.{Path}
 use Rattle.nextest_tables.specs.Written.{Name}
@@ -10,7 +11,7 @@ use Rattle.rinqebo_files.specs.declared.layers.Layer.{Layer}
 use Rattle.rinqebo_report.specs.declared.origin.Origin.{Origin}
 use Rattle.rinqebo_report.specs.declared.origin.Origin.TheVariants as kinds
 use Rattle.rinqebo_report.specs.declared.origin.Part.TheVariants as parts
-use Rattle.rinqebo_request.specs.Keys.{is_report, is_rule_key}
+use Rattle.rinqebo_request.specs.Keys.{is_report}
 use Rattle.rinqebo_rules.specs.Origins.{IsWrittenAt, key_steps}
 use Rattle.rinqebo_rules.specs.Trees.{trees_of}
 
@@ -18,6 +19,14 @@ use Rattle.rinqebo_rules.specs.Trees.{trees_of}
 abbrev pub key_path : Option (List ℕ) → List ℕ → Path
 key_path None name = name ∷ []
 key_path (Some table) name = table ∷ name ∷ []
+
+-- whether rules alone write a key: a profile has no such key
+abbrev pub is_rule_key : Option (List ℕ) → List ℕ → Bool
+is_rule_key None name =
+    if bytes_eq name (codes "priority") then true
+    else if bytes_eq name (codes "test-group") then true
+    else bytes_eq name (codes "run-wrapper")
+is_rule_key (Some table) name = false
 
 -- where a profile says whether a report is written
 abbrev pub report_path : Path
