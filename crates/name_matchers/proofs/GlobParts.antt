@@ -2,7 +2,7 @@
 use Rattle.std.proofs.Common.{◌≡◌, ℕ, ◌+◌, ◌-◌, ◌<◌, ◌↔◌, Bool, true, false, List, [], ◌∷◌, ◌++◌, length, drop, take, get_or, refl, sym, ap, ◌∙◌, subst, ⊎_elim, inl, inr, arith, true≢false}
 use Rattle.std.proofs.lemmas.List.{drop_more, drop-drop, length-drop, take_all}
 use Rattle.std.proofs.lemmas.List.Elements.{All-head, All-tail}
-use Rattle.name_matchers.specs.Globs.{is_special, opens, is_whole, is_last, folders_part, behind, Row, end, part, class, group, WritesFolders, WritesLast, WritesPart, WritesRow, RowTakes, GlobMatches, IsPlain}
+use Rattle.name_matchers.specs.Globs.{is_special, opens, is_whole, is_last, folders_part, behind, Row, end, part, class, group, WritesFolders, WritesLast, WritesPart, WritesRow, RowTakes, IsGlob, GlobMatches, IsPlain}
 use Rattle.name_matchers.specs.GlobReading.{BeginsFolders, BeginsLast}
 use Rattle.std.specs.Prelude.{if◌then◌else◌}
 use Rattle.name_matchers.specs.declared.glob.place.Place.{Place}
@@ -305,3 +305,8 @@ plain_is_equality text name plain = (
       (subst (λ row. RowTakes row name) (only_plain found.0 250 Start text plain found.1) found.2),
   λ same. (bytes_row text, writes_plain 250 Start text plain, (takes_itself text name).1 same),
 )
+
+-- A plain text writes a glob.
+pub plain_is_glob : (text : List ℕ) → IsPlain text → IsGlob text
+unfolding IsGlob
+plain_is_glob text plain = (bytes_row text, writes_plain 250 Start text plain)

@@ -1,6 +1,6 @@
 //! Globs over whole names.
-ghost use Rattle.std.specs.Prelude.{◌≡◌, ◌↔◌, ℕ, List, string_bytes, IfOk, IfErr, OnOk, IsTrue, ◌⊎◌};
-ghost use Rattle.name_matchers.specs.Globs.{IsGlob, GlobMatches, IsGlobMachine};
+ghost use Rattle.std.specs.Prelude.{◌≡◌, ◌↔◌, ℕ, List, string_bytes, IfOk, IfErr, OnOk, IsTrue, ◌⊎◌, MatchOption};
+ghost use Rattle.name_matchers.specs.Globs.{IsGlob, GlobMatches, IsGlobMachine, IsPlain};
 
 mod class;
 mod part;
@@ -9,6 +9,7 @@ mod place;
 mod row;
 
 use crate::machine::Machine;
+use part::is_plain;
 use pattern::whole_pattern;
 use row::read_row;
 use std::alloc::{AllocError, Global};
@@ -38,11 +39,12 @@ impl From<AllocError> for GlobFault {
     }
 }
 
-/// A glob that is compiled.
+/// A glob that is compiled. One without special bytes takes the name that it is, and has no
+/// automaton.
 #[derive(Drop)]
 pub struct GlobMatcher {
     text: String,
-    machine: Machine,
+    machine: Option<Machine>,
 }
 
 /// The text that writes it.
@@ -51,7 +53,8 @@ impl Model for GlobMatcher {
 
     ghost view = { λ glob. string_bytes glob.text };
 
-    ghost invariant = { λ glob. IsGlobMachine (string_bytes glob.text) glob.machine.nfa };
+    ghost invariant = { λ glob. MatchOption glob.machine (IsPlain (string_bytes glob.text))
+        (λ machine. IsGlobMachine (string_bytes glob.text) machine.nfa) };
 }
 
 // The levels of groups that a glob may have.
@@ -70,10 +73,19 @@ impl GlobMatcher {
         ensures refused { IfErr result
             (λ fault. (fault ≡ GlobFault.Memory) ⊎ (IsGlob text.now → ⊥)) }
     {
-        let (patterns, _len) = read_row(alloc, text.as_bytes(), false, MOST_LEVELS)?;
-        let machine = Machine::compile(alloc, &whole_pattern(alloc, patterns)?, 1)?;
+        if is_plain(text.as_bytes()) {
+            let text = String::from_str(alloc, text)?;
+            return Ok(GlobMatcher {
+                text,
+                machine: None,
+            });
+        }
+        let machine = compile(alloc, text)?;
         let text = String::from_str(alloc, text)?;
-        Ok(GlobMatcher { text, machine })
+        Ok(GlobMatcher {
+            text,
+            machine: Some(machine),
+        })
     }
 
     /// The text that writes the glob.
@@ -87,6 +99,36 @@ impl GlobMatcher {
     pub fn has_match(&self, name: &str) -> bool
         ensures { IsTrue result ↔ GlobMatches self.now name.now }
     {
-        self.machine.has_match(name.as_bytes())
+        match &self.machine {
+            None => is_same(self.text.as_str(), name),
+            Some(machine) => is_taken(machine, name),
+        }
     }
+}
+
+// Whether a name is this text.
+fn is_same(text: &str, name: &str) -> bool
+    ensures { IsTrue result ↔ (name.now ≡ text.now) }
+{
+    text == name
+}
+
+// Whether a glob with this automaton takes a whole name.
+fn is_taken(machine: &Machine, name: &str) -> bool
+    ensures { (text : List ℕ) → IsGlobMachine text machine.now.nfa
+        → IsTrue result ↔ GlobMatches text name.now }
+{
+    machine.has_match(name.as_bytes())
+}
+
+// The automaton for the glob of a text.
+fn compile(alloc: Global, text: &str) -> Result<Machine, GlobFault>
+    ensures machine { IfOk result (λ machine. IsGlobMachine text.now machine.nfa) }
+    ensures written { OnOk result (IsGlob text.now) }
+    ensures refused { IfErr result
+        (λ fault. (fault ≡ GlobFault.Memory) ⊎ (IsGlob text.now → ⊥)) }
+{
+    let (patterns, _len) = read_row(alloc, text.as_bytes(), false, MOST_LEVELS)?;
+    let machine = Machine::compile(alloc, &whole_pattern(alloc, patterns)?, 1)?;
+    Ok(machine)
 }

@@ -28,6 +28,18 @@ fn is_special(byte: u8) -> bool
     matches!(byte, b'?' | b'*' | b'[' | b'\\' | b'{' | b'}')
 }
 
+/// Whether no byte of a text is special, so that the glob takes that name alone.
+pub fn is_plain(text: &[u8]) -> bool
+    ensures { IsTrue result ↔ globs.IsPlain text.now }
+{
+    for byte in text {
+        if is_special(*byte) {
+            return false;
+        }
+    }
+    true
+}
+
 /// Whether a row ends before this text: a glob with the text, and a branch of a group before a comma
 /// or a closing brace.
 pub fn ends_row(inside: bool, text: &[u8]) -> bool

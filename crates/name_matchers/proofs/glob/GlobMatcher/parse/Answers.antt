@@ -1,25 +1,6 @@
-use Rattle.std.proofs.lemmas.Result.{err_from_is_err_and}
-use Rattle.regex_hir.specs.Meaning.{meaning}
-use Rattle.name_matchers.proofs.GlobMachines.{glob_ends, glob_machine, glob_of, refused_glob}
+use Rattle.name_matchers.proofs.GlobParts.{plain_is_glob}
 use Rattle.name_matchers.proofs.glob.GlobMatcher.parse.Goals as goal
 
-pub returns-in_err-patterns-clause-refused : goal.returns-in_err-patterns-clause-refused
-returns-in_err-patterns-clause-refused c =
-    let p = err_from_is_err_and c.from_residual.result c.from_residual.ensures.1 in
-    rw (p.1, p.2) (refused_glob c.args.text.now c.in_err-patterns.field-0.0
-    (rw c.as_bytes.ensures.value at c.in_err-patterns.ensures.refused))
-
-pub invariant_of-result : goal.invariant_of-result
-invariant_of-result c =
-    let ends = rw c.as_bytes.ensures.value at c.in_ok-patterns.ensures.ends in
-    rw c.in_ok-text.ensures.ok
-    (glob_machine c.args.text.now c.in_ok-patterns.patterns.items _ c.in_ok-machine.machine.nfa
-    (meaning c.in_ok-whole_pattern.field-0)
-    (rw c.as_bytes.ensures.value at c.in_ok-patterns.ensures.row) (glob_ends _ ends.1)
-    c.in_ok-whole_pattern.ensures c.in_ok-machine.ensures)
-
-pub returns-clause-written : goal.returns-clause-written
-returns-clause-written c =
-    let ends = rw c.as_bytes.ensures.value at c.in_ok-patterns.ensures.ends in
-    glob_of c.args.text.now c.in_ok-patterns.patterns.items _
-    (rw c.as_bytes.ensures.value at c.in_ok-patterns.ensures.row) (glob_ends _ ends.1)
+pub returns-then-is_plain-clause-written : goal.returns-then-is_plain-clause-written
+returns-then-is_plain-clause-written c =
+    plain_is_glob c.args.text.now (rw c.as_bytes.ensures.value at (c.is_plain.ensures.0 c.if-is_plain.true))
