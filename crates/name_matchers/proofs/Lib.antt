@@ -5,6 +5,7 @@ pub mod Reading
 pub mod Steps
 pub mod Searches
 pub mod Turns
+pub mod Parts
 pub mod RegexTexts
 pub mod GlobParts
 pub mod GlobPatterns

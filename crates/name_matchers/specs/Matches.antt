@@ -24,6 +24,6 @@ Matches (regex text) name = RegexMatches text name
 -- what a matcher asks
 abbrev pub question_of : NameMatcher → NameQuestion
 question_of (Equal text) = equal (string_bytes text)
-question_of (Contains text) = contains (string_bytes text)
+question_of (Contains text) = contains text
 question_of (Glob text) = glob text
 question_of (Regex text) = regex text

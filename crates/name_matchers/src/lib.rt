@@ -7,8 +7,10 @@
 mod glob;
 mod machine;
 mod name_matcher;
+mod part_matcher;
 mod regex_matcher;
 
 pub use glob::{GlobFault, GlobMatcher};
 pub use name_matcher::{NameMatcher, law_decided_globs, law_plain_glob};
+pub use part_matcher::PartMatcher;
 pub use regex_matcher::{RegexFault, RegexMatcher};

@@ -7,6 +7,7 @@ ghost use Rattle.name_matchers.specs.Matches as asked;
 ghost use Rattle.name_matchers.specs.Matches.{Matches, question_of};
 
 use crate::glob::{GlobFault, GlobMatcher};
+use crate::part_matcher::PartMatcher;
 use crate::regex_matcher::{RegexFault, RegexMatcher};
 use std::alloc::{AllocError, Global};
 
@@ -16,7 +17,7 @@ pub enum NameMatcher {
     /// The name is this text.
     Equal(String),
     /// The text is a part of the name.
-    Contains(String),
+    Contains(PartMatcher),
     /// The glob takes the whole name.
     Glob(GlobMatcher),
     /// The regular expression has a match somewhere in the name.
@@ -35,7 +36,7 @@ impl NameMatcher {
     pub fn contains(alloc: Global, text: &str) -> Result<NameMatcher, AllocError>
         ensures { IfOk result (λ matcher. question_of matcher ≡ asked.contains text.now) }
     {
-        Ok(NameMatcher::Contains(String::from_str(alloc, text)?))
+        Ok(NameMatcher::Contains(PartMatcher::new(alloc, text)?))
     }
 
     /// Asks for a name that the glob of this text takes.
@@ -73,7 +74,7 @@ impl NameMatcher {
     {
         match self {
             NameMatcher::Equal(text) => text.as_str() == name,
-            NameMatcher::Contains(text) => name.contains(text.as_str()),
+            NameMatcher::Contains(part) => part.has_match(name),
             NameMatcher::Glob(glob) => glob.has_match(name),
             NameMatcher::Regex(regex) => regex.has_match(name),
         }
