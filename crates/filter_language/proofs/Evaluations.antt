@@ -199,6 +199,14 @@ spelled_value answers marks f spells below =
     let it = (is_evaluated answers f).loose spells.1 [] (omega (arith, below)) in
     ap (marks_value answers) (sym spells.0) ∙ ap (λ (s : Stack). said s.inner) (it.3 []) ∙ it.2
 
+-- Behind a filter no level stands open.
+pub spelled_closed : {L : Type 0} (answers : Question L → Option Bool) (marks : List (Mark L)) (f : Formula L)
+    → Spells marks f → nesting f ≤ 128
+    → (with_marks answers (at fresh []) marks).outer ≡ []
+spelled_closed answers marks f spells below =
+    let it = (is_evaluated answers f).loose spells.1 [] (omega (arith, below)) in
+    ap (λ l. (with_marks answers (at fresh []) l).outer) (sym spells.0) ∙ ap (λ (s : Stack). s.outer) (it.3 [])
+
 -- The value of a filter is that of its questions' answers.
 pub value_is : {L : Type 0} (accepts : L → List ℕ → Bool) (s : Subject) (f : Formula L)
     → formula_value (answer accepts s) f ≡ value accepts s f

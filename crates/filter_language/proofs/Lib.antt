@@ -3,6 +3,9 @@ pub mod Blanks
 pub mod Packages
 pub mod Stacks
 pub mod Evaluations
+pub mod Skipping
+pub mod Depths
+pub mod DefaultFilters
 pub mod Readings
 pub mod Truths
 pub mod Shapes

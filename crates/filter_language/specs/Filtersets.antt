@@ -11,7 +11,12 @@ use Rattle.filter_language.specs.Evaluation.{marks_value}
 -- The marks of a filter in memory. What matches everything is `all()`.
 abbrev pub marks_view : {M L : Type 0} → (M → L) → filterset.Filterset M → List (Mark L)
 marks_view meaning Everything = Asked Always ∷ []
-marks_view meaning (Marks marks) = map (mark_view meaning) marks.items
+marks_view meaning (Marks marks) = map (mark_view meaning) marks.marks.items
+
+-- Whether a filter in memory names the default filter.
+abbrev pub names_default : {M : Type 0} → filterset.Filterset M → Bool
+names_default Everything = false
+names_default (Marks marks) = marks.names_default
 
 -- A binary and perhaps a test of it, where the default filter says something.
 abbrev pub subject_of : Binary → Option (List ℕ) → Option Bool → Subject

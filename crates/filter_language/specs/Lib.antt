@@ -7,6 +7,8 @@ pub mod Evaluation
 pub mod Truth
 pub mod Bodies
 pub mod Reading
+pub mod FilterMarks
+pub mod Skipping
 pub mod Filtersets
 pub mod Nesting
 pub mod Bans

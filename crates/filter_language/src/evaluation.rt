@@ -1,9 +1,11 @@
 //! What a filter says of a test or a binary.
 ghost use Rattle.std.specs.Prelude.{◌≡◌, [], map, MatchOption};
 ghost use Rattle.filter_language.specs.Formula.{pattern_view, question_view};
-ghost use Rattle.filter_language.specs.Grammar.{mark_view};
+ghost use Rattle.filter_language.specs.Grammar.{Asked, mark_view};
 ghost use Rattle.filter_language.specs.Values.{known_and, known_or, package_name, subject_view, field_answer, answer};
-ghost use Rattle.filter_language.specs.Evaluation.{known_view, stack_view, fresh, said, flipped_if, with_operand, flipped as flipped_of, behind, opened, closed_by, with_mark, marks_value};
+ghost use Rattle.filter_language.specs.Evaluation.{Stack, known_view, stack_view, fresh, said, flipped_if, with_operand, flipped as flipped_of, behind, opened, closed_by, with_mark, marks_value};
+ghost use Rattle.filter_language.specs.FilterMarks.{depth_behind};
+ghost use Rattle.filter_language.specs.Skipping.{is_decided, Agree};
 
 use crate::mark::{Mark, Match, Question};
 use crate::matchers::Matchers;
@@ -141,6 +143,13 @@ impl Level {
         }
     }
 
+    /// Whether no operand before the next `or` changes what is said.
+    fn is_decided(self) -> bool
+        ensures { result ≡ is_decided (known_view self) }
+    {
+        matches!((self.either, self.both), (Some(true), _) | (_, Some(false)))
+    }
+
     /// What is said so far.
     fn value(self) -> Option<bool>
         ensures { result ≡ said (known_view self) }
@@ -189,14 +198,15 @@ impl Levels {
         }
     }
 
-    /// A `(`.
-    #[tactic(auto, using(crate::proofs::Stacks::stack_length))]
+    /// A `(`. Where the level around it is decided, so is the new one from its start, and nothing in
+    /// it is evaluated.
     fn open(&mut self)
-        ensures { stack_view self.new ≡ opened (stack_view self.old) }
+        ensures { (all : Stack) → Agree (stack_view self.old) all
+            → Agree (stack_view self.new) (opened all) }
     {
         if !self.outer.is_full() {
             self.outer.push(self.inner);
-            self.inner = Level::behind(Some(false));
+            self.inner = Level::behind(Some(self.inner.is_decided()));
         }
     }
 
@@ -210,15 +220,27 @@ impl Levels {
         }
     }
 
-    /// A mark. A question is answered by the subject.
+    /// A question. It is not evaluated where the level is decided.
+    fn ask<E: Matchers>(&mut self, question: &Question<E::Matcher>, subject: Subject<'_>)
+        ensures { (all : Stack) → Agree (stack_view self.old) all
+            → Agree (stack_view self.new)
+            (with_mark (answer E.accepts (subject_view subject.entry)) all
+            (Asked (question_view E.meaning question.now))) }
+    {
+        if !self.inner.is_decided() {
+            self.inner = self.inner.with(question_value::<E>(question, subject));
+        }
+    }
+
+    /// A mark.
     fn add<E: Matchers>(&mut self, mark: &Mark<E::Matcher>, subject: Subject<'_>)
-        ensures { stack_view self.new ≡ with_mark (answer E.accepts (subject_view subject.entry))
-            (stack_view self.old) (mark_view E.meaning mark.now) }
+        ensures { (all : Stack) → Agree (stack_view self.old) all
+            → Agree (stack_view self.new)
+            (with_mark (answer E.accepts (subject_view subject.entry)) all
+            (mark_view E.meaning mark.now)) }
     {
         match mark {
-            Mark::Predicate(question) => {
-                self.inner = self.inner.with(question_value::<E>(question, subject));
-            }
+            Mark::Predicate(question) => self.ask::<E>(question, subject),
             Mark::Not | Mark::Minus => self.inner = self.inner.flipped(),
             Mark::Open => self.open(),
             Mark::Close => self.close(),
@@ -230,6 +252,7 @@ impl Levels {
 
 /// What the marks of a filter say, or `None` where that depends on the test.
 pub fn value_of<E: Matchers>(marks: &[Mark<E::Matcher>], subject: Subject<'_>) -> Option<bool>
+    requires { depth_behind 0 marks.now ≡ 0 }
     ensures { result ≡ marks_value (answer E.accepts (subject_view subject.entry))
         (map (mark_view E.meaning) marks.now) }
 {

@@ -10,10 +10,11 @@ ghost use Rattle.filter_language.specs.Places.{IfMisread, StandsIn, IfRefused};
 ghost use Rattle.nextest_engines.specs.Engines.{binary_view, test_view};
 ghost use Rattle.filter_language.specs.Values.{answer, of_test, subject_view};
 ghost use Rattle.filter_language.specs.Evaluation.{marks_value};
-ghost use Rattle.filter_language.specs.Filtersets.{marks_view, subject_of, marks_value_beside, says_true};
+ghost use Rattle.filter_language.specs.Filtersets.{marks_view, names_default, subject_of, marks_value_beside, says_true};
 
 use crate::evaluation::{Subject, value_of};
 use crate::fault::{FiltersetFault, ParseFault, Span, Stop};
+use crate::filter_marks::FilterMarks;
 use crate::mark::{Mark, Question};
 use crate::matchers::Matchers;
 use crate::reading::read_marks;
@@ -27,7 +28,7 @@ pub enum Filterset<M> {
     /// What matches everything.
     Everything,
     /// What was written, mark by mark.
-    Marks(Vec<Mark<M>>),
+    Marks(FilterMarks<M>),
 }
 
 /// The refusal of a text.
@@ -56,11 +57,21 @@ fn value<E: Matchers>(filter: &Filterset<E::Matcher>, subject: Subject<'_>) -> O
 {
     match filter {
         Filterset::Everything => Some(true),
-        Filterset::Marks(marks) => value_of::<E>(marks, subject),
+        Filterset::Marks(marks) => value_of::<E>(&marks.marks, subject),
     }
 }
 
-/// What a filter says beside a default filter.
+/// Whether a filter names the default filter.
+fn names_default<M>(filter: &Filterset<M>) -> bool
+    ensures { result ≡ names_default filter.now }
+{
+    match filter {
+        Filterset::Everything => false,
+        Filterset::Marks(marks) => marks.names_default,
+    }
+}
+
+/// What a filter says beside a default filter, which is evaluated where the filter names it.
 fn value_beside<E: Matchers>(
     filter: &Filterset<E::Matcher>,
     default: &Filterset<E::Matcher>,
@@ -71,22 +82,19 @@ fn value_beside<E: Matchers>(
         (subject_of (binary_view binary.entry) (option_map (λ name. name.now) test_name.entry))
         (marks_view E.meaning default.now) (marks_view E.meaning filter.now) }
 {
-    let alone = value::<E>(
-        default,
-        Subject {
-            binary,
-            test_name,
-            default: Some(true),
-        },
-    );
-    value::<E>(
-        filter,
-        Subject {
-            binary,
-            test_name,
-            default: alone,
-        },
-    )
+    let alone = Subject {
+        binary,
+        test_name,
+        default: Some(true),
+    };
+    if !names_default(filter) {
+        return value::<E>(filter, alone);
+    }
+    let beside = Subject {
+        default: value::<E>(default, alone),
+        ..alone
+    };
+    value::<E>(filter, beside)
 }
 
 /// Whether a value is known and true.
@@ -160,7 +168,7 @@ impl<M: Drop> Filterset<M> {
             refusal.span.start + refusal.span.length ≤ length text.now)) }
     {
         match read_marks(engine, alloc, text, kind) {
-            Ok(marks) => Ok(Filterset::Marks(marks)),
+            Ok(marks) => Ok(Filterset::Marks(FilterMarks::new(marks))),
             Err(stop) => Err(refused(text, stop)),
         }
     }
@@ -204,7 +212,7 @@ impl<M: Drop> Filterset<M> {
     {
         match self {
             Filterset::Everything => Ok(Vec::new(alloc)),
-            Filterset::Marks(marks) => leaves_of::<E>(alloc, marks),
+            Filterset::Marks(marks) => leaves_of::<E>(alloc, &marks.marks),
         }
     }
 }

@@ -3,7 +3,8 @@
 //!
 //! A filter is kept as the list of its marks, in the order in which they are written. Reading and
 //! evaluation each go once over that list with the open levels on a stack of their own, so no call
-//! nests as deep as a text, and an evaluation takes no memory.
+//! nests as deep as a text, and an evaluation takes no memory. It steps over each mark, and does not
+//! evaluate a predicate that can no longer change the value.
 //!
 //! # The seam
 //!
@@ -23,6 +24,7 @@
 
 mod evaluation;
 mod fault;
+mod filter_marks;
 mod filterset;
 mod laws;
 mod mark;

@@ -128,7 +128,7 @@ impl<M> fmt::Display for Filterset<M> {
     fn fmt<W: fmt::Write>(&self, f: &mut fmt::Formatter<W>) -> fmt::Result {
         match self {
             Filterset::Everything => f.write_str("all"),
-            Filterset::Marks(marks) => write_marks(marks, f),
+            Filterset::Marks(marks) => write_marks(&marks.marks, f),
         }
     }
 }

@@ -9,6 +9,7 @@ use Rattle.filter_language.specs.Grammar.{Mark, mark_view}
 use Rattle.filter_language.specs.Places.{misreading_view, IfMisread, IfRefused}
 use Rattle.filter_language.specs.Predicates.{Compiler}
 use Rattle.filter_language.specs.Writing.{IsNoFilter}
+use Rattle.filter_language.proofs.Depths.{filters_close}
 use Rattle.filter_language.proofs.Writings.{filter_is_read, read_is_filter}
 use Rattle.filter_language.proofs.filterset.Filterset.parse.Goals as goal
 
@@ -35,14 +36,17 @@ unwritten_is {L} compiler knows kind text (Misread m) wrong =
     (ap (result_map_both (λ (ms : List (Mark L)). ms) (fault_in text)) wrong)
 unwritten_is compiler knows kind text Memory wrong = tt
 
+pub new-requires : goal.new-requires
+new-requires g c = filters_close g.E.Matchers.meaning c.in-Ok.marks.items c.in-Ok.ensures.ok
+
 pub returns-in-Ok-clause-written : goal.returns-in-Ok-clause-written
 returns-in-Ok-clause-written g c =
     let compiler = g.E.Matchers.compiled c.args.engine.now in
     let knows = g.E.Matchers.knows_packages c.args.engine.now in
     let marks : List (Mark g.E.Matchers.Meaning) = map (mark_view g.E.Matchers.meaning) c.in-Ok.marks.items in
-    read_is_filter compiler knows c.args.kind c.args.text.now marks
+    rw c.new.ensures (read_is_filter compiler knows c.args.kind c.args.text.now marks
     (ap (result_map_both (λ (ms : List (Mark g.E.Matchers.Meaning)). ms) (fault_in c.args.text.now))
-    c.in-Ok.ensures.value)
+    c.in-Ok.ensures.value))
 
 pub returns-in-Err-clause-unwritten : goal.returns-in-Err-clause-unwritten
 returns-in-Err-clause-unwritten g c =
