@@ -19,6 +19,7 @@ mod list_text;
 mod progress;
 mod run;
 mod show;
+mod unset;
 mod why;
 
 pub use answer::Answer;

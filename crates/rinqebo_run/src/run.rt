@@ -23,6 +23,7 @@ use crate::list_page::AskedList;
 use crate::list_text::write_list;
 use crate::progress::ProgressLine;
 use crate::show::show;
+use crate::unset::add_unset;
 use crate::why::why;
 use config_shape::schema_page;
 use rinqebo_files::{GatherFault, Gathered};
@@ -147,6 +148,13 @@ fn notes_of(
     }
 }
 
+/// The notes on an answer, for standard error.
+fn notes_on(alloc: Global, request: &Request<'_>, answer: &Answer) -> Result<String, AllocError> {
+    let mut notes = notes_of(alloc, &answer.report, request.format, request.colour)?;
+    add_unset(alloc, request, answer, &mut notes)?;
+    Ok(notes)
+}
+
 /// Writes an answer: its notes, and then the report.
 fn tell_answer<O: Write, E: Write>(
     alloc: Global,
@@ -162,7 +170,7 @@ fn tell_answer<O: Write, E: Write>(
         (rendered answer.now.report request.now.format request.now.colour) }
 {
     let report = &answer.report;
-    let Ok(notes) = notes_of(alloc, report, request.format, request.colour) else {
+    let Ok(notes) = notes_on(alloc, request, answer) else {
         return refuse_for_memory(err);
     };
     let Ok(text) = render(alloc, report, request.format, request.colour) else {
