@@ -22,6 +22,7 @@ use crate::list_fault::ListFault;
 use crate::list_page::AskedList;
 use crate::list_text::write_list;
 use crate::progress::ProgressLine;
+use crate::read_files::add_read_files;
 use crate::show::show;
 use crate::unset::add_unset;
 use crate::why::why;
@@ -149,9 +150,15 @@ fn notes_of(
 }
 
 /// The notes on an answer, for standard error.
-fn notes_on(alloc: Global, request: &Request<'_>, answer: &Answer) -> Result<String, AllocError> {
+fn notes_on(
+    alloc: Global,
+    request: &Request<'_>,
+    gathered: &Gathered,
+    answer: &Answer,
+) -> Result<String, AllocError> {
     let mut notes = notes_of(alloc, &answer.report, request.format, request.colour)?;
     add_unset(alloc, request, answer, &mut notes)?;
+    add_read_files(alloc, request, gathered, answer, &mut notes)?;
     Ok(notes)
 }
 
@@ -159,6 +166,7 @@ fn notes_on(alloc: Global, request: &Request<'_>, answer: &Answer) -> Result<Str
 fn tell_answer<O: Write, E: Write>(
     alloc: Global,
     request: &Request<'_>,
+    gathered: &Gathered,
     answer: &Answer,
     out: &mut O,
     err: &mut E,
@@ -170,7 +178,7 @@ fn tell_answer<O: Write, E: Write>(
         (rendered answer.now.report request.now.format request.now.colour) }
 {
     let report = &answer.report;
-    let Ok(notes) = notes_on(alloc, request, answer) else {
+    let Ok(notes) = notes_on(alloc, request, gathered, answer) else {
         return refuse_for_memory(err);
     };
     let Ok(text) = render(alloc, report, request.format, request.colour) else {
@@ -239,7 +247,7 @@ fn answer_whole<O: Write, E: Write>(
     let answer = answer_of(alloc, request, gathered, &mut progress);
     progress.clear();
     match answer {
-        Ok(answer) => tell_answer(alloc, request, &answer, out, err),
+        Ok(answer) => tell_answer(alloc, request, gathered, &answer, out, err),
         Err(failure) => refuse(alloc, &failure, request.colour, err),
     }
 }
