@@ -37,7 +37,9 @@ fn shows(content: &Content, key: &str) -> bool {
     match content {
         Content::Explain { test, .. } => test.settings.iter().any(|row| is_built_in(row, key)),
         Content::Why { key: asked, .. } => asked.as_str() == key,
-        Content::ShowConfig { entries, .. } => entries.iter().any(|entry| entry.key.as_str() == key),
+        Content::ShowConfig { entries, .. } => entries
+            .iter()
+            .any(|entry| entry.key.as_str() == key),
         Content::List { .. } | Content::Check => false,
     }
 }

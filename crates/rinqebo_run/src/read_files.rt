@@ -92,7 +92,8 @@ pub fn add_read_files(
     answer: &Answer,
     notes: &mut String,
 ) -> Result<(), AllocError> {
-    if !matches!(request.question, Question::Check { .. }) || !matches!(request.format, Format::Text)
+    if !matches!(request.question, Question::Check { .. })
+        || !matches!(request.format, Format::Text)
     {
         return Ok(());
     }
