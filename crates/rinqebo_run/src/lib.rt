@@ -19,12 +19,13 @@ mod list_scripts;
 mod list_text;
 mod progress;
 mod read_files;
+mod refusing;
 mod run;
 mod show;
+mod telling;
 mod unset;
 mod why;
 
 pub use answer::Answer;
-pub use run::{
-    answer_of, perform, print_schema, refuse_for_memory, refuse_gathering, refuse_words,
-};
+pub use run::{answer_of, perform, print_schema, refuse_gathering, refuse_words};
+pub use telling::refuse_for_memory;
