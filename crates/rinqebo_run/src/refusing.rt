@@ -7,40 +7,18 @@ ghost use Rattle.rinqebo_run.specs.Refused.{HasNoReport, IsReportOfFailure, Tell
 ghost use Rattle.rinqebo_run.specs.Statuses.{failure_status};
 
 use crate::telling::{refuse_for_memory, refuse_message, refuse_with, tell};
-use rinqebo_load::{EngineFault, Failure};
+use rinqebo_load::Failure;
 use rinqebo_report::{Format, Report, render};
-use rinqebo_request::{EngineOptions, Request};
-use std::alloc::{AllocError, Global};
+use rinqebo_request::Request;
+use std::alloc::Global;
 use std::io::Write;
-
-/// Whether the platform that is not known is the target which `CARGO_BUILD_TARGET` sets.
-fn is_of_variable(options: &EngineOptions<'_>, fault: &EngineFault) -> bool {
-    let EngineFault::Platform(triple, _) = fault else {
-        return false;
-    };
-    let triple = Some(triple.as_str());
-    options.target.is_none() && options.build_target == triple && options.host != triple
-}
-
-/// The message that platforms, metadata or a list are not understood.
-fn engine_message(
-    alloc: Global,
-    request: &Request<'_>,
-    fault: &EngineFault,
-) -> Result<String, AllocError> {
-    if is_of_variable(&request.engines, fault) {
-        format!(in alloc; "error: {fault} (`CARGO_BUILD_TARGET` sets the target)\n")
-    } else {
-        format!(in alloc; "error: {fault}\n")
-    }
-}
 
 /// Writes why a run answers nothing to standard error, and returns the exit status.
 pub fn refuse<E: Write>(alloc: Global, failure: &Failure, request: &Request<'_>, err: &mut E) -> u8
     ensures { (result ≡ failure_status failure.now) ⊎ (result ≡ 5) ⊎ (result ≡ 6) }
 {
     match failure {
-        Failure::Engines(fault) => refuse_message(engine_message(alloc, request, fault), 2, err),
+        Failure::Engines(fault) => refuse_message(format!(in alloc; "error: {fault}\n"), 2, err),
         Failure::Refused(report) => refuse_with(alloc, report, request.colour, 3, err),
         Failure::NoProfile(report) => refuse_with(alloc, report, request.colour, 4, err),
         Failure::Memory => refuse_for_memory(err),
