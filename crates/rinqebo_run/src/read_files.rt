@@ -32,6 +32,14 @@ fn below<'a>(root: &str, path: &'a str) -> &'a str {
     }
 }
 
+/// The path of the repository's file as the note shows it.
+fn shown_path<'a>(root: &str, file: &'a FileInput) -> &'a str {
+    match file.path.absolute_path() {
+        "-" => "standard input",
+        path => below(root, path),
+    }
+}
+
 /// Adds the file of a tool to the list of files that were read.
 fn add_tool(
     alloc: Global,
@@ -57,7 +65,7 @@ fn files_read(alloc: Global, gathered: &Gathered) -> Result<String, AllocError> 
     let mut files = String::new(alloc);
     let own = repository_file(gathered);
     if was_read(own) {
-        files.push_str(below(root, own.path.absolute_path()))?;
+        files.push_str(shown_path(root, own))?;
     }
     for tool in &gathered.tools {
         add_tool(alloc, root, tool, &mut files)?;
