@@ -22,10 +22,12 @@ mod read_files;
 mod refusing;
 mod run;
 mod show;
+mod status;
 mod telling;
 mod unset;
 mod why;
 
 pub use answer::Answer;
 pub use run::{answer_of, perform, print_schema, refuse_gathering, refuse_words};
+pub use status::Status;
 pub use telling::refuse_for_memory;

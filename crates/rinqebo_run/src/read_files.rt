@@ -1,5 +1,6 @@
 //! The note of `check` about the files that it read.
 use crate::answer::Answer;
+use crate::status::Status;
 use nextest_config::{FileInput, ReadOutcome, ToolConfigFile};
 use rinqebo_files::Gathered;
 use rinqebo_report::Format;
@@ -86,7 +87,7 @@ fn add_files(
         let note = format!(in alloc; "note: read {files}\n")?;
         return notes.push_str(note.as_str());
     }
-    if answer.status == 3 {
+    if answer.status == Status::Refused as u8 {
         return Ok(());
     }
     notes.push_str("note: found no configuration file; the defaults apply\n")

@@ -6,6 +6,7 @@ ghost use Rattle.rinqebo_report.specs.declared.format.Format.TheVariants as form
 ghost use Rattle.rinqebo_run.specs.Refused.{HasNoReport, IsReportOfFailure, TellsFailure};
 ghost use Rattle.rinqebo_run.specs.Statuses.{failure_status};
 
+use crate::status::Status;
 use crate::telling::{refuse_for_memory, refuse_message, refuse_with, tell};
 use rinqebo_load::Failure;
 use rinqebo_report::{Format, Report, render};
@@ -18,9 +19,16 @@ pub fn refuse<E: Write>(alloc: Global, failure: &Failure, request: &Request<'_>,
     ensures { (result ≡ failure_status failure.now) ⊎ (result ≡ 5) ⊎ (result ≡ 6) }
 {
     match failure {
-        Failure::Engines(fault) => refuse_message(format!(in alloc; "error: {fault}\n"), 2, err),
-        Failure::Refused(report) => refuse_with(alloc, report, request.colour, 3, err),
-        Failure::NoProfile(report) => refuse_with(alloc, report, request.colour, 4, err),
+        Failure::Engines(fault) => {
+            let message = format!(in alloc; "error: {fault}\n");
+            refuse_message(message, Status::Usage as u8, err)
+        }
+        Failure::Refused(report) => {
+            refuse_with(alloc, report, request.colour, Status::Refused as u8, err)
+        }
+        Failure::NoProfile(report) => {
+            refuse_with(alloc, report, request.colour, Status::NoProfile as u8, err)
+        }
         Failure::Memory => refuse_for_memory(err),
     }
 }
@@ -43,10 +51,10 @@ fn status_of_failure(failure: &Failure) -> u8
     ensures { result ≡ failure_status failure.now }
 {
     match failure {
-        Failure::Engines(_) => 2,
-        Failure::Refused(_) => 3,
-        Failure::NoProfile(_) => 4,
-        Failure::Memory => 5,
+        Failure::Engines(_) => Status::Usage as u8,
+        Failure::Refused(_) => Status::Refused as u8,
+        Failure::NoProfile(_) => Status::NoProfile as u8,
+        Failure::Memory => Status::Memory as u8,
     }
 }
 

@@ -25,6 +25,7 @@ use crate::progress::ProgressLine;
 use crate::read_files::add_read_files;
 use crate::refusing::{refuse, refuse_in};
 use crate::show::show;
+use crate::status::Status;
 use crate::telling::{refuse_for_memory, refuse_message, tell};
 use crate::unset::add_unset;
 use crate::why::why;
@@ -44,7 +45,10 @@ fn answered(report: Result<Report, Failure>) -> Result<Answer, Failure>
         ≡ report }
 {
     match report {
-        Ok(report) => Ok(Answer { report, status: 0 }),
+        Ok(report) => Ok(Answer {
+            report,
+            status: Status::Success as u8,
+        }),
         Err(failure) => Err(failure),
     }
 }
@@ -151,10 +155,11 @@ fn tell_answer<O: Write, E: Write>(
     let Ok(text) = render(alloc, report, request.format, request.colour) else {
         return refuse_for_memory(err);
     };
-    match tell(notes.as_str(), 0, err) {
-        0 => tell(text.as_str(), answer.status, out),
-        status => status,
+    let told = tell(notes.as_str(), Status::Success as u8, err);
+    if told != Status::Success as u8 {
+        return told;
     }
+    tell(text.as_str(), answer.status, out)
 }
 
 /// Answers a request with a page that is known whole before it goes out, and answers the exit status.
@@ -217,7 +222,7 @@ fn refuse_list<E: Write>(alloc: Global, fault: &ListFault, request: &Request<'_>
     match fault {
         ListFault::Refused(failure) => refuse(alloc, failure, request, err),
         ListFault::Memory => refuse_for_memory(err),
-        ListFault::Write => 6,
+        ListFault::Write => Status::Write as u8,
     }
 }
 
@@ -241,7 +246,7 @@ fn answer_list<O: Write, E: Write>(
     ensures cause { IsToldBy request.now gathered.now result }
 {
     match write_list(alloc, request, list, gathered, out, err) {
-        Ok(()) => 0,
+        Ok(()) => Status::Success as u8,
         Err(fault) => refuse_list(alloc, &fault, request, err),
     }
 }
@@ -287,7 +292,7 @@ pub fn print_schema<O: Write, E: Write>(alloc: Global, out: &mut O, err: &mut E)
     ensures quiet { result ≡ 5 → O.contents out.new ≡ O.contents out.old }
 {
     match schema_page(alloc) {
-        Ok(text) => tell(text.as_str(), 0, out),
+        Ok(text) => tell(text.as_str(), Status::Success as u8, out),
         Err(_) => refuse_for_memory(err),
     }
 }
@@ -299,8 +304,8 @@ pub fn refuse_words<O: Write, E: Write>(stop: &ParseStop, out: &mut O, err: &mut
         (E.contents err.old) (E.contents err.new) }
 {
     match stop {
-        ParseStop::Help(text) => tell(text.as_str(), 0, out),
-        ParseStop::Usage(text) => tell(text.as_str(), 2, err),
+        ParseStop::Help(text) => tell(text.as_str(), Status::Success as u8, out),
+        ParseStop::Usage(text) => tell(text.as_str(), Status::Usage as u8, err),
         ParseStop::Memory => refuse_for_memory(err),
     }
 }
@@ -311,6 +316,9 @@ pub fn refuse_gathering<E: Write>(alloc: Global, fault: &GatherFault, err: &mut 
 {
     match fault {
         GatherFault::Memory => refuse_for_memory(err),
-        fault => refuse_message(format!(in alloc; "error: {fault}\n"), 2, err),
+        fault => {
+            let message = format!(in alloc; "error: {fault}\n");
+            refuse_message(message, Status::Usage as u8, err)
+        }
     }
 }

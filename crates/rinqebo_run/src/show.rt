@@ -14,6 +14,7 @@ ghost use Rattle.rinqebo_run.specs.ShownConfig.{TellsLeaf, TellLeaves, AreShown,
 use crate::answer::Answer;
 use crate::asked::asked_of;
 use crate::idle::findings_on;
+use crate::status::Status;
 use config_grounds::{Entry as Leaf, entries_of};
 use nextest_config::{DefaultConfigWarnings, NextestRunMode};
 use rinqebo_entries::{reported_entry, steps_of};
@@ -93,8 +94,8 @@ fn status_of(content: &Content) -> u8
     ensures { result ≡ shown_status content.now }
 {
     match content {
-        Content::ShowConfig { entries, .. } if entries.is_empty() => 1,
-        _ => 0,
+        Content::ShowConfig { entries, .. } if entries.is_empty() => Status::Negative as u8,
+        _ => Status::Success as u8,
     }
 }
 

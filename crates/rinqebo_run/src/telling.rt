@@ -2,6 +2,7 @@
 ghost use Rattle.std.specs.Prelude.{◌≡◌, ◌⊎◌, IsOk};
 ghost use Rattle.std.specs.Io.KnownBytes.{Appends};
 
+use crate::status::Status;
 use rinqebo_report::{Colour, Report, render_findings};
 use std::alloc::{AllocError, Global};
 use std::io::{self, Write};
@@ -13,7 +14,7 @@ fn status_of_write(written: io::Result<()>, status: u8) -> u8
 {
     match written {
         Ok(()) => status,
-        Err(_) => 6,
+        Err(_) => Status::Write as u8,
     }
 }
 
@@ -23,7 +24,7 @@ pub fn tell<W: Write>(text: &str, status: u8, out: &mut W) -> u8
     ensures written { (result ≡ 6) ⊎ Appends (W.contents out.old) (W.contents out.new) text.now }
 {
     if out.write_all(text.as_bytes()).is_err() {
-        return 6;
+        return Status::Write as u8;
     }
     status_of_write(out.flush(), status)
 }
@@ -38,7 +39,7 @@ pub fn refuse_for_memory<E: Write>(err: &mut E) -> u8
     ensures message { (result ≡ 6)
         ⊎ Appends (E.contents err.old) (E.contents err.new) OUT_OF_MEMORY.now }
 {
-    tell(OUT_OF_MEMORY, 5, err)
+    tell(OUT_OF_MEMORY, Status::Memory as u8, err)
 }
 
 /// Tells the findings for which a run answers nothing.
