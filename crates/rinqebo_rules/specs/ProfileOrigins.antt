@@ -92,3 +92,15 @@ pub data AreProfileOrigins (layers : List Layer) (chain : List Name) (table : Op
   written : is_rule_key table name ≡ false → ¬ HasNoReport (trees_of layers) chain table
       → AreWrittenOrigins layers chain table name origins → origins ≢ []
       → AreProfileOrigins layers chain table name origins
+
+-- What is written for a setting of the report has no effect where no profile of the chain has a report
+-- written: where it comes from is told, or that it is built in. Else nothing is told.
+pub data AreIdleOrigins (layers : List Layer) (chain : List Name) (table : Option (List ℕ))
+    (name : List ℕ) (origins : Vec Origin Global) : Type 0 where
+  counted : ¬ HasNoReport (trees_of layers) chain table → origins.items ≡ []
+      → AreIdleOrigins layers chain table name origins
+  unwritten : IsUnwritten (trees_of layers) chain (key_path table name) → origins.items ≡ []
+      → AreIdleOrigins layers chain table name origins
+  idle : HasNoReport (trees_of layers) chain table
+      → AreOriginsWritten layers chain table name origins
+      → AreIdleOrigins layers chain table name origins

@@ -4,7 +4,7 @@ ghost use Rattle.std.specs.List.{AllZip};
 ghost use Rattle.config_grounds.specs.Grounds.{AreNearestGrounds};
 ghost use Rattle.config_grounds.specs.Layers.{layers_view, keys_view};
 ghost use Rattle.rinqebo_report.specs.declared.origin.Origin.TheVariants as kinds;
-ghost use Rattle.rinqebo_rules.specs.ProfileOrigins.{AreOriginsWritten, AreProfileOrigins, HasNoReport, IsLayerOrigin, IsUnwritten, is_rule_key, key_path, report_path};
+ghost use Rattle.rinqebo_rules.specs.ProfileOrigins.{AreIdleOrigins, AreOriginsWritten, AreProfileOrigins, HasNoReport, IsLayerOrigin, IsUnwritten, is_rule_key, key_path, report_path};
 ghost use Rattle.rinqebo_rules.specs.Trees.{trees_of};
 
 use crate::rule_places::setting_path;
@@ -166,5 +166,27 @@ pub fn profile_grounds(
     match grounds_of(alloc, &trees, chain, &path)? {
         Some(grounds) => written_origins(alloc, layers, chain, &grounds, key),
         None => built_in(alloc),
+    }
+}
+
+/// The origins of what files write at a key of the JUnit report that has no effect, since no profile of
+/// the chain writes a report. There is none where a report is written.
+pub fn idle_grounds(
+    alloc: Global,
+    layers: &[Layer],
+    chain: &[&str],
+    key: SettingKey,
+) -> Result<Vec<Origin>, AllocError>
+    ensures { IfOk result (AreIdleOrigins layers.now (keys_view chain.now)
+        (option_map (λ table. table.now) key.table) key.key.now) }
+{
+    let trees = trees_of(alloc, layers)?;
+    if is_counted(alloc, &trees, chain, key)? {
+        return Ok(Vec::new(alloc));
+    }
+    let path = key_path(alloc, key)?;
+    match grounds_of(alloc, &trees, chain, &path)? {
+        Some(grounds) => written_origins(alloc, layers, chain, &grounds, key),
+        None => Ok(Vec::new(alloc)),
     }
 }

@@ -1,5 +1,6 @@
 //! The note of `show-config` where nothing is set under its keys.
 use crate::answer::Answer;
+use crate::status::Status;
 use config_shape::{file_shape, keys_of};
 use nextest_config::NextestRunMode;
 use rinqebo_report::Format;
@@ -46,7 +47,7 @@ pub fn add_unset(
     let Question::ShowConfig { keys, .. } = &request.question else {
         return Ok(());
     };
-    if answer.status == 0 || matches!(request.format, Format::Json) {
+    if answer.status == Status::Success as u8 || matches!(request.format, Format::Json) {
         return Ok(());
     }
     for key in keys {
