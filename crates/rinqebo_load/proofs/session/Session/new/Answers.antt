@@ -7,5 +7,9 @@ returns-clause-begun c = record {
   layers = c.in_ok-layers_of.ensures;
   features = c.in_ok-features_of.ensures;
   tests = c.in_ok-tests.ensures.ok;
-  platforms = rw (c.in_ok-triples.ensures.host, c.in_ok-triples.ensures.target) at c.in_ok-new.ensures;
+  filters = c.in_ok-new.ensures.filters;
+  host = c.in_ok-triples.ensures.host;
+  target = c.in_ok-triples.ensures.target;
+  platforms = rw (c.in_ok-triples.ensures.host, c.in_ok-triples.ensures.target) at c.in_ok-new.ensures.platforms;
+  profile_source = refl;
 }
