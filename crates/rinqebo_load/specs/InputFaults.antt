@@ -5,7 +5,6 @@ use Rattle.rinqebo_files.specs.declared.files.Gathered.{Gathered}
 use Rattle.rinqebo_request.specs.declared.request.Request.{Request}
 use Rattle.session_forms.specs.Machines.{IsMachineRefused, IsMetadataFault, IsTargetRefused}
 use Rattle.session_forms.specs.declared.machines.EngineFault.{EngineFault}
-use Rattle.session_forms.specs.declared.machines.EngineFault.TheVariants as engines
 use Rattle.test_lists.specs.Demands.{not_json}
 use Rattle.test_lists.specs.Faults.{fault_view}
 use Rattle.test_lists.specs.ListView.{list_view}
@@ -16,23 +15,11 @@ use Rattle.rinqebo_load.specs.Triples.{IsListFor, host_for, target_for}
 use Rattle.rinqebo_load.specs.declared.fault.InputFault.{InputFault}
 use Rattle.rinqebo_load.specs.declared.fault.InputFault.TheVariants as faults
 
--- ---- what faults name
-
 -- a fault of a list of tests names the path from which the list was read
 abbrev pub NamesList : List ℕ → InputFault → Type 0
 NamesList path (faults.EmptyList file) = option_map string_bytes file.path ≡ Some path
 NamesList path (faults.List told fault) = string_bytes told ≡ path
 NamesList path fault = Unit {0}
-
--- a fault of an engine names the triple of a platform
-abbrev pub TellsTriple : List ℕ → EngineFault → Type 0
-TellsTriple triple (engines.Platform told fault) = string_bytes told ≡ triple
-TellsTriple triple fault = Unit {0}
-
--- a fault of a platform names its triple
-abbrev pub NamesTriple : List ℕ → InputFault → Type 0
-NamesTriple triple (faults.Engine subject fault) = TellsTriple triple fault
-NamesTriple triple fault = Unit {0}
 
 -- ---- causes of faults, want of memory aside
 
@@ -50,14 +37,16 @@ OfEngine Holds (faults.Engine subject fault) = Holds fault
 OfEngine Holds faults.Memory = Unit {0}
 OfEngine Holds fault = ⊥
 
--- the machine that is built for has no platform, or there is no such machine, but what a compiler
--- prints for it
+-- there is no machine that is built for, but what a compiler prints for it
+abbrev pub LacksTarget : Option (String Global) → Option (List ℕ) → InputFault → Type 0
+LacksTarget printed triple faults.NoTarget = (triple ≡ None) × IsTrue (is_some printed)
+LacksTarget printed triple fault = ⊥
+
+-- the machine that is built for has no platform, or there is no such machine
 abbrev pub IsTargetFault : Option (String Global) → Option (List ℕ) → InputFault → Type 0
-IsTargetFault printed triple (faults.Engine subject fault) =
-    IsTargetRefused (option_map (machine_of printed) triple) fault
-IsTargetFault printed triple faults.NoTarget = (triple ≡ None) × IsTrue (is_some printed)
-IsTargetFault printed triple faults.Memory = Unit {0}
-IsTargetFault printed triple fault = ⊥
+IsTargetFault printed triple fault =
+    OfEngine (IsTargetRefused (option_map (machine_of printed) triple)) fault
+    ⊎ LacksTarget printed triple fault
 
 -- a machine of a build has no platform: the target, or the host
 abbrev pub IsBuildFault : List ℕ → Option (List ℕ) → Gathered → InputFault → Type 0

@@ -1,7 +1,7 @@
 //! The languages of filters and platforms, as a request has them.
 ghost use Rattle.std.specs.Prelude.{IfErr, IfOk, option_map, string_bytes};
 ghost use Rattle.session_forms.specs.Machines.{AreFiltersFor, ArePlatformsFor, IsMachineRefused, IsMetadataFault, IsPlatformBy, IsTargetFor};
-ghost use Rattle.rinqebo_load.specs.InputFaults.{IsBuildFault, IsEngineFault, IsTargetFault, NamesTriple, OfEngine};
+ghost use Rattle.rinqebo_load.specs.InputFaults.{IsBuildFault, IsEngineFault, IsTargetFault, OfEngine};
 ghost use Rattle.rinqebo_load.specs.Machines.{machine_of};
 
 use crate::fault::{InputFault, Subject, TripleSource};
@@ -104,8 +104,7 @@ fn named_platform(
     names: MachineNames<'_>,
 ) -> Result<Platform, InputFault>
     ensures ok { IfOk result (IsPlatformBy triple.now (option_map string_bytes cfg.now)) }
-    ensures err { IfErr result (NamesTriple triple.now) }
-    ensures cause { IfErr result
+    ensures err { IfErr result
         (OfEngine (IsMachineRefused (machine_of cfg.now triple.now))) }
 {
     match platform_of(alloc, triple, cfg) {
