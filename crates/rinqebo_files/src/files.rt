@@ -7,7 +7,9 @@ use nextest_config::{
     CONFIG_PATH, ConfigPath, ConfigPaths, FileInput, ReadOutcome, ToolConfigFile, join_paths,
 };
 use nextest_files::FileReader;
-use rinqebo_request::{ConfigFile, Environment, FileOptions, ListFile, Request, ToolFile};
+use rinqebo_request::{
+    ConfigFile, Environment, FileOption, FileOptions, ListFile, NamedFile, Request, ToolFile,
+};
 use std::alloc::{AllocError, Global};
 use thiserror::Error;
 
@@ -39,9 +41,9 @@ pub enum GatherFault {
     /// There is no folder at the path that `--root` names.
     #[error("`--root {0}`: no such directory")]
     NoFolder(String),
-    /// The file at a path that an option names has no text: the path, and why.
-    #[error("cannot read `{0}`: {1}")]
-    Unreadable(String, String),
+    /// A file that an option names has no text: the file, and why.
+    #[error("cannot read {0}: {1}")]
+    Unreadable(NamedFile, String),
     /// Want of memory.
     #[error("out of memory")]
     Memory,
@@ -160,35 +162,35 @@ fn tool_files<R: FileReader>(
     Ok(read)
 }
 
-/// The fault of a file that has no text.
-fn unreadable(alloc: Global, path: &str, reason: &str) -> Result<GatherFault, AllocError> {
-    Ok(GatherFault::Unreadable(
-        String::from_str(alloc, path)?,
-        String::from_str(alloc, reason)?,
-    ))
-}
-
-/// The text that was read at a path.
-fn text_of(alloc: Global, path: &str, outcome: ReadOutcome) -> Result<String, GatherFault> {
-    let fault = match outcome {
+/// The text that was read at the path of an option, or why there is none.
+fn text_of(
+    alloc: Global,
+    path: &str,
+    option: FileOption,
+    outcome: ReadOutcome,
+) -> Result<String, GatherFault> {
+    let reason = match outcome {
         ReadOutcome::Text(text) => return Ok(text),
-        ReadOutcome::NotFound => unreadable(alloc, path, "no such file")?,
-        ReadOutcome::NotADirectory => unreadable(alloc, path, "a part of it is no folder")?,
-        ReadOutcome::Failed(message) => unreadable(alloc, path, message.as_str())?,
+        ReadOutcome::NotFound => String::from_str(alloc, "no such file")?,
+        ReadOutcome::NotADirectory => String::from_str(alloc, "a part of it is no folder")?,
+        ReadOutcome::Failed(message) => message,
     };
-    Err(fault)
+    let file = NamedFile::new(alloc, Some(path), option)?;
+    Err(GatherFault::Unreadable(file, reason))
 }
 
-/// The text of the file at the path that an option names, if it is given.
+/// The text of the file at the path of an option, if it is given.
 fn text_at<R: FileReader>(
     alloc: Global,
     path: Option<&str>,
+    option: FileOption,
     files: &R,
 ) -> Result<Option<String>, GatherFault> {
-    match path {
-        Some(path) => Ok(Some(text_of(alloc, path, files.read(alloc, path)?)?)),
-        None => Ok(None),
-    }
+    let Some(path) = path else {
+        return Ok(None);
+    };
+    let outcome = files.read(alloc, path)?;
+    Ok(Some(text_of(alloc, path, option, outcome)?))
 }
 
 /// The text of the list of tests, if a request is about one, and what is left of standard input.
@@ -198,10 +200,11 @@ fn list_text<R: FileReader>(
     input: ReadOutcome,
     files: &R,
 ) -> Result<(Option<String>, ReadOutcome), GatherFault> {
+    let option = FileOption::List;
     match list {
-        Some(ListFile::Named(path)) => Ok((text_at(alloc, Some(path), files)?, input)),
+        Some(ListFile::Named(path)) => Ok((text_at(alloc, Some(path), option, files)?, input)),
         Some(ListFile::Input) => {
-            let text = text_of(alloc, ListFile::Input.path(), input)?;
+            let text = text_of(alloc, ListFile::Input.path(), option, input)?;
             Ok((Some(text), ReadOutcome::NotFound))
         }
         None => Ok((None, input)),
@@ -220,6 +223,7 @@ pub fn gather<R: FileReader>(
         (λ named. string_bytes gathered.paths.workspace_root ≡ named.now)) }
 {
     let options = &request.files;
+    let engines = &request.engines;
     let root = root_of(alloc, options, environment, files)?;
     let shared = shared_file(alloc, root.as_str(), options.config_file, files)?;
     let (list, input) = list_text(alloc, request.list(), input, files)?;
@@ -230,9 +234,9 @@ pub fn gather<R: FileReader>(
         },
         config_file: named_file(alloc, options.config_file, input, files)?,
         tools: tool_files(alloc, &options.tools, files)?,
-        host_cfg: text_at(alloc, request.engines.host_cfg, files)?,
-        target_cfg: text_at(alloc, request.engines.target_cfg, files)?,
-        metadata: text_at(alloc, request.engines.metadata, files)?,
+        host_cfg: text_at(alloc, engines.host_cfg, FileOption::HostCfg, files)?,
+        target_cfg: text_at(alloc, engines.target_cfg, FileOption::TargetCfg, files)?,
+        metadata: text_at(alloc, engines.metadata, FileOption::Metadata, files)?,
         list,
     })
 }

@@ -1,6 +1,6 @@
 pub mod Triples
-pub mod Engines
-pub mod EngineFaults
+pub mod Machines
+pub mod InputFaults
 pub mod Sessions
 pub mod SessionOf
 pub mod Accepted

@@ -8,6 +8,8 @@ use Rattle.test_lists.specs.ListView.{list_view}
 use Rattle.test_lists.specs.Lists.{TestList}
 use Rattle.test_lists.specs.Reading.{IsListIn}
 use Rattle.test_lists.specs.declared.list.ListedTests.{ListedTests}
+use Rattle.rinqebo_load.specs.declared.fault.TripleSource.{TripleSource}
+use Rattle.rinqebo_load.specs.declared.fault.TripleSource.TheVariants as sources
 
 -- a list without tests and triples
 abbrev pub no_list : TestList
@@ -30,3 +32,17 @@ target_for options list =
     option_or (option_map (λ target. target.now) options.target)
     (if is_some list.triples.host then list.triples.target
     else option_map (λ target. target.now) options.build_target)
+
+-- what gives the triple of the host
+abbrev pub host_source : EngineOptions → TestList → TripleSource
+host_source options list =
+    if is_some options.host then sources.Host
+    else (if is_some list.triples.host then sources.List else sources.Fallback)
+
+-- what gives the triple of the target: a list that says the platforms of the build gives it even
+-- where it has no target
+abbrev pub target_source : EngineOptions → TestList → TripleSource
+target_source options list =
+    if is_some options.target then sources.Target
+    else (if is_some list.triples.host then sources.List
+    else (if is_some options.build_target then sources.Variable else sources.Fallback))

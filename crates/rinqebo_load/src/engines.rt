@@ -1,16 +1,18 @@
 //! The languages of filters and platforms, as a request has them.
 ghost use Rattle.std.specs.Prelude.{IfErr, IfOk, option_map, string_bytes};
-ghost use Rattle.rinqebo_load.specs.EngineFaults.{NamesTriple};
-ghost use Rattle.rinqebo_load.specs.Engines.{ArePlatformsOf, IsPlatformFor, IsTargetFor};
+ghost use Rattle.session_forms.specs.Machines.{AreFiltersFor, ArePlatformsFor, IsMachineRefused, IsMetadataFault, IsPlatformBy, IsTargetFor};
+ghost use Rattle.rinqebo_load.specs.InputFaults.{IsBuildFault, IsEngineFault, IsTargetFault, OfEngine};
+ghost use Rattle.rinqebo_load.specs.Machines.{machine_of};
 
+use crate::fault::{InputFault, Subject, TripleSource};
 use crate::triples::Triples;
 use nextest_config::BuildPlatforms;
-use nextest_filters::{MetadataFault, NextestFilters, PackageGraph};
+use nextest_filters::NextestFilters;
 use rinqebo_files::Gathered;
+use rinqebo_request::{FileOption, ListFile, NamedFile, Request};
+use session_forms::{EngineFault, filters_of, platform_of};
 use std::alloc::{AllocError, Global};
-use target_platforms::{Platform, PlatformFault};
-use test_lists::ListFault;
-use thiserror::Error;
+use target_platforms::Platform;
 
 /// The language of filters, and the platforms of a build.
 #[derive(Drop)]
@@ -21,72 +23,94 @@ pub struct Engines {
     pub platforms: BuildPlatforms<Platform>,
 }
 
-/// Why there are no engines.
-#[derive(Debug, Drop, Error)]
-pub enum EngineFault {
-    /// What was read at a path is no list of tests, which would say the platforms of the build.
-    #[error("no list of tests in `{0}`: {1}")]
-    List(String, ListFault),
-    /// The metadata say no graph of packages.
-    #[error("{0}")]
-    Metadata(MetadataFault),
-    /// No platform is known for a triple.
-    #[error("platform `{0}`: {1}")]
-    Platform(String, PlatformFault),
-    /// What the compiler prints for a target is given, and there is no target.
-    #[error("`--target-cfg` goes with a target, and there is none")]
-    NoTarget,
-    /// Want of memory.
-    #[error("out of memory")]
-    Memory,
+/// How a request names a machine.
+#[derive(Clone, Copy)]
+struct MachineNames<'a> {
+    /// What gives the triple.
+    source: TripleSource,
+    /// The path of the list of tests, which may give it.
+    list: Option<&'a str>,
+    /// The path of what the compiler prints for the machine, if it is given.
+    cfg: Option<&'a str>,
+    /// The option of that path.
+    option: FileOption,
 }
 
-impl From<AllocError> for EngineFault {
-    ghost use Rattle.std.specs.Prelude.{◌≡◌};
-    ghost use Rattle.rinqebo_load.specs.declared.engines.EngineFault.TheVariants.{Memory};
-
-    ghost from_gives = { λ _ fault. fault ≡ Memory };
-
-    fn from(_error: AllocError) -> EngineFault {
-        EngineFault::Memory
+impl MachineNames<'_> {
+    /// What a fault of the machine's platform is about: what the compiler prints for it, where that is
+    /// given, else what gives its triple.
+    fn subject(self, alloc: Global) -> Result<Subject, AllocError> {
+        if self.cfg.is_some() {
+            return Ok(Subject::File(NamedFile::new(alloc, self.cfg, self.option)?));
+        }
+        match self.source {
+            TripleSource::List => {
+                let file = NamedFile::new(alloc, self.list, FileOption::List)?;
+                Ok(Subject::File(file))
+            }
+            TripleSource::Host
+            | TripleSource::Target
+            | TripleSource::Variable
+            | TripleSource::Fallback => Ok(Subject::Triple(self.source)),
+        }
     }
 }
 
-/// The language of filters, with the graph of packages where the metadata are given.
-fn filters_of(alloc: Global, metadata: &Option<String>) -> Result<NextestFilters, EngineFault> {
-    let Some(metadata) = metadata else {
-        return Ok(NextestFilters::new());
-    };
-    match PackageGraph::from_metadata(alloc, metadata.as_str()) {
-        Ok(graph) => Ok(NextestFilters::with_graph(graph)),
-        Err(MetadataFault::Memory) => Err(EngineFault::Memory),
-        Err(fault) => Err(EngineFault::Metadata(fault)),
+/// How a request names its host.
+fn host_names<'a>(request: &Request<'a>, triples: &Triples) -> MachineNames<'a> {
+    MachineNames {
+        source: triples.host_source,
+        list: request.list().map(ListFile::path),
+        cfg: request.engines.host_cfg,
+        option: FileOption::HostCfg,
     }
 }
 
-/// The platform that is read for a triple.
-fn read_platform(
+/// How a request names its target.
+fn target_names<'a>(request: &Request<'a>, triples: &Triples) -> MachineNames<'a> {
+    MachineNames {
+        source: triples.target_source,
+        list: request.list().map(ListFile::path),
+        cfg: request.engines.target_cfg,
+        option: FileOption::TargetCfg,
+    }
+}
+
+/// The language of filters, with the graph of the metadata that were read at a path.
+fn filters_at(
     alloc: Global,
-    triple: &str,
-    cfg: &Option<String>,
-) -> Result<Platform, PlatformFault>
-    ensures { IfOk result (IsPlatformFor triple.now cfg.now) }
+    path: Option<&str>,
+    metadata: &Option<String>,
+) -> Result<NextestFilters, InputFault>
+    ensures ok { IfOk result (AreFiltersFor (option_map string_bytes metadata.now)) }
+    ensures err { IfErr result
+        (OfEngine (IsMetadataFault (option_map string_bytes metadata.now))) }
 {
-    match cfg {
-        Some(cfg) => Platform::from_rustc_cfg(alloc, triple, cfg.as_str()),
-        None => Platform::builtin(alloc, triple),
+    match filters_of(alloc, metadata) {
+        Ok(filters) => Ok(filters),
+        Err(EngineFault::Memory) => Err(InputFault::Memory),
+        Err(fault) => {
+            let file = NamedFile::new(alloc, path, FileOption::Metadata)?;
+            Err(InputFault::Engine(Subject::File(file), fault))
+        }
     }
 }
 
 /// The platform of a triple: what the compiler prints for it, or else that of the table.
-fn platform_of(alloc: Global, triple: &str, cfg: &Option<String>) -> Result<Platform, EngineFault>
-    ensures ok { IfOk result (IsPlatformFor triple.now cfg.now) }
-    ensures err { IfErr result (NamesTriple triple.now) }
+fn named_platform(
+    alloc: Global,
+    triple: &str,
+    cfg: &Option<String>,
+    names: MachineNames<'_>,
+) -> Result<Platform, InputFault>
+    ensures ok { IfOk result (IsPlatformBy triple.now (option_map string_bytes cfg.now)) }
+    ensures err { IfErr result
+        (OfEngine (IsMachineRefused (machine_of cfg.now triple.now))) }
 {
-    match read_platform(alloc, triple, cfg) {
+    match platform_of(alloc, triple, cfg) {
         Ok(platform) => Ok(platform),
-        Err(PlatformFault::Memory) => Err(EngineFault::Memory),
-        Err(fault) => Err(EngineFault::Platform(String::from_str(alloc, triple)?, fault)),
+        Err(EngineFault::Memory) => Err(InputFault::Memory),
+        Err(fault) => Err(InputFault::Engine(names.subject(alloc)?, fault)),
     }
 }
 
@@ -95,12 +119,16 @@ fn target_of(
     alloc: Global,
     triple: &Option<String>,
     cfg: &Option<String>,
-) -> Result<Option<Platform>, EngineFault>
-    ensures { IfOk result (IsTargetFor (option_map string_bytes triple.now) cfg.now) }
+    names: MachineNames<'_>,
+) -> Result<Option<Platform>, InputFault>
+    ensures ok { IfOk result
+        (IsTargetFor (option_map (machine_of cfg.now) (option_map string_bytes triple.now))) }
+    ensures err { IfErr result
+        (IsTargetFault cfg.now (option_map string_bytes triple.now)) }
 {
     match triple {
-        Some(triple) => Ok(Some(platform_of(alloc, triple.as_str(), cfg)?)),
-        None if cfg.is_some() => Err(EngineFault::NoTarget),
+        Some(triple) => Ok(Some(named_platform(alloc, triple.as_str(), cfg, names)?)),
+        None if cfg.is_some() => Err(InputFault::NoTarget),
         None => Ok(None),
     }
 }
@@ -108,32 +136,46 @@ fn target_of(
 /// The platforms of a build.
 fn platforms_of(
     alloc: Global,
+    request: &Request<'_>,
     triples: &Triples,
     gathered: &Gathered,
-) -> Result<BuildPlatforms<Platform>, EngineFault>
-    ensures { IfOk result (ArePlatformsOf (string_bytes triples.now.host)
+) -> Result<BuildPlatforms<Platform>, InputFault>
+    ensures ok { IfOk result
+        (ArePlatformsFor (machine_of gathered.now.host_cfg (string_bytes triples.now.host))
+        (option_map (machine_of gathered.now.target_cfg)
+        (option_map string_bytes triples.now.target))) }
+    ensures err { IfErr result (IsBuildFault (string_bytes triples.now.host)
         (option_map string_bytes triples.now.target) gathered.now) }
 {
-    let target = target_of(alloc, &triples.target, &gathered.target_cfg)?;
+    let names = target_names(request, triples);
+    let target = target_of(alloc, &triples.target, &gathered.target_cfg, names)?;
+    let names = host_names(request, triples);
     Ok(BuildPlatforms {
-        host: platform_of(alloc, triples.host.as_str(), &gathered.host_cfg)?,
+        host: named_platform(alloc, triples.host.as_str(), &gathered.host_cfg, names)?,
         target,
     })
 }
 
 impl Engines {
-    /// The engines for triples, over the files of a request.
+    /// The engines of a request for triples, over the files that were read.
     pub fn new(
         alloc: Global,
+        request: &Request<'_>,
         triples: &Triples,
         gathered: &Gathered,
-    ) -> Result<Engines, EngineFault>
-        ensures { IfOk result (λ engines. ArePlatformsOf (string_bytes triples.now.host)
-            (option_map string_bytes triples.now.target) gathered.now engines.platforms) }
+    ) -> Result<Engines, InputFault>
+        ensures filters { IfOk result (λ engines. AreFiltersFor
+            (option_map string_bytes gathered.now.metadata) engines.filters) }
+        ensures platforms { IfOk result (λ engines. ArePlatformsFor
+            (machine_of gathered.now.host_cfg (string_bytes triples.now.host))
+            (option_map (machine_of gathered.now.target_cfg)
+            (option_map string_bytes triples.now.target)) engines.platforms) }
+        ensures err { IfErr result (IsEngineFault (string_bytes triples.now.host)
+            (option_map string_bytes triples.now.target) gathered.now) }
     {
         Ok(Engines {
-            filters: filters_of(alloc, &gathered.metadata)?,
-            platforms: platforms_of(alloc, triples, gathered)?,
+            filters: filters_at(alloc, request.engines.metadata, &gathered.metadata)?,
+            platforms: platforms_of(alloc, request, triples, gathered)?,
         })
     }
 }

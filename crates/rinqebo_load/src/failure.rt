@@ -1,13 +1,13 @@
 //! Why a run answers nothing.
-use crate::engines::EngineFault;
+use crate::fault::InputFault;
 use rinqebo_report::Report;
 use std::alloc::AllocError;
 
 /// Why a run answers nothing.
 #[derive(Drop)]
 pub enum Failure {
-    /// The platforms or the metadata are not understood. It holds the message.
-    Engines(EngineFault),
+    /// The list of tests, the metadata or the platforms are not understood.
+    Engines(InputFault),
     /// The files are refused. The report has what is wrong with them.
     Refused(Report),
     /// There is no such profile. The report has this one finding.
@@ -27,14 +27,14 @@ impl From<AllocError> for Failure {
     }
 }
 
-impl From<EngineFault> for Failure {
-    ghost use Rattle.rinqebo_load.specs.Beginning.{IsBeginningFailure};
+impl From<InputFault> for Failure {
+    ghost use Rattle.rinqebo_load.specs.Beginning.{IsFailureOf};
 
-    ghost from_gives = { λ _ failure. IsBeginningFailure failure };
+    ghost from_gives = { λ fault failure. IsFailureOf fault failure };
 
-    fn from(fault: EngineFault) -> Failure {
+    fn from(fault: InputFault) -> Failure {
         match fault {
-            EngineFault::Memory => Failure::Memory,
+            InputFault::Memory => Failure::Memory,
             fault => Failure::Engines(fault),
         }
     }

@@ -4,12 +4,14 @@
 
 mod engines;
 mod failure;
+mod fault;
 mod profiles;
 mod session;
 mod triples;
 
-pub use engines::{EngineFault, Engines};
+pub use engines::Engines;
 pub use failure::Failure;
+pub use fault::{InputFault, Subject, TripleSource};
 pub use profiles::{chain_of_profile, has_profile, missing_profile};
 pub use session::{Config, Session};
 pub use triples::Triples;

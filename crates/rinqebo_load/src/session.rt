@@ -5,7 +5,7 @@ ghost use Rattle.nextest_sources.specs.Inputs.{load_inputs_view};
 ghost use Rattle.nextest_sources.specs.Sources.{file_view};
 ghost use Rattle.rinqebo_load.specs.SessionOf.{IsSessionOf};
 ghost use Rattle.rinqebo_load.specs.Sessions.{files_view, readings, IfLoaded, IsLoadedFrom};
-ghost use Rattle.rinqebo_load.specs.Beginning.{IsBeginningFailure};
+ghost use Rattle.rinqebo_load.specs.Beginning.{IsBeginningFailure, IsUnusable};
 
 use crate::engines::Engines;
 use crate::failure::Failure;
@@ -18,7 +18,7 @@ use nextest_config::{
 use nextest_filters::NextestFilters;
 use nextest_sources::ConfigInputs;
 use rinqebo_files::{Gathered, Layer, features_of, layers_of};
-use rinqebo_request::{ListFile, Request};
+use rinqebo_request::{ListFile, ProfileSource, Request};
 use std::alloc::{AllocError, Global};
 use std::collections::BTreeSet;
 use target_language::TargetSpecs;
@@ -32,6 +32,8 @@ pub type Config = LoadedConfig<NextestFilters, TargetSpecs>;
 pub struct Session<'g> {
     /// The files that the request names, as they were read.
     pub gathered: &'g Gathered,
+    /// What names the profile that is asked for, which messages may name.
+    pub profile_source: ProfileSource,
     /// The tests of the list that is asked about. Without a list there are none.
     pub tests: ListedTests,
     /// The triples of the build.
@@ -53,13 +55,15 @@ impl<'g> Session<'g> {
     ) -> Result<Session<'g>, Failure>
         ensures begun { IfOk result (IsSessionOf request.now gathered.now) }
         ensures err { IfErr result IsBeginningFailure }
+        ensures cause { IfErr result (IsUnusable request.now gathered.now) }
     {
         let path = request.list().map_or("", ListFile::path);
         let tests = listed_tests(alloc, path, gathered)?;
         let triples = triples_for(alloc, &request.engines, &tests)?;
         Ok(Session {
             gathered,
-            engines: Engines::new(alloc, &triples, gathered)?,
+            profile_source: request.profile_source,
+            engines: Engines::new(alloc, request, &triples, gathered)?,
             features: features_of(alloc, &request.features, gathered)?,
             layers: layers_of(alloc, gathered)?,
             tests,

@@ -1,12 +1,12 @@
 //! The list of tests that a run is about, and the triples of its build.
 ghost use Rattle.std.specs.Prelude.{◌≡◌, IfErr, IfOk, option_map, string_bytes};
 ghost use Rattle.test_lists.specs.ListView.{list_view};
-ghost use Rattle.rinqebo_load.specs.EngineFaults.{NamesList};
-ghost use Rattle.rinqebo_load.specs.Triples.{host_for, target_for, IsListFor};
+ghost use Rattle.rinqebo_load.specs.InputFaults.{IsListFault, NamesList};
+ghost use Rattle.rinqebo_load.specs.Triples.{host_for, host_source, target_for, target_source, IsListFor};
 
-use crate::engines::EngineFault;
+use crate::fault::{InputFault, TripleSource};
 use rinqebo_files::Gathered;
-use rinqebo_request::{EngineOptions, HOST};
+use rinqebo_request::{EngineOptions, FileOption, HOST, NamedFile};
 use std::alloc::{AllocError, Global};
 use test_lists::{ListFault, ListedTests, tests_of};
 
@@ -17,6 +17,10 @@ pub struct Triples {
     pub host: String,
     /// That of the target. Without one, what is built for it runs on the host.
     pub target: Option<String>,
+    /// What gives the triple of the host.
+    pub host_source: TripleSource,
+    /// What gives the triple of the target.
+    pub target_source: TripleSource,
 }
 
 /// The tests of the list that was read from a path: without a list there are none.
@@ -24,9 +28,10 @@ pub fn listed_tests(
     alloc: Global,
     path: &str,
     gathered: &Gathered,
-) -> Result<ListedTests, EngineFault>
+) -> Result<ListedTests, InputFault>
     ensures ok { IfOk result (IsListFor gathered.now.list) }
     ensures err { IfErr result (NamesList path.now) }
+    ensures cause { IfErr result (IsListFault gathered.now.list) }
 {
     let Some(text) = &gathered.list else {
         return Ok(ListedTests {
@@ -37,8 +42,12 @@ pub fn listed_tests(
     };
     match tests_of(alloc, text.as_str()) {
         Ok(tests) => Ok(tests),
-        Err(ListFault::Memory) => Err(EngineFault::Memory),
-        Err(fault) => Err(EngineFault::List(String::from_str(alloc, path)?, fault)),
+        Err(ListFault::Memory) => Err(InputFault::Memory),
+        Err(ListFault::NotJson { .. }) if text.as_str().trim().is_empty() => {
+            let file = NamedFile::new(alloc, Some(path), FileOption::List)?;
+            Err(InputFault::EmptyList(file))
+        }
+        Err(fault) => Err(InputFault::List(String::from_str(alloc, path)?, fault)),
     }
 }
 
@@ -52,6 +61,19 @@ fn host_for<'a>(options: &EngineOptions<'a>, tests: &'a ListedTests) -> &'a str
     match &tests.host {
         Some(host) => host.as_str(),
         None => HOST,
+    }
+}
+
+/// What gives the triple of the host.
+fn host_source(options: &EngineOptions<'_>, tests: &ListedTests) -> TripleSource
+    ensures { result ≡ host_source options.now (list_view tests.now) }
+{
+    if options.host.is_some() {
+        TripleSource::Host
+    } else if tests.host.is_some() {
+        TripleSource::List
+    } else {
+        TripleSource::Fallback
     }
 }
 
@@ -80,6 +102,21 @@ fn target_for<'a>(options: &EngineOptions<'a>, tests: &'a ListedTests) -> Option
     options.build_target
 }
 
+/// What gives the triple of the target.
+fn target_source(options: &EngineOptions<'_>, tests: &ListedTests) -> TripleSource
+    ensures { result ≡ target_source options.now (list_view tests.now) }
+{
+    if options.target.is_some() {
+        TripleSource::Target
+    } else if tests.host.is_some() {
+        TripleSource::List
+    } else if options.build_target.is_some() {
+        TripleSource::Variable
+    } else {
+        TripleSource::Fallback
+    }
+}
+
 /// A copy of a text, if there is one.
 fn copied(alloc: Global, text: Option<&str>) -> Result<Option<String>, AllocError>
     ensures { IfOk result (λ copy. option_map string_bytes copy
@@ -101,9 +138,15 @@ pub fn triples_for(
         string_bytes triples.host ≡ host_for options.now (list_view tests.now)) }
     ensures target { IfOk result (λ triples.
         option_map string_bytes triples.target ≡ target_for options.now (list_view tests.now)) }
+    ensures host_source { IfOk result (λ triples.
+        triples.host_source ≡ host_source options.now (list_view tests.now)) }
+    ensures target_source { IfOk result (λ triples.
+        triples.target_source ≡ target_source options.now (list_view tests.now)) }
 {
     Ok(Triples {
         host: String::from_str(alloc, host_for(options, tests))?,
         target: copied(alloc, target_for(options, tests))?,
+        host_source: host_source(options, tests),
+        target_source: target_source(options, tests),
     })
 }

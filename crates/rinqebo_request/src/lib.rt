@@ -5,6 +5,7 @@ mod environment;
 mod features;
 mod hints;
 mod keys;
+mod named;
 mod notes;
 mod options;
 mod request;
@@ -14,6 +15,7 @@ pub use environment::{Environment, RunVariables};
 pub use features::{FEATURES, feature_name, feature_of, law_all_features};
 pub use hints::{name_hint, text_hint};
 pub use keys::{SettingKey, all_keys, setting_of};
+pub use named::{FileOption, NamedFile, ProfileSource};
 pub use notes::notes_of;
 pub use request::{
     AskedSettings, Command, ConfigFile, EngineOptions, FileOptions, HOST, ListFile, Question,

@@ -1,4 +1,5 @@
 //! What is asked for.
+use crate::named::ProfileSource;
 use nextest_config::{BuildPlatform, ConfigExperimental, NextestRunMode, Setting, ToolName};
 use rinqebo_report::{Colour, Format};
 use std::collections::BTreeSet;
@@ -149,6 +150,8 @@ pub struct EngineOptions<'a> {
 pub struct Request<'a> {
     /// What is asked.
     pub question: Question<'a>,
+    /// What names the profile, where the question has one.
+    pub profile_source: ProfileSource,
     /// Which files are read.
     pub files: FileOptions<'a>,
     /// What the languages of filters and platforms know.

@@ -3,6 +3,7 @@ use crate::environment::{Environment, set};
 use crate::features::{FEATURES, feature_of};
 use crate::hints::{key_hint, name_hint};
 use crate::keys::setting_of;
+use crate::named::ProfileSource;
 use crate::options::program;
 use crate::request::{
     AskedSettings, Command, ConfigFile, EngineOptions, FileOptions, ListFile, Question, Request,
@@ -284,6 +285,17 @@ fn profile<'a>(matches: &ArgMatches<'a>, environment: &'a Environment) -> &'a st
         .unwrap_or("default")
 }
 
+/// What names the profile that is asked for.
+fn profile_source(matches: &ArgMatches<'_>, environment: &Environment) -> ProfileSource {
+    if matches.get_str("profile").is_some() {
+        ProfileSource::CommandLine
+    } else if set(&environment.profile).is_some() {
+        ProfileSource::Variable
+    } else {
+        ProfileSource::Fallback
+    }
+}
+
 /// What is asked about a test.
 fn explain_question<'a>(
     alloc: Global,
@@ -321,6 +333,7 @@ fn explain_request<'a>(
     }
     Ok(Request {
         question: explain_question(alloc, matches, environment)?,
+        profile_source: profile_source(matches, environment),
         files: files(alloc, matches, named_file(matches))?,
         engines,
         features: features(alloc, matches, environment)?,
@@ -393,6 +406,7 @@ fn list_request<'a>(
 ) -> Result<Request<'a>, ParseStop> {
     Ok(Request {
         question: list_question(alloc, matches, environment)?,
+        profile_source: profile_source(matches, environment),
         files: files(alloc, matches, named_file(matches))?,
         engines: engines(matches, environment),
         features: features(alloc, matches, environment)?,
@@ -419,6 +433,7 @@ fn show_request<'a>(
             keys: leaf_keys(alloc, matches)?,
             with_hidden: matches.get_flag("hidden"),
         },
+        profile_source: profile_source(matches, environment),
         files: files(alloc, matches, named_file(matches))?,
         engines: file_engines(matches),
         features: features(alloc, matches, environment)?,
@@ -438,6 +453,7 @@ fn check_request<'a>(
         question: Question::Check {
             deny_warnings: matches.get_flag("deny-warnings"),
         },
+        profile_source: ProfileSource::Fallback,
         files: files(alloc, matches, checked_file(alloc, matches)?)?,
         engines: file_engines(matches),
         features: features(alloc, matches, environment)?,

@@ -9,14 +9,15 @@ use nextest_config::{NextestRunMode, Setting};
 use rinqebo_files::Gathered;
 use rinqebo_report::{Colour, Format};
 use rinqebo_request::{
-    AskedSettings, ConfigFile, EngineOptions, FileOptions, ListFile, Question, Request,
+    AskedSettings, ConfigFile, EngineOptions, FileOptions, ListFile, ProfileSource, Question,
+    Request,
 };
 use rinqebo_session::features_of;
 use session_forms::{LoadRequest, Machine, RunRequest, Switches};
 use std::alloc::{AllocError, Global};
 
 /// What messages call the list of tests: the member of a request that has it.
-const LIST: &str = "list";
+pub const LIST: &str = "list";
 
 /// What is asked of files.
 #[derive(Drop)]
@@ -87,6 +88,7 @@ impl Asked {
     {
         Ok(Request {
             question: self.question(alloc)?,
+            profile_source: ProfileSource::CommandLine,
             files: FileOptions {
                 root: None,
                 config_file: ConfigFile::Discovered,

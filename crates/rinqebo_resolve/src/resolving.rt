@@ -8,11 +8,11 @@ ghost use Rattle.rinqebo_session.specs.declared.status.TheConstants.{DONE};
 ghost use Rattle.rinqebo_resolve.specs.Asking.{asked_view};
 ghost use Rattle.rinqebo_resolve.specs.Endings.{IsAnswerTo, IsSilent, IsEndingFor, IsEndingIn, IsEndingOf, IsResolved, TellsFailure, TellsOutcome};
 
-use crate::asking::{Asked, parted};
+use crate::asking::{Asked, LIST, parted};
 use crate::ending::Ending;
 use rinqebo_files::Gathered;
 use rinqebo_list::Untold;
-use rinqebo_load::Failure;
+use rinqebo_load::{Failure, InputFault};
 use rinqebo_report::{Colour, Format, Report, render};
 use rinqebo_run::{Answer, answer_of};
 use session_forms::{RequestFault, RunRequest};
@@ -25,12 +25,23 @@ fn document_of(alloc: Global, report: &Report) -> Result<String, AllocError>
     render(alloc, report, Format::Json, Colour::Plain)
 }
 
+/// Why there are no engines. A request in JSON has members and no options, so that no option is named.
+fn reason_of(alloc: Global, fault: &InputFault) -> Result<String, AllocError> {
+    match fault {
+        InputFault::Engine(_, fault) => format!(in alloc; "{fault}"),
+        InputFault::EmptyList(_) => format!(in alloc; "no list of tests in `{LIST}`: it is empty"),
+        InputFault::List(_, _) | InputFault::NoTarget | InputFault::Memory => {
+            format!(in alloc; "{fault}")
+        }
+    }
+}
+
 /// The ending of a run that answers nothing.
 fn failed(alloc: Global, failure: &Failure) -> Result<Ending, AllocError>
     ensures { IfOk result (TellsFailure failure.now) }
 {
     match failure {
-        Failure::Engines(fault) => Ok(Ending::NoEngines(format!(in alloc; "{fault}")?)),
+        Failure::Engines(fault) => Ok(Ending::NoEngines(reason_of(alloc, fault)?)),
         Failure::Refused(report) => Ok(Ending::Refused(document_of(alloc, report)?)),
         Failure::NoProfile(report) => Ok(Ending::NoProfile(document_of(alloc, report)?)),
         Failure::Memory => Err(AllocError),

@@ -49,16 +49,16 @@ IsFaultBy triple printed faults.Memory = Unit {0}
 IsFaultBy triple (Some printed) fault = IsRefusedFor printed fault
 IsFaultBy triple None fault = row_of targets triple ≡ None
 
--- a machine has no platform, for this fault
-abbrev pub IsPlatformFault : MachineText → PlatformFault → Type 0
-IsPlatformFault machine fault = IsFaultBy machine.triple machine.cfg fault
+-- a triple is refused: it is told, with what is wrong; want of memory aside
+abbrev pub IsTripleRefused : List ℕ → Option (List ℕ) → EngineFault → Type 0
+IsTripleRefused triple printed (refused.Metadata fault) = ⊥
+IsTripleRefused triple printed (refused.Platform told fault) =
+    (string_bytes told ≡ triple) × IsFaultBy triple printed fault
+IsTripleRefused triple printed refused.Memory = Unit {0}
 
--- a machine is refused: its triple is told, with what is wrong; want of memory aside
+-- a machine is refused: its triple is
 abbrev pub IsMachineRefused : MachineText → EngineFault → Type 0
-IsMachineRefused machine (refused.Metadata fault) = ⊥
-IsMachineRefused machine (refused.Platform triple fault) =
-    (string_bytes triple ≡ machine.triple) × IsPlatformFault machine fault
-IsMachineRefused machine refused.Memory = Unit {0}
+IsMachineRefused machine fault = IsTripleRefused machine.triple machine.cfg fault
 
 -- the machine that is built for is refused
 abbrev pub IsTargetRefused : Option MachineText → EngineFault → Type 0

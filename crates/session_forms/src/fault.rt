@@ -36,6 +36,17 @@ impl fmt::Display for Holder {
     }
 }
 
+impl Holder {
+    ghost use Rattle.std.specs.Prelude.{◌≡◌};
+
+    /// The place of a key that it has.
+    pub fn at(self, key: &'static str) -> Place
+        ensures { result.key.now ≡ key.now }
+    {
+        Place { holder: self, key }
+    }
+}
+
 /// A part of a request: what stands under a key.
 #[derive(Clone, Copy, Debug, PartialEq, Eq, Drop)]
 pub struct Place {

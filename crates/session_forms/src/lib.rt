@@ -11,7 +11,7 @@ mod run_request;
 mod values;
 
 pub use fault::{Holder, Place, RequestFault, Wanted};
-pub use machines::{EngineFault, filters_of, platforms_of};
+pub use machines::{EngineFault, filters_of, platform_of, platforms_of};
 pub use numbers::{
     Duration, GroupThreads, LeakNumbers, RetryNumbers, SlowNumbers, ThreadNumbers, duration_parts,
     flaky_number, group_threads, leak_numbers, output_number, report_number, retry_numbers,

@@ -1,6 +1,6 @@
 //! The language of filters and the platforms of a build, as a request names them.
 ghost use Rattle.std.specs.Prelude.{IfOk, IfErr, option_map, string_bytes};
-ghost use Rattle.session_forms.specs.Machines.{AreFiltersFor, IsMetadataFault, IsPlatformFor, IsPlatformFault, ArePlatformsFor, IsMachineRefused, IsBuildRefused};
+ghost use Rattle.session_forms.specs.Machines.{AreFiltersFor, IsMetadataFault, IsPlatformBy, IsPlatformFor, IsFaultBy, ArePlatformsFor, IsTripleRefused, IsMachineRefused, IsBuildRefused};
 ghost use Rattle.session_forms.specs.Requests.{machine_view};
 
 use crate::request::{LoadRequest, Machine};
@@ -50,27 +50,50 @@ pub fn filters_of(alloc: Global, metadata: &Option<String>) -> Result<NextestFil
     }
 }
 
-/// The platform of a machine: what the compiler prints for it, or else that of the table.
-fn read_platform(alloc: Global, machine: &Machine) -> Result<Platform, PlatformFault>
-    ensures ok { IfOk result (IsPlatformFor (machine_view machine.now)) }
-    ensures err { IfErr result (IsPlatformFault (machine_view machine.now)) }
+/// What is read as the platform of a triple: what the compiler prints for it, where that is given, or
+/// else the row of the table.
+fn read_platform(
+    alloc: Global,
+    triple: &str,
+    cfg: &Option<String>,
+) -> Result<Platform, PlatformFault>
+    ensures ok { IfOk result (IsPlatformBy triple.now (option_map string_bytes cfg.now)) }
+    ensures err { IfErr result (IsFaultBy triple.now (option_map string_bytes cfg.now)) }
 {
-    match &machine.cfg {
-        Some(cfg) => Platform::from_rustc_cfg(alloc, machine.triple.as_str(), cfg.as_str()),
-        None => Platform::builtin(alloc, machine.triple.as_str()),
+    match cfg {
+        Some(cfg) => Platform::from_rustc_cfg(alloc, triple, cfg.as_str()),
+        None => Platform::builtin(alloc, triple),
+    }
+}
+
+/// The platform of a triple: what the compiler prints for it, where that is given, or else that of the
+/// table.
+///
+/// # Errors
+///
+/// [`EngineFault::Platform`] with the triple where the text is not what a compiler prints, or where
+/// none is given and the table has no such triple. [`EngineFault::Memory`] where there was none.
+pub fn platform_of(
+    alloc: Global,
+    triple: &str,
+    cfg: &Option<String>,
+) -> Result<Platform, EngineFault>
+    ensures ok { IfOk result (IsPlatformBy triple.now (option_map string_bytes cfg.now)) }
+    ensures err { IfErr result (IsTripleRefused triple.now (option_map string_bytes cfg.now)) }
+{
+    match read_platform(alloc, triple, cfg) {
+        Ok(platform) => Ok(platform),
+        Err(PlatformFault::Memory) => Err(EngineFault::Memory),
+        Err(fault) => Err(EngineFault::Platform(String::from_str(alloc, triple)?, fault)),
     }
 }
 
 /// The platform of a machine, or what is wrong with its triple.
-fn platform_of(alloc: Global, machine: &Machine) -> Result<Platform, EngineFault>
+fn machine_platform(alloc: Global, machine: &Machine) -> Result<Platform, EngineFault>
     ensures ok { IfOk result (IsPlatformFor (machine_view machine.now)) }
     ensures err { IfErr result (IsMachineRefused (machine_view machine.now)) }
 {
-    match read_platform(alloc, machine) {
-        Ok(platform) => Ok(platform),
-        Err(PlatformFault::Memory) => Err(EngineFault::Memory),
-        Err(fault) => Err(EngineFault::Platform(machine.triple.clone()?, fault)),
-    }
+    platform_of(alloc, machine.triple.as_str(), &machine.cfg)
 }
 
 /// The platforms of a build.
@@ -84,11 +107,11 @@ pub fn platforms_of(
         (option_map machine_view request.now.target)) }
 {
     let target = match &request.target {
-        Some(machine) => Some(platform_of(alloc, machine)?),
+        Some(machine) => Some(machine_platform(alloc, machine)?),
         None => None,
     };
     Ok(BuildPlatforms {
-        host: platform_of(alloc, &request.host)?,
+        host: machine_platform(alloc, &request.host)?,
         target,
     })
 }

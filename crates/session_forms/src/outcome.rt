@@ -60,10 +60,7 @@ fn outcome_of(
 ) -> Result<ReadOutcome, RequestFault>
     ensures { Reads outcome_view result (outcome_of kind (view value.now)) }
 {
-    let place = Place {
-        holder,
-        key: "text",
-    };
+    let place = holder.at("text");
     match kind {
         OutcomeKind::Text => Ok(ReadOutcome::Text(string_at(alloc, value, place)?)),
         OutcomeKind::NotFound => {
@@ -82,9 +79,6 @@ fn outcome_of(
 pub fn outcome_in(alloc: Global, value: &Value, holder: Holder) -> Result<ReadOutcome, RequestFault>
     ensures { Reads outcome_view result (outcome_in (view value.now)) }
 {
-    let place = Place {
-        holder,
-        key: "outcome",
-    };
+    let place = holder.at("outcome");
     outcome_of(alloc, kind_at(value, place)?, value, holder)
 }

@@ -57,13 +57,7 @@ pub struct LoadRequest {
 fn file_in(alloc: Global, value: &Value, holder: Holder) -> Result<FileInput, RequestFault>
     ensures { Reads file_view result (file_in (view value.now)) }
 {
-    let path = text_at(
-        value,
-        Place {
-            holder,
-            key: "path",
-        },
-    )?;
+    let path = text_at(value, holder.at("path"))?;
     let outcome = outcome_in(alloc, value, holder)?;
     Ok(FileInput {
         path: ConfigPath::new(alloc, path)?,
@@ -76,14 +70,7 @@ fn config_file_in(alloc: Global, value: &Value) -> Result<Option<FileInput>, Req
     ensures { Reads (λ file. option_map file_view file) result
         (config_file_in (view value.now)) }
 {
-    let holder = Holder::Request;
-    match optional_object_at(
-        value,
-        Place {
-            holder,
-            key: "config-file",
-        },
-    )? {
+    match optional_object_at(value, at("config-file"))? {
         Some(file) => Ok(Some(file_in(alloc, file, Holder::ConfigFile)?)),
         None => Ok(None),
     }
@@ -93,10 +80,7 @@ fn config_file_in(alloc: Global, value: &Value) -> Result<Option<FileInput>, Req
 fn tool_name_in(alloc: Global, value: &Value, holder: Holder) -> Result<ToolName, RequestFault>
     ensures { Reads tool_name_text result (tool_name_in (view value.now)) }
 {
-    let place = Place {
-        holder,
-        key: "tool",
-    };
+    let place = holder.at("tool");
     match ToolName::new(alloc, text_at(value, place)?) {
         Ok(name) => Ok(name),
         Err(InvalidIdentifier::Memory) => Err(RequestFault::Memory),
@@ -131,15 +115,8 @@ fn tools_in(alloc: Global, values: &[Value]) -> Result<Vec<ToolConfigFile>, Requ
 fn machine_in(alloc: Global, value: &Value, holder: Holder) -> Result<Machine, RequestFault>
     ensures { Reads machine_view result (machine_in (view value.now)) }
 {
-    let triple = string_at(
-        alloc,
-        value,
-        Place {
-            holder,
-            key: "triple",
-        },
-    )?;
-    let cfg = optional_string_at(alloc, value, Place { holder, key: "cfg" })?;
+    let triple = string_at(alloc, value, holder.at("triple"))?;
+    let cfg = optional_string_at(alloc, value, holder.at("cfg"))?;
     Ok(Machine { triple, cfg })
 }
 
@@ -148,14 +125,7 @@ fn target_in(alloc: Global, value: &Value) -> Result<Option<Machine>, RequestFau
     ensures { Reads (λ target. option_map machine_view target) result
         (target_in (view value.now)) }
 {
-    let holder = Holder::Request;
-    match optional_object_at(
-        value,
-        Place {
-            holder,
-            key: "target",
-        },
-    )? {
+    match optional_object_at(value, at("target"))? {
         Some(target) => Ok(Some(machine_in(alloc, target, Holder::Target)?)),
         None => Ok(None),
     }
@@ -166,20 +136,8 @@ fn switches_in(value: &Value) -> Result<Switches, RequestFault>
     ensures { Reads (λ switches. switches) result (switches_in (view value.now)) }
 {
     let holder = Holder::Features;
-    let setup_scripts = flag_at(
-        value,
-        Place {
-            holder,
-            key: "setup-scripts",
-        },
-    )?;
-    let wrapper_scripts = flag_at(
-        value,
-        Place {
-            holder,
-            key: "wrapper-scripts",
-        },
-    )?;
+    let setup_scripts = flag_at(value, holder.at("setup-scripts"))?;
+    let wrapper_scripts = flag_at(value, holder.at("wrapper-scripts"))?;
     Ok(Switches {
         setup_scripts,
         wrapper_scripts,
@@ -190,10 +148,7 @@ fn switches_in(value: &Value) -> Result<Switches, RequestFault>
 pub(crate) fn at(key: &'static str) -> Place
     ensures { result.key.now ≡ key.now }
 {
-    Place {
-        holder: Holder::Request,
-        key,
-    }
+    Holder::Request.at(key)
 }
 
 impl LoadRequest {

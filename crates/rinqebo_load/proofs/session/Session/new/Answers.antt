@@ -1,5 +1,34 @@
-use Rattle.std.proofs.Common.{refl}
+use Rattle.std.proofs.Common.{refl, inl, inr}
+use Rattle.std.proofs.lemmas.Result.{err_from_is_err_and}
+use Rattle.rinqebo_load.proofs.Failing.{begins, unusable}
 use Rattle.rinqebo_load.proofs.session.Session.new.Goals as goal
+
+pub returns-in_err-tests-clause-err : goal.returns-in_err-tests-clause-err
+returns-in_err-tests-clause-err c =
+    let p = err_from_is_err_and c.from_residual.result c.from_residual.ensures.1 in
+    rw p.1 (begins c.in_err-tests.field-0.0 p.0 p.2)
+
+pub returns-in_err-tests-clause-cause : goal.returns-in_err-tests-clause-cause
+returns-in_err-tests-clause-cause c =
+    let p = err_from_is_err_and c.from_residual.result c.from_residual.ensures.1 in
+    rw p.1
+    (unusable c.args.request.now c.args.gathered.now c.in_err-tests.field-0.0 p.0 (inl c.in_err-tests.ensures.cause) p.2)
+
+pub returns-in_err-new-clause-err : goal.returns-in_err-new-clause-err
+returns-in_err-new-clause-err c =
+    let p = err_from_is_err_and c.from_residual-in_err-new.result c.from_residual-in_err-new.ensures.1 in
+    rw p.1 (begins c.in_err-new.field-0.0 p.0 p.2)
+
+pub returns-in_err-new-clause-cause : goal.returns-in_err-new-clause-cause
+returns-in_err-new-clause-cause c =
+    let p = err_from_is_err_and c.from_residual-in_err-new.result c.from_residual-in_err-new.ensures.1 in
+    rw p.1
+    (unusable c.args.request.now c.args.gathered.now c.in_err-new.field-0.0 p.0
+    (inr (record {
+      tests = c.in_ok-tests.tests;
+      are_tests = c.in_ok-tests.ensures.ok;
+      cause = rw (c.in_ok-triples.ensures.host, c.in_ok-triples.ensures.target) at c.in_err-new.ensures.err;
+    })) p.2)
 
 pub returns-clause-begun : goal.returns-clause-begun
 returns-clause-begun c = record {
@@ -7,5 +36,9 @@ returns-clause-begun c = record {
   layers = c.in_ok-layers_of.ensures;
   features = c.in_ok-features_of.ensures;
   tests = c.in_ok-tests.ensures.ok;
-  platforms = rw (c.in_ok-triples.ensures.host, c.in_ok-triples.ensures.target) at c.in_ok-new.ensures;
+  filters = c.in_ok-new.ensures.filters;
+  host = c.in_ok-triples.ensures.host;
+  target = c.in_ok-triples.ensures.target;
+  platforms = rw (c.in_ok-triples.ensures.host, c.in_ok-triples.ensures.target) at c.in_ok-new.ensures.platforms;
+  profile_source = refl;
 }

@@ -1,0 +1,21 @@
+-- The machines of a request: their triples, and what the compiler prints for them.
+use Rattle.std.specs.Prelude.{ℕ, List, Option, String, option_map, string_bytes}
+use Rattle.std.specs.declared.alloc.Global.{Global}
+use Rattle.nextest_engines.specs.declared.queries.BuildPlatforms.{BuildPlatforms}
+use Rattle.target_platforms.specs.declared.Platform.{Platform}
+use Rattle.rinqebo_files.specs.declared.files.Gathered.{Gathered}
+use Rattle.rinqebo_request.specs.declared.request.EngineOptions.{EngineOptions}
+use Rattle.session_forms.specs.Machines.{ArePlatformsFor as AreOfMachines}
+use Rattle.session_forms.specs.Requests.{MachineText}
+use Rattle.test_lists.specs.Lists.{TestList}
+use Rattle.rinqebo_load.specs.Triples.{host_for, target_for}
+
+-- the machine of a triple, with what the compiler prints for it, where that is given
+abbrev pub machine_of : Option (String Global) → List ℕ → MachineText
+machine_of printed triple = record { triple = triple; cfg = option_map string_bytes printed }
+
+-- the platforms of a build are those that are asked for, beside a list of tests
+abbrev pub ArePlatformsFor : EngineOptions → TestList → Gathered → BuildPlatforms Platform → Type 0
+ArePlatformsFor options list gathered =
+    AreOfMachines (machine_of gathered.host_cfg (host_for options list))
+    (option_map (machine_of gathered.target_cfg) (target_for options list))

@@ -1,0 +1,83 @@
+//! What is wrong with the list of tests, the metadata or the platforms that a request names.
+use rinqebo_request::NamedFile;
+use session_forms::EngineFault;
+use std::alloc::AllocError;
+use std::fmt;
+use test_lists::ListFault;
+use thiserror::Error;
+
+/// What gives the triple of a platform.
+#[derive(Clone, Copy, Debug, PartialEq, Eq, Drop)]
+pub enum TripleSource {
+    /// The option `--host`.
+    Host,
+    /// The option `--target`.
+    Target,
+    /// The list of tests.
+    List,
+    /// The variable `CARGO_BUILD_TARGET`.
+    Variable,
+    /// None of them: the host is [`rinqebo_request::HOST`], or there is no target.
+    Fallback,
+}
+
+impl fmt::Display for TripleSource {
+    fn fmt<W: fmt::Write>(&self, f: &mut fmt::Formatter<W>) -> fmt::Result {
+        f.write_str(match self {
+            TripleSource::Host => "--host",
+            TripleSource::Target => "--target",
+            TripleSource::List => "LIST",
+            TripleSource::Variable => "CARGO_BUILD_TARGET",
+            TripleSource::Fallback => "default",
+        })
+    }
+}
+
+/// What a fault is about, as messages begin with it.
+#[derive(Debug, Drop)]
+pub enum Subject {
+    /// A file.
+    File(NamedFile),
+    /// A triple, which no file gives.
+    Triple(TripleSource),
+}
+
+impl fmt::Display for Subject {
+    fn fmt<W: fmt::Write>(&self, f: &mut fmt::Formatter<W>) -> fmt::Result {
+        match self {
+            Subject::File(file) => write!(f, "{file}"),
+            Subject::Triple(source) => write!(f, "{source}"),
+        }
+    }
+}
+
+/// What is wrong with the list of tests, the metadata or the platforms that a request names.
+#[derive(Debug, Drop, Error)]
+pub enum InputFault {
+    /// The list of tests has no text.
+    #[error("{0} is empty: expected the output of `cargo nextest list --message-format json`")]
+    EmptyList(NamedFile),
+    /// What was read at a path is no list of tests, which would say the platforms of the build.
+    #[error("no list of tests in `{0}`: {1}")]
+    List(String, ListFault),
+    /// The metadata have no graph of packages, or no platform is known for a triple.
+    #[error("{0}: {1}")]
+    Engine(Subject, EngineFault),
+    /// What the compiler prints for a target is given, and there is no target.
+    #[error("`--target-cfg` goes with a target, and there is none")]
+    NoTarget,
+    /// Want of memory.
+    #[error("out of memory")]
+    Memory,
+}
+
+impl From<AllocError> for InputFault {
+    ghost use Rattle.std.specs.Prelude.{◌≡◌};
+    ghost use Rattle.rinqebo_load.specs.declared.fault.InputFault.TheVariants.{Memory};
+
+    ghost from_gives = { λ _ fault. fault ≡ Memory };
+
+    fn from(_error: AllocError) -> InputFault {
+        InputFault::Memory
+    }
+}
