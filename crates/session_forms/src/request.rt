@@ -70,7 +70,14 @@ fn config_file_in(alloc: Global, value: &Value) -> Result<Option<FileInput>, Req
     ensures { Reads (λ file. option_map file_view file) result
         (config_file_in (view value.now)) }
 {
-    match optional_object_at(value, at("config-file"))? {
+    let holder = Holder::Request;
+    match optional_object_at(
+        value,
+        Place {
+            holder,
+            key: "config-file",
+        },
+    )? {
         Some(file) => Ok(Some(file_in(alloc, file, Holder::ConfigFile)?)),
         None => Ok(None),
     }
@@ -136,8 +143,20 @@ fn switches_in(value: &Value) -> Result<Switches, RequestFault>
     ensures { Reads (λ switches. switches) result (switches_in (view value.now)) }
 {
     let holder = Holder::Features;
-    let setup_scripts = flag_at(value, holder.at("setup-scripts"))?;
-    let wrapper_scripts = flag_at(value, holder.at("wrapper-scripts"))?;
+    let setup_scripts = flag_at(
+        value,
+        Place {
+            holder,
+            key: "setup-scripts",
+        },
+    )?;
+    let wrapper_scripts = flag_at(
+        value,
+        Place {
+            holder,
+            key: "wrapper-scripts",
+        },
+    )?;
     Ok(Switches {
         setup_scripts,
         wrapper_scripts,
