@@ -29,7 +29,10 @@ fn document_of(alloc: Global, report: &Report) -> Result<String, AllocError>
 fn reason_of(alloc: Global, fault: &InputFault) -> Result<String, AllocError> {
     match fault {
         InputFault::Engine(_, fault) => format!(in alloc; "{fault}"),
-        InputFault::EmptyList(_) => format!(in alloc; "no list of tests in `{LIST}`: it is empty"),
+        InputFault::EmptyList(_) => {
+            let list = LIST;
+            format!(in alloc; "no list of tests in `{list}`: it is empty")
+        }
         InputFault::List(_, _) | InputFault::NoTarget | InputFault::Memory => {
             format!(in alloc; "{fault}")
         }
