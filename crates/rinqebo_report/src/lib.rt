@@ -3,6 +3,7 @@
 //! without, and in three forms for other programs.
 #![tactic(auto)]
 
+mod advice;
 mod check_page;
 mod config_page;
 mod duration;
