@@ -13,6 +13,7 @@ mod format;
 mod github;
 mod group_page;
 mod hint;
+mod json_asked;
 mod json_document;
 mod json_findings;
 mod json_parts;
