@@ -6,7 +6,7 @@ use Rattle.serde_json.specs.Find.{of_integer}
 use Rattle.serde_json.specs.Read.{max_depth}
 use Rattle.serde_json.specs.Written.{has_float}
 use Rattle.rinqebo_report.specs.Document.{common_members, with_asked, with_content, document_data}
-use Rattle.rinqebo_report.specs.Documents.{count_data, text_data, optional_text_data, optional_count_data, list_data, pair_data, lines_data, scalar_data, value_data, optional_value_data, part_data, kind_data, origin_data, setting_data, test_data, entry_data, rule_data, tool_data, source_data, unreached_data, wrapper_data, place_source_data, place_lines_data, span_data, expression_data, expression_span_data, finding_data}
+use Rattle.rinqebo_report.specs.Documents.{count_data, text_data, optional_text_data, optional_count_data, list_data, pair_data, lines_data, scalar_data, value_data, optional_value_data, part_data, kind_data, origin_data, setting_data, test_data, test_id_data, entry_data, rule_data, tool_data, source_data, unreached_data, wrapper_data, place_source_data, place_lines_data, span_data, expression_data, expression_span_data, finding_data}
 use Rattle.rinqebo_report.specs.declared.finding.Expression.{Expression}
 use Rattle.rinqebo_report.specs.declared.finding.Finding.{Finding}
 use Rattle.rinqebo_report.specs.declared.finding.Span.{Span}
@@ -27,6 +27,7 @@ use Rattle.rinqebo_report.specs.declared.report.ListWrapper.{ListWrapper}
 use Rattle.rinqebo_report.specs.declared.report.Report.{Report}
 use Rattle.rinqebo_report.specs.declared.report.Rule.{Rule}
 use Rattle.rinqebo_report.specs.declared.report.SettingRow.{SettingRow}
+use Rattle.rinqebo_report.specs.declared.report.TestId.{TestId}
 use Rattle.rinqebo_report.specs.declared.report.TestRows.{TestRows}
 use Rattle.rinqebo_report.specs.declared.report.Unreached.{Unreached}
 use Rattle.rinqebo_report.specs.declared.value.Field.{Field}
@@ -121,6 +122,10 @@ test t =
     exact_object 5 (and_member _ (text 5 t.binary)
     (and_member _ (text 5 t.name) (and_member _ (exact_text 5 _) (and_member _ settings (no_more 5)))))
 
+test_id : (t : TestId) → IsExact 7 (test_id_data t)
+test_id t = exact_object 6 (and_member _ (text 6 t.binary)
+    (and_member _ (text 6 t.name) (and_member _ (exact_text 6 _) (no_more 6))))
+
 wrapper : (w : ListWrapper) → IsExact 1 (wrapper_data w)
 wrapper w = exact_object 0 (and_member _ (text 0 w.binary) (and_member _ (text 0 w.value) (no_more 0)))
 
@@ -208,8 +213,10 @@ wrappers_of wrappers = exact_list 6 wrapper_data (λ w. deeper 6 (wrapper w) (om
 content : {ms : Members} (c : Content) → AreExact 7 ms → AreExact 7 (with_content c ms)
 content (contents.Explain a t) h =
     exact_put (codes "tests") _ _ (exact_list 6 test_data test (t ∷ [])) (asked (codes "explain") a h)
-content (contents.Why a key rules) h =
-    exact_put (codes "rules") _ _ (rules_of rules.items) (asked (codes "explain") a h)
+content (contents.Why a t key rules) h =
+    exact_put (codes "test") _ _ (test_id t)
+    (exact_put (codes "rules") _ _ (rules_of rules.items)
+    (exact_put (codes "key") _ _ (text 7 key) (asked (codes "explain") a h)))
 content (contents.List a tests unused scripts) h =
     exact_put (codes "unused") _ _ (unused_of unused.items)
     (exact_put (codes "tests") _ _ (exact_list 6 test_data test tests.items)

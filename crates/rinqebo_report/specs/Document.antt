@@ -1,5 +1,5 @@
 -- The document of a report.
-use Rattle.std.specs.Prelude.{ℕ, List, codes}
+use Rattle.std.specs.Prelude.{ℕ, List, codes, string_bytes}
 use Rattle.serde_json.specs.Data.{Data, null, string, array, object, no_items, item, Members, no_members, member, put}
 use Rattle.rinqebo_report.specs.declared.origin.Origin.{Origin}
 use Rattle.rinqebo_report.specs.declared.report.Asked.{Asked}
@@ -9,8 +9,9 @@ use Rattle.rinqebo_report.specs.declared.report.Entry.{Entry}
 use Rattle.rinqebo_report.specs.declared.report.ListScripts.{ListScripts}
 use Rattle.rinqebo_report.specs.declared.report.Report.{Report}
 use Rattle.rinqebo_report.specs.declared.report.Rule.{Rule}
+use Rattle.rinqebo_report.specs.declared.report.TestId.{TestId}
 use Rattle.rinqebo_report.specs.declared.report.TestRows.{TestRows}
-use Rattle.rinqebo_report.specs.Documents.{count_data, text_data, optional_text_data, list_data, origin_data, test_data, entry_data, rule_data, finding_data, source_data, unreached_data, wrapper_data}
+use Rattle.rinqebo_report.specs.Documents.{count_data, text_data, optional_text_data, list_data, origin_data, test_data, test_id_data, entry_data, rule_data, finding_data, source_data, unreached_data, wrapper_data}
 use Rattle.rinqebo_report.specs.Pages.{mode_word}
 
 -- The members that every document has, with their keys in the order of bytes: they are those of
@@ -52,9 +53,11 @@ with_explain asked test members =
     (with_asked (codes "explain") asked members)
 
 -- members, with those of the page of a setting
-abbrev pub with_why : Asked → List Rule → Members → Members
-with_why asked rules members =
-    put (codes "rules") (list_data rule_data rules) (with_asked (codes "explain") asked members)
+abbrev pub with_why : Asked → TestId → List ℕ → List Rule → Members → Members
+with_why asked test key rules members =
+    put (codes "test") (test_id_data test)
+    (put (codes "rules") (list_data rule_data rules)
+    (put (codes "key") (string key) (with_asked (codes "explain") asked members)))
 
 -- members, with those of the page of a list
 abbrev pub with_list : Asked → List TestRows → List Origin → ListScripts → Members → Members
@@ -74,7 +77,8 @@ with_config asked entries members =
 -- members, with those of the page of what a command answers
 abbrev pub with_content : Content → Members → Members
 with_content (contents.Explain asked test) members = with_explain asked test members
-with_content (contents.Why asked key rules) members = with_why asked rules.items members
+with_content (contents.Why asked test key rules) members =
+    with_why asked test (string_bytes key) rules.items members
 with_content (contents.List asked tests unused scripts) members =
     with_list asked tests.items unused.items scripts members
 with_content (contents.ShowConfig asked entries) members =

@@ -375,7 +375,7 @@ concise_runs report =
 abbrev pub content_runs : Report → Content → List Run
 content_runs report (contents.Explain asked test) =
     explain_runs (string_bytes report.root) report.sources.items asked test
-content_runs report (contents.Why asked key rules) =
+content_runs report (contents.Why asked test key rules) =
     rules_runs (string_bytes report.root) report.sources.items (string_bytes key) 0 rules.items
 content_runs report (contents.List asked tests unused scripts) =
     list_runs (string_bytes report.root) report.sources.items tests.items unused.items

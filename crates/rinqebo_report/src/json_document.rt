@@ -69,7 +69,12 @@ impl Content {
     {
         match self {
             Content::Explain { asked, test } => put_explain(members, alloc, asked, test),
-            Content::Why { asked, rules, .. } => put_why(members, alloc, asked, rules),
+            Content::Why {
+                asked,
+                test,
+                key,
+                rules,
+            } => put_why(members, alloc, asked, test, key.as_str(), rules),
             Content::List {
                 asked,
                 tests,

@@ -37,6 +37,6 @@ pub use origin::{Lines, Origin, Part, Place, Source, SourceKind, Written};
 pub use piece::Colour;
 pub use report::{
     Asked, Condition, ConditionAnswer, Content, Entry, ListScripts, ListWrapper, Platform, Report,
-    Rule, RunMode, SettingRow, TestRows, Unreached, Verdict,
+    Rule, RunMode, SettingRow, TestId, TestRows, Unreached, Verdict,
 };
 pub use value::{Field, Scalar, Value};

@@ -8,12 +8,12 @@ ghost use Rattle.rinqebo_report.specs.PieceView.{piece_view};
 ghost use Rattle.rinqebo_report.specs.TomlText.{value_text};
 
 use crate::explain_page::width;
-use crate::json_asked::put_asked;
-use crate::json_parts::rules_json;
+use crate::json_asked::{put_asked, put_text};
+use crate::json_parts::{rules_json, test_id_json};
 use crate::origin::Source;
 use crate::origin_text::origin_text;
 use crate::piece::{Colour, Piece, Style, add_pieces};
-use crate::report::{Asked, Condition, ConditionAnswer, Rule, Verdict};
+use crate::report::{Asked, Condition, ConditionAnswer, Rule, TestId, Verdict};
 use crate::toml_text::value_text;
 use crate::value::Value;
 use serde_json::{Map, Value as Json, put};
@@ -238,11 +238,15 @@ pub(crate) fn put_why(
     members: &mut Map<String, Json>,
     alloc: Global,
     asked: &Asked,
+    test: &TestId,
+    key: &str,
     rules: &[Rule],
 ) -> Result<(), AllocError>
     ensures { OnOk result (members_view members.new.entries
-        ≡ with_why asked.now rules.now (members_view members.old.entries)) }
+        ≡ with_why asked.now test.now key.now rules.now (members_view members.old.entries)) }
 {
     put_asked(members, alloc, "explain", asked)?;
-    put(members, alloc, "rules", rules_json(alloc, rules)?)
+    put_text(members, alloc, "key", key)?;
+    put(members, alloc, "rules", rules_json(alloc, rules)?)?;
+    put(members, alloc, "test", test_id_json(alloc, test)?)
 }
