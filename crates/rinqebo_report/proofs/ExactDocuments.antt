@@ -1,12 +1,12 @@
 -- The document of a report nests little, and has no number that is a float.
-use Rattle.std.proofs.Common.{◌≡◌, ◌≤◌, ◌+◌, ℕ, ℤ, pos, negsuc, false, List, [], ◌∷◌, Option, None, Some, String, string_bytes, refl, arith}
+use Rattle.std.proofs.Common.{◌≡◌, ◌≤◌, ◌+◌, ℕ, ℤ, pos, negsuc, false, List, [], ◌∷◌, Option, None, Some, String, string_bytes, codes, refl, arith}
 use Rattle.std.specs.declared.alloc.Global.{Global}
-use Rattle.serde_json.specs.Data.{Data, null, number, array, no_items, no_members, depth}
+use Rattle.serde_json.specs.Data.{Data, null, number, array, no_items, Members, no_members, depth}
 use Rattle.serde_json.specs.Find.{of_integer}
 use Rattle.serde_json.specs.Read.{max_depth}
 use Rattle.serde_json.specs.Written.{has_float}
-use Rattle.rinqebo_report.specs.Document.{AskedData, asked_data, content_asked, rules_data, tests_data, entries_data, unused_data, setup_scripts_data, list_wrappers_data, document_data}
-use Rattle.rinqebo_report.specs.Documents.{count_data, text_data, optional_text_data, optional_count_data, list_data, pair_data, lines_data, scalar_data, value_data, optional_value_data, part_data, kind_data, origin_data, setting_data, test_data, entry_data, rule_data, tool_data, source_data, unreached_data, wrapper_data, place_source_data, place_lines_data, span_data, expression_data, expression_span_data, finding_data}
+use Rattle.rinqebo_report.specs.Document.{common_members, with_asked, with_content, document_data}
+use Rattle.rinqebo_report.specs.Documents.{count_data, text_data, optional_text_data, optional_count_data, list_data, pair_data, lines_data, scalar_data, value_data, optional_value_data, part_data, kind_data, origin_data, setting_data, test_data, test_id_data, entry_data, rule_data, tool_data, source_data, unreached_data, wrapper_data, place_source_data, place_lines_data, span_data, expression_data, expression_span_data, finding_data}
 use Rattle.rinqebo_report.specs.declared.finding.Expression.{Expression}
 use Rattle.rinqebo_report.specs.declared.finding.Finding.{Finding}
 use Rattle.rinqebo_report.specs.declared.finding.Span.{Span}
@@ -27,6 +27,7 @@ use Rattle.rinqebo_report.specs.declared.report.ListWrapper.{ListWrapper}
 use Rattle.rinqebo_report.specs.declared.report.Report.{Report}
 use Rattle.rinqebo_report.specs.declared.report.Rule.{Rule}
 use Rattle.rinqebo_report.specs.declared.report.SettingRow.{SettingRow}
+use Rattle.rinqebo_report.specs.declared.report.TestId.{TestId}
 use Rattle.rinqebo_report.specs.declared.report.TestRows.{TestRows}
 use Rattle.rinqebo_report.specs.declared.report.Unreached.{Unreached}
 use Rattle.rinqebo_report.specs.declared.value.Field.{Field}
@@ -34,7 +35,7 @@ use Rattle.rinqebo_report.specs.declared.value.Scalar.{Scalar}
 use Rattle.rinqebo_report.specs.declared.value.Scalar.TheVariants as scalars
 use Rattle.rinqebo_report.specs.declared.value.Value.{Value}
 use Rattle.rinqebo_report.specs.declared.value.Value.TheVariants as values
-use Rattle.rinqebo_report.proofs.Exact.{IsExact, exact_text, exact_null, exact_truth, exact_list, no_more, and_member, exact_object, exact_puts}
+use Rattle.rinqebo_report.proofs.Exact.{IsExact, AreExact, exact_text, exact_null, exact_truth, exact_list, no_more, and_member, exact_object, exact_put, exact_puts}
 
 count : (n m : ℕ) → IsExact n (count_data m)
 count n m = record { nests = omega arith; whole = refl }
@@ -121,6 +122,10 @@ test t =
     exact_object 5 (and_member _ (text 5 t.binary)
     (and_member _ (text 5 t.name) (and_member _ (exact_text 5 _) (and_member _ settings (no_more 5)))))
 
+test_id : (t : TestId) → IsExact 7 (test_id_data t)
+test_id t = exact_object 6 (and_member _ (text 6 t.binary)
+    (and_member _ (text 6 t.name) (and_member _ (exact_text 6 _) (no_more 6))))
+
 wrapper : (w : ListWrapper) → IsExact 1 (wrapper_data w)
 wrapper w = exact_object 0 (and_member _ (text 0 w.binary) (and_member _ (text 0 w.value) (no_more 0)))
 
@@ -183,92 +188,58 @@ finding f =
     (and_member _ (optional_text 1 f.path)
     (and_member _ (place_source 1 f.place) (and_member _ (expression_span 0 f.expression) (no_more 1))))))))))))
 
-record IsExactAsked (asked : AskedData) : Type 0 where
-  chain : IsExact 7 asked.chain
-  host : IsExact 7 asked.host
-  mode : IsExact 7 asked.mode
-  profile : IsExact 7 asked.profile
-  target : IsExact 7 asked.target
+-- members with what was asked for, and with those of each page
+asked : {ms : Members} (command : List ℕ) (a : Asked) → AreExact 7 ms → AreExact 7 (with_asked command a ms)
+asked command a h =
+    exact_put (codes "target") _ _ (optional_text 7 a.target)
+    (exact_put (codes "profile") _ _ (text 7 a.profile)
+    (exact_put (codes "mode") _ _ (exact_text 7 _)
+    (exact_put (codes "host") _ _ (text 7 a.host)
+    (exact_put (codes "command") _ _ (exact_text 7 command)
+    (exact_put (codes "chain") _ _ (texts 6 a.chain.items) h)))))
 
-asked : (a : Asked) → IsExactAsked (asked_data a)
-asked a = record {
-  chain = texts 6 a.chain.items;
-  host = text 7 a.host;
-  mode = exact_text 7 _;
-  profile = text 7 a.profile;
-  target = optional_text 7 a.target;
-}
+rules_of : (rules : List Rule) → IsExact 7 (list_data rule_data rules)
+rules_of rules = exact_list 6 rule_data (λ r. deeper 6 (rule r) (omega arith)) rules
 
-content : (c : Content) → IsExactAsked (content_asked c)
-content (contents.Explain a t) = asked a
-content (contents.Why a key rules) = asked a
-content (contents.List a tests unused scripts) = asked a
-content (contents.ShowConfig a entries) = asked a
-content contents.Check = record {
-  chain = nothing 6;
-  host = exact_null 7;
-  mode = exact_null 7;
-  profile = exact_null 7;
-  target = exact_null 7;
-}
+entries_of : (entries : List Entry) → IsExact 7 (list_data entry_data entries)
+entries_of entries = exact_list 6 entry_data (λ e. deeper 6 (entry e) (omega arith)) entries
 
-rules_of : (c : Content) → IsExact 7 (rules_data c)
-rules_of (contents.Explain a t) = nothing 6
-rules_of (contents.Why a key rules) = exact_list 6 rule_data (λ r. deeper 6 (rule r) (omega arith)) rules.items
-rules_of (contents.List a tests unused scripts) = nothing 6
-rules_of (contents.ShowConfig a entries) = nothing 6
-rules_of contents.Check = nothing 6
+unused_of : (unused : List Origin) → IsExact 7 (list_data origin_data unused)
+unused_of unused = exact_list 6 origin_data (λ o. deeper 6 (origin o) (omega arith)) unused
 
-tests_of : (c : Content) → IsExact 7 (tests_data c)
-tests_of (contents.Explain a t) = exact_list 6 test_data test (t ∷ [])
-tests_of (contents.Why a key rules) = nothing 6
-tests_of (contents.List a tests unused scripts) = exact_list 6 test_data test tests.items
-tests_of (contents.ShowConfig a entries) = nothing 6
-tests_of contents.Check = nothing 6
+wrappers_of : (wrappers : List ListWrapper) → IsExact 7 (list_data wrapper_data wrappers)
+wrappers_of wrappers = exact_list 6 wrapper_data (λ w. deeper 6 (wrapper w) (omega arith)) wrappers
 
-entries_of : (c : Content) → IsExact 7 (entries_data c)
-entries_of (contents.Explain a t) = nothing 6
-entries_of (contents.Why a key rules) = nothing 6
-entries_of (contents.List a tests unused scripts) = nothing 6
-entries_of (contents.ShowConfig a entries) =
-    exact_list 6 entry_data (λ e. deeper 6 (entry e) (omega arith)) entries.items
-entries_of contents.Check = nothing 6
+content : {ms : Members} (c : Content) → AreExact 7 ms → AreExact 7 (with_content c ms)
+content (contents.Explain a t) h =
+    exact_put (codes "tests") _ _ (exact_list 6 test_data test (t ∷ [])) (asked (codes "explain") a h)
+content (contents.Why a t key rules) h =
+    exact_put (codes "test") _ _ (test_id t)
+    (exact_put (codes "rules") _ _ (rules_of rules.items)
+    (exact_put (codes "key") _ _ (text 7 key) (asked (codes "explain") a h)))
+content (contents.List a tests unused scripts) h =
+    exact_put (codes "unused") _ _ (unused_of unused.items)
+    (exact_put (codes "tests") _ _ (exact_list 6 test_data test tests.items)
+    (exact_put (codes "setup-scripts") _ _ (texts 6 scripts.setup.items)
+    (exact_put (codes "list-wrappers") _ _ (wrappers_of scripts.list_wrappers.items) (asked (codes "list") a h))))
+content (contents.ShowConfig a entries) h =
+    exact_put (codes "entries") _ _ (entries_of entries.items) (asked (codes "show-config") a h)
+content contents.Check h = h
 
-unused_of : (c : Content) → IsExact 7 (unused_data c)
-unused_of (contents.Explain a t) = nothing 6
-unused_of (contents.Why a key rules) = nothing 6
-unused_of (contents.List a tests unused scripts) =
-    exact_list 6 origin_data (λ o. deeper 6 (origin o) (omega arith)) unused.items
-unused_of (contents.ShowConfig a entries) = nothing 6
-unused_of contents.Check = nothing 6
-
-setup_scripts_of : (c : Content) → IsExact 7 (setup_scripts_data c)
-setup_scripts_of (contents.Explain a t) = nothing 6
-setup_scripts_of (contents.Why a key rules) = nothing 6
-setup_scripts_of (contents.List a tests unused scripts) = texts 6 scripts.setup.items
-setup_scripts_of (contents.ShowConfig a entries) = nothing 6
-setup_scripts_of contents.Check = nothing 6
-
-list_wrappers_of : (c : Content) → IsExact 7 (list_wrappers_data c)
-list_wrappers_of (contents.Explain a t) = nothing 6
-list_wrappers_of (contents.Why a key rules) = nothing 6
-list_wrappers_of (contents.List a tests unused scripts) =
-    exact_list 6 wrapper_data (λ w. deeper 6 (wrapper w) (omega arith)) scripts.list_wrappers.items
-list_wrappers_of (contents.ShowConfig a entries) = nothing 6
-list_wrappers_of contents.Check = nothing 6
+common : (report : Report) → AreExact 7 (common_members report)
+common report =
+    and_member _ (nothing 6) (and_member _ (exact_text 7 _) (and_member _ (nothing 6)
+    (and_member _ (exact_list 6 finding_data (λ f. deeper 6 (finding f) (omega arith)) report.findings.items)
+    (and_member _ (exact_null 7) (and_member _ (nothing 6)
+    (and_member _ (exact_null 7) (and_member _ (exact_null 7) (and_member _ (text 7 report.root)
+    (and_member _ (nothing 6) (and_member _ (nothing 6)
+    (and_member _ (exact_list 6 source_data (λ s. deeper 6 (source s) (omega arith)) report.sources.items)
+    (and_member _ (exact_null 7) (and_member _ (nothing 6)
+    (and_member _ (exact_list 6 unreached_data (λ u. deeper 6 (unreached u) (omega arith)) report.unreached.items)
+    (and_member _ (nothing 6) (and_member _ (count 7 1) (no_more 7)))))))))))))))))
 
 document : (report : Report) → IsExact 8 (document_data report)
-document report =
-    let a = content report.content in
-    exact_object 7 (and_member _ a.chain (and_member _ (exact_text 7 _) (and_member _ (entries_of report.content)
-    (and_member _ (exact_list 6 finding_data (λ f. deeper 6 (finding f) (omega arith)) report.findings.items)
-    (and_member _ a.host (and_member _ (list_wrappers_of report.content)
-    (and_member _ a.mode (and_member _ a.profile (and_member _ (text 7 report.root)
-    (and_member _ (rules_of report.content) (and_member _ (setup_scripts_of report.content)
-    (and_member _ (exact_list 6 source_data (λ s. deeper 6 (source s) (omega arith)) report.sources.items)
-    (and_member _ a.target (and_member _ (tests_of report.content)
-    (and_member _ (exact_list 6 unreached_data (λ u. deeper 6 (unreached u) (omega arith)) report.unreached.items)
-    (and_member _ (unused_of report.content) (and_member _ (count 7 1) (no_more 7))))))))))))))))))
+document report = exact_object 7 (content report.content (common report))
 
 within : (d : Data) → IsExact 8 d → depth d ≤ max_depth
 within d h = omega (arith, h.nests)

@@ -22,6 +22,7 @@ use Rattle.rinqebo_report.specs.declared.report.Entry.{Entry}
 use Rattle.rinqebo_report.specs.declared.report.ListWrapper.{ListWrapper}
 use Rattle.rinqebo_report.specs.declared.report.Rule.{Rule}
 use Rattle.rinqebo_report.specs.declared.report.SettingRow.{SettingRow}
+use Rattle.rinqebo_report.specs.declared.report.TestId.{TestId}
 use Rattle.rinqebo_report.specs.declared.report.TestRows.{TestRows}
 use Rattle.rinqebo_report.specs.declared.report.Unreached.{Unreached}
 use Rattle.rinqebo_report.specs.declared.value.Field.{Field}
@@ -132,6 +133,13 @@ test_data test =
     (member (codes "platform") (string (platform_word test.platform))
     (member (codes "settings") (object (fold with_setting no_members test.settings.items))
     no_members))))
+
+-- the names of a test
+abbrev pub test_id_data : TestId → Data
+test_id_data test =
+    object (member (codes "binary-id") (text_data test.binary)
+    (member (codes "name") (text_data test.name)
+    (member (codes "platform") (string (platform_word test.platform)) no_members)))
 
 -- the list wrapper of a binary
 abbrev pub wrapper_data : ListWrapper → Data

@@ -6,6 +6,7 @@ use Rattle.rinqebo_report.specs.declared.origin.Lines.{Lines}
 use Rattle.rinqebo_report.specs.declared.origin.Place.{Place}
 use Rattle.rinqebo_report.specs.declared.origin.Source.{Source}
 use Rattle.rinqebo_report.specs.declared.report.Report.{Report}
+use Rattle.rinqebo_report.specs.Advice.{message_with_advice}
 use Rattle.rinqebo_report.specs.OriginText.{below}
 use Rattle.rinqebo_report.specs.Pages.{level_word}
 
@@ -54,12 +55,12 @@ properties_text workspace sources finding =
     file_property workspace sources finding.place
     ++ (codes "title=" ++ flat_map property_char (chars (string_bytes finding.code)))
 
--- a finding: its level, its properties, and its message
+-- a finding: its level, its properties, and its message with its advice
 abbrev pub github_line : List ℕ → List Source → Finding → List ℕ
 github_line workspace sources finding =
     codes "::" ++ (level_word finding.level ++ (codes " "
     ++ (properties_text workspace sources finding
-    ++ (codes "::" ++ (flat_map message_char (chars (string_bytes finding.message))
+    ++ (codes "::" ++ (flat_map message_char (chars (message_with_advice finding))
     ++ 10 ∷ [])))))
 
 -- findings, a line each

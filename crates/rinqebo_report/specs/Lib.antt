@@ -1,3 +1,4 @@
+pub mod Advice
 pub mod Durations
 pub mod Joined
 pub mod TomlText

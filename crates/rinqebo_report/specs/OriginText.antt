@@ -11,6 +11,7 @@ use Rattle.rinqebo_report.specs.declared.origin.Source.{Source}
 use Rattle.rinqebo_report.specs.declared.origin.SourceKind.{SourceKind}
 use Rattle.rinqebo_report.specs.declared.origin.SourceKind.TheVariants as kinds
 use Rattle.rinqebo_report.specs.declared.origin.Written.{Written}
+use Rattle.rinqebo_report.specs.TomlText.{key_text}
 
 -- what follows a prefix of a text, if the text begins with it
 abbrev pub after_prefix : List ℕ → List ℕ → Option (List ℕ)
@@ -83,7 +84,7 @@ part_text (Script index) = codes ".scripts." ++ decimal index
 abbrev pub written_text : List ℕ → List Source → Written → List ℕ
 written_text root sources written =
     place_text root sources written.place
-    ++ (codes " profile." ++ (string_bytes written.profile ++ part_text written.part))
+    ++ (codes " profile." ++ (key_text (string_bytes written.profile) ++ part_text written.part))
 
 -- an origin
 abbrev pub origin_text : List ℕ → List Source → Origin → List ℕ

@@ -32,6 +32,7 @@ use Rattle.rinqebo_report.specs.declared.report.TestRows.{TestRows}
 use Rattle.rinqebo_report.specs.declared.report.Unreached.{Unreached}
 use Rattle.rinqebo_report.specs.declared.report.Verdict.{Verdict}
 use Rattle.rinqebo_report.specs.declared.report.Verdict.TheVariants as verdicts
+use Rattle.rinqebo_report.specs.Advice.{message_with_advice}
 use Rattle.rinqebo_report.specs.Joined.{joined}
 use Rattle.rinqebo_report.specs.OriginText.{origin_text, path_at}
 use Rattle.rinqebo_report.specs.Pieces.{Run, styled, repeated, numbered, ending, shown_char}
@@ -284,11 +285,11 @@ abbrev pub head_line_runs : List ℕ → Style → List ℕ → List ℕ → Lis
 head_line_runs place style level message =
     plain place ∷ styled style level ∷ plain (codes ": ") ∷ plain message ∷ ending ∷ []
 
--- the first line of a finding
-abbrev pub head_runs : List ℕ → List Source → Finding → List Run
-head_runs root sources finding =
+-- the first line of a finding, with this message
+abbrev pub head_runs : List ℕ → List Source → Finding → List ℕ → List Run
+head_runs root sources finding message =
     head_line_runs (finding_place root sources finding.place finding.column)
-    (level_style finding.level) (level_text finding) (string_bytes finding.message)
+    (level_style finding.level) (level_text finding) message
 
 -- how many characters the first ones of a text take, as they are shown
 abbrev pub shown_width : List ℕ → ℕ → ℕ
@@ -317,7 +318,8 @@ remark_runs word (Some text) =
 -- a finding
 abbrev pub finding_runs : List ℕ → List Source → Finding → List Run
 finding_runs root sources finding =
-    head_runs root sources finding ++ (expression_runs finding.expression
+    head_runs root sources finding (string_bytes finding.message)
+    ++ (expression_runs finding.expression
     ++ (remark_runs (codes "= expected: ") finding.expected
     ++ remark_runs (codes "= help: ") finding.help))
 
@@ -358,16 +360,22 @@ abbrev pub findings_runs : Report → List Run
 findings_runs report =
     flat_map (finding_runs (string_bytes report.root) report.sources.items) report.findings.items
 
--- the first lines of the findings
+-- a finding on one line, with its advice
+abbrev pub concise_line_runs : List ℕ → List Source → Finding → List Run
+concise_line_runs root sources finding =
+    head_runs root sources finding (message_with_advice finding)
+
+-- the findings, a line each
 abbrev pub concise_runs : Report → List Run
 concise_runs report =
-    flat_map (head_runs (string_bytes report.root) report.sources.items) report.findings.items
+    flat_map (concise_line_runs (string_bytes report.root) report.sources.items)
+    report.findings.items
 
 -- the page of what a command answers
 abbrev pub content_runs : Report → Content → List Run
 content_runs report (contents.Explain asked test) =
     explain_runs (string_bytes report.root) report.sources.items asked test
-content_runs report (contents.Why asked key rules) =
+content_runs report (contents.Why asked test key rules) =
     rules_runs (string_bytes report.root) report.sources.items (string_bytes key) 0 rules.items
 content_runs report (contents.List asked tests unused scripts) =
     list_runs (string_bytes report.root) report.sources.items tests.items unused.items

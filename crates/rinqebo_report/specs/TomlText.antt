@@ -1,8 +1,9 @@
 -- Values as TOML, on one line.
-use Rattle.std.specs.Prelude.{ℕ, ◌==◌, ◌/◌, ◌%◌, true, false, List, [], ◌∷◌, ◌++◌, ◌||◌, codes, flat_map, encode_utf8, String, string_bytes, if◌then◌else◌}
-use Rattle.std.specs.Char.{is_control}
+use Rattle.std.specs.Prelude.{ℕ, ◌==◌, ◌/◌, ◌%◌, Bool, true, false, not, List, [], ◌∷◌, ◌++◌, ◌||◌, ◌&&◌, length, codes, flat_map, encode_utf8, String, string_bytes, if◌then◌else◌}
+use Rattle.std.specs.Char.{is_ascii_alphanumeric, is_control}
 use Rattle.std.specs.declared.alloc.Global.{Global}
 use Rattle.std.specs.Fmt.{digit_glyph, signed_decimal}
+use Rattle.std.specs.List.{list_all}
 use Rattle.std.specs.Str.{chars}
 use Rattle.rinqebo_report.specs.declared.value.Field.{Field}
 use Rattle.rinqebo_report.specs.declared.value.Scalar.{Scalar}
@@ -27,6 +28,18 @@ toml_char c =
 -- a text in quotes
 abbrev pub quoted : List ℕ → List ℕ
 quoted text = 34 ∷ (flat_map toml_char (chars text) ++ 34 ∷ [])
+
+-- whether a byte may stand in a key without quotes: a letter or a digit of ASCII, `_` or `-`
+abbrev pub is_bare_byte : ℕ → Bool
+is_bare_byte c = is_ascii_alphanumeric c || ((c == 95) || (c == 45))
+
+-- whether a key needs no quotes
+abbrev pub is_bare : List ℕ → Bool
+is_bare key = not (length key == 0) && list_all is_bare_byte key
+
+-- a key of a path, in quotes where it needs them
+abbrev pub key_text : List ℕ → List ℕ
+key_text key = if is_bare key then key else quoted key
 
 -- a value that holds no others
 abbrev pub scalar_text : Scalar → List ℕ

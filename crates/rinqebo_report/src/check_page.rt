@@ -1,7 +1,7 @@
 //! The page of a check: what is wrong, and where.
 ghost use Rattle.std.specs.Prelude.{◌≡◌, ◌++◌, OnOk, IfOk, codes, count_by, flat_map, string_bytes};
 ghost use Rattle.rinqebo_report.specs.Joined.{joined};
-ghost use Rattle.rinqebo_report.specs.Pages.{level_word, level_style, spot_text, finding_place, level_text, head_line_runs, head_runs, shown_width, caret_runs, expression_runs, remark_runs, finding_runs, is_refusal, is_error, is_warning, unreached_text, counts_text, summary_text, findings_runs, concise_runs, content_runs};
+ghost use Rattle.rinqebo_report.specs.Pages.{level_word, level_style, spot_text, finding_place, level_text, head_line_runs, head_runs, concise_line_runs, shown_width, caret_runs, expression_runs, remark_runs, finding_runs, is_refusal, is_error, is_warning, unreached_text, counts_text, summary_text, findings_runs, concise_runs, content_runs};
 ghost use Rattle.rinqebo_report.specs.Pieces.{page_text};
 ghost use Rattle.rinqebo_report.specs.declared.report.Content.{Content};
 
@@ -112,8 +112,27 @@ fn add_head_line<'x>(
     )
 }
 
-/// Writes the first line of a finding.
+/// Writes the first line of a finding, with a message.
 fn add_head(
+    alloc: Global,
+    out: &mut String,
+    colour: Colour,
+    root: &str,
+    sources: &[Source],
+    finding: &Finding,
+    message: &str,
+) -> Result<(), AllocError>
+    ensures { OnOk result (string_bytes out.new ≡ string_bytes out.old
+        ++ page_text colour (head_runs root.now sources.now finding.now message.now)) }
+{
+    let place = finding_place(alloc, root, sources, finding.place, finding.column)?;
+    let level = level_text(alloc, finding)?;
+    let style = finding.level.style();
+    add_head_line(out, colour, place.as_str(), style, level.as_str(), message)
+}
+
+/// Writes a finding on one line, with its advice.
+fn add_concise_line(
     alloc: Global,
     out: &mut String,
     colour: Colour,
@@ -122,19 +141,10 @@ fn add_head(
     finding: &Finding,
 ) -> Result<(), AllocError>
     ensures { OnOk result (string_bytes out.new ≡ string_bytes out.old
-        ++ page_text colour (head_runs root.now sources.now finding.now)) }
+        ++ page_text colour (concise_line_runs root.now sources.now finding.now)) }
 {
-    let place = finding_place(alloc, root, sources, finding.place, finding.column)?;
-    let level = level_text(alloc, finding)?;
-    let style = finding.level.style();
-    add_head_line(
-        out,
-        colour,
-        place.as_str(),
-        style,
-        level.as_str(),
-        finding.message.as_str(),
-    )
+    let message = finding.message_with_advice(alloc)?;
+    add_head(alloc, out, colour, root, sources, finding, message.as_str())
 }
 
 /// How many characters the first ones of a text take, as they are shown.
@@ -239,7 +249,8 @@ fn add_finding(
     ensures { OnOk result (string_bytes out.new ≡ string_bytes out.old
         ++ page_text colour (finding_runs root.now sources.now finding.now)) }
 {
-    add_head(alloc, out, colour, root, sources, finding)?;
+    let message = finding.message.as_str();
+    add_head(alloc, out, colour, root, sources, finding, message)?;
     add_expression(alloc, out, colour, &finding.expression)?;
     add_remark(out, colour, "= expected: ", &finding.expected)?;
     add_remark(out, colour, "= help: ", &finding.help)
@@ -262,8 +273,8 @@ pub(crate) fn add_findings(
     Ok(())
 }
 
-/// Writes the first lines of findings.
-pub(crate) fn add_heads(
+/// Writes findings, a line each.
+pub(crate) fn add_concise(
     alloc: Global,
     out: &mut String,
     colour: Colour,
@@ -274,7 +285,7 @@ pub(crate) fn add_heads(
 {
     let root = report.root.as_str();
     for finding in &report.findings {
-        add_head(alloc, out, colour, root, &report.sources, finding)?;
+        add_concise_line(alloc, out, colour, root, &report.sources, finding)?;
     }
     Ok(())
 }

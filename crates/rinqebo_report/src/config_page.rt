@@ -1,15 +1,20 @@
 //! The page of a configuration: each leaf with its value and where it comes from.
 ghost use Rattle.std.specs.Prelude.{◌≡◌, ◌++◌, List, OnOk, IfOk, Some, codes, flat_map, string_bytes};
+ghost use Rattle.serde_json.specs.View.{members_view};
+ghost use Rattle.rinqebo_report.specs.Document.{with_config};
 ghost use Rattle.rinqebo_report.specs.OriginText.{origin_text};
 ghost use Rattle.rinqebo_report.specs.Pages.{entry_width, widest_entry, setting_runs, hidden_runs, entry_runs, config_runs};
 ghost use Rattle.rinqebo_report.specs.Pieces.{page_text};
 
 use crate::explain_page::{add_valued, width};
+use crate::json_asked::put_asked;
+use crate::json_parts::entries_json;
 use crate::origin::{Origin, Source};
 use crate::origin_text::origin_text;
 use crate::piece::{Colour, Piece, Style, add_pieces};
-use crate::report::Entry;
+use crate::report::{Asked, Entry};
 use crate::toml_text::value_text;
+use serde_json::{Map, Value, put};
 use std::alloc::{AllocError, Global};
 
 /// How wide the key of a leaf is: one that is hidden counts for nothing.
@@ -108,4 +113,18 @@ pub(crate) fn add_config(
         add_entry(alloc, out, colour, root, sources, widest, entry)?;
     }
     Ok(())
+}
+
+/// Puts among members those of the page of a configuration.
+pub(crate) fn put_config(
+    members: &mut Map<String, Value>,
+    alloc: Global,
+    asked: &Asked,
+    entries: &[Entry],
+) -> Result<(), AllocError>
+    ensures { OnOk result (members_view members.new.entries
+        ≡ with_config asked.now entries.now (members_view members.old.entries)) }
+{
+    put_asked(members, alloc, "show-config", asked)?;
+    put(members, alloc, "entries", entries_json(alloc, entries)?)
 }

@@ -1,14 +1,19 @@
 //! The page of a test: its settings, each with its value and where it comes from.
 ghost use Rattle.std.specs.Prelude.{◌≡◌, ◌++◌, Some, OnOk, IfOk, codes, flat_map, string_bytes};
+ghost use Rattle.serde_json.specs.View.{members_view};
+ghost use Rattle.rinqebo_report.specs.Document.{with_explain};
 ghost use Rattle.rinqebo_report.specs.Joined.{joined};
 ghost use Rattle.rinqebo_report.specs.Pages.{width, key_width, widest, mode_word, platform_word, triple_of, header_text, absent_runs, setting_runs, row_runs, explain_runs};
 ghost use Rattle.rinqebo_report.specs.Pieces.{page_text};
 
+use crate::json_asked::put_asked;
+use crate::json_parts::test_json;
 use crate::origin::Source;
 use crate::origin_text::origins_text;
 use crate::piece::{Colour, Piece, Style, add_pieces};
 use crate::report::{Asked, Platform, RunMode, SettingRow, TestRows};
 use crate::toml_text::value_text;
+use serde_json::{Map, Value, json, put};
 use std::alloc::{AllocError, Global};
 use unicode_width::UnicodeWidthStr;
 
@@ -229,4 +234,20 @@ pub(crate) fn add_explain(
         &[Piece::Text(Style::Remark, header.as_str()), Piece::End],
     )?;
     add_rows(alloc, out, colour, root, sources, &test.settings)
+}
+
+/// Puts among members those of the page of a test.
+pub(crate) fn put_explain(
+    members: &mut Map<String, Value>,
+    alloc: Global,
+    asked: &Asked,
+    test: &TestRows,
+) -> Result<(), AllocError>
+    ensures { OnOk result (members_view members.new.entries
+        ≡ with_explain asked.now test.now (members_view members.old.entries)) }
+{
+    put_asked(members, alloc, "explain", asked)?;
+    let test = test_json(alloc, test)?;
+    let tests = json!(in alloc; [test])?;
+    put(members, alloc, "tests", tests)
 }

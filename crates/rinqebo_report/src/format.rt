@@ -5,7 +5,7 @@ ghost use Rattle.rinqebo_report.specs.Pages.{content_runs, findings_runs, concis
 ghost use Rattle.rinqebo_report.specs.Pieces.{page_text};
 ghost use Rattle.rinqebo_report.specs.Rendered.{rendered};
 
-use crate::check_page::{add_check, add_findings, add_heads};
+use crate::check_page::{add_check, add_concise, add_findings};
 use crate::config_page::add_config;
 use crate::explain_page::add_explain;
 use crate::github::github_text;
@@ -26,7 +26,7 @@ pub enum Format<'a> {
     Grouped,
     /// One document of JSON, on a line.
     Json,
-    /// The first lines of the findings.
+    /// The findings, a line each, with what is expected and the help.
     Concise,
     /// The findings as commands of GitHub's workflows, with paths below the folder in which a
     /// workflow runs: the empty text, where that is not known.
@@ -112,12 +112,12 @@ fn grouped_text(alloc: Global, report: &Report, colour: Colour) -> Result<String
     Ok(text)
 }
 
-/// The first lines of the findings.
+/// The findings, a line each.
 fn concise_text(alloc: Global, report: &Report, colour: Colour) -> Result<String, AllocError>
     ensures { IfOk result (λ text. string_bytes text ≡ page_text colour (concise_runs report.now)) }
 {
     let mut text = String::new(alloc);
-    add_heads(alloc, &mut text, colour, report)?;
+    add_concise(alloc, &mut text, colour, report)?;
     Ok(text)
 }
 

@@ -132,6 +132,7 @@ fn add_properties(
 
 /// Writes a finding.
 fn add_line(
+    alloc: Global,
     out: &mut String,
     workspace: &str,
     sources: &[Source],
@@ -140,12 +141,13 @@ fn add_line(
     ensures { OnOk result (string_bytes out.new
         ≡ string_bytes out.old ++ github_line workspace.now sources.now finding.now) }
 {
+    let message = finding.message_with_advice(alloc)?;
     out.push_str("::")?;
     out.push_str(finding.level.word())?;
     out.push_str(" ")?;
     add_properties(out, workspace, sources, finding)?;
     out.push_str("::")?;
-    add_message(out, finding.message.as_str())?;
+    add_message(out, message.as_str())?;
     out.push_str("\n")
 }
 
@@ -159,7 +161,7 @@ pub(crate) fn github_text(
 {
     let mut text = String::new(alloc);
     for finding in &report.findings {
-        add_line(&mut text, workspace, &report.sources, finding)?;
+        add_line(alloc, &mut text, workspace, &report.sources, finding)?;
     }
     Ok(text)
 }

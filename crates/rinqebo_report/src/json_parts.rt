@@ -2,11 +2,13 @@
 ghost use Rattle.std.specs.Prelude.{◌≡◌, IfOk, codes, fold};
 ghost use Rattle.serde_json.specs.Data.{null, object, no_members};
 ghost use Rattle.serde_json.specs.View.{members_view, view};
-ghost use Rattle.rinqebo_report.specs.Documents.{count_data, text_data, optional_text_data, optional_count_data, list_data, lines_data, scalar_data, with_field, value_data, optional_value_data, part_word, part_data, kind_data, origin_data, setting_data, with_setting, test_data, entry_data, answer_word, rule_data, kind_word, tool_data, source_data, unreached_data, wrapper_data};
+ghost use Rattle.rinqebo_report.specs.Documents.{count_data, text_data, optional_text_data, optional_count_data, list_data, lines_data, scalar_data, with_field, value_data, optional_value_data, part_word, part_data, kind_data, origin_data, setting_data, with_setting, test_data, test_id_data, entry_data, answer_word, rule_data, kind_word, tool_data, source_data, unreached_data, wrapper_data};
 
 use crate::duration::add_duration;
 use crate::origin::{Lines, Origin, Part, Place, Source, SourceKind, Written};
-use crate::report::{ConditionAnswer, Entry, ListWrapper, Rule, SettingRow, TestRows, Unreached};
+use crate::report::{
+    ConditionAnswer, Entry, ListWrapper, Rule, SettingRow, TestId, TestRows, Unreached,
+};
 use crate::value::{Field, Scalar, Value as SettingValue};
 use serde_json::{Map, Value, json, put};
 use std::alloc::{AllocError, Global};
@@ -218,6 +220,17 @@ pub(crate) fn test_json(alloc: Global, test: &TestRows) -> Result<Value, AllocEr
         "name": test.name.as_str(),
         "platform": test.platform.word(),
         "settings": settings
+    })
+}
+
+/// The names of a test.
+pub(crate) fn test_id_json(alloc: Global, test: &TestId) -> Result<Value, AllocError>
+    ensures { IfOk result (λ value. view value ≡ test_id_data test.now) }
+{
+    json!(in alloc; {
+        "binary-id": test.binary.as_str(),
+        "name": test.name.as_str(),
+        "platform": test.platform.word()
     })
 }
 

@@ -3,6 +3,7 @@
 //! without, and in three forms for other programs.
 #![tactic(auto)]
 
+mod advice;
 mod check_page;
 mod config_page;
 mod duration;
@@ -12,6 +13,7 @@ mod format;
 mod github;
 mod group_page;
 mod hint;
+mod json_asked;
 mod json_document;
 mod json_findings;
 mod json_parts;
@@ -35,6 +37,6 @@ pub use origin::{Lines, Origin, Part, Place, Source, SourceKind, Written};
 pub use piece::Colour;
 pub use report::{
     Asked, Condition, ConditionAnswer, Content, Entry, ListScripts, ListWrapper, Platform, Report,
-    Rule, RunMode, SettingRow, TestRows, Unreached, Verdict,
+    Rule, RunMode, SettingRow, TestId, TestRows, Unreached, Verdict,
 };
 pub use value::{Field, Scalar, Value};

@@ -1,13 +1,18 @@
 //! The page of a list: each test, what is set for it, and the rules that hold for none.
 ghost use Rattle.std.specs.Prelude.{◌≡◌, ◌++◌, IfOk, OnOk, flat_map, string_bytes};
+ghost use Rattle.serde_json.specs.View.{members_view};
+ghost use Rattle.rinqebo_report.specs.Document.{with_list};
 ghost use Rattle.rinqebo_report.specs.Pages.{widest, test_line_runs, indented_runs, listed_runs, unused_line_runs, unused_runs, count_runs, list_runs};
 ghost use Rattle.rinqebo_report.specs.Pieces.{page_text};
 
 use crate::explain_page::{add_row, widest};
+use crate::json_asked::put_asked;
+use crate::json_parts::{origins_json, tests_json, texts_json, wrappers_json};
 use crate::origin::{Origin, Source};
 use crate::origin_text::origin_text;
 use crate::piece::{Colour, Piece, Style, add_pieces};
-use crate::report::{Report, SettingRow, TestRows};
+use crate::report::{Asked, ListScripts, Report, SettingRow, TestRows};
+use serde_json::{Map, Value, put};
 use std::alloc::{AllocError, Global};
 
 /// Writes the names of a test.
@@ -175,4 +180,26 @@ pub fn render_list_end(
     add_count(&mut text, colour, count)?;
     add_unused(alloc, &mut text, colour, root, sources, unused)?;
     Ok(text)
+}
+
+/// Puts among members those of the page of a list.
+pub(crate) fn put_list(
+    members: &mut Map<String, Value>,
+    alloc: Global,
+    asked: &Asked,
+    tests: &[TestRows],
+    unused: &[Origin],
+    scripts: &ListScripts,
+) -> Result<(), AllocError>
+    ensures { OnOk result (members_view members.new.entries
+        ≡ with_list asked.now tests.now unused.now scripts.now
+        (members_view members.old.entries)) }
+{
+    put_asked(members, alloc, "list", asked)?;
+    let wrappers = wrappers_json(alloc, &scripts.list_wrappers)?;
+    put(members, alloc, "list-wrappers", wrappers)?;
+    let setup = texts_json(alloc, &scripts.setup)?;
+    put(members, alloc, "setup-scripts", setup)?;
+    put(members, alloc, "tests", tests_json(alloc, tests)?)?;
+    put(members, alloc, "unused", origins_json(alloc, unused)?)
 }

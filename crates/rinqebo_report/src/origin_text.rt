@@ -4,6 +4,7 @@ ghost use Rattle.rinqebo_report.specs.Joined.{joined};
 ghost use Rattle.rinqebo_report.specs.OriginText.{after_prefix, ends_with_slash, below, path_at, lines_text, tool_at, tool_text, place_text, part_text, written_text, origin_text};
 
 use crate::origin::{Lines, Origin, Part, Place, Source, SourceKind, Written};
+use crate::toml_text::add_key;
 use std::alloc::{AllocError, Global};
 use std::fmt::Write;
 
@@ -130,7 +131,7 @@ fn add_written(
 {
     add_place(out, root, sources, written.place)?;
     out.push_str(" profile.")?;
-    out.push_str(written.profile.as_str())?;
+    add_key(out, written.profile.as_str())?;
     add_part(out, written.part)
 }
 

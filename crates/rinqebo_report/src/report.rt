@@ -60,6 +60,17 @@ pub struct TestRows {
     pub settings: Vec<SettingRow>,
 }
 
+/// The names of a test.
+#[derive(Drop)]
+pub struct TestId {
+    /// The id of its binary.
+    pub binary: String,
+    /// Its name within the binary.
+    pub name: String,
+    /// For what the binary is built.
+    pub platform: Platform,
+}
+
 /// A leaf of the configuration.
 #[derive(Drop)]
 pub struct Entry {
@@ -170,6 +181,9 @@ pub enum Content {
     /// The rules of a setting, in order, and then what counts where none decides.
     Why {
         asked: Asked,
+        /// The test that the rules are applied to.
+        test: TestId,
+        /// The key of the setting.
         key: String,
         rules: Vec<Rule>,
     },

@@ -1,8 +1,9 @@
 //! Values as TOML, on one line.
-ghost use Rattle.std.specs.Prelude.{◌≡◌, ◌==◌, ◌/◌, ◌%◌, ◌++◌, ◌<◌, [], ◌∷◌, OnOk, IfOk, codes, flat_map, string_bytes, if◌then◌else◌};
+ghost use Rattle.std.specs.Prelude.{◌≡◌, ◌==◌, ◌||◌, ◌/◌, ◌%◌, ◌++◌, ◌<◌, [], ◌∷◌, OnOk, IfOk, codes, flat_map, string_bytes, if◌then◌else◌};
+ghost use Rattle.std.specs.List.{list_all};
 ghost use Rattle.std.specs.Str.{chars};
 ghost use Rattle.rinqebo_report.specs.Joined.{joined};
-ghost use Rattle.rinqebo_report.specs.TomlText.{hex_digit, toml_char, quoted, scalar_text, field_text, item_text, value_text};
+ghost use Rattle.rinqebo_report.specs.TomlText.{hex_digit, toml_char, quoted, is_bare_byte, is_bare as bare_test, key_text, scalar_text, field_text, item_text, value_text};
 
 use crate::duration::add_duration;
 use crate::value::{Field, Scalar, Value};
@@ -51,6 +52,31 @@ fn add_quoted(out: &mut String, text: &str) -> Result<(), AllocError>
     out.push('"')?;
     add_toml_chars(out, text)?;
     out.push('"')
+}
+
+/// Whether a key has only bytes that need no quotes.
+fn has_bare_bytes(key: &str) -> bool
+    ensures { result ≡ list_all is_bare_byte key.now }
+{
+    key.as_bytes().iter().all(|byte| byte.is_ascii_alphanumeric() || matches!(*byte, b'_' | b'-'))
+}
+
+/// Whether a key needs no quotes.
+fn is_bare(key: &str) -> bool
+    ensures { result ≡ bare_test key.now }
+{
+    !key.is_empty() && has_bare_bytes(key)
+}
+
+/// Writes a key of a path, in quotes where it needs them.
+pub(crate) fn add_key(out: &mut String, key: &str) -> Result<(), AllocError>
+    ensures { OnOk result (string_bytes out.new ≡ string_bytes out.old ++ key_text key.now) }
+{
+    if is_bare(key) {
+        out.push_str(key)
+    } else {
+        add_quoted(out, key)
+    }
 }
 
 /// Writes a value that holds no others.

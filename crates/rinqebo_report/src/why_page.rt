@@ -1,17 +1,22 @@
 //! The page of a setting: what comes of each rule, and what counts where none decides.
 ghost use Rattle.std.specs.Prelude.{◌≡◌, ◌++◌, ◌+◌, ◌^◌, ◌<◌, option_map, OnOk, string_bytes};
+ghost use Rattle.serde_json.specs.View.{members_view};
+ghost use Rattle.rinqebo_report.specs.Document.{with_why};
 ghost use Rattle.rinqebo_report.specs.Pages.{verdict_text, verdict_style, number_run, told_answer, condition_runs, shows_value, value_runs, written_runs, verdict_runs, conditions_runs, rule_runs, rules_runs};
 ghost use Rattle.rinqebo_report.specs.Pieces.{page_text};
 ghost use Rattle.rinqebo_report.specs.PieceView.{piece_view};
 ghost use Rattle.rinqebo_report.specs.TomlText.{value_text};
 
 use crate::explain_page::width;
+use crate::json_asked::{put_asked, put_text};
+use crate::json_parts::{rules_json, test_id_json};
 use crate::origin::Source;
 use crate::origin_text::origin_text;
 use crate::piece::{Colour, Piece, Style, add_pieces};
-use crate::report::{Condition, ConditionAnswer, Rule, Verdict};
+use crate::report::{Asked, Condition, ConditionAnswer, Rule, TestId, Verdict};
 use crate::toml_text::value_text;
 use crate::value::Value;
+use serde_json::{Map, Value as Json, put};
 use std::alloc::{AllocError, Global};
 
 /// How many characters a verdict's column has.
@@ -226,4 +231,22 @@ pub(crate) fn add_why(
         add_rule(alloc, out, colour, root, sources, key, place as u64, rule)?;
     }
     Ok(())
+}
+
+/// Puts among members those of the page of a setting.
+pub(crate) fn put_why(
+    members: &mut Map<String, Json>,
+    alloc: Global,
+    asked: &Asked,
+    test: &TestId,
+    key: &str,
+    rules: &[Rule],
+) -> Result<(), AllocError>
+    ensures { OnOk result (members_view members.new.entries
+        ≡ with_why asked.now test.now key.now rules.now (members_view members.old.entries)) }
+{
+    put_asked(members, alloc, "explain", asked)?;
+    put_text(members, alloc, "key", key)?;
+    put(members, alloc, "rules", rules_json(alloc, rules)?)?;
+    put(members, alloc, "test", test_id_json(alloc, test)?)
 }

@@ -5,8 +5,8 @@ use crate::parts::{
 };
 use rinqebo_report::{
     Asked, Condition, ConditionAnswer, Content, Entry, Field, Finding, Level, ListScripts,
-    ListWrapper, Origin, Platform, Report, Rule, RunMode, SettingRow, Source, SourceKind, TestRows,
-    Unreached, Value,
+    ListWrapper, Origin, Platform, Report, Rule, RunMode, SettingRow, Source, SourceKind, TestId,
+    TestRows, Unreached, Value,
 };
 use std::alloc::{AllocError, Global};
 use std::mem;
@@ -99,6 +99,7 @@ impl Builder {
             }),
             Some(Command::Why(key)) => Ok(Content::Why {
                 asked,
+                test: self.take_test_id()?,
                 key,
                 rules: mem::replace(&mut self.rules, Vec::new(alloc)),
             }),
@@ -114,6 +115,16 @@ impl Builder {
             }),
             None => Err(RowError::NoRow),
         }
+    }
+
+    /// The names of the last test.
+    fn take_test_id(&mut self) -> Result<TestId, RowError> {
+        let test = self.tests.pop().ok_or(RowError::NoRow)?;
+        Ok(TestId {
+            binary: test.binary,
+            name: test.name,
+            platform: test.platform,
+        })
     }
 
     /// Takes a line of a report.

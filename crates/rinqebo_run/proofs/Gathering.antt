@@ -19,6 +19,7 @@ use Rattle.rinqebo_report.specs.declared.report.Content.{Content}
 use Rattle.rinqebo_report.specs.declared.report.Content.TheVariants as contents
 use Rattle.rinqebo_report.specs.declared.report.Report.{Report}
 use Rattle.rinqebo_report.specs.declared.report.Rule.{Rule}
+use Rattle.rinqebo_report.specs.declared.report.TestId.{TestId}
 use Rattle.rinqebo_report.specs.declared.report.Verdict.TheVariants as told
 use Rattle.rinqebo_request.specs.Keys.{key_text}
 use Rattle.rinqebo_request.specs.declared.request.TestName.{TestName}
@@ -32,7 +33,7 @@ use Rattle.rinqebo_run.specs.Reasons.{AreRulesTold}
 use Rattle.rinqebo_rules.specs.RuleViews.{Rule as ReadRule}
 use Rattle.rinqebo_load.specs.Sessions.{files_view, readings, IsLoadedFrom}
 use Rattle.rinqebo_rules.specs.SettingRules.{rules_for}
-use Rattle.rinqebo_run.specs.TellsReasons.{AreReasons, AreReasonsIn, configured_by, IfWhy, TellsReasons}
+use Rattle.rinqebo_run.specs.TellsReasons.{AreReasons, AreReasonsIn, configured_by, IfWhy, IsTestNamed, TellsReasons}
 use Rattle.rinqebo_load.specs.declared.session.Session.{Session}
 
 -- what is told of the rules of a chain for a setting, and then of the fallback
@@ -68,11 +69,12 @@ reasons_here platforms test query s default c name names read before fallback ru
       fallback_told = last;
     }
 
--- a fact of a key and of rules follows from another one
-pub why_moved : (content : Content) (P Q : List ℕ → List Rule → Type 0)
-    → ((key : List ℕ) (rules : List Rule) → P key rules → Q key rules) → IfWhy content P → IfWhy content Q
+-- a fact of a test, a key and rules follows from another one
+pub why_moved : (content : Content) (P Q : TestId → List ℕ → List Rule → Type 0)
+    → ((named : TestId) (key : List ℕ) (rules : List Rule) → P named key rules → Q named key rules)
+    → IfWhy content P → IfWhy content Q
 why_moved (contents.Explain asked test) P Q moved is = absurd is
-why_moved (contents.Why asked key rules) P Q moved is = moved (string_bytes key) rules.items is
+why_moved (contents.Why asked test key rules) P Q moved is = moved test (string_bytes key) rules.items is
 why_moved (contents.List asked tests unused scripts) P Q moved is = absurd is
 why_moved (contents.ShowConfig asked entries) P Q moved is = absurd is
 why_moved contents.Check P Q moved is = absurd is
@@ -83,7 +85,7 @@ pub tells : (session : Session) (profile : Name) (test : TestName) (s : Setting)
     → AreAccepted session
     → IsLoadedFrom (readings session.engines.filters) (files_view session.gathered.now) loaded
     → IsIn (names_in loaded.config.profiles) profile → report.content ≡ content
-    → IfWhy content (λ key rules. (key ≡ key_text s test.mode)
+    → IfWhy content (λ named key rules. IsTestNamed test named × (key ≡ key_text s test.mode)
     × AreReasonsIn is_met_by filter_matches session.engines.platforms (record {
       root = string_bytes session.gathered.now.paths.workspace_root;
       config = loaded.config;
@@ -103,15 +105,16 @@ tells session profile test s report content loaded accepted from there same is =
       are_scripts = from.scripts;
       known = subst (λ config. IsIn (names_in config.profiles) profile) from.means there;
       told = why_moved report.content
-          (λ key rules. (key ≡ key_text s test.mode) × AreReasonsIn is_met_by filter_matches session.engines.platforms
+          (λ named key rules. IsTestNamed test named × (key ≡ key_text s test.mode) × AreReasonsIn is_met_by filter_matches session.engines.platforms
           read profile test s rules)
-          (λ key rules. (key ≡ key_text s test.mode) × AreReasonsIn engines.meets engines.matches_test
+          (λ named key rules. IsTestNamed test named × (key ≡ key_text s test.mode) × AreReasonsIn engines.meets engines.matches_test
           session.engines.platforms (configured_by session loaded.scripts) profile test s rules)
-          (λ key rules h. (
+          (λ named key rules h. (
             h.0,
+            h.1,
             reasons_of_texts (marks_view names_of) spec_view engines.meets session.engines.platforms
-                engines.matches_test test s read profile rules _ from.means h.1,
+                engines.matches_test test s read profile rules _ from.means h.2,
           ))
-          (subst (λ content. IfWhy content (λ key rules. (key ≡ key_text s test.mode)
+          (subst (λ content. IfWhy content (λ named key rules. IsTestNamed test named × (key ≡ key_text s test.mode)
           × AreReasonsIn is_met_by filter_matches session.engines.platforms read profile test s rules)) (sym same) is);
     }

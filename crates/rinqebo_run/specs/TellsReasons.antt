@@ -16,6 +16,7 @@ use Rattle.rinqebo_report.specs.declared.report.Content.{Content}
 use Rattle.rinqebo_report.specs.declared.report.Content.TheVariants as contents
 use Rattle.rinqebo_report.specs.declared.report.Report.{Report}
 use Rattle.rinqebo_report.specs.declared.report.Rule.{Rule}
+use Rattle.rinqebo_report.specs.declared.report.TestId.{TestId}
 use Rattle.rinqebo_report.specs.declared.report.Verdict.TheVariants as told
 use Rattle.rinqebo_request.specs.Keys.{key_text}
 use Rattle.rinqebo_request.specs.declared.request.TestName.{TestName}
@@ -61,9 +62,14 @@ configured_by session scripts = record {
   scripts = scripts;
 }
 
--- a fact of the key and of the rules that a report tells
-abbrev pub IfWhy : Content → (List ℕ → List Rule → Type 0) → Type 0
-IfWhy (contents.Why asked key rules) P = P (string_bytes key) rules.items
+-- A report names a test.
+pub record IsTestNamed (test : TestName) (named : TestId) : Type 0 where
+  pub binary : string_bytes named.binary ≡ test.binary.now
+  pub name : string_bytes named.name ≡ test.name.now
+
+-- a fact of the test, the key and the rules that a report tells
+abbrev pub IfWhy : Content → (TestId → List ℕ → List Rule → Type 0) → Type 0
+IfWhy (contents.Why asked test key rules) P = P test (string_bytes key) rules.items
 IfWhy _ P = ⊥
 
 -- A report tells the rules of a setting for a test in a profile, by what the files mean.
@@ -76,8 +82,10 @@ pub record TellsReasons (session : Session) (profile : List ℕ) (test : TestNam
   pub are_scripts : AreScriptsOf (sources_in (files_view session.gathered.now)) scripts
   -- They have the profile.
   pub known : IsIn (names_in (configured_by session scripts).config.profiles) profile
-  -- The report tells the key of the setting, and what comes of each rule of the profile.
-  pub told : IfWhy report.content (λ key rules. (key ≡ key_text s test.mode)
+  -- The report names the test and the key of the setting, and tells what comes of each rule of the
+  -- profile.
+  pub told : IfWhy report.content (λ named key rules. IsTestNamed test named
+      × (key ≡ key_text s test.mode)
       × AreReasonsIn (readings session.engines.filters).meets
       (readings session.engines.filters).matches_test session.engines.platforms
       (configured_by session scripts) profile test s rules)

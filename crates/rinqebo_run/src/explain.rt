@@ -134,7 +134,7 @@ fn first_settings(
 }
 
 /// For what a binary is built, as it is reported.
-fn reported_platform(platform: BuildPlatform) -> Platform {
+pub fn reported_platform(platform: BuildPlatform) -> Platform {
     match platform {
         BuildPlatform::Host => Platform::Host,
         BuildPlatform::Target => Platform::Target,

@@ -15,16 +15,17 @@ ghost use Rattle.rinqebo_rules.specs.RuleAnswers.{answers_told, facts_told};
 ghost use Rattle.rinqebo_findings.specs.Failures.{IsFailureAbout};
 ghost use Rattle.rinqebo_findings.specs.Reports.{IsReportOf};
 ghost use Rattle.rinqebo_rules.specs.RuleViews.{setting_rule_view};
-ghost use Rattle.rinqebo_run.specs.TellsReasons.{AreReasons, AreReasonsIn, IfWhy, TellsReasons};
+ghost use Rattle.rinqebo_run.specs.TellsReasons.{AreReasons, AreReasonsIn, IfWhy, IsTestNamed, TellsReasons};
 ghost use Rattle.target_language.specs.declared.expression.TargetSpec.{TargetSpec};
 
 use crate::asked::asked_of;
+use crate::explain::reported_platform;
 use crate::idle::findings_on;
 use nextest_config::{DefaultConfigWarnings, NextestRunMode, Setting};
 use rinqebo_files::{Layer, host_text, target_text, text_at};
 use rinqebo_findings::{config_with, report_of};
 use rinqebo_load::{Config, Failure, Session, chain_of_profile};
-use rinqebo_report::{Condition, ConditionAnswer, Content, Origin, Report, Rule, Verdict};
+use rinqebo_report::{Condition, ConditionAnswer, Content, Origin, Report, Rule, TestId, Verdict};
 use rinqebo_request::{SettingKey, TestName};
 use rinqebo_rules::{
     Asking, SettingRule, answers_to, built_in, default_filter, facts_of, fallback_value,
@@ -219,6 +220,17 @@ fn rules_and_fallback<'c>(
     Ok(reported)
 }
 
+/// The names of a test, as they are reported.
+fn named_test(alloc: Global, test: &TestName<'_>) -> Result<TestId, AllocError>
+    ensures { IfOk result (IsTestNamed test.now) }
+{
+    Ok(TestId {
+        binary: String::from_str(alloc, test.binary)?,
+        name: String::from_str(alloc, test.name)?,
+        platform: reported_platform(test.platform),
+    })
+}
+
 /// The rules of a setting, by a configuration.
 fn reasons<'c>(
     alloc: Global,
@@ -231,16 +243,22 @@ fn reasons<'c>(
     ensures { (configured : Configured (Filterset FieldMatcher) TargetSpec)
         → configured.config ≡ config.now.config
         → IsIn (names_in config.now.config.profiles) profile.now
-        → IfOk result (λ content. IfWhy content (λ key rules.
-        (key ≡ key_text setting test.now.mode)
+        → IfOk result (λ content. IfWhy content (λ named key rules. IsTestNamed test.now named
+        × (key ≡ key_text setting test.now.mode)
         × AreReasonsIn is_met_by filter_matches session.now.engines.platforms configured
         profile.now test.now setting rules)) }
 {
     let chain = chain_of_profile(alloc, config, profile)?;
     let asked = asked_of(alloc, session, profile, &chain, test.mode)?;
+    let named = named_test(alloc, test)?;
     let key = SettingKey::of(setting, test.mode).text(alloc)?;
     let rules = rules_and_fallback(alloc, session, config, &chain, test, setting)?;
-    Ok(Content::Why { asked, key, rules })
+    Ok(Content::Why {
+        asked,
+        test: named,
+        key,
+        rules,
+    })
 }
 
 /// The rules of a setting, and what comes of each.

@@ -11,6 +11,7 @@ returns c = λ configured same there.
     let name = c.args.profile.now in
     let found = c.in_ok-chain.ensures there in
     let key = c.in_ok-key.ensures ∙ (λ i. dotted (c.of.ensures.table i) (c.of.ensures.key i)) in (
+      c.in_ok-named.ensures,
       key,
       record {
         profile = profile_of configured name found.chain;
