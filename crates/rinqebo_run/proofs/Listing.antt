@@ -16,13 +16,13 @@ use Rattle.nextest_load.specs.Load.{Loaded}
 use Rattle.nextest_profiles.proofs.MeaningOfTexts.{profile_means}
 use Rattle.nextest_profiles.specs.Meaning.{configured_meaning, profile_meaning}
 use Rattle.nextest_profiles.specs.Profiles.{IsChainAndDefault}
-use Rattle.nextest_rules.specs.Rules.{Compiled, Layer, OverrideUse}
+use Rattle.nextest_rules.specs.Rules.{Compiled, Layer, OverrideUse, ScriptRuleUse}
 use Rattle.nextest_settings.specs.Chains.{overrides_of, script_rules_of}
 use Rattle.nextest_settings.specs.Deciding.{QueryContext}
 use Rattle.nextest_settings.specs.Platforms.{EvaluatedRule, rule_on}
 use Rattle.nextest_settings.specs.Profile.{Configured, EvaluatableModel, profile_of, profile_on}
 use Rattle.nextest_settings.specs.View.{evaluated_override_meaning, evaluated_script_rule_meaning}
-use Rattle.nextest_tables.specs.FileTexts.{ScriptUse, names_in, IsIn}
+use Rattle.nextest_tables.specs.FileTexts.{names_in, IsIn}
 use Rattle.nextest_tables.specs.Written.{Name}
 use Rattle.rinqebo_list.specs.Rows.{AreTestsTold}
 use Rattle.rinqebo_list.specs.Scripts.{AreScriptsTold}
@@ -76,7 +76,7 @@ bare_scripts [] = refl
 bare_scripts (rule ∷ rules) = ap (λ rest. bare (setting_rule_view rule) ∷ rest) (bare_scripts rules)
 
 -- what rules write does not matter where it is left out
-pub bare_wrappers : {M K : Type 0} (rules : List (Compiled M K ScriptUse))
+pub bare_wrappers : {M K : Type 0} (rules : List (Compiled M K ScriptRuleUse))
     → map bare (map (for_setting wrapper_written) rules) ≡ map bare rules
 bare_wrappers [] = refl
 bare_wrappers (rule ∷ rules) = ap (λ rest. bare rule ∷ rest) (bare_wrappers rules)
@@ -142,7 +142,7 @@ module _ {E N M K P : Type 0} (f : E → M) (g : N → K) (meets : K → P → O
   bare_meant [] = refl
   bare_meant (rule ∷ rules) = ap (λ rest. meant_here (bare rule) ∷ rest) (bare_meant rules)
 
-  scripts_meant : (rules : List (Compiled E N ScriptUse))
+  scripts_meant : (rules : List (Compiled E N ScriptRuleUse))
       → map bare_on (map (evaluated_script_rule_meaning f) (map (rule_on read_meets platforms) rules))
       ≡ map meant_here (map bare rules)
   scripts_meant [] = refl

@@ -12,12 +12,11 @@ use Rattle.nextest_load.specs.Meaning.{config_meaning}
 use Rattle.nextest_profiles.proofs.MeaningOfTexts.{overrides_meaning, script_rules_meaning, profile_means}
 use Rattle.nextest_profiles.specs.Meaning.{with_config, configured_meaning}
 use Rattle.nextest_rules.specs.Meaning.{rule_meaning, override_meaning, script_rule_meaning}
-use Rattle.nextest_rules.specs.Rules.{Compiled, OverrideUse}
+use Rattle.nextest_rules.specs.Rules.{Compiled, OverrideUse, ScriptRuleUse}
 use Rattle.nextest_settings.specs.Deciding.{QueryContext, filter_holds}
 use Rattle.nextest_settings.specs.Platforms.{spec_holds, specs_hold, runs_on, rule_on, by_platform}
 use Rattle.nextest_settings.specs.Profile.{Configured, profile_of, profile_on}
 use Rattle.nextest_settings.specs.declared.setting.Setting.{Setting}
-use Rattle.nextest_tables.specs.FileTexts.{ScriptUse}
 use Rattle.nextest_tables.specs.Written.{Name}
 use Rattle.rinqebo_report.specs.declared.report.Rule.{Rule}
 use Rattle.rinqebo_request.specs.declared.request.TestName.{TestName}
@@ -166,14 +165,14 @@ module _ {E N M K P : Type 0} (f : E → M) (g : N → K) (meets : K → P → O
         λ i. for_setting (override_writes s mode) (override_meaning f g r) ∷ overrides_for rs i
 
     -- script rules for a run wrapper
-    scripts_for : (rs : List (Compiled E N ScriptUse))
+    scripts_for : (rs : List (Compiled E N ScriptRuleUse))
         → map (rule_meaning f g (λ w. w)) (map (for_setting wrapper_written) rs)
         ≡ map (for_setting wrapper_written) (map (script_rule_meaning f g) rs)
     scripts_for [] = refl
     scripts_for (r ∷ rs) = λ i. for_setting wrapper_written (script_rule_meaning f g r) ∷ scripts_for rs i
 
     -- the rules of a profile for a setting
-    rules_meaning : (overrides : List (Compiled E N (OverrideUse E))) (scripts : List (Compiled E N ScriptUse))
+    rules_meaning : (overrides : List (Compiled E N (OverrideUse E))) (scripts : List (Compiled E N ScriptRuleUse))
         → map (rule_meaning f g (λ w. w)) (rules_for s mode overrides scripts)
         ≡ rules_for s mode (map (override_meaning f g) overrides) (map (script_rule_meaning f g) scripts)
     rules_meaning overrides scripts =
