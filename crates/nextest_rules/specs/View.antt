@@ -23,8 +23,8 @@ id_view i = record {
 }
 
 -- which script rule
-abbrev pub script_id_view : ScriptRuleId → RuleId
-script_id_view i = record {
+abbrev pub script_rule_id_view : ScriptRuleId → RuleId
+script_rule_id_view i = record {
   source = source_view i.config_source;
   profile = string_bytes i.profile_name;
   index = i.index;
@@ -52,7 +52,7 @@ script_rule_view r = record {
   target = r.platforms.target;
   filter = r.filter;
   writes = record {
-    id = script_id_view r.id;
+    id = script_rule_id_view r.id;
     scripts = uses_view r.scripts;
   };
 }

@@ -46,9 +46,9 @@ pub struct ScriptRuleId {
 
 impl Clone for ScriptRuleId {
     ghost use Rattle.std.specs.Prelude.{◌≡◌};
-    ghost use Rattle.nextest_rules.specs.View.{script_id_view};
+    ghost use Rattle.nextest_rules.specs.View.{script_rule_id_view};
 
-    ghost is_clone = { λ id copy. script_id_view copy ≡ script_id_view id };
+    ghost is_clone = { λ id copy. script_rule_id_view copy ≡ script_rule_id_view id };
 
     fn clone(&self) -> Result<Self, AllocError> {
         Ok(ScriptRuleId {
@@ -132,12 +132,12 @@ pub struct CompiledProfileScripts<F: Filters, S: Specs> {
 
 impl<F: Filters, S: Specs> CompiledProfileScripts<F, S> {
     ghost use Rattle.std.specs.Prelude.{◌≡◌, map, option_map};
-    ghost use Rattle.nextest_rules.specs.View.{script_rule_view, script_id_view};
+    ghost use Rattle.nextest_rules.specs.View.{script_rule_view, script_rule_id_view};
     ghost use Rattle.nextest_scripts.specs.ScriptId.{script_text};
 
     /// Which rule it is.
     pub fn id(&self) -> &ScriptRuleId
-        ensures { script_id_view result.now ≡ (script_rule_view self.now).writes.id }
+        ensures { script_rule_id_view result.now ≡ (script_rule_view self.now).writes.id }
     {
         &self.id
     }

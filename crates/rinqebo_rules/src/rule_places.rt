@@ -1,7 +1,7 @@
 //! Where rules stand.
 ghost use Rattle.std.specs.Prelude.{◌≡◌, ◌++◌, [], ◌∷◌, List, IfOk, map, option_map};
 ghost use Rattle.std.specs.List.{AllZip};
-ghost use Rattle.nextest_rules.specs.View.{id_view, script_id_view};
+ghost use Rattle.nextest_rules.specs.View.{id_view, script_rule_id_view};
 ghost use Rattle.rinqebo_rules.specs.Origins.{PathStep, IsOriginOf, key_steps, profile_steps, step_view};
 ghost use Rattle.rinqebo_rules.specs.RulePlaces.{list_of, part_of, place_view, id_place, script_place};
 
@@ -88,7 +88,7 @@ impl<'c> RulePlace<'c> {
 
     /// Where a script rule stands.
     pub fn of_script(id: &'c ScriptRuleId) -> RulePlace<'c>
-        ensures { place_view result ≡ script_place (script_id_view id.now) }
+        ensures { place_view result ≡ script_place (script_rule_id_view id.now) }
     {
         RulePlace {
             source: &id.config_source,

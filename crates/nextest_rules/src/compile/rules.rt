@@ -11,7 +11,7 @@ ghost use Rattle.nextest_rules.specs.Meaning.{override_meaning, script_rule_mean
 ghost use Rattle.nextest_rules.specs.Refusals.{refusals_view};
 ghost use Rattle.nextest_rules.specs.Rules.{filter_meaning, spec_meaning, override_rule, override_rules, script_rule};
 ghost use Rattle.nextest_rules.specs.View as view;
-ghost use Rattle.nextest_rules.specs.View.{id_view, override_rule_view, script_id_view};
+ghost use Rattle.nextest_rules.specs.View.{id_view, override_rule_view, script_rule_id_view};
 
 use crate::compile::texts::{Refusals, read_filter, read_platforms};
 use crate::overrides::{
@@ -153,7 +153,7 @@ pub(crate) fn compile_script_rule<F: Filters, S: Specs>(
     ensures rule { let engines = readings_view F.Filters S.Specs pcx.now in
         IfOk result (λ made.
         script_rule_meaning F.meaning S.spec_meaning (view.script_rule_view made.0)
-        ≡ script_rule engines (script_id_view id) (script_rule_table_view table)) }
+        ≡ script_rule engines (script_rule_id_view id) (script_rule_table_view table)) }
     ensures error { let engines = readings_view F.Filters S.Specs pcx.now in
         IfOk result (λ made. option_map compile_cause_view made.1
         ≡ script_rule_cause engines (script_rule_table_view table)) }
@@ -197,7 +197,7 @@ pub(crate) fn script_rule_id(
     profile: &str,
     index: usize,
 ) -> Result<ScriptRuleId, AllocError>
-    ensures { IfOk result (λ id. script_id_view id
+    ensures { IfOk result (λ id. script_rule_id_view id
         ≡ record { source = source_view source.now; profile = profile.now; index = index }) }
 {
     Ok(ScriptRuleId {
