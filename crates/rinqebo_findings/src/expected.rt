@@ -1,57 +1,9 @@
 //! What the shape of a file wants at a path, in words.
-use config_shape::{Field, Pattern, Shape, TextShape, file_shape};
+use crate::shapes::shape_at;
+use config_places::Step;
+use config_shape::{Pattern, Shape, TextShape, file_shape};
 use nextest_config::ElementCause;
 use std::alloc::{AllocError, Global};
-
-/// What is wanted at a key, if it is that of a field.
-fn field_of<'s>(fields: &'s Vec<Field<Shape>>, key: &str) -> Option<&'s Shape> {
-    for field in fields {
-        if field.key.text() == key {
-            return Some(&field.shape);
-        }
-    }
-    None
-}
-
-/// What one shape wants at a key, a name or a position below it.
-fn below_one<'s>(shape: &'s Shape, part: &str) -> Option<&'s Shape> {
-    match shape {
-        Shape::List { items, .. } => Some(items),
-        Shape::Table(fields) => field_of(fields, part),
-        Shape::Map { fields, values, .. } => match field_of(fields, part) {
-            Some(wanted) => Some(wanted),
-            None => Some(values),
-        },
-        _ => None,
-    }
-}
-
-/// What the first of several shapes wants that has something there.
-fn below_first<'s>(shapes: &'s Vec<Shape>, part: &str) -> Option<&'s Shape> {
-    for shape in shapes {
-        if let Some(wanted) = below_one(shape, part) {
-            return Some(wanted);
-        }
-    }
-    None
-}
-
-/// What is wanted at a key, a name or a position below a shape.
-fn below<'s>(shape: &'s Shape, part: &str) -> Option<&'s Shape> {
-    match shape {
-        Shape::Either(shapes) => below_first(shapes, part),
-        one => below_one(one, part),
-    }
-}
-
-/// The shape at a path below another one.
-fn shape_at<'s>(shape: &'s Shape, path: &str) -> Option<&'s Shape> {
-    let mut wanted = shape;
-    for part in path.split('.') {
-        wanted = below(wanted, part)?;
-    }
-    Some(wanted)
-}
 
 /// A whole number in its range, in words.
 fn number_words(
@@ -136,7 +88,7 @@ fn says_why(cause: &ElementCause, shape: &Shape) -> bool {
 pub fn expected_at(
     alloc: Global,
     cause: &ElementCause,
-    path: &str,
+    path: &[Step<'_>],
 ) -> Result<Option<String>, AllocError> {
     let file = file_shape(alloc)?;
     let Some(shape) = shape_at(&file, path) else {

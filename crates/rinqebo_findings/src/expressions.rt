@@ -1,6 +1,7 @@
 //! Filters and platforms that are refused, with the part that is wrong.
 use crate::fault_words::{fault_help, fault_words};
-use crate::refusals::Refused;
+use crate::refused::Refused;
+use config_places::Step;
 use nextest_config::{ConfigCompileSection, FiltersetKind, Tree};
 use nextest_filters::{Filterset, ParseFault};
 use rinqebo_files::{host_text, profile_table, rule_table, target_text, text_at};
@@ -32,7 +33,7 @@ fn expression(
 /// Adds what is wrong with a filter at a path, if something is.
 fn add_filter(
     refused: &mut Refused<'_, '_>,
-    path: String,
+    path: &[Step<'_>],
     text: &str,
     kind: FiltersetKind,
 ) -> Result<(), AllocError> {
@@ -54,7 +55,11 @@ fn add_filter(
 }
 
 /// Adds what is wrong with a platform at a path, if something is.
-fn add_spec(refused: &mut Refused<'_, '_>, path: String, text: &str) -> Result<(), AllocError> {
+fn add_spec(
+    refused: &mut Refused<'_, '_>,
+    path: &[Step<'_>],
+    text: &str,
+) -> Result<(), AllocError> {
     let alloc = refused.alloc;
     match TargetSpec::parse(alloc, text) {
         Ok(_) => Ok(()),
@@ -70,8 +75,21 @@ fn add_spec(refused: &mut Refused<'_, '_>, path: String, text: &str) -> Result<(
 /// Where the texts of a section stand: its path, and its table.
 #[derive(Clone, Copy)]
 struct Section<'s> {
-    path: &'s str,
+    path: &'s [Step<'s>],
     table: Option<&'s Tree>,
+}
+
+/// A path, and then some keys.
+fn path_below<'p>(
+    alloc: Global,
+    path: &[Step<'p>],
+    keys: &[&'p str],
+) -> Result<Vec<Step<'p>>, AllocError> {
+    let mut longer = Vec::from_slice(alloc, path)?;
+    for key in keys {
+        longer.push(Step::Key(*key))?;
+    }
+    Ok(longer)
 }
 
 /// Adds what is wrong with the filter of a section at a key.
@@ -84,30 +102,27 @@ fn add_filter_at(
     let Some(text) = text_at(section.table, key) else {
         return Ok(());
     };
-    let base = section.path;
-    let path = format!(in refused.alloc; "{base}.{key}")?;
-    add_filter(refused, path, text, kind)
+    let path = path_below(refused.alloc, section.path, &[key])?;
+    add_filter(refused, &path, text, kind)
 }
 
-/// The keys at which a rule writes what the platform has to meet which a binary runs on.
-fn target_key(rule: Option<&Tree>) -> &'static str {
-    match text_at(rule, "platform") {
-        Some(_) => "platform",
-        None => "platform.target",
+/// The path at which a rule writes what the platform has to meet which a binary runs on.
+fn target_path<'p>(alloc: Global, section: Section<'p>) -> Result<Vec<Step<'p>>, AllocError> {
+    match text_at(section.table, "platform") {
+        Some(_) => path_below(alloc, section.path, &["platform"]),
+        None => path_below(alloc, section.path, &["platform", "target"]),
     }
 }
 
 /// Adds what is wrong with the platforms of a section.
 fn add_platforms(refused: &mut Refused<'_, '_>, section: Section<'_>) -> Result<(), AllocError> {
-    let base = section.path;
     if let Some(text) = host_text(section.table) {
-        let path = format!(in refused.alloc; "{base}.platform.host")?;
-        add_spec(refused, path, text)?;
+        let path = path_below(refused.alloc, section.path, &["platform", "host"])?;
+        add_spec(refused, &path, text)?;
     }
     if let Some(text) = target_text(section.table) {
-        let key = target_key(section.table);
-        let path = format!(in refused.alloc; "{base}.{key}")?;
-        add_spec(refused, path, text)?;
+        let path = target_path(refused.alloc, section)?;
+        add_spec(refused, &path, text)?;
     }
     Ok(())
 }
@@ -135,15 +150,14 @@ pub fn add_refused_texts(
     profile: &str,
     section: ConfigCompileSection,
 ) -> Result<(), AllocError> {
-    let alloc = refused.alloc;
     let Some(tree) = refused.source.tree() else {
         return Ok(());
     };
     let (list, index, kind) = match section {
         ConfigCompileSection::DefaultFilter => {
-            let path = format!(in alloc; "profile.{profile}")?;
+            let path = [Step::Key("profile"), Step::Key(profile)];
             let section = Section {
-                path: path.as_str(),
+                path: &path,
                 table: profile_table(tree, profile),
             };
             let kind = FiltersetKind::DefaultFilter;
@@ -154,9 +168,14 @@ pub fn add_refused_texts(
         }
         ConfigCompileSection::Script(index) => ("scripts", index, FiltersetKind::DefaultFilter),
     };
-    let path = format!(in alloc; "profile.{profile}.{list}.{index}")?;
+    let path = [
+        Step::Key("profile"),
+        Step::Key(profile),
+        Step::Key(list),
+        Step::Position(index),
+    ];
     let section = Section {
-        path: path.as_str(),
+        path: &path,
         table: rule_table(tree, profile, list, index),
     };
     add_rule_texts(refused, section, kind)

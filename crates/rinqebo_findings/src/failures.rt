@@ -2,8 +2,9 @@
 ghost use Rattle.std.specs.Prelude.{IfOk};
 ghost use Rattle.rinqebo_findings.specs.Failures.{IsLoadFailure, IsProfileFailure, IsRunFailure};
 
-use crate::findings::{SourceAt, finding, warning_findings};
+use crate::findings::{SourceAt, finding_at, warning_findings};
 use crate::report::{report_of, report_of_refusal};
+use config_places::Step;
 use nextest_config::run::ResolveFault;
 use nextest_config::{ConfigParseError, DefaultConfigWarnings, ProfileNotFound};
 use rinqebo_load::{Failure, Session};
@@ -30,13 +31,13 @@ pub fn failure_of_load(
 /// The finding that there is no profile of a name.
 fn no_profile(alloc: Global, missing: &ProfileNotFound) -> Result<Finding, AllocError> {
     let name = missing.name.as_str();
-    let path = Some(format!(in alloc; "profile.{name}")?);
+    let path = [Step::Key("profile"), Step::Key(name)];
     let message = missing.to_string(alloc)?;
     let nowhere = SourceAt {
         layers: &[],
         position: None,
     };
-    let mut found = finding(alloc, Level::Error, "NoProfile", nowhere, path, message)?;
+    let mut found = finding_at(alloc, Level::Error, "NoProfile", nowhere, &path, message)?;
     found.help = text_hint(alloc, name, &missing.known)?;
     Ok(found)
 }

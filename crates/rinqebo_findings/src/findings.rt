@@ -1,7 +1,10 @@
 //! Findings: how they are made, and those of warnings.
 use crate::hints::key_hint;
+use crate::paths::{path_text, spelled_path};
+use crate::refused_values::Fault;
+use config_places::Step;
 use nextest_config::{ConfigSource, ConfigWarning, DefaultConfigWarnings, Tree};
-use rinqebo_files::{Layer, place_of, spelled_place};
+use rinqebo_files::{Layer, path_place, place_of};
 use rinqebo_report::{Finding, Level, Place};
 use std::alloc::{AllocError, Global};
 
@@ -20,18 +23,17 @@ impl<'l, 't> SourceAt<'l, 't> {
         self.layers.get(self.position?)?.tree.as_ref()
     }
 
-    /// The place of the source, or of a path in it.
-    fn place(self, alloc: Global, path: Option<&str>) -> Result<Option<Place>, AllocError> {
-        let Some(source) = self.position else {
-            return Ok(None);
-        };
-        match path {
-            Some(path) => Ok(Some(spelled_place(alloc, self.layers, source, path)?)),
-            None => Ok(Some(Place {
-                source,
-                lines: None,
-            })),
-        }
+    /// The place of the whole source.
+    fn place(self) -> Option<Place> {
+        Some(Place {
+            source: self.position?,
+            lines: None,
+        })
+    }
+
+    /// The place of a path in the source.
+    fn place_at(self, path: &[Step<'_>]) -> Option<Place> {
+        Some(path_place(self.layers, self.position?, path))
     }
 }
 
@@ -41,15 +43,14 @@ pub fn finding(
     level: Level,
     code: &str,
     source: SourceAt<'_, '_>,
-    path: Option<String>,
     message: String,
 ) -> Result<Finding, AllocError> {
     Ok(Finding {
         level,
         code: String::from_str(alloc, code)?,
-        place: source.place(alloc, path.as_deref())?,
+        place: source.place(),
         column: None,
-        path,
+        path: None,
         message,
         expression: None,
         expected: None,
@@ -57,19 +58,34 @@ pub fn finding(
     })
 }
 
+/// A finding at a path of a source.
+pub fn finding_at(
+    alloc: Global,
+    level: Level,
+    code: &str,
+    source: SourceAt<'_, '_>,
+    path: &[Step<'_>],
+    message: String,
+) -> Result<Finding, AllocError> {
+    let mut found = finding(alloc, level, code, source, message)?;
+    found.place = source.place_at(path);
+    found.path = Some(path_text(alloc, path)?);
+    Ok(found)
+}
+
 /// Warns of a key without effect.
 fn unknown_key(alloc: Global, source: SourceAt<'_, '_>, path: &str) -> Result<Finding, AllocError> {
     let message = format!(in alloc; "{path} has no effect")?;
-    let at = Some(String::from_str(alloc, path)?);
-    let mut found = finding(
+    let at = spelled_path(alloc, source, path, Fault::UnknownKey)?;
+    let mut found = finding_at(
         alloc,
         Level::Warning,
         "UnknownConfigKeys",
         source,
-        at,
+        &at,
         message,
     )?;
-    found.help = key_hint(alloc, path)?;
+    found.help = key_hint(alloc, &at)?;
     Ok(found)
 }
 
@@ -79,33 +95,31 @@ fn reserved_profile(
     source: SourceAt<'_, '_>,
     name: &str,
 ) -> Result<Finding, AllocError> {
-    let path = format!(in alloc; "profile.{name}")?;
     let message = format!(in alloc;
         "profile.{name}: names that begin `default-` are nextest's own"
     )?;
-    finding(
+    finding_at(
         alloc,
         Level::Warning,
         "UnknownReservedProfiles",
         source,
-        Some(path),
+        &[Step::Key("profile"), Step::Key(name)],
         message,
     )
 }
 
 /// Warns of scripts under the old key.
 fn old_scripts(alloc: Global, source: SourceAt<'_, '_>) -> Result<Finding, AllocError> {
-    let path = Some(String::from_str(alloc, "script")?);
     let message = String::from_str(
         alloc,
         "script: this table is the old place of setup scripts",
     )?;
-    let mut found = finding(
+    let mut found = finding_at(
         alloc,
         Level::Warning,
         "DeprecatedScriptConfig",
         source,
-        path,
+        &[Step::Key("script")],
         message,
     )?;
     found.help = Some(String::from_str(alloc, "write `scripts.setup`")?);
@@ -119,16 +133,19 @@ fn empty_rules(
     profile: &str,
     count: usize,
 ) -> Result<Finding, AllocError> {
-    let path = format!(in alloc; "profile.{profile}.scripts")?;
     let message = format!(in alloc;
         "profile.{profile}.scripts: rules that name no script: {count}"
     )?;
-    finding(
+    finding_at(
         alloc,
         Level::Warning,
         "EmptyScriptSections",
         source,
-        Some(path),
+        &[
+            Step::Key("profile"),
+            Step::Key(profile),
+            Step::Key("scripts"),
+        ],
         message,
     )
 }

@@ -1,20 +1,21 @@
 //! What stands at a path of a file, in words.
 use crate::findings::SourceAt;
+use config_places::Step;
 use nextest_config::Tree;
 
 /// What stands at a key, a name or a position below a tree.
-fn below<'t>(tree: &'t Tree, part: &str) -> Option<&'t Tree> {
-    match tree.as_array() {
-        Some(items) => items.get(part.parse::<usize>().ok()?),
-        None => tree.get(part),
+fn below<'t>(tree: &'t Tree, step: Step<'_>) -> Option<&'t Tree> {
+    match step {
+        Step::Key(key) => tree.get(key),
+        Step::Position(position) => tree.as_array()?.get(position),
     }
 }
 
 /// What stands at a path below a tree.
-fn tree_at<'t>(tree: &'t Tree, path: &str) -> Option<&'t Tree> {
+fn tree_at<'t>(tree: &'t Tree, path: &[Step<'_>]) -> Option<&'t Tree> {
     let mut found = tree;
-    for part in path.split('.') {
-        found = below(found, part)?;
+    for step in path {
+        found = below(found, *step)?;
     }
     Some(found)
 }
@@ -33,7 +34,7 @@ fn kind_words(tree: &Tree) -> &'static str {
 
 /// The kind of what stands at a path in a source, in words. A source that does not write the path is
 /// refused for what stands below it: the highest one counts that does.
-pub fn given_at(source: SourceAt<'_, '_>, path: &str) -> Option<&'static str> {
+pub fn given_at(source: SourceAt<'_, '_>, path: &[Step<'_>]) -> Option<&'static str> {
     if let Some(found) = tree_at(source.tree()?, path) {
         return Some(kind_words(found));
     }

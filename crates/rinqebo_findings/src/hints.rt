@@ -1,4 +1,5 @@
 //! Hints of findings: which known name, or key of the same table, a wrong one most likely means.
+use config_places::Step;
 use config_shape::{file_shape, keys_of};
 use rinqebo_request::name_hint;
 use std::alloc::{AllocError, Global};
@@ -28,11 +29,19 @@ pub fn quoted_hint(alloc: Global, name: &str, text: &str) -> Result<Option<Strin
     name_hint(alloc, name, &names)
 }
 
+/// A step as the shape of a file has it: any position stands for all items of a list.
+fn part_of<'s>(step: Step<'s>) -> &'s str {
+    match step {
+        Step::Key(key) => key,
+        Step::Position(_) => "0",
+    }
+}
+
 /// The hint that another key of the same table is meant, if one is near.
-pub fn key_hint(alloc: Global, path: &str) -> Result<Option<String>, AllocError> {
+pub fn key_hint(alloc: Global, path: &[Step<'_>]) -> Result<Option<String>, AllocError> {
     let mut parts = Vec::new(alloc);
-    for part in path.split('.') {
-        parts.push(part)?;
+    for step in path {
+        parts.push(part_of(*step))?;
     }
     let Some((key, table)) = parts.split_last() else {
         return Ok(None);

@@ -12,10 +12,15 @@ mod findings;
 mod given;
 mod hints;
 mod loading;
+mod paths;
 mod refusals;
+mod refused;
+mod refused_values;
 mod report;
+mod shapes;
 mod unknown_names;
 mod unreached;
+mod ways;
 
 pub use failures::failure_of_run;
 pub use findings::warning_findings;

@@ -1,88 +1,25 @@
 //! Findings of a refused configuration: one for each thing that is wrong.
 use crate::expected::expected_at;
 use crate::expressions::add_refused_texts;
-use crate::findings::{SourceAt, finding};
+use crate::findings::SourceAt;
 use crate::given::given_at;
 use crate::hints::quoted_hint;
+use crate::paths::spelled_path;
+use crate::refused::Refused;
+use crate::refused_values::Fault;
 use crate::unknown_names::{add_script_errors, add_unknown_group};
+use config_places::Step;
 use nextest_config::{
-    ConfigCompileError, ConfigCompileErrorKind, ConfigExperimental, ConfigParseError,
-    ConfigParseErrorKind, ConfigPath, CustomTestGroup, ElementCause, ElementFault, InheritsError,
-    ReadOutcome, ScriptId, ToolName, Tree, UnknownTestGroupError,
+    ConfigCompileError, ConfigCompileErrorKind, ConfigCompileSection, ConfigExperimental,
+    ConfigParseError, ConfigParseErrorKind, ConfigPath, CustomTestGroup, ElementCause,
+    ElementFault, InheritsError, ReadOutcome, ScriptId, ToolName, Tree, UnknownTestGroupError,
 };
-use nextest_filters::NextestFilters;
-use rinqebo_files::{Layer, highest_place, place_at};
+use rinqebo_files::{Layer, place_at};
 use rinqebo_load::Session;
-use rinqebo_report::{Finding, Level, Lines, Place};
+use rinqebo_report::{Finding, Lines};
 use rinqebo_request::name_hint;
 use std::alloc::{AllocError, Global};
 use std::collections::BTreeSet;
-
-/// What is refused: the source, and the name of what is wrong. Findings go behind the others.
-#[derive(Drop)]
-pub struct Refused<'r, 't> {
-    pub alloc: Global,
-    /// The language of filters, which says where a refused filter is wrong.
-    pub filters: &'r NextestFilters,
-    /// The source that is refused.
-    pub source: SourceAt<'r, 't>,
-    /// The name of the refusal, the code of its findings.
-    pub code: &'static str,
-    /// The findings so far.
-    pub findings: &'r mut Vec<Finding>,
-}
-
-impl Refused<'_, '_> {
-    /// Adds a finding with more than a message.
-    pub fn add_finding(&mut self, found: Finding) -> Result<(), AllocError> {
-        self.findings.push(found)?;
-        Ok(())
-    }
-
-    /// A finding at a path, told as the path and what is wrong there. A source that does not write
-    /// the path is refused for what it makes of those below it: the highest one counts that does.
-    pub fn at(&self, path: String, wrong: &str) -> Result<Finding, AllocError> {
-        let alloc = self.alloc;
-        let message = format!(in alloc; "{path}: {wrong}")?;
-        let mut found = self.finding(Some(path.clone()?), message)?;
-        if let Some(Place { lines: None, .. }) = found.place {
-            if let Some(place) = highest_place(alloc, self.source.layers, path.as_str())? {
-                found.place = Some(place);
-            }
-        }
-        Ok(found)
-    }
-
-    /// A finding with a message alone.
-    fn finding(&self, path: Option<String>, message: String) -> Result<Finding, AllocError> {
-        finding(
-            self.alloc,
-            Level::Error,
-            self.code,
-            self.source,
-            path,
-            message,
-        )
-    }
-
-    /// Adds what is wrong with the whole source.
-    fn add_whole(&mut self, wrong: &str) -> Result<(), AllocError> {
-        let found = self.finding(None, String::from_str(self.alloc, wrong)?)?;
-        self.add_finding(found)
-    }
-
-    /// Adds what is wrong at a path, and what to do.
-    pub fn add_at(
-        &mut self,
-        path: String,
-        wrong: &str,
-        help: Option<String>,
-    ) -> Result<(), AllocError> {
-        let mut found = self.at(path, wrong)?;
-        found.help = help;
-        self.add_finding(found)
-    }
-}
 
 /// What came of reading a file.
 fn add_outcome(refused: &mut Refused<'_, '_>, outcome: &ReadOutcome) -> Result<(), AllocError> {
@@ -119,10 +56,10 @@ fn add_no_document(refused: &mut Refused<'_, '_>, message: &str) -> Result<(), A
     let alloc = refused.alloc;
     let (first, reason) = message.split_once('\n').unwrap_or((message, ""));
     let Some((line, column)) = told_spot(first) else {
-        let found = refused.finding(None, on_one_line(alloc, message)?)?;
+        let found = refused.finding(on_one_line(alloc, message)?)?;
         return refused.add_finding(found);
     };
-    let mut found = refused.finding(None, on_one_line(alloc, reason)?)?;
+    let mut found = refused.finding(on_one_line(alloc, reason)?)?;
     if let Some(place) = &mut found.place {
         place.lines = Some(Lines {
             first: line,
@@ -134,7 +71,11 @@ fn add_no_document(refused: &mut Refused<'_, '_>, message: &str) -> Result<(), A
 }
 
 /// What is wrong with a value of a wrong kind: the kind that it has.
-fn wrong_kind(alloc: Global, source: SourceAt<'_, '_>, path: &str) -> Result<String, AllocError> {
+fn wrong_kind(
+    alloc: Global,
+    source: SourceAt<'_, '_>,
+    path: &[Step<'_>],
+) -> Result<String, AllocError> {
     match given_at(source, path) {
         Some(given) => format!(in alloc; "a value of the wrong kind: {given}"),
         None => String::from_str(alloc, "a value of the wrong kind"),
@@ -146,7 +87,7 @@ fn wrong_element(
     alloc: Global,
     source: SourceAt<'_, '_>,
     cause: &ElementCause,
-    path: &str,
+    path: &[Step<'_>],
 ) -> Result<String, AllocError> {
     match cause {
         ElementCause::WrongKind => wrong_kind(alloc, source, path),
@@ -157,19 +98,20 @@ fn wrong_element(
 /// A value that may not stand where it does.
 fn add_element(refused: &mut Refused<'_, '_>, fault: &ElementFault) -> Result<(), AllocError> {
     let alloc = refused.alloc;
-    let path = fault.path.clone()?;
+    let told = Fault::Value(&fault.cause);
+    let path = spelled_path(alloc, refused.source, fault.path.as_str(), told)?;
     match &fault.cause {
         ElementCause::BadValue { given, expected } => {
             let wrong = format!(in alloc; "invalid value `{given}`")?;
-            let mut found = refused.at(path, wrong.as_str())?;
+            let mut found = refused.at(&path, wrong.as_str())?;
             found.expected = Some(String::from_str(alloc, *expected)?);
             found.help = quoted_hint(alloc, given.as_str(), *expected)?;
             refused.add_finding(found)
         }
         cause => {
-            let wrong = wrong_element(alloc, refused.source, cause, path.as_str())?;
-            let expected = expected_at(alloc, cause, path.as_str())?;
-            let mut found = refused.at(path, wrong.as_str())?;
+            let wrong = wrong_element(alloc, refused.source, cause, &path)?;
+            let expected = expected_at(alloc, cause, &path)?;
+            let mut found = refused.at(&path, wrong.as_str())?;
             found.expected = expected;
             refused.add_finding(found)
         }
@@ -183,8 +125,9 @@ fn add_groups(
     wrong: &str,
 ) -> Result<(), AllocError> {
     for group in groups.iter() {
-        let path = format!(in refused.alloc; "test-groups.{group}")?;
-        refused.add_at(path, wrong, None)?;
+        let name = group.to_string(refused.alloc)?;
+        let path = [Step::Key("test-groups"), Step::Key(name.as_str())];
+        refused.add_at(&path, wrong, None)?;
     }
     Ok(())
 }
@@ -200,13 +143,31 @@ fn has_script(tree: &Tree, kind: &str, name: &str) -> bool {
     }
 }
 
-/// The table of a file that has a script of a name: the old one where no other has.
-fn script_table(tree: Option<&Tree>, name: &str) -> &'static str {
+/// The kind of the scripts of a file among which one has a name, unless it is one of the old table.
+fn script_kind(tree: Option<&Tree>, name: &str) -> Option<&'static str> {
     match tree {
-        Some(tree) if has_script(tree, "setup", name) => "scripts.setup",
-        Some(tree) if has_script(tree, "wrapper", name) => "scripts.wrapper",
-        _ => "script",
+        Some(tree) if has_script(tree, "setup", name) => Some("setup"),
+        Some(tree) if has_script(tree, "wrapper", name) => Some("wrapper"),
+        _ => None,
     }
+}
+
+/// The path of the script of a name in a file.
+fn script_path<'p>(
+    alloc: Global,
+    tree: Option<&Tree>,
+    name: &'p str,
+) -> Result<Vec<Step<'p>>, AllocError> {
+    let mut path = Vec::new(alloc);
+    match script_kind(tree, name) {
+        Some(kind) => {
+            path.push(Step::Key("scripts"))?;
+            path.push(Step::Key(kind))?;
+        }
+        None => path.push(Step::Key("script"))?,
+    }
+    path.push(Step::Key(name))?;
+    Ok(path)
 }
 
 /// Scripts that a source may not define.
@@ -218,9 +179,8 @@ fn add_scripts(
     let alloc = refused.alloc;
     for script in scripts.iter() {
         let name = script.to_string(alloc)?;
-        let table = script_table(refused.source.tree(), name.as_str());
-        let path = format!(in alloc; "{table}.{name}")?;
-        refused.add_at(path, wrong, None)?;
+        let path = script_path(alloc, refused.source.tree(), name.as_str())?;
+        refused.add_at(&path, wrong, None)?;
     }
     Ok(())
 }
@@ -240,12 +200,12 @@ fn add_features(
 ) -> Result<(), AllocError> {
     let alloc = refused.alloc;
     for feature in features {
-        let path = String::from_str(alloc, scripts_key(refused.source.tree()))?;
+        let path = [Step::Key(scripts_key(refused.source.tree()))];
         let wrong = format!(in alloc; "the feature `{feature}` is not switched on")?;
         let help = format!(in alloc;
             "write `experimental = [\"{feature}\"]`, or pass `--experimental {feature}`"
         )?;
-        refused.add_at(path, wrong.as_str(), Some(help))?;
+        refused.add_at(&path, wrong.as_str(), Some(help))?;
     }
     Ok(())
 }
@@ -275,6 +235,21 @@ fn first_of(cycles: &[Vec<String>]) -> Option<&String> {
     cycles.first()?.first()
 }
 
+/// Adds what is wrong with the parent that a profile names.
+fn add_at_parent(
+    refused: &mut Refused<'_, '_>,
+    profile: &str,
+    wrong: &str,
+    help: Option<String>,
+) -> Result<(), AllocError> {
+    let path = [
+        Step::Key("profile"),
+        Step::Key(profile),
+        Step::Key("inherits"),
+    ];
+    refused.add_at(&path, wrong, help)
+}
+
 /// What is wrong with a parent.
 fn add_parent(refused: &mut Refused<'_, '_>, error: &InheritsError) -> Result<(), AllocError> {
     let alloc = refused.alloc;
@@ -282,23 +257,41 @@ fn add_parent(refused: &mut Refused<'_, '_>, error: &InheritsError) -> Result<()
     match error {
         InheritsError::DefaultProfileInheritance(profile)
         | InheritsError::SelfReferentialInheritance(profile) => {
-            let path = format!(in alloc; "profile.{profile}.inherits")?;
-            refused.add_at(path, wrong.as_str(), None)
+            add_at_parent(refused, profile.as_str(), wrong.as_str(), None)
         }
         InheritsError::UnknownInheritance(profile, parent) => {
-            let path = format!(in alloc; "profile.{profile}.inherits")?;
             let names = profile_names(alloc, refused.source.layers)?;
             let help = name_hint(alloc, parent.as_str(), &names)?;
-            refused.add_at(path, wrong.as_str(), help)
+            add_at_parent(refused, profile.as_str(), wrong.as_str(), help)
         }
         InheritsError::InheritanceCycle(cycles) => match first_of(cycles) {
-            Some(profile) => {
-                let path = format!(in alloc; "profile.{profile}.inherits")?;
-                refused.add_at(path, wrong.as_str(), None)
-            }
+            Some(profile) => add_at_parent(refused, profile.as_str(), wrong.as_str(), None),
             None => refused.add_whole(wrong.as_str()),
         },
     }
+}
+
+/// The path of a section of a profile.
+fn section_path<'p>(
+    alloc: Global,
+    profile: &'p str,
+    section: ConfigCompileSection,
+) -> Result<Vec<Step<'p>>, AllocError> {
+    let mut path = Vec::new(alloc);
+    path.push(Step::Key("profile"))?;
+    path.push(Step::Key(profile))?;
+    match section {
+        ConfigCompileSection::DefaultFilter => path.push(Step::Key("default-filter"))?,
+        ConfigCompileSection::Override(index) => {
+            path.push(Step::Key("overrides"))?;
+            path.push(Step::Position(index))?;
+        }
+        ConfigCompileSection::Script(index) => {
+            path.push(Step::Key("scripts"))?;
+            path.push(Step::Position(index))?;
+        }
+    }
+    Ok(path)
 }
 
 /// What does not compile: each text that is refused, or else the whole section.
@@ -316,9 +309,9 @@ fn add_compile(
     if refused.findings.len() > told {
         return Ok(());
     }
-    let path = format!(in alloc; "profile.{profile}.{section}")?;
+    let path = section_path(alloc, profile, section)?;
     let wrong = error.kind.to_string(alloc)?;
-    refused.add_at(path, wrong.as_str(), None)
+    refused.add_at(&path, wrong.as_str(), None)
 }
 
 /// A second file of a tool.
@@ -333,8 +326,11 @@ fn add_second_file(
 
 /// Scripts under the old key and under the new one.
 fn add_both_keys(refused: &mut Refused<'_, '_>) -> Result<(), AllocError> {
-    let path = String::from_str(refused.alloc, "scripts")?;
-    refused.add_at(path, "there is the old table `script` beside it", None)
+    refused.add_at(
+        &[Step::Key("scripts")],
+        "there is the old table `script` beside it",
+        None,
+    )
 }
 
 /// Parents that profiles may not have.

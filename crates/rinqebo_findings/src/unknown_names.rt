@@ -1,6 +1,7 @@
 //! Findings of rules that name groups and scripts which they may not.
 use crate::hints::known_hint;
-use crate::refusals::Refused;
+use crate::refused::Refused;
+use config_places::Step;
 use nextest_config::{ProfileScriptErrors, Tree, UnknownTestGroupError};
 use rinqebo_files::profile_table;
 use std::alloc::AllocError;
@@ -42,18 +43,22 @@ fn first_naming<'k>(
 
 /// The path at which the first rule of a list of a profile has a name at one of some keys. It is
 /// that of the list where none does.
-fn naming_path(
+fn naming_path<'p>(
     refused: &Refused<'_, '_>,
-    profile: &str,
-    list: &str,
-    keys: &[&str],
+    profile: &'p str,
+    list: &'p str,
+    keys: &[&'p str],
     name: &str,
-) -> Result<String, AllocError> {
-    let alloc = refused.alloc;
-    match first_naming(refused.source.tree(), profile, list, keys, name) {
-        Some((index, key)) => format!(in alloc; "profile.{profile}.{list}.{index}.{key}"),
-        None => format!(in alloc; "profile.{profile}.{list}"),
+) -> Result<Vec<Step<'p>>, AllocError> {
+    let mut path = Vec::new(refused.alloc);
+    path.push(Step::Key("profile"))?;
+    path.push(Step::Key(profile))?;
+    path.push(Step::Key(list))?;
+    if let Some((index, key)) = first_naming(refused.source.tree(), profile, list, keys, name) {
+        path.push(Step::Position(index))?;
+        path.push(Step::Key(key))?;
     }
+    Ok(path)
 }
 
 /// Adds that a group is not known.
@@ -68,7 +73,7 @@ pub fn add_unknown_group(
     let wrong = format!(in alloc; "unknown group `{name}`")?;
     let path = naming_path(refused, profile, "overrides", &["test-group"], name)?;
     let help = known_hint(alloc, name, known)?;
-    refused.add_at(path, wrong.as_str(), help)
+    refused.add_at(&path, wrong.as_str(), help)
 }
 
 /// Adds what is wrong with a script that a rule of a profile names at one of some keys.
@@ -80,7 +85,7 @@ fn add_script(
     wrong: &str,
 ) -> Result<(), AllocError> {
     let path = naming_path(refused, profile, "scripts", keys, name)?;
-    refused.add_at(path, wrong, None)
+    refused.add_at(&path, wrong, None)
 }
 
 /// Adds the scripts that are not known.
@@ -96,7 +101,7 @@ fn add_unknown_scripts(
         let path = naming_path(refused, profile, "scripts", &SCRIPT_USES, name.as_str())?;
         let wrong = format!(in alloc; "unknown script `{name}`")?;
         let help = known_hint(alloc, name.as_str(), known)?;
-        refused.add_at(path, wrong.as_str(), help)?;
+        refused.add_at(&path, wrong.as_str(), help)?;
     }
     Ok(())
 }

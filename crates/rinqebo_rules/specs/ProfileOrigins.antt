@@ -1,7 +1,8 @@
 -- Where values of profiles come from, as it is told.
-use Rattle.std.specs.Prelude.{◌≡◌, ◌≢◌, ◌⊎◌, ◌++◌, ℕ, zero, suc, List, [], ◌∷◌, Option, None, Some, Vec, codes, true}
+use Rattle.std.specs.Prelude.{◌≡◌, ◌≢◌, ◌⊎◌, ◌++◌, ℕ, zero, suc, List, [], ◌∷◌, Option, None, Some, Vec, Bool, true, false, codes, if◌then◌else◌}
 use Rattle.std.specs.declared.alloc.Global.{Global}
 use Rattle.std.specs.List.{AllByRecursion, AllZip}
+use Rattle.std.specs.Str.{bytes_eq}
 use Rattle.config_grounds.specs.Grounds.{AreGrounds, Writes, profile_path}
 use Rattle.nextest_documents.specs.Shown.{Path}
 use Rattle.nextest_tables.specs.Written.{Name}
@@ -18,6 +19,14 @@ use Rattle.rinqebo_rules.specs.Trees.{trees_of}
 abbrev pub key_path : Option (List ℕ) → List ℕ → Path
 key_path None name = name ∷ []
 key_path (Some table) name = table ∷ name ∷ []
+
+-- whether rules alone write a key: a profile has no such key
+abbrev pub is_rule_key : Option (List ℕ) → List ℕ → Bool
+is_rule_key None name =
+    if bytes_eq name (codes "priority") then true
+    else if bytes_eq name (codes "test-group") then true
+    else bytes_eq name (codes "run-wrapper")
+is_rule_key (Some table) name = false
 
 -- where a profile says whether a report is written
 abbrev pub report_path : Path
@@ -63,10 +72,12 @@ AreOriginsWritten layers chain table name origins =
     (AreWrittenOrigins layers chain table name origins.items × (origins.items ≢ []))
     ⊎ (AreWrittenOrigins layers chain table name [] × (origins.items ≡ kinds.BuiltIn ∷ []))
 
--- Nothing that is written counts for a setting: it is one of a report and no profile of the chain has
--- one written, or no profile writes the setting, or only a table without leaves.
+-- Nothing that is written counts for a setting: rules alone write it, or it is one of a report and no
+-- profile of the chain has one written, or no profile writes the setting, or only a table without
+-- leaves.
 pub data IsBuiltIn (layers : List Layer) (chain : List Name) (table : Option (List ℕ))
     (name : List ℕ) : Type 0 where
+  no_key : is_rule_key table name ≡ true → IsBuiltIn layers chain table name
   no_report : HasNoReport (trees_of layers) chain table → IsBuiltIn layers chain table name
   no_profile : IsUnwritten (trees_of layers) chain (key_path table name)
       → IsBuiltIn layers chain table name
@@ -78,6 +89,18 @@ pub data AreProfileOrigins (layers : List Layer) (chain : List Name) (table : Op
     (name : List ℕ) (origins : List Origin) : Type 0 where
   built_in : IsBuiltIn layers chain table name → origins ≡ kinds.BuiltIn ∷ []
       → AreProfileOrigins layers chain table name origins
-  written : ¬ HasNoReport (trees_of layers) chain table
+  written : is_rule_key table name ≡ false → ¬ HasNoReport (trees_of layers) chain table
       → AreWrittenOrigins layers chain table name origins → origins ≢ []
       → AreProfileOrigins layers chain table name origins
+
+-- What is written for a setting of the report has no effect where no profile of the chain has a report
+-- written: where it comes from is told, or that it is built in. Else nothing is told.
+pub data AreIdleOrigins (layers : List Layer) (chain : List Name) (table : Option (List ℕ))
+    (name : List ℕ) (origins : Vec Origin Global) : Type 0 where
+  counted : ¬ HasNoReport (trees_of layers) chain table → origins.items ≡ []
+      → AreIdleOrigins layers chain table name origins
+  unwritten : IsUnwritten (trees_of layers) chain (key_path table name) → origins.items ≡ []
+      → AreIdleOrigins layers chain table name origins
+  idle : HasNoReport (trees_of layers) chain table
+      → AreOriginsWritten layers chain table name origins
+      → AreIdleOrigins layers chain table name origins

@@ -4,7 +4,7 @@ ghost use Rattle.std.specs.List.{AllZip};
 ghost use Rattle.config_grounds.specs.Grounds.{AreNearestGrounds};
 ghost use Rattle.config_grounds.specs.Layers.{layers_view, keys_view};
 ghost use Rattle.rinqebo_report.specs.declared.origin.Origin.TheVariants as kinds;
-ghost use Rattle.rinqebo_rules.specs.ProfileOrigins.{AreOriginsWritten, AreProfileOrigins, HasNoReport, IsLayerOrigin, IsUnwritten, key_path, report_path};
+ghost use Rattle.rinqebo_rules.specs.ProfileOrigins.{AreIdleOrigins, AreOriginsWritten, AreProfileOrigins, HasNoReport, IsLayerOrigin, IsUnwritten, is_rule_key, key_path, report_path};
 ghost use Rattle.rinqebo_rules.specs.Trees.{trees_of};
 
 use crate::rule_places::setting_path;
@@ -28,6 +28,16 @@ fn key_path<'k>(alloc: Global, key: SettingKey) -> Result<Vec<&'k str>, AllocErr
     }
     path.push(key.key)?;
     Ok(path)
+}
+
+/// Whether rules alone write a key: a profile has no such key.
+fn is_of_rules(key: SettingKey) -> bool
+    ensures { result ≡ is_rule_key (option_map (λ table. table.now) key.table) key.key.now }
+{
+    match key.table {
+        Some(_) => false,
+        None => key.key == "priority" || key.key == "test-group" || key.key == "run-wrapper",
+    }
 }
 
 /// Whether one of some profiles has a report written.
@@ -133,8 +143,9 @@ fn written_origins(
     origins_at(alloc, layers, &grounds.layers, *profile, key)
 }
 
-/// Where the value at a key comes from, where no rule decides it: the layers that write the value of
-/// the nearest profile, or nothing that is written. Without a report nothing is stored in one.
+/// The origins of the value at a key that no rule sets: the layers that write the value of the nearest
+/// profile, or none where the default is built in. A key of rules alone is none of a profile, also where
+/// a file writes it there, and without a report nothing is stored in one.
 pub fn profile_grounds(
     alloc: Global,
     layers: &[Layer],
@@ -144,6 +155,9 @@ pub fn profile_grounds(
     ensures { IfOk result (λ origins. AreProfileOrigins layers.now (keys_view chain.now)
         (option_map (λ table. table.now) key.table) key.key.now origins.items) }
 {
+    if is_of_rules(key) {
+        return built_in(alloc);
+    }
     let trees = trees_of(alloc, layers)?;
     if !is_counted(alloc, &trees, chain, key)? {
         return built_in(alloc);
@@ -152,5 +166,27 @@ pub fn profile_grounds(
     match grounds_of(alloc, &trees, chain, &path)? {
         Some(grounds) => written_origins(alloc, layers, chain, &grounds, key),
         None => built_in(alloc),
+    }
+}
+
+/// The origins of what files write at a key of the JUnit report that has no effect, since no profile of
+/// the chain writes a report. There is none where a report is written.
+pub fn idle_grounds(
+    alloc: Global,
+    layers: &[Layer],
+    chain: &[&str],
+    key: SettingKey,
+) -> Result<Vec<Origin>, AllocError>
+    ensures { IfOk result (AreIdleOrigins layers.now (keys_view chain.now)
+        (option_map (λ table. table.now) key.table) key.key.now) }
+{
+    let trees = trees_of(alloc, layers)?;
+    if is_counted(alloc, &trees, chain, key)? {
+        return Ok(Vec::new(alloc));
+    }
+    let path = key_path(alloc, key)?;
+    match grounds_of(alloc, &trees, chain, &path)? {
+        Some(grounds) => written_origins(alloc, layers, chain, &grounds, key),
+        None => Ok(Vec::new(alloc)),
     }
 }

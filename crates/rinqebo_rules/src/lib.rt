@@ -17,7 +17,7 @@ pub use chain_rules::{SettingRule, rules_for};
 pub use conditions::{Answers, Asking, default_filter};
 pub use facts::{answers_to, facts_of};
 pub use fallback::fallback_value;
-pub use grounds::{built_in, profile_grounds};
+pub use grounds::{built_in, idle_grounds, profile_grounds};
 pub use rule_places::{RuleKind, RulePlace};
 pub use trees::trees_of;
 pub use wrappers::wrapping_place;

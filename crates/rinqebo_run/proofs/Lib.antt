@@ -9,3 +9,4 @@ pub mod Gathering
 pub mod Listing
 pub mod Showing
 pub mod Writing
+pub mod Documents

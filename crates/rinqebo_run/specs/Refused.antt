@@ -1,5 +1,6 @@
 -- Why a run answers nothing.
-use Rattle.std.specs.Prelude.{◌≡◌, ◌⊎◌, ℕ}
+use Rattle.std.specs.Prelude.{◌≡◌, ◌⊎◌, ℕ, List, Option}
+use Rattle.std.specs.Io.KnownBytes.{Appends}
 use Rattle.rinqebo_files.specs.declared.files.Gathered.{Gathered}
 use Rattle.rinqebo_findings.specs.Failures.{IsFailureAbout, LacksProfile}
 use Rattle.rinqebo_request.specs.declared.request.Question.{Question}
@@ -9,6 +10,11 @@ use Rattle.rinqebo_load.specs.Accepted.{AreAccepted}
 use Rattle.rinqebo_load.specs.SessionOf.{IsSessionOf}
 use Rattle.rinqebo_load.specs.Beginning.{IsBeginningFailure}
 use Rattle.rinqebo_load.specs.declared.failure.Failure.{Failure}
+use Rattle.rinqebo_load.specs.declared.failure.Failure.TheVariants as failures
+use Rattle.rinqebo_report.specs.Rendered.{rendered}
+use Rattle.rinqebo_report.specs.declared.format.Format.TheVariants as formats
+use Rattle.rinqebo_report.specs.declared.report.Report.{Report}
+use Rattle.rinqebo_run.specs.Statuses.{failure_status}
 use Rattle.rinqebo_load.specs.declared.session.Session.{Session}
 
 -- A session does not answer a question. A check answers refused files, and asks for no profile.
@@ -61,3 +67,34 @@ pub record LackProfileFor (request : Request) (gathered : Gathered) : Type 0 whe
 pub record IsToldBy (request : Request) (gathered : Gathered) (status : ℕ) : Type 0 where
   pub refused : status ≡ 3 → AreRefusedFor request gathered
   pub lacking : status ≡ 4 → LackProfileFor request gathered
+
+-- a report says why a run answers nothing
+abbrev pub IsReportOfFailure : Failure → Report → Type 0
+IsReportOfFailure (failures.Engines fault) report = ⊥
+IsReportOfFailure (failures.Refused told) report = report ≡ told
+IsReportOfFailure (failures.NoProfile told) report = report ≡ told
+IsReportOfFailure failures.Memory report = ⊥
+
+-- no report says why a run answers nothing
+abbrev pub HasNoReport : Failure → Type 0
+HasNoReport (failures.Engines fault) = Unit {0}
+HasNoReport (failures.Refused told) = ⊥
+HasNoReport (failures.NoProfile told) = ⊥
+HasNoReport failures.Memory = Unit {0}
+
+-- A writer was given the document of a failure, where JSON is asked for: known bytes grew by exactly the
+-- report of the failure, and the exit status is that of the failure.
+pub record TellsFailure (failure : Failure) (request : Request) (status : ℕ)
+    (old new : Option (List ℕ)) : Type 0 where
+  pub is_json : request.format ≡ formats.Json
+  pub status_is : status ≡ failure_status failure
+  pub report : Report
+  pub reported : IsReportOfFailure failure report
+  pub page : Appends old new (rendered report request.format request.colour)
+
+-- A writer was given the document of why a request is not answered.
+pub record TellsRefusal (request : Request) (gathered : Gathered) (status : ℕ)
+    (old new : Option (List ℕ)) : Type 0 where
+  pub failure : Failure
+  pub fails : Fails request gathered failure
+  pub tells : TellsFailure failure request status old new

@@ -6,6 +6,7 @@ ghost use Rattle.rinqebo_load.specs.Beginning.{IsBeginningFailure};
 ghost use Rattle.rinqebo_run.specs.Checked.{IsCheckStatus};
 
 use crate::answer::Answer;
+use crate::status::Status;
 use nextest_config::{ConfigParseError, DefaultConfigWarnings};
 use rinqebo_findings::{report_of, report_of_refusal, warning_findings};
 use rinqebo_load::{Failure, Session};
@@ -17,9 +18,9 @@ fn status_of(findings: &[Finding], deny_warnings: bool) -> u8
     ensures { (result ≡ 0) ⊎ (result ≡ 1) }
 {
     if deny_warnings && !findings.is_empty() {
-        1
+        Status::Negative as u8
     } else {
-        0
+        Status::Success as u8
     }
 }
 
@@ -54,7 +55,10 @@ fn refused(
         return Err(AllocError);
     }
     let report = report_of_refusal(alloc, session, warnings, error)?;
-    Ok(Answer { report, status: 3 })
+    Ok(Answer {
+        report,
+        status: Status::Refused as u8,
+    })
 }
 
 /// The answer of a check.

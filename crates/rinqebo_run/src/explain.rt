@@ -9,11 +9,12 @@ ghost use Rattle.rinqebo_findings.specs.Failures.{IsFailureAbout};
 ghost use Rattle.rinqebo_findings.specs.Reports.{IsReportOf};
 
 use crate::asked::asked_of;
+use crate::idle::findings_on;
 use nextest_config::run::{PlainSource, TestRow, resolve};
 use nextest_config::{BuildPlatform, DefaultConfigWarnings, NextestRunMode, Setting};
 use nextest_filters::NextestTally;
 use rinqebo_files::Layer;
-use rinqebo_findings::{config_with, failure_of_run, report_of, warning_findings};
+use rinqebo_findings::{config_with, failure_of_run, report_of};
 use rinqebo_load::{Failure, Session, chain_of_profile};
 use rinqebo_report::{Content, Origin, Platform, Report, SettingRow, TestRows};
 use rinqebo_request::{SettingKey, TestName};
@@ -236,7 +237,7 @@ pub fn explain(
     let mut warnings = DefaultConfigWarnings::new(alloc);
     let rows = row_of_test(alloc, session, profile, test, &mut warnings)?;
     let content = explained(alloc, session, profile, test, settings, &rows)?;
-    let findings = warning_findings(alloc, &session.layers, &warnings)?;
+    let findings = findings_on(alloc, session, &warnings, &content)?;
     let report = report_of(alloc, session, findings, Vec::new(alloc), content)?;
     Ok(report)
 }

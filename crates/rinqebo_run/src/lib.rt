@@ -9,6 +9,7 @@ mod answer;
 mod asked;
 mod check;
 mod explain;
+mod idle;
 mod list;
 mod list_fault;
 mod list_origins;
@@ -17,11 +18,16 @@ mod list_rules;
 mod list_scripts;
 mod list_text;
 mod progress;
+mod read_files;
+mod refusing;
 mod run;
 mod show;
+mod status;
+mod telling;
+mod unset;
 mod why;
 
 pub use answer::Answer;
-pub use run::{
-    answer_of, perform, print_schema, refuse_for_memory, refuse_gathering, refuse_words,
-};
+pub use run::{answer_of, perform, print_schema, refuse_gathering, refuse_words};
+pub use status::Status;
+pub use telling::refuse_for_memory;

@@ -1,5 +1,5 @@
 //! Answers a request, and writes what it answers.
-ghost use Rattle.std.specs.Prelude.{◌≡◌, ◌⊎◌, ◌++◌, [], ◌∷◌, IsOk, IfOk, IfErr, IfSome};
+ghost use Rattle.std.specs.Prelude.{◌≡◌, ◌⊎◌, ◌++◌, [], ◌∷◌, IfOk, IfErr, IfSome};
 ghost use Rattle.std.specs.Io.KnownBytes.{Appends};
 ghost use Rattle.std.specs.Result.{result_map_both};
 ghost use Rattle.config_shape.specs.FileForm.{file_form};
@@ -9,8 +9,8 @@ ghost use Rattle.rinqebo_findings.specs.Reports.{IsReportOf};
 ghost use Rattle.rinqebo_report.specs.Rendered.{rendered};
 ghost use Rattle.rinqebo_run.specs.Answered.{AnswersQuestion, IsAnswer, Tells};
 ghost use Rattle.rinqebo_run.specs.Begun.{IsBegun};
-ghost use Rattle.rinqebo_run.specs.Refused.{Fails, IsFailureIn, IsToldBy};
-ghost use Rattle.rinqebo_run.specs.Statuses.{IsStatus, IsAnswerStatus, IsGatherStatus, IsWordsStatus, TellsWords, failure_status};
+ghost use Rattle.rinqebo_run.specs.Refused.{Fails, IsFailureIn, IsToldBy, TellsRefusal};
+ghost use Rattle.rinqebo_run.specs.Statuses.{IsStatus, IsAnswerStatus, IsGatherStatus, IsWordsStatus, TellsWords};
 ghost use Rattle.rinqebo_run.specs.Written.{AsksList, IsStopStatus};
 ghost use Rattle.rinqebo_report.specs.declared.format.Format.TheVariants as formats;
 
@@ -22,7 +22,12 @@ use crate::list_fault::ListFault;
 use crate::list_page::AskedList;
 use crate::list_text::write_list;
 use crate::progress::ProgressLine;
+use crate::read_files::add_read_files;
+use crate::refusing::{refuse, refuse_in};
 use crate::show::show;
+use crate::status::Status;
+use crate::telling::{refuse_for_memory, refuse_message, tell};
+use crate::unset::add_unset;
 use crate::why::why;
 use config_shape::schema_page;
 use rinqebo_files::{GatherFault, Gathered};
@@ -31,7 +36,7 @@ use rinqebo_load::{Failure, Session};
 use rinqebo_report::{Colour, Content, Format, Report, render, render_findings};
 use rinqebo_request::{ParseStop, Question, Request};
 use std::alloc::{AllocError, Global};
-use std::io::{self, Write};
+use std::io::Write;
 
 /// The answer that is a report, where a run succeeds.
 fn answered(report: Result<Report, Failure>) -> Result<Answer, Failure>
@@ -40,7 +45,10 @@ fn answered(report: Result<Report, Failure>) -> Result<Answer, Failure>
         ≡ report }
 {
     match report {
-        Ok(report) => Ok(Answer { report, status: 0 }),
+        Ok(report) => Ok(Answer {
+            report,
+            status: Status::Success as u8,
+        }),
         Err(failure) => Err(failure),
     }
 }
@@ -99,41 +107,6 @@ fn answer_in<P: Progress>(
     }
 }
 
-/// The status, unless the last write failed.
-fn status_of_write(written: io::Result<()>, status: u8) -> u8
-    ensures status { (result ≡ status) ⊎ (result ≡ 6) }
-    ensures failed { (result ≡ 6) ⊎ IsOk written }
-{
-    match written {
-        Ok(()) => status,
-        Err(_) => 6,
-    }
-}
-
-/// Writes a text, and answers a status, or 6 where a write fails.
-fn tell<W: Write>(text: &str, status: u8, out: &mut W) -> u8
-    ensures status { (result ≡ status) ⊎ (result ≡ 6) }
-    ensures written { (result ≡ 6) ⊎ Appends (W.contents out.old) (W.contents out.new) text.now }
-{
-    if out.write_all(text.as_bytes()).is_err() {
-        return 6;
-    }
-    status_of_write(out.flush(), status)
-}
-
-/// The message of a run that ends because memory ran out.
-const OUT_OF_MEMORY: &str = "error: out of memory\n";
-
-/// Reports that memory ran out, which takes none, and returns the exit status: 5, or 6 where the
-/// message can't be written.
-pub fn refuse_for_memory<E: Write>(err: &mut E) -> u8
-    ensures status { (result ≡ 5) ⊎ (result ≡ 6) }
-    ensures message { (result ≡ 6)
-        ⊎ Appends (E.contents err.old) (E.contents err.new) OUT_OF_MEMORY.now }
-{
-    tell(OUT_OF_MEMORY, 5, err)
-}
-
 /// What standard error is told beside a page: its findings, where the page does not have them.
 fn notes_of(
     alloc: Global,
@@ -147,10 +120,24 @@ fn notes_of(
     }
 }
 
+/// The notes on an answer, for standard error.
+fn notes_on(
+    alloc: Global,
+    request: &Request<'_>,
+    gathered: &Gathered,
+    answer: &Answer,
+) -> Result<String, AllocError> {
+    let mut notes = notes_of(alloc, &answer.report, request.format, request.colour)?;
+    add_unset(alloc, request, answer, &mut notes)?;
+    add_read_files(alloc, request, gathered, answer, &mut notes)?;
+    Ok(notes)
+}
+
 /// Writes an answer: its notes, and then the report.
 fn tell_answer<O: Write, E: Write>(
     alloc: Global,
     request: &Request<'_>,
+    gathered: &Gathered,
     answer: &Answer,
     out: &mut O,
     err: &mut E,
@@ -162,54 +149,17 @@ fn tell_answer<O: Write, E: Write>(
         (rendered answer.now.report request.now.format request.now.colour) }
 {
     let report = &answer.report;
-    let Ok(notes) = notes_of(alloc, report, request.format, request.colour) else {
+    let Ok(notes) = notes_on(alloc, request, gathered, answer) else {
         return refuse_for_memory(err);
     };
     let Ok(text) = render(alloc, report, request.format, request.colour) else {
         return refuse_for_memory(err);
     };
-    match tell(notes.as_str(), 0, err) {
-        0 => tell(text.as_str(), answer.status, out),
-        status => status,
+    let told = tell(notes.as_str(), Status::Success as u8, err);
+    if told != Status::Success as u8 {
+        return told;
     }
-}
-
-/// Tells the findings for which a run answers nothing.
-fn refuse_with<E: Write>(
-    alloc: Global,
-    report: &Report,
-    colour: Colour,
-    status: u8,
-    err: &mut E,
-) -> u8
-    ensures { (result ≡ status) ⊎ (result ≡ 5) ⊎ (result ≡ 6) }
-{
-    match render_findings(alloc, report, colour) {
-        Ok(text) => tell(text.as_str(), status, err),
-        Err(_) => refuse_for_memory(err),
-    }
-}
-
-/// Tells a message, and answers a status.
-fn refuse_message<E: Write>(message: Result<String, AllocError>, status: u8, err: &mut E) -> u8
-    ensures { (result ≡ status) ⊎ (result ≡ 5) ⊎ (result ≡ 6) }
-{
-    match message {
-        Ok(text) => tell(text.as_str(), status, err),
-        Err(_) => refuse_for_memory(err),
-    }
-}
-
-/// Tells why a run answers nothing, and answers the exit status.
-fn refuse<E: Write>(alloc: Global, failure: &Failure, colour: Colour, err: &mut E) -> u8
-    ensures { (result ≡ failure_status failure.now) ⊎ (result ≡ 5) ⊎ (result ≡ 6) }
-{
-    match failure {
-        Failure::Engines(fault) => refuse_message(format!(in alloc; "error: {fault}\n"), 2, err),
-        Failure::Refused(report) => refuse_with(alloc, report, colour, 3, err),
-        Failure::NoProfile(report) => refuse_with(alloc, report, colour, 4, err),
-        Failure::Memory => refuse_for_memory(err),
-    }
+    tell(text.as_str(), answer.status, out)
 }
 
 /// Answers a request with a page that is known whole before it goes out, and answers the exit status.
@@ -222,17 +172,21 @@ fn answer_whole<O: Write, E: Write>(
 ) -> u8
     ensures status { IsStatus request.now.question result }
     ensures quiet { IsAnswerStatus request.now.question result ⊎ (result ≡ 6)
-        ⊎ (O.contents out.new ≡ O.contents out.old) }
+        ⊎ (O.contents out.new ≡ O.contents out.old)
+        ⊎ TellsRefusal request.now gathered.now result (O.contents out.old) (O.contents out.new) }
     ensures page { IsAnswerStatus request.now.question result
         → Tells request.now gathered.now result (O.contents out.old) (O.contents out.new) }
+    ensures refusal { request.now.format ≡ formats.Json → (result ≡ 3) ⊎ (result ≡ 4)
+        → IsAnswerStatus request.now.question result
+        ⊎ TellsRefusal request.now gathered.now result (O.contents out.old) (O.contents out.new) }
     ensures cause { IsToldBy request.now gathered.now result }
 {
     let mut progress = ProgressLine::new(&mut *err, request.shows_progress);
     let answer = answer_of(alloc, request, gathered, &mut progress);
     progress.clear();
     match answer {
-        Ok(answer) => tell_answer(alloc, request, &answer, out, err),
-        Err(failure) => refuse(alloc, &failure, request.colour, err),
+        Ok(answer) => tell_answer(alloc, request, gathered, &answer, out, err),
+        Err(failure) => refuse_in(alloc, &failure, request, out, err),
     }
 }
 
@@ -262,13 +216,13 @@ fn text_list<'r>(request: &'r Request<'_>) -> Option<AskedList<'r>>
 
 /// Tells why a list was not written whole, and answers the exit status. Of a write that failed nothing
 /// is told.
-fn refuse_list<E: Write>(alloc: Global, fault: &ListFault, colour: Colour, err: &mut E) -> u8
+fn refuse_list<E: Write>(alloc: Global, fault: &ListFault, request: &Request<'_>, err: &mut E) -> u8
     ensures { IsStopStatus fault.now result }
 {
     match fault {
-        ListFault::Refused(failure) => refuse(alloc, failure, colour, err),
+        ListFault::Refused(failure) => refuse(alloc, failure, request, err),
         ListFault::Memory => refuse_for_memory(err),
-        ListFault::Write => 6,
+        ListFault::Write => Status::Write as u8,
     }
 }
 
@@ -292,15 +246,16 @@ fn answer_list<O: Write, E: Write>(
     ensures cause { IsToldBy request.now gathered.now result }
 {
     match write_list(alloc, request, list, gathered, out, err) {
-        Ok(()) => 0,
-        Err(fault) => refuse_list(alloc, &fault, request.colour, err),
+        Ok(()) => Status::Success as u8,
+        Err(fault) => refuse_list(alloc, &fault, request, err),
     }
 }
 
 /// Answers a request over the files that it names, and answers the exit status: 0, or 1 for warnings
 /// that are denied and where no leaf is found, 2 for platforms and metadata that are not understood,
 /// 3 where the files are refused, 4 where there is no such profile, 5 for want of memory, 6 where a
-/// write fails. Nothing goes to standard output where a run refuses, but for the findings of a check.
+/// write fails. Nothing goes to standard output where a run refuses, but for the findings of a check,
+/// and where JSON is asked for a document of why the files are refused or a profile is missing.
 /// The text of a list goes out as its tests are asked: where memory runs out meanwhile, it has the
 /// first tests, each whole. Where a request says so, standard error is told how far a list is, on a
 /// line of its own that is gone in the end.
@@ -314,9 +269,13 @@ pub fn perform<O: Write, E: Write>(
     ensures status { IsStatus request.now.question result }
     ensures quiet { IsAnswerStatus request.now.question result ⊎ (result ≡ 6)
         ⊎ (O.contents out.new ≡ O.contents out.old) ⊎ ((result ≡ 5)
-        × IsBegun request.now gathered.now (O.contents out.old) (O.contents out.new)) }
+        × IsBegun request.now gathered.now (O.contents out.old) (O.contents out.new))
+        ⊎ TellsRefusal request.now gathered.now result (O.contents out.old) (O.contents out.new) }
     ensures page { IsAnswerStatus request.now.question result
         → Tells request.now gathered.now result (O.contents out.old) (O.contents out.new) }
+    ensures refusal { request.now.format ≡ formats.Json → (result ≡ 3) ⊎ (result ≡ 4)
+        → IsAnswerStatus request.now.question result
+        ⊎ TellsRefusal request.now gathered.now result (O.contents out.old) (O.contents out.new) }
     ensures cause { IsToldBy request.now gathered.now result }
 {
     match text_list(request) {
@@ -333,7 +292,7 @@ pub fn print_schema<O: Write, E: Write>(alloc: Global, out: &mut O, err: &mut E)
     ensures quiet { result ≡ 5 → O.contents out.new ≡ O.contents out.old }
 {
     match schema_page(alloc) {
-        Ok(text) => tell(text.as_str(), 0, out),
+        Ok(text) => tell(text.as_str(), Status::Success as u8, out),
         Err(_) => refuse_for_memory(err),
     }
 }
@@ -345,8 +304,8 @@ pub fn refuse_words<O: Write, E: Write>(stop: &ParseStop, out: &mut O, err: &mut
         (E.contents err.old) (E.contents err.new) }
 {
     match stop {
-        ParseStop::Help(text) => tell(text.as_str(), 0, out),
-        ParseStop::Usage(text) => tell(text.as_str(), 2, err),
+        ParseStop::Help(text) => tell(text.as_str(), Status::Success as u8, out),
+        ParseStop::Usage(text) => tell(text.as_str(), Status::Usage as u8, err),
         ParseStop::Memory => refuse_for_memory(err),
     }
 }
@@ -357,6 +316,9 @@ pub fn refuse_gathering<E: Write>(alloc: Global, fault: &GatherFault, err: &mut 
 {
     match fault {
         GatherFault::Memory => refuse_for_memory(err),
-        fault => refuse_message(format!(in alloc; "error: {fault}\n"), 2, err),
+        fault => {
+            let message = format!(in alloc; "error: {fault}\n");
+            refuse_message(message, Status::Usage as u8, err)
+        }
     }
 }

@@ -13,11 +13,13 @@ ghost use Rattle.rinqebo_run.specs.ShownConfig.{TellsLeaf, TellLeaves, AreShown,
 
 use crate::answer::Answer;
 use crate::asked::asked_of;
+use crate::idle::findings_on;
+use crate::status::Status;
 use config_grounds::{Entry as Leaf, entries_of};
 use nextest_config::{DefaultConfigWarnings, NextestRunMode};
 use rinqebo_entries::{reported_entry, steps_of};
 use rinqebo_files::{Layer, path_place};
-use rinqebo_findings::{config_with, report_of, warning_findings};
+use rinqebo_findings::{config_with, report_of};
 use rinqebo_load::{Config, Failure, Session, chain_of_profile};
 use rinqebo_report::{Content, Entry};
 use rinqebo_rules::trees_of;
@@ -92,8 +94,8 @@ fn status_of(content: &Content) -> u8
     ensures { result ≡ shown_status content.now }
 {
     match content {
-        Content::ShowConfig { entries, .. } if entries.is_empty() => 1,
-        _ => 0,
+        Content::ShowConfig { entries, .. } if entries.is_empty() => Status::Negative as u8,
+        _ => Status::Success as u8,
     }
 }
 
@@ -114,7 +116,7 @@ pub fn show(
     let config = config_with(alloc, session, profile, &mut warnings)?;
     let content = shown(alloc, &*session, &config, profile, keys, with_hidden)?;
     let status = status_of(&content);
-    let findings = warning_findings(alloc, &session.layers, &warnings)?;
+    let findings = findings_on(alloc, session, &warnings, &content)?;
     let report = report_of(alloc, session, findings, Vec::new(alloc), content)?;
     Ok(Answer { report, status })
 }

@@ -19,9 +19,10 @@ ghost use Rattle.rinqebo_run.specs.TellsReasons.{AreReasons, AreReasonsIn, IfWhy
 ghost use Rattle.target_language.specs.declared.expression.TargetSpec.{TargetSpec};
 
 use crate::asked::asked_of;
+use crate::idle::findings_on;
 use nextest_config::{DefaultConfigWarnings, NextestRunMode, Setting};
 use rinqebo_files::{Layer, host_text, target_text, text_at};
-use rinqebo_findings::{config_with, report_of, warning_findings};
+use rinqebo_findings::{config_with, report_of};
 use rinqebo_load::{Config, Failure, Session, chain_of_profile};
 use rinqebo_report::{Condition, ConditionAnswer, Content, Origin, Report, Rule, Verdict};
 use rinqebo_request::{SettingKey, TestName};
@@ -257,7 +258,7 @@ pub fn why(
     let mut warnings = DefaultConfigWarnings::new(alloc);
     let config = config_with(alloc, session, profile, &mut warnings)?;
     let content = reasons(alloc, &*session, &config, profile, test, setting)?;
-    let findings = warning_findings(alloc, &session.layers, &warnings)?;
+    let findings = findings_on(alloc, session, &warnings, &content)?;
     let report = report_of(alloc, session, findings, Vec::new(alloc), content)?;
     Ok(report)
 }

@@ -1,3 +1,4 @@
+use Rattle.rinqebo_run.proofs.Documents.{answer_ends, one_of_four, refusal_quiet, refusal_told}
 use Rattle.rinqebo_run.proofs.Refused.{answer_told, failure_told}
 use Rattle.rinqebo_run.proofs.Statuses.{answer_status, answered_status, told_same, told_page, tells, failed_silent, failed_status}
 use Rattle.rinqebo_run.proofs.run.answer_whole.Goals as goal
@@ -9,8 +10,13 @@ returns-in-Ok-clause-status g c =
 
 pub returns-in-Ok-clause-quiet : goal.returns-in-Ok-clause-quiet
 returns-in-Ok-clause-quiet g c =
-    answer_status c.args.request.now c.args.gathered.now c.in-Ok.answer.report _ _ c.in-Ok.ensures.ok
-    c.tell_answer.ensures.quiet
+    one_of_four (answer_status c.args.request.now c.args.gathered.now c.in-Ok.answer.report _ _ c.in-Ok.ensures.ok
+    c.tell_answer.ensures.quiet)
+
+pub returns-in-Ok-clause-refusal : goal.returns-in-Ok-clause-refusal
+returns-in-Ok-clause-refusal g c json told =
+    answer_ends c.args.request.now c.args.gathered.now c.in-Ok.answer.report _ _ c.in-Ok.ensures.ok
+    c.tell_answer.ensures.status told
 
 pub returns-in-Ok-clause-page : goal.returns-in-Ok-clause-page
 returns-in-Ok-clause-page g c answered =
@@ -25,13 +31,24 @@ returns-in-Ok-clause-cause g c =
     c.tell_answer.ensures.status
 
 pub returns-in-Err-clause-status : goal.returns-in-Err-clause-status
-returns-in-Err-clause-status g c = failed_status c.args.request.now.question c.in-Err.failure _ c.refuse.ensures
+returns-in-Err-clause-status g c = failed_status c.args.request.now.question c.in-Err.failure _ c.refuse_in.ensures.status
+
+pub returns-in-Err-clause-quiet : goal.returns-in-Err-clause-quiet
+returns-in-Err-clause-quiet g c =
+    refusal_quiet c.args.request.now c.args.gathered.now c.in-Err.failure _ _ _ c.in-Err.ensures.err
+    c.refuse_in.ensures.quiet
+
+pub returns-in-Err-clause-refusal : goal.returns-in-Err-clause-refusal
+returns-in-Err-clause-refusal g c json told =
+    refusal_told c.args.request.now c.args.gathered.now c.in-Err.failure _ _ _ c.in-Err.ensures.err
+    (c.refuse_in.ensures.document json told)
 
 pub returns-in-Err-clause-page : goal.returns-in-Err-clause-page
 returns-in-Err-clause-page g c answered =
     failed_silent c.args.request.now c.args.gathered.now c.in-Err.failure _ c.in-Err.ensures.err
-    c.refuse.ensures answered
+    c.refuse_in.ensures.status answered
 
 pub returns-in-Err-clause-cause : goal.returns-in-Err-clause-cause
 returns-in-Err-clause-cause g c =
-    failure_told c.args.request.now c.args.gathered.now c.in-Err.failure _ c.in-Err.ensures.err c.refuse.ensures
+    failure_told c.args.request.now c.args.gathered.now c.in-Err.failure _ c.in-Err.ensures.err
+    c.refuse_in.ensures.status

@@ -1,0 +1,79 @@
+//! The findings of a refused source.
+use crate::findings::{SourceAt, finding, finding_at};
+use crate::paths::path_text;
+use config_places::Step;
+use nextest_filters::NextestFilters;
+use rinqebo_files::{Layer, path_place};
+use rinqebo_report::{Finding, Level, Place};
+use std::alloc::{AllocError, Global};
+
+/// What is refused: the source, and the name of what is wrong. Findings go behind the others.
+#[derive(Drop)]
+pub struct Refused<'r, 't> {
+    pub alloc: Global,
+    /// The language of filters, which says where a refused filter is wrong.
+    pub filters: &'r NextestFilters,
+    /// The source that is refused.
+    pub source: SourceAt<'r, 't>,
+    /// The name of the refusal, the code of its findings.
+    pub code: &'static str,
+    /// The findings so far.
+    pub findings: &'r mut Vec<Finding>,
+}
+
+impl Refused<'_, '_> {
+    /// Adds a finding with more than a message.
+    pub fn add_finding(&mut self, found: Finding) -> Result<(), AllocError> {
+        self.findings.push(found)?;
+        Ok(())
+    }
+
+    /// A finding at a path, told as the path and what is wrong there. A source that does not write
+    /// the path is refused for what it makes of those below it: the highest one counts that does.
+    pub fn at(&self, path: &[Step<'_>], wrong: &str) -> Result<Finding, AllocError> {
+        let alloc = self.alloc;
+        let text = path_text(alloc, path)?;
+        let message = format!(in alloc; "{text}: {wrong}")?;
+        let mut found = finding_at(alloc, Level::Error, self.code, self.source, path, message)?;
+        if let Some(Place { lines: None, .. }) = found.place {
+            if let Some(place) = highest_place(self.source.layers, path) {
+                found.place = Some(place);
+            }
+        }
+        Ok(found)
+    }
+
+    /// A finding with a message alone.
+    pub fn finding(&self, message: String) -> Result<Finding, AllocError> {
+        finding(self.alloc, Level::Error, self.code, self.source, message)
+    }
+
+    /// Adds what is wrong with the whole source.
+    pub fn add_whole(&mut self, wrong: &str) -> Result<(), AllocError> {
+        let found = self.finding(String::from_str(self.alloc, wrong)?)?;
+        self.add_finding(found)
+    }
+
+    /// Adds what is wrong at a path, and what to do.
+    pub fn add_at(
+        &mut self,
+        path: &[Step<'_>],
+        wrong: &str,
+        help: Option<String>,
+    ) -> Result<(), AllocError> {
+        let mut found = self.at(path, wrong)?;
+        found.help = help;
+        self.add_finding(found)
+    }
+}
+
+/// The place of a path in the highest layer that writes it.
+fn highest_place(layers: &[Layer], path: &[Step<'_>]) -> Option<Place> {
+    for (source, _layer) in layers.iter().enumerate().rev() {
+        let place = path_place(layers, source, path);
+        if place.lines.is_some() {
+            return Some(place);
+        }
+    }
+    None
+}

@@ -1,0 +1,65 @@
+//! What the shape of a file wants at a path.
+use config_places::Step;
+use config_shape::{Field, Shape};
+
+/// The key of a step to a key.
+pub fn key_of<'s>(step: Step<'s>) -> Option<&'s str> {
+    match step {
+        Step::Key(key) => Some(key),
+        Step::Position(_) => None,
+    }
+}
+
+/// What is wanted at a key, if it is that of a field.
+fn field_of<'s>(fields: &'s Vec<Field<Shape>>, key: &str) -> Option<&'s Shape> {
+    for field in fields {
+        if field.key.text() == key {
+            return Some(&field.shape);
+        }
+    }
+    None
+}
+
+/// What one shape wants at a key, a name or a position below it. A list wants the same everywhere.
+fn below_one<'s>(shape: &'s Shape, step: Step<'_>) -> Option<&'s Shape> {
+    match shape {
+        Shape::List { items, .. } => Some(items),
+        Shape::Table(fields) => field_of(fields, key_of(step)?),
+        Shape::Map { fields, values, .. } => match field_of(fields, key_of(step)?) {
+            Some(wanted) => Some(wanted),
+            None => Some(values),
+        },
+        Shape::Anything
+        | Shape::Boolean
+        | Shape::Integer { .. }
+        | Shape::Text(_)
+        | Shape::Either(_) => None,
+    }
+}
+
+/// What the first of several shapes wants that has something there.
+fn below_first<'s>(shapes: &'s Vec<Shape>, step: Step<'_>) -> Option<&'s Shape> {
+    for shape in shapes {
+        if let Some(wanted) = below_one(shape, step) {
+            return Some(wanted);
+        }
+    }
+    None
+}
+
+/// What is wanted at a key, a name or a position below a shape.
+fn below<'s>(shape: &'s Shape, step: Step<'_>) -> Option<&'s Shape> {
+    match shape {
+        Shape::Either(shapes) => below_first(shapes, step),
+        one => below_one(one, step),
+    }
+}
+
+/// The shape at a path below another one.
+pub fn shape_at<'s>(shape: &'s Shape, path: &[Step<'_>]) -> Option<&'s Shape> {
+    let mut wanted = shape;
+    for step in path {
+        wanted = below(wanted, *step)?;
+    }
+    Some(wanted)
+}

@@ -1,0 +1,12 @@
+use Rattle.rinqebo_run.proofs.Documents.{last_of_five, one_of_five, text_or_json}
+use Rattle.rinqebo_run.proofs.run.perform.Goals as goal
+
+pub returns-in-Some-clause-quiet : goal.returns-in-Some-clause-quiet
+returns-in-Some-clause-quiet g c = one_of_five c.answer_list.ensures.quiet
+
+pub returns-in-Some-clause-refusal : goal.returns-in-Some-clause-refusal
+returns-in-Some-clause-refusal g c json =
+    text_or_json c.args.request.now.format c.in-Some.ensures.format json
+
+pub returns-in-None-clause-quiet : goal.returns-in-None-clause-quiet
+returns-in-None-clause-quiet g c = last_of_five c.answer_whole.ensures.quiet

@@ -1,0 +1,110 @@
+//! The note of `check` about the files that it read.
+use crate::answer::Answer;
+use crate::status::Status;
+use nextest_config::{FileInput, ReadOutcome, ToolConfigFile};
+use rinqebo_files::Gathered;
+use rinqebo_report::Format;
+use rinqebo_request::{Question, Request};
+use std::alloc::{AllocError, Global};
+
+/// Whether a file was read.
+fn was_read(file: &FileInput) -> bool {
+    matches!(file.outcome, ReadOutcome::Text(_))
+}
+
+/// The repository's file: the one that a user names, or else the workspace's own.
+fn repository_file(gathered: &Gathered) -> &FileInput {
+    match &gathered.config_file {
+        Some(file) => file,
+        None => &gathered.paths.shared,
+    }
+}
+
+/// A path below a root without the root and the slash behind it, and another path as it is. Nothing
+/// is below an empty root.
+fn below<'a>(root: &str, path: &'a str) -> &'a str {
+    if root.is_empty() {
+        return path;
+    }
+    match path.strip_prefix(root) {
+        Some(rest) if root.ends_with('/') => rest,
+        Some(rest) => rest.strip_prefix('/').unwrap_or(path),
+        None => path,
+    }
+}
+
+/// The path of the repository's file as the note shows it.
+fn shown_path<'a>(root: &str, file: &'a FileInput) -> &'a str {
+    match file.path.absolute_path() {
+        "-" => "standard input",
+        path => below(root, path),
+    }
+}
+
+/// Adds the file of a tool to the list of files that were read.
+fn add_tool(
+    alloc: Global,
+    root: &str,
+    tool: &ToolConfigFile,
+    files: &mut String,
+) -> Result<(), AllocError> {
+    if !was_read(&tool.config_file) {
+        return Ok(());
+    }
+    if !files.is_empty() {
+        files.push_str(", ")?;
+    }
+    let path = below(root, tool.config_file.path.absolute_path());
+    let name = tool.tool.as_str();
+    let shown = format!(in alloc; "{path} (tool {name})")?;
+    files.push_str(shown.as_str())
+}
+
+/// The files that were read, the one of the highest precedence first, with commas between them.
+fn files_read(alloc: Global, gathered: &Gathered) -> Result<String, AllocError> {
+    let root = gathered.paths.workspace_root.as_str();
+    let mut files = String::new(alloc);
+    let own = repository_file(gathered);
+    if was_read(own) {
+        files.push_str(shown_path(root, own))?;
+    }
+    for tool in &gathered.tools {
+        add_tool(alloc, root, tool, &mut files)?;
+    }
+    Ok(files)
+}
+
+/// Adds the note that lists the files which a check read. Where there is none, and the defaults are
+/// accepted, the note says so.
+fn add_files(
+    alloc: Global,
+    gathered: &Gathered,
+    answer: &Answer,
+    notes: &mut String,
+) -> Result<(), AllocError> {
+    let files = files_read(alloc, gathered)?;
+    if !files.is_empty() {
+        let note = format!(in alloc; "note: read {files}\n")?;
+        return notes.push_str(note.as_str());
+    }
+    if answer.status == Status::Refused as u8 {
+        return Ok(());
+    }
+    notes.push_str("note: found no configuration file; the defaults apply\n")
+}
+
+/// Adds the note about the files that a check read. The forms for other programs have none.
+pub fn add_read_files(
+    alloc: Global,
+    request: &Request<'_>,
+    gathered: &Gathered,
+    answer: &Answer,
+    notes: &mut String,
+) -> Result<(), AllocError> {
+    if !matches!(request.question, Question::Check { .. })
+        || !matches!(request.format, Format::Text)
+    {
+        return Ok(());
+    }
+    add_files(alloc, gathered, answer, notes)
+}

@@ -1,0 +1,128 @@
+//! Writes why a run answers nothing, and returns the exit status.
+ghost use Rattle.std.specs.Prelude.{◌≡◌, ◌⊎◌, MatchOption};
+ghost use Rattle.std.specs.Io.KnownBytes.{Appends};
+ghost use Rattle.rinqebo_report.specs.Rendered.{rendered};
+ghost use Rattle.rinqebo_report.specs.declared.format.Format.TheVariants as formats;
+ghost use Rattle.rinqebo_run.specs.Refused.{HasNoReport, IsReportOfFailure, TellsFailure};
+ghost use Rattle.rinqebo_run.specs.Statuses.{failure_status};
+
+use crate::status::Status;
+use crate::telling::{refuse_for_memory, refuse_message, refuse_with, tell};
+use rinqebo_load::Failure;
+use rinqebo_report::{Format, Report, render};
+use rinqebo_request::Request;
+use std::alloc::Global;
+use std::io::Write;
+
+/// Writes why a run answers nothing to standard error, and returns the exit status.
+pub fn refuse<E: Write>(alloc: Global, failure: &Failure, request: &Request<'_>, err: &mut E) -> u8
+    ensures { (result ≡ failure_status failure.now) ⊎ (result ≡ 5) ⊎ (result ≡ 6) }
+{
+    match failure {
+        Failure::Engines(fault) => {
+            let message = format!(in alloc; "error: {fault}\n");
+            refuse_message(message, Status::Usage as u8, err)
+        }
+        Failure::Refused(report) => {
+            refuse_with(alloc, report, request.colour, Status::Refused as u8, err)
+        }
+        Failure::NoProfile(report) => {
+            refuse_with(alloc, report, request.colour, Status::NoProfile as u8, err)
+        }
+        Failure::Memory => refuse_for_memory(err),
+    }
+}
+
+/// The report of why a run answers nothing, if there is one.
+fn report_in(failure: &Failure) -> Option<&Report>
+    ensures { MatchOption result (HasNoReport failure.now)
+        (λ report. IsReportOfFailure failure.now report.now) }
+{
+    match failure {
+        Failure::Refused(report) => Some(report),
+        Failure::NoProfile(report) => Some(report),
+        Failure::Engines(_) => None,
+        Failure::Memory => None,
+    }
+}
+
+/// The exit status of a run that answers nothing.
+fn status_of_failure(failure: &Failure) -> u8
+    ensures { result ≡ failure_status failure.now }
+{
+    match failure {
+        Failure::Engines(_) => Status::Usage as u8,
+        Failure::Refused(_) => Status::Refused as u8,
+        Failure::NoProfile(_) => Status::NoProfile as u8,
+        Failure::Memory => Status::Memory as u8,
+    }
+}
+
+/// Writes the report of why a run answers nothing to standard output, and returns a status.
+fn refuse_page<O: Write, E: Write>(
+    alloc: Global,
+    report: &Report,
+    request: &Request<'_>,
+    status: u8,
+    out: &mut O,
+    err: &mut E,
+) -> u8
+    ensures status { (result ≡ status) ⊎ (result ≡ 5) ⊎ (result ≡ 6) }
+    ensures quiet { (result ≡ status) ⊎ (result ≡ 6)
+        ⊎ (O.contents out.new ≡ O.contents out.old) }
+    ensures page { (result ≡ 5) ⊎ (result ≡ 6) ⊎ Appends (O.contents out.old) (O.contents out.new)
+        (rendered report.now request.now.format request.now.colour) }
+{
+    match render(alloc, report, request.format, request.colour) {
+        Ok(text) => tell(text.as_str(), status, out),
+        Err(_) => refuse_for_memory(err),
+    }
+}
+
+/// Writes why a run answers nothing where JSON is asked for, and returns the exit status. What is wrong
+/// with the files, and that a profile is missing, goes to standard output as a document.
+fn refuse_json<O: Write, E: Write>(
+    alloc: Global,
+    failure: &Failure,
+    request: &Request<'_>,
+    out: &mut O,
+    err: &mut E,
+) -> u8
+    requires json { request.now.format ≡ formats.Json }
+    ensures status { (result ≡ failure_status failure.now) ⊎ (result ≡ 5) ⊎ (result ≡ 6) }
+    ensures quiet { (result ≡ 6) ⊎ (O.contents out.new ≡ O.contents out.old)
+        ⊎ TellsFailure failure.now request.now result (O.contents out.old) (O.contents out.new) }
+    ensures document { (result ≡ 3) ⊎ (result ≡ 4)
+        → TellsFailure failure.now request.now result (O.contents out.old) (O.contents out.new) }
+{
+    match report_in(failure) {
+        Some(report) => {
+            let status = status_of_failure(failure);
+            refuse_page(alloc, report, request, status, out, err)
+        }
+        None => refuse(alloc, failure, request, err),
+    }
+}
+
+/// Writes why a run answers nothing, and returns the exit status: as a document of JSON to standard
+/// output where that is asked for, and else as a message to standard error.
+pub fn refuse_in<O: Write, E: Write>(
+    alloc: Global,
+    failure: &Failure,
+    request: &Request<'_>,
+    out: &mut O,
+    err: &mut E,
+) -> u8
+    ensures status { (result ≡ failure_status failure.now) ⊎ (result ≡ 5) ⊎ (result ≡ 6) }
+    ensures quiet { (result ≡ 6) ⊎ (O.contents out.new ≡ O.contents out.old)
+        ⊎ TellsFailure failure.now request.now result (O.contents out.old) (O.contents out.new) }
+    ensures document { request.now.format ≡ formats.Json → (result ≡ 3) ⊎ (result ≡ 4)
+        → TellsFailure failure.now request.now result (O.contents out.old) (O.contents out.new) }
+{
+    match request.format {
+        Format::Json => refuse_json(alloc, failure, request, out, err),
+        Format::Text | Format::Grouped | Format::Concise | Format::Github(_) => {
+            refuse(alloc, failure, request, err)
+        }
+    }
+}

@@ -1,0 +1,69 @@
+//! Writes texts to the streams of a run, and returns exit statuses.
+ghost use Rattle.std.specs.Prelude.{◌≡◌, ◌⊎◌, IsOk};
+ghost use Rattle.std.specs.Io.KnownBytes.{Appends};
+
+use crate::status::Status;
+use rinqebo_report::{Colour, Report, render_findings};
+use std::alloc::{AllocError, Global};
+use std::io::{self, Write};
+
+/// The status, unless the last write failed.
+fn status_of_write(written: io::Result<()>, status: u8) -> u8
+    ensures status { (result ≡ status) ⊎ (result ≡ 6) }
+    ensures failed { (result ≡ 6) ⊎ IsOk written }
+{
+    match written {
+        Ok(()) => status,
+        Err(_) => Status::Write as u8,
+    }
+}
+
+/// Writes a text, and answers a status, or 6 where a write fails.
+pub fn tell<W: Write>(text: &str, status: u8, out: &mut W) -> u8
+    ensures status { (result ≡ status) ⊎ (result ≡ 6) }
+    ensures written { (result ≡ 6) ⊎ Appends (W.contents out.old) (W.contents out.new) text.now }
+{
+    if out.write_all(text.as_bytes()).is_err() {
+        return Status::Write as u8;
+    }
+    status_of_write(out.flush(), status)
+}
+
+/// The message of a run that ends because memory ran out.
+const OUT_OF_MEMORY: &str = "error: out of memory\n";
+
+/// Reports that memory ran out, which takes none, and returns the exit status: 5, or 6 where the
+/// message can't be written.
+pub fn refuse_for_memory<E: Write>(err: &mut E) -> u8
+    ensures status { (result ≡ 5) ⊎ (result ≡ 6) }
+    ensures message { (result ≡ 6)
+        ⊎ Appends (E.contents err.old) (E.contents err.new) OUT_OF_MEMORY.now }
+{
+    tell(OUT_OF_MEMORY, Status::Memory as u8, err)
+}
+
+/// Tells the findings for which a run answers nothing.
+pub fn refuse_with<E: Write>(
+    alloc: Global,
+    report: &Report,
+    colour: Colour,
+    status: u8,
+    err: &mut E,
+) -> u8
+    ensures { (result ≡ status) ⊎ (result ≡ 5) ⊎ (result ≡ 6) }
+{
+    match render_findings(alloc, report, colour) {
+        Ok(text) => tell(text.as_str(), status, err),
+        Err(_) => refuse_for_memory(err),
+    }
+}
+
+/// Tells a message, and answers a status.
+pub fn refuse_message<E: Write>(message: Result<String, AllocError>, status: u8, err: &mut E) -> u8
+    ensures { (result ≡ status) ⊎ (result ≡ 5) ⊎ (result ≡ 6) }
+{
+    match message {
+        Ok(text) => tell(text.as_str(), status, err),
+        Err(_) => refuse_for_memory(err),
+    }
+}
