@@ -71,7 +71,8 @@ fn override_rules<'c>(
 
 /// The run wrapper that a script rule names.
 fn named_wrapper(rule: &ScriptRule) -> Option<SettingValue<'_>>
-    ensures { option_map told_value result ≡ wrapper_written (script_rule_view rule.now).writes }
+    ensures { option_map told_value result
+        ≡ (wrapper_written (script_rule_view rule.now).writes).value }
 {
     match rule.run_wrapper() {
         Some(id) => Some(SettingValue::Wrapper(id)),
