@@ -21,7 +21,7 @@ use Rattle.nextest_rules.specs.RuleFaults.{unknown_script, wrong_script, unknown
 use Rattle.nextest_rules.specs.Rules.{RuleId, Compiled, ScriptRuleUse, LayerProfile, meaning_of, script_rule, layer_profile, layer_of}
 use Rattle.nextest_rules.specs.Steps.{script_cause_in, are_none}
 use Rattle.nextest_rules.proofs.Passing.{iff_trans, iff_sym, iff_both, if_true_none, each_same, each_both, each_append, each_map, flat_none}
-use Rattle.nextest_rules.proofs.EachPart.{each_in_order, filter_map_none, each_of_option, listed_none, either}
+use Rattle.nextest_rules.proofs.EachPart.{each_in_order, each_numbered, filter_map_none, each_of_option, listed_none, either}
 
 -- a use has no fault exactly where the script is known for it
 pub use_serves : (known : KnownSets) (profile : Name) (u : Name × ProfileScriptType)
