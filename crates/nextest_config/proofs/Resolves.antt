@@ -2,6 +2,7 @@
 use Rattle.std.proofs.Common.{map, is_some, ◌≡◌, ◌∙◌, ◌⊎◌, inl, inr, ℕ, List, [], ◌∷◌, Result, Ok, Err, refl, sym, ap, subst, append-nil}
 use Rattle.nextest_engines.specs.Readings.{Readings}
 use Rattle.nextest_inheritance.specs.Parents.{parents_in, IsChain}
+use Rattle.nextest_rules.specs.Rules.{ScriptRuleUse}
 use Rattle.nextest_load.specs.Closed.{IsClosed}
 use Rattle.nextest_load.specs.Config.{config_of, config_parents}
 use Rattle.nextest_load.specs.Exact.{IsExact}
@@ -9,7 +10,6 @@ use Rattle.nextest_load.specs.Scripts.{AreScriptsOf}
 use Rattle.nextest_settings.specs.Profile.{Configured, profile_of, profile_on}
 use Rattle.nextest_settings.specs.Queries.{query_in}
 use Rattle.nextest_settings.specs.Settings.{settings, is_set}
-use Rattle.nextest_tables.specs.FileTexts.{ScriptUse}
 use Rattle.nextest_settings.proofs.IsEvaluatedForTest.{test_exactly, test_count}
 use Rattle.nextest_settings.proofs.Rising.{all_rise}
 use Rattle.nextest_sources.specs.Causes.{LoadFault}
@@ -101,7 +101,7 @@ module _ {M K P : Type 0} (engines : Readings M K P) (request : Request P) (wold
       evaluated = asked.are_rows.evaluated;
       rising = λ test. all_rise asked.profile.overrides asked.profile.script_rules
           (map (λ s w. is_set w.settings request.mode s) settings)
-          ((λ (w : ScriptUse). is_some w.run_wrapper) ∷ []) (query_in engines.matches_test asked.profile test);
+          ((λ (w : ScriptRuleUse). is_some w.scripts.run_wrapper) ∷ []) (query_in engines.matches_test asked.profile test);
       exactly = λ test. test_exactly (query_in engines.matches_test asked.profile test) request.mode asked.profile;
       count = λ test. test_count (query_in engines.matches_test asked.profile test) request.mode asked.profile;
     }

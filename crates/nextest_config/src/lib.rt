@@ -57,11 +57,13 @@ pub use nextest_tree::{Element, ElementCause, ElementFault, Tree, Walk};
 // Profiles, settings and what decides them.
 pub use nextest_inheritance::{DEFAULT_MIRI_PROFILE, DEFAULT_PROFILE};
 pub use nextest_profiles::{EarlyProfile, EvaluatableProfile, KnownGroups};
-pub use nextest_rules::{CompiledOverride, CompiledProfileScripts, OverrideId, PlatformSpecs};
+pub use nextest_rules::{
+    CompiledOverride, CompiledProfileScripts, OverrideId, PlatformSpecs, ScriptRuleId,
+};
 pub use nextest_settings::{
-    CompiledDefaultFilter, CompiledDefaultFilterSection, GroupLookup, ListSettings,
-    PrecomputedGroupMembership, Setting, SettingSource, SetupScript, SetupScriptIter, SetupScripts,
-    TestSettings, TrackSource,
+    CompiledDefaultFilter, CompiledDefaultFilterSection, EvaluatedOverride, EvaluatedRule,
+    EvaluatedRules, EvaluatedScriptRule, GroupLookup, ListSettings, PrecomputedGroupMembership,
+    Setting, SettingSource, SetupScript, SetupScriptIter, SetupScripts, TestSettings, TrackSource,
 };
 pub use nextest_tables::{OverrideOutputs, OverrideRuns, OverrideSettings};
 

@@ -19,14 +19,14 @@ use Rattle.nextest_inheritance.proofs.Naming.{one_chain_each}
 use Rattle.nextest_rules.specs.Accepted.{IfWritten, IsAmong, AreKnownScripts, ListsWithoutTests, IsAcceptedProfile}
 use Rattle.nextest_rules.specs.Definitions.{Features}
 use Rattle.nextest_rules.specs.Known.{KnownNames, known_to}
-use Rattle.nextest_rules.specs.Rules.{RuleId, Compiled, OverrideUse, LayerProfile, Layer, meaning_of, override_rule, script_rule, layer_profile, layer_of}
+use Rattle.nextest_rules.specs.Rules.{RuleId, Compiled, OverrideUse, ScriptRuleUse, LayerProfile, Layer, meaning_of, override_rule, script_rule, layer_profile, layer_of}
 use Rattle.nextest_rules.specs.Steps.{written_parents}
 use Rattle.nextest_sources.specs.InputFaults.{Each}
 use Rattle.nextest_sources.specs.Inputs.{LoadInputs, SourceText, sources_in}
 use Rattle.nextest_sources.specs.Sources.{Source}
 use Rattle.nextest_tables.specs.Complete.{IsReadable, IsMergedTree}
 use Rattle.nextest_tables.specs.Defaults.{defaults}
-use Rattle.nextest_tables.specs.FileTexts.{OverrideText, ScriptUse, ScriptRuleText, ProfileText, FileText, names_in, IsIn, setup_ids_of}
+use Rattle.nextest_tables.specs.FileTexts.{OverrideText, ScriptRuleText, ProfileText, FileText, names_in, IsIn, setup_ids_of}
 use Rattle.nextest_tables.specs.Tables.{a_file}
 use Rattle.nextest_tables.specs.Texts.{at_key, each_in, entries_at, group_in}
 use Rattle.nextest_tables.specs.Written.{Name}
@@ -250,16 +250,19 @@ module _ {M K P : Type 0} (engines : Readings M K P) where
       (each_from (λ e b. f (record { source = source; profile = p.0; index = e.0 }) e.1 b)
       (enumerate_from 0 p.1.overrides) (each_enumerated B 0 p.1.overrides all))) profiles h)
 
-  script_rules_closed : (A : Compiled M K ScriptUse → Type 0) (B : ScriptRuleText → Type 0)
-      → ((r : ScriptRuleText) → B r → A (script_rule engines r))
+  script_rules_closed : (A : Compiled M K ScriptRuleUse → Type 0) (B : ScriptRuleText → Type 0)
+      → ((id : RuleId) (r : ScriptRuleText) → B r → A (script_rule engines id r))
       → (source : Source) (profiles : List (Name × ProfileText))
       → Each (λ p. Each B p.1.script_rules) profiles
       → Each (λ p. Each A p.1.script_rules) (layer_of engines source profiles).profiles
   script_rules_closed A B f source profiles h =
       each_mapped (λ (p : Name × LayerProfile M K). Each A p.1.script_rules)
       (λ p. (p.0, layer_profile engines source p.0 p.1)) profiles
-      (each_from (λ p all. each_mapped A (script_rule engines) p.1.script_rules
-      (each_from f p.1.script_rules all)) profiles h)
+      (each_from (λ p all. each_mapped A
+      (λ (e : ℕ × ScriptRuleText). script_rule engines
+      (record { source = source; profile = p.0; index = e.0 }) e.1) (enumerate_from 0 p.1.script_rules)
+      (each_from (λ e b. f (record { source = source; profile = p.0; index = e.0 }) e.1 b)
+      (enumerate_from 0 p.1.script_rules) (each_enumerated B 0 p.1.script_rules all))) profiles h)
 
   fine_groups : (known : KnownNames) (profiles : List (Name × ProfileText))
       → Each (λ p. IsAcceptedProfile engines known p.1) profiles
@@ -295,9 +298,9 @@ module _ {M K P : Type 0} (engines : Readings M K P) where
   answers_with law (Some t) none = answers_at law t (engines.read_filter DefaultFilter t) refl (λ m. none t m refl)
 
   -- a filter beside a list wrapper answers for each binary
-  answers : (law : AnswerDefaultFilters engines) (r : ScriptRuleText) → ListsWithoutTests engines r
-      → AnswersBinaries engines.matches_binary (script_rule engines r)
-  answers law r lists some = answers_with law r.filter (lists some)
+  answers : (law : AnswerDefaultFilters engines) (id : RuleId) (r : ScriptRuleText) → ListsWithoutTests engines r
+      → AnswersBinaries engines.matches_binary (script_rule engines id r)
+  answers law id r lists some = answers_with law r.filter (lists some)
 
   -- a fact of the layers of sources
   layers_closed : (A : Layer M K → Type 0) (ss : List SourceText)
@@ -378,30 +381,30 @@ module _ {M K P : Type 0} (engines : Readings M K P) where
         let named_chains : chain written (names_in (profiles_of ps)) =
         subst (chain written) (sym (keys_seen ps)) written_chains in
         let known = λ (below : List SourceText) (s : SourceText). known_to (map own_file below) (own_file s) in
-        let Setup : Compiled M K ScriptUse → Type 0 = λ r. Each (IsIn (names_in scripts.setup)) r.writes.setup in
-        let ListWrapper : Compiled M K ScriptUse → Type 0 =
-        λ r. IfWritten r.writes.list_wrapper (IsIn (names_in scripts.wrapper)) in
-        let RunWrapper : Compiled M K ScriptUse → Type 0 =
-        λ r. IfWritten r.writes.run_wrapper (IsIn (names_in scripts.wrapper)) in
-        let Answers : Compiled M K ScriptUse → Type 0 = AnswersBinaries engines.matches_binary in
-        let in_rules = λ (A : Compiled M K ScriptUse → Type 0) (l : Layer M K). Each
+        let Setup : Compiled M K ScriptRuleUse → Type 0 = λ r. Each (IsIn (names_in scripts.setup)) r.writes.scripts.setup in
+        let ListWrapper : Compiled M K ScriptRuleUse → Type 0 =
+        λ r. IfWritten r.writes.scripts.list_wrapper (IsIn (names_in scripts.wrapper)) in
+        let RunWrapper : Compiled M K ScriptRuleUse → Type 0 =
+        λ r. IfWritten r.writes.scripts.run_wrapper (IsIn (names_in scripts.wrapper)) in
+        let Answers : Compiled M K ScriptRuleUse → Type 0 = AnswersBinaries engines.matches_binary in
+        let in_rules = λ (A : Compiled M K ScriptRuleUse → Type 0) (l : Layer M K). Each
         (λ p. Each A p.1.script_rules) l.profiles in
         record {
           groups = groups_closed features files accepted;
           setup_scripts = layers_closed (in_rules Setup) ss
               (λ below s above e. script_rules_closed Setup (λ r. AreKnownScripts (known below s) r.scripts)
-              (λ r are. each_from {P = IsIn (known below s).setup_scripts} {Q = IsIn (names_in scripts.setup)}
+              (λ id r are. each_from {P = IsIn (known below s).setup_scripts} {Q = IsIn (names_in scripts.setup)}
               (known_setup below above s e) r.scripts.setup are.setup) s.source (own_file s).profiles
               (fine_scripts (known below s) (own_file s).profiles (profiles below above s e)));
           list_wrappers = layers_closed (in_rules ListWrapper) ss
               (λ below s above e. script_rules_closed ListWrapper (λ r. AreKnownScripts (known below s) r.scripts)
-              (λ r are. written_more (IsIn (known below s).wrapper_scripts) (IsIn (names_in scripts.wrapper))
+              (λ id r are. written_more (IsIn (known below s).wrapper_scripts) (IsIn (names_in scripts.wrapper))
               (known_wrapper below above s e) r.scripts.list_wrapper are.list_wrapper) s.source
               (own_file s).profiles
               (fine_scripts (known below s) (own_file s).profiles (profiles below above s e)));
           run_wrappers = layers_closed (in_rules RunWrapper) ss
               (λ below s above e. script_rules_closed RunWrapper (λ r. AreKnownScripts (known below s) r.scripts)
-              (λ r are. written_more (IsIn (known below s).wrapper_scripts) (IsIn (names_in scripts.wrapper))
+              (λ id r are. written_more (IsIn (known below s).wrapper_scripts) (IsIn (names_in scripts.wrapper))
               (known_wrapper below above s e) r.scripts.run_wrapper are.run_wrapper) s.source (own_file s).profiles
               (fine_scripts (known below s) (own_file s).profiles (profiles below above s e)));
           list_filters = layers_closed (in_rules Answers) ss

@@ -4,9 +4,9 @@ use Rattle.nextest_engines.specs.Engines.{Binary}
 use Rattle.nextest_inheritance.specs.Names.{default_name}
 use Rattle.nextest_inheritance.specs.Parents.{parents_in, HasOneChain}
 use Rattle.nextest_rules.specs.Accepted.{IfWritten, IsAmong}
-use Rattle.nextest_rules.specs.Rules.{Compiled, OverrideUse, at_name}
+use Rattle.nextest_rules.specs.Rules.{Compiled, OverrideUse, ScriptRuleUse, at_name}
 use Rattle.nextest_sources.specs.InputFaults.{Each}
-use Rattle.nextest_tables.specs.FileTexts.{ScriptUse, names_in, IsIn}
+use Rattle.nextest_tables.specs.FileTexts.{names_in, IsIn}
 use Rattle.nextest_tables.specs.Written.{Name}
 use Rattle.nextest_load.specs.Complete.{IsComplete}
 use Rattle.nextest_load.specs.Config.{MergedProfile, ConfigModel, ScriptTables, config_parents}
@@ -17,7 +17,7 @@ abbrev pub EachOverride : {M K : Type 0} → (Compiled M K (OverrideUse M) → T
 EachOverride P config = Each (λ l. Each (λ p. Each P p.1.overrides) l.profiles) config.layers
 
 -- a fact of each script rule of each profile of each source
-abbrev pub EachScriptRule : {M K : Type 0} → (Compiled M K ScriptUse → Type 0)
+abbrev pub EachScriptRule : {M K : Type 0} → (Compiled M K ScriptRuleUse → Type 0)
     → ConfigModel M K → Type 0
 EachScriptRule P config = Each (λ l. Each (λ p. Each P p.1.script_rules) l.profiles) config.layers
 
@@ -27,8 +27,8 @@ abbrev pub BinaryMatch : Type 0 → Type 0
 BinaryMatch M = M → Binary → M → Option Bool
 
 -- a filter beside a list wrapper answers for each binary, whatever the default filter means
-abbrev pub AnswersBinaries : {M K : Type 0} → BinaryMatch M → Compiled M K ScriptUse → Type 0
-AnswersBinaries {M} matches rule = IsSome rule.writes.list_wrapper → IfWritten rule.filter
+abbrev pub AnswersBinaries : {M K : Type 0} → BinaryMatch M → Compiled M K ScriptRuleUse → Type 0
+AnswersBinaries {M} matches rule = IsSome rule.writes.scripts.list_wrapper → IfWritten rule.filter
     (λ m. (binary : Binary) (default : M) → IsSome (matches m binary default))
 
 -- The profile `default` is there, and it writes every field but the path of its report.
@@ -45,12 +45,12 @@ pub record IsClosed {M K : Type 0} (matches : BinaryMatch M) (config : ConfigMod
       (λ r. IsAmong (names_in config.groups) r.writes.settings.test_group) config
   -- each setup script that a rule names is one of the configuration
   pub setup_scripts : EachScriptRule
-      (λ r. Each (IsIn (names_in scripts.setup)) r.writes.setup) config
+      (λ r. Each (IsIn (names_in scripts.setup)) r.writes.scripts.setup) config
   -- each wrapper script that a rule names is one of the configuration
   pub list_wrappers : EachScriptRule
-      (λ r. IfWritten r.writes.list_wrapper (IsIn (names_in scripts.wrapper))) config
+      (λ r. IfWritten r.writes.scripts.list_wrapper (IsIn (names_in scripts.wrapper))) config
   pub run_wrappers : EachScriptRule
-      (λ r. IfWritten r.writes.run_wrapper (IsIn (names_in scripts.wrapper))) config
+      (λ r. IfWritten r.writes.scripts.run_wrapper (IsIn (names_in scripts.wrapper))) config
   -- each filter beside a list wrapper answers for each binary
   pub list_filters : EachScriptRule (AnswersBinaries matches) config
   -- each profile has one chain, of profiles

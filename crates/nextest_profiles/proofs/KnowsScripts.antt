@@ -5,7 +5,7 @@ use Rattle.nextest_load.specs.Config.{ConfigModel, ScriptTables}
 use Rattle.nextest_load.specs.Meaning.{config_meaning}
 use Rattle.nextest_rules.specs.Accepted.{IfWritten}
 use Rattle.nextest_rules.specs.Meaning.{layer_meaning, script_rule_meaning}
-use Rattle.nextest_rules.specs.Rules.{Compiled}
+use Rattle.nextest_rules.specs.Rules.{Compiled, ScriptRuleUse}
 use Rattle.nextest_settings.specs.Chains.{script_rules_of}
 use Rattle.nextest_sources.specs.InputFaults.{Each}
 use Rattle.nextest_tables.specs.FileTexts.{ScriptUse, names_in, IsIn}
@@ -20,8 +20,8 @@ fused f g [] = refl
 fused f g (x ∷ xs) = ap (λ ys. f (g x) ∷ ys) (fused f g xs)
 
 -- what script rules name
-abbrev pub uses_of : {M K : Type 0} → List (Compiled M K ScriptUse) → List ScriptUse
-uses_of rules = map (λ r. r.writes) rules
+abbrev pub uses_of : {M K : Type 0} → List (Compiled M K ScriptRuleUse) → List ScriptUse
+uses_of rules = map (λ r. r.writes.scripts) rules
 
 module _ {E N M K : Type 0} (f : E → M) (g : N → K) (matches : BinaryMatch M) (config : ConfigModel E N)
     (scripts : ScriptTables) (closed : IsClosed matches (config_meaning f g config) scripts) (names : List Name) where
@@ -29,16 +29,16 @@ module _ {E N M K : Type 0} (f : E → M) (g : N → K) (matches : BinaryMatch M
       ≡ uses_of (script_rules_of config.layers names)
   same_uses =
       ap uses_of (sym (script_rules_meaning f g config.layers names))
-      ∙ fused (λ r. r.writes) (script_rule_meaning f g) (script_rules_of config.layers names)
+      ∙ fused (λ r. r.writes.scripts) (script_rule_meaning f g) (script_rules_of config.layers names)
 
   of_uses : (Q : ScriptUse → Type 0)
-      → Each (λ l. Each (λ p. Each (λ r. Q r.writes) p.1.script_rules) l.profiles)
+      → Each (λ l. Each (λ p. Each (λ r. Q r.writes.scripts) p.1.script_rules) l.profiles)
       (map (layer_meaning f g) config.layers)
       → Each Q (uses_of (script_rules_of config.layers names))
   of_uses Q all =
       subst (Each Q) same_uses
-      (each_image Q (λ r. r.writes) (script_rules_of (map (layer_meaning f g) config.layers) names)
-      (each_gathered (λ r. Q r.writes) (λ p. p.script_rules) (map (layer_meaning f g) config.layers) names all))
+      (each_image Q (λ r. r.writes.scripts) (script_rules_of (map (layer_meaning f g) config.layers) names)
+      (each_gathered (λ r. Q r.writes.scripts) (λ p. p.script_rules) (map (layer_meaning f g) config.layers) names all))
 
   pub knows_scripts : KnowsScripts scripts (uses_of (script_rules_of config.layers names))
   knows_scripts = record {

@@ -12,12 +12,11 @@ use Rattle.nextest_inheritance.specs.Parents.{parents_in, with_default, IsChain}
 use Rattle.nextest_load.specs.Config.{ConfigModel, config_parents}
 use Rattle.nextest_load.specs.Meaning.{config_meaning}
 use Rattle.nextest_rules.specs.Meaning as rules
-use Rattle.nextest_rules.specs.Rules.{Compiled, OverrideUse, LayerProfile, Layer, at_name}
+use Rattle.nextest_rules.specs.Rules.{Compiled, OverrideUse, ScriptRuleUse, LayerProfile, Layer, at_name}
 use Rattle.nextest_settings.specs.Chains.{in_layer, in_order, overrides_of, script_rules_of, first_of, FilterChoice, at_profile, filter_of_profile, nearest_filter, match_all_filter}
 use Rattle.nextest_settings.specs.Platforms.{spec_holds, EvaluatedRule, rule_on, filter_of_override, default_filter_of}
 use Rattle.nextest_settings.specs.Profile.{Configured, EarlyModel, EvaluatableModel, profile_of, profile_on}
 use Rattle.nextest_settings.specs.View.{evaluated_override_meaning, evaluated_script_rule_meaning}
-use Rattle.nextest_tables.specs.FileTexts.{ScriptUse}
 use Rattle.nextest_tables.specs.Written.{Name}
 use Rattle.nextest_tree.specs.Schema.{first}
 use Rattle.nextest_profiles.specs.Meaning.{with_config, configured_meaning, choice_meaning, profile_meaning}
@@ -163,7 +162,7 @@ module _ {E N M K : Type 0} (f : E → M) (g : N → K) where
     overrides_on [] = refl
     overrides_on (r ∷ rs) = λ i. override_on r i ∷ overrides_on rs i
 
-    script_rule_on : (r : Compiled E N ScriptUse)
+    script_rule_on : (r : Compiled E N ScriptRuleUse)
         → evaluated_script_rule_meaning f (rule_on (λ spec platform. meets (g spec) platform) platforms r)
         ≡ rule_on meets platforms (rules.script_rule_meaning f g r)
     script_rule_on r = rw (
@@ -172,7 +171,7 @@ module _ {E N M K : Type 0} (f : E → M) (g : N → K) where
       spec_meaning (unwrap_or platforms.target platforms.host) r.target,
     ) refl
 
-    script_rules_on : (rs : List (Compiled E N ScriptUse))
+    script_rules_on : (rs : List (Compiled E N ScriptRuleUse))
         → map (evaluated_script_rule_meaning f)
         (map (rule_on (λ spec platform. meets (g spec) platform) platforms) rs)
         ≡ map (rule_on meets platforms) (map (rules.script_rule_meaning f g) rs)

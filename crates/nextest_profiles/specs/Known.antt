@@ -22,12 +22,12 @@ pub record KnowsScripts (scripts : ScriptTables) (uses : List ScriptUse) : Type 
 -- the scripts that a rule behind a reference names
 abbrev pub named_use : {F S E T N P : Type 0} → Bor (CompiledProfileScripts F S E T N P)
     → ScriptUse
-named_use r = (script_rule_ref_view r).writes
+named_use r = (script_rule_ref_view r).writes.scripts
 
 -- the scripts that a rule on the platforms of a build names
 abbrev pub evaluated_use : {F S E T N P : Type 0}
     → EvaluatedRule (CompiledProfileScripts F S E T N P) → ScriptUse
-evaluated_use r = (script_rule_ref_view r.rule).writes
+evaluated_use r = (script_rule_ref_view r.rule).writes.scripts
 
 -- each filter beside a list wrapper, of rules behind references, answers for each binary
 abbrev pub AnswerLists : {F S E T N P M K : Type 0} → (E → M) → (N → K) → BinaryMatch M

@@ -24,7 +24,8 @@ pub record AreSettingsOf {F S Src E T N P M : Type 0} (meaning : E → M) (query
   pub overrides : (s : Setting)
       → option_map (override_text_meaning meaning) (override_at settings s)
       ≡ option_map rule_text (deciding_override query mode profile.overrides s)
-  -- the script rule that is handed out writes what the one writes that names the wrapper
+  -- the script rule that is handed out is the first that holds and names a run wrapper: it has the
+  -- id of that rule, and names its scripts
   pub script_rule : wrapping_use_at settings
       ≡ option_map (λ r. r.writes) (wrapping_rule query profile.script_rules)
   -- the wrapper is the script of the id that is the wrapper's value

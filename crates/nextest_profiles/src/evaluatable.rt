@@ -122,6 +122,19 @@ impl<'cfg, F: Filters, S: Specs> EvaluatableProfile<'cfg, F, S> {
         self.facts.scripts()
     }
 
+    /// The rules of the profile in order, with the platforms that they match, and the lists by
+    /// which queries find them.
+    pub fn rules(&self) -> &EvaluatedRules<'cfg, F, S>
+        ensures overrides { map evaluated_override_view result.now.overrides.items
+            ≡ self.now.overrides }
+        ensures script_rules { map evaluated_script_rule_view result.now.script_rules.items
+            ≡ self.now.script_rules }
+        ensures default_filter { filter_view result.now.default_filter
+            ≡ self.now.default_filter }
+    {
+        &self.rules
+    }
+
     /// The default filter that counts, and where it stands.
     pub fn default_filter(&self) -> &CompiledDefaultFilter<'cfg, F>
         ensures { filter_view result.now ≡ self.now.default_filter }

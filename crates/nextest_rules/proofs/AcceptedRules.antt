@@ -264,7 +264,7 @@ quiet source [] = refl
 quiet source (p ∷ order) =
     (both_pass (empty_steps_of source p.0 p.1) (empty_steps_in source order)).1 (
       warnings_pass (λ rules. empty_sections source p.0 (length rules))
-          (filter (λ r. names_none r.writes) p.1.script_rules),
+          (filter (λ r. names_none r.writes.scripts) p.1.script_rules),
       quiet source order,
     )
 

@@ -1,5 +1,6 @@
 -- The scripts that rules name have no fault exactly where they are known for their uses.
 use Rattle.std.proofs.Common.{◌≡◌, ◌↔◌, ℕ, List, [], ◌∷◌, ◌++◌, map, Bool, true, false, not, ◌&&◌, ◌||◌, cond, IsTrue, IsSome, Option, Some, None, option_to_list, Result, Ok, Err, refl, sym, ap, ◌∙◌, inr}
+use Rattle.std.specs.List.{enumerate_from}
 use Rattle.std.specs.Result.{result_ok}
 use Rattle.std.proofs.lemmas.Bool.{false≢true}
 use Rattle.nextest_tree.specs.Schema.{is_one_of}
@@ -17,10 +18,10 @@ use Rattle.nextest_rules.specs.Accepted.{IfWritten, AreKnownScripts, ListsWithou
 use Rattle.nextest_rules.specs.Definitions.{is_nonempty}
 use Rattle.nextest_rules.specs.Known.{KnownNames, KnownSets, sets_of, known_scripts}
 use Rattle.nextest_rules.specs.RuleFaults.{unknown_script, wrong_script, unknown_scripts_of, wrong_scripts_of, list_filter, list_filters_of, test_parts, list_filter_with, uses_of, serves, is_known_script, other_kind, rule_script_faults, script_faults_in}
-use Rattle.nextest_rules.specs.Rules.{Compiled, LayerProfile, meaning_of, script_rule, layer_profile, layer_of}
+use Rattle.nextest_rules.specs.Rules.{RuleId, Compiled, ScriptRuleUse, LayerProfile, meaning_of, script_rule, layer_profile, layer_of}
 use Rattle.nextest_rules.specs.Steps.{script_cause_in, are_none}
 use Rattle.nextest_rules.proofs.Passing.{iff_trans, iff_sym, iff_both, if_true_none, each_same, each_both, each_append, each_map, flat_none}
-use Rattle.nextest_rules.proofs.EachPart.{each_in_order, filter_map_none, each_of_option, listed_none, either}
+use Rattle.nextest_rules.proofs.EachPart.{each_in_order, each_numbered, filter_map_none, each_of_option, listed_none, either}
 
 -- a use has no fault exactly where the script is known for it
 pub use_serves : (known : KnownSets) (profile : Name) (u : Name × ProfileScriptType)
@@ -132,14 +133,16 @@ list_filter_none leaves read known profile f (Some id) is =
 abbrev pub RuleNames : {M K P : Type 0} → Readings M K P → KnownNames → ScriptRuleText → Type 0
 RuleNames engines known r = AreKnownScripts known r.scripts × ListsWithoutTests engines r
 
-pub rule_scripts : {M K P : Type 0} (engines : Readings M K P) (known : KnownNames) (name : Name) (r : ScriptRuleText)
+pub rule_scripts : {M K P : Type 0} (engines : Readings M K P) (known : KnownNames) (name : Name) (id : RuleId)
+    (r : ScriptRuleText)
     → ((unknown_scripts_of (sets_of known) name (uses_of r.scripts) ≡ [])
     × ((wrong_scripts_of (sets_of known) name (uses_of r.scripts) ≡ [])
-    × (list_filters_of engines.leaves (sets_of known) name (script_rule engines r) ≡ []))) ↔ RuleNames engines known r
-rule_scripts engines known name r =
+    × (list_filters_of engines.leaves (sets_of known) name (script_rule engines id r) ≡ [])))
+    ↔ RuleNames engines known r
+rule_scripts engines known name id r =
     let names = iff_trans (uses_serve (sets_of known) name (uses_of r.scripts)) (scripts_known known r.scripts) in
     let lists : AreKnownScripts known r.scripts
-    → (list_filters_of engines.leaves (sets_of known) name (script_rule engines r) ≡ [])
+    → (list_filters_of engines.leaves (sets_of known) name (script_rule engines id r) ≡ [])
     ↔ ListsWithoutTests engines r =
     λ k. iff_trans (listed_none _)
     (list_filter_none engines.leaves (engines.read_filter DefaultFilter) known name r.filter
@@ -159,18 +162,22 @@ pub profile_scripts : {M K P : Type 0} (engines : Readings M K P) (known : Known
     (layer_profile engines source name p).script_rules).list_filters ≡ [])))
     ↔ Each (RuleNames engines known) p.script_rules
 profile_scripts {M} {K} engines known source name p =
-    let U : Compiled M K ScriptUse → Type 0 = λ r. unknown_scripts_of (sets_of known) name (uses_of r.writes) ≡ [] in
-    let W : Compiled M K ScriptUse → Type 0 = λ r. wrong_scripts_of (sets_of known) name (uses_of r.writes) ≡ [] in
-    let L : Compiled M K ScriptUse → Type 0 = λ r. list_filters_of engines.leaves (sets_of known) name r ≡ [] in
-    let rules = map (script_rule engines) p.script_rules in
-    let lists = iff_both (flat_none (λ r. unknown_scripts_of (sets_of known) name (uses_of r.writes)) rules)
-    (iff_both (flat_none (λ r. wrong_scripts_of (sets_of known) name (uses_of r.writes)) rules)
+    let U : Compiled M K ScriptRuleUse → Type 0 = λ r. unknown_scripts_of (sets_of known) name (uses_of r.writes.scripts) ≡ [] in
+    let W : Compiled M K ScriptRuleUse → Type 0 = λ r. wrong_scripts_of (sets_of known) name (uses_of r.writes.scripts) ≡ [] in
+    let L : Compiled M K ScriptRuleUse → Type 0 = λ r. list_filters_of engines.leaves (sets_of known) name r ≡ [] in
+    let rule : ℕ × ScriptRuleText → Compiled M K ScriptRuleUse =
+    λ e. script_rule engines (record { source = source; profile = name; index = e.0 }) e.1 in
+    let texts = enumerate_from 0 p.script_rules in
+    let rules = map rule texts in
+    let lists = iff_both (flat_none (λ r. unknown_scripts_of (sets_of known) name (uses_of r.writes.scripts)) rules)
+    (iff_both (flat_none (λ r. wrong_scripts_of (sets_of known) name (uses_of r.writes.scripts)) rules)
     (flat_none (list_filters_of engines.leaves (sets_of known) name) rules)) in
     let later = iff_both (λ (h : Each U rules). h, λ (h : Each U rules). h) (iff_sym (each_both W L rules)) in
     iff_trans lists (iff_trans later (iff_trans (iff_sym (each_both U (λ r. W r × L r) rules))
-    (iff_trans (each_map (script_rule engines) (λ r. U r × (W r × L r)) p.script_rules)
-    (each_same (λ r. U (script_rule engines r) × (W (script_rule engines r) × L (script_rule engines r)))
-    (RuleNames engines known) (rule_scripts engines known name) p.script_rules))))
+    (iff_trans (each_map rule (λ r. U r × (W r × L r)) texts)
+    (iff_trans (each_same (λ e. U (rule e) × (W (rule e) × L (rule e))) (λ e. RuleNames engines known e.1)
+    (λ e. rule_scripts engines known name (record { source = source; profile = name; index = e.0 }) e.1) texts)
+    (each_numbered (RuleNames engines known) 0 p.script_rules)))))
 
 pub none_of_three : {X Y Z : Type 0} (u : List X) (w : List Y) (l : List Z)
     → (not (not (is_nonempty u || (is_nonempty w || is_nonempty l))) ≡ false)

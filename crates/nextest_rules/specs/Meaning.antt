@@ -1,7 +1,6 @@
 -- Rules by what the engines mean, in place of the expressions that code holds.
 use Rattle.std.specs.Prelude.{map, option_map}
-use Rattle.nextest_rules.specs.Rules.{Compiled, OverrideUse, LayerProfile, Layer}
-use Rattle.nextest_tables.specs.FileTexts.{ScriptUse}
+use Rattle.nextest_rules.specs.Rules.{Compiled, OverrideUse, ScriptRuleUse, LayerProfile, Layer}
 
 -- a rule with f done to its filter, g to its specs and h to what it writes
 abbrev pub rule_meaning : {E N W M K V : Type 0} → (E → M) → (N → K) → (W → V) → Compiled E N W
@@ -27,8 +26,8 @@ abbrev pub override_meaning : {E N M K : Type 0} → (E → M) → (N → K) →
 override_meaning f g r = rule_meaning f g (use_meaning f) r
 
 -- a script rule
-abbrev pub script_rule_meaning : {E N M K : Type 0} → (E → M) → (N → K) → Compiled E N ScriptUse
-    → Compiled M K ScriptUse
+abbrev pub script_rule_meaning : {E N M K : Type 0} → (E → M) → (N → K) → Compiled E N ScriptRuleUse
+    → Compiled M K ScriptRuleUse
 script_rule_meaning f g r = rule_meaning f g (λ u. u) r
 
 -- a profile of a source

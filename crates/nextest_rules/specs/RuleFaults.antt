@@ -11,7 +11,7 @@ use Rattle.nextest_tables.specs.FileTexts.{ScriptUse}
 use Rattle.nextest_tables.specs.Written.{Name}
 use Rattle.nextest_sources.specs.Causes.{NameSet, UnknownGroup, UnknownScript, WrongScript, ListFilter, ScriptFaults}
 use Rattle.nextest_rules.specs.Known.{KnownSets}
-use Rattle.nextest_rules.specs.Rules.{Compiled, LayerProfile}
+use Rattle.nextest_rules.specs.Rules.{Compiled, ScriptRuleUse, LayerProfile}
 
 -- what is wrong with the group that a rule of a profile writes: a custom group has to be known
 abbrev pub group_fault : NameSet → Name → Option TestGroup → Option UnknownGroup
@@ -103,9 +103,9 @@ list_filter leaves known profile filter (Some id) =
 
 -- what is wrong with the filter of a script rule, as a list
 abbrev pub list_filters_of : {M K : Type 0} → (M → List (List ℕ)) → KnownSets → Name
-    → Compiled M K ScriptUse → List ListFilter
+    → Compiled M K ScriptRuleUse → List ListFilter
 list_filters_of leaves known profile r =
-    option_to_list (list_filter leaves known profile r.filter r.writes.list_wrapper)
+    option_to_list (list_filter leaves known profile r.filter r.writes.scripts.list_wrapper)
 
 -- what is wrong with uses of a rule
 abbrev pub use_faults : KnownSets → Name → List (Name × ProfileScriptType) → ScriptFaults
@@ -117,10 +117,10 @@ use_faults known profile uses = record {
 
 -- what is wrong with the scripts that script rules of a profile name
 abbrev pub rule_script_faults : {M K : Type 0} → (M → List (List ℕ)) → KnownSets → Name
-    → List (Compiled M K ScriptUse) → ScriptFaults
+    → List (Compiled M K ScriptRuleUse) → ScriptFaults
 rule_script_faults leaves known profile rules = record {
-  unknown_scripts = flat_map (λ r. unknown_scripts_of known profile (uses_of r.writes)) rules;
-  wrong_scripts = flat_map (λ r. wrong_scripts_of known profile (uses_of r.writes)) rules;
+  unknown_scripts = flat_map (λ r. unknown_scripts_of known profile (uses_of r.writes.scripts)) rules;
+  wrong_scripts = flat_map (λ r. wrong_scripts_of known profile (uses_of r.writes.scripts)) rules;
   list_filters = flat_map (list_filters_of leaves known profile) rules;
 }
 

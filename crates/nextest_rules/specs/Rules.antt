@@ -13,7 +13,7 @@ use Rattle.nextest_tables.specs.FileTexts.{OverrideText, ScriptUse, ScriptRuleTe
 use Rattle.nextest_tables.specs.Written.{Name, WrittenSettings}
 use Rattle.nextest_sources.specs.Sources.{Source}
 
--- where an override stands: its source, its profile, and its position there
+-- which rule of a profile: its source, its profile, and its position in the list of its kind there
 pub record RuleId : Type 0 where
   pub source : Source
   pub profile : Name
@@ -26,17 +26,22 @@ pub record Compiled (M K W : Type 0) : Type 0 where
   pub filter : Option M
   pub writes : W
 
--- what an override writes: where it stands, values of settings, what its default filter means
+-- what an override writes: its id, values of settings, what its default filter means
 pub record OverrideUse (M : Type 0) : Type 0 where
   pub id : RuleId
   pub settings : WrittenSettings
   pub default_filter : Option M
 
+-- what a script rule writes: its id, and the scripts that it names
+pub record ScriptRuleUse : Type 0 where
+  pub id : RuleId
+  pub scripts : ScriptUse
+
 -- a profile of a source: what its default filter means, its overrides and its script rules
 pub record LayerProfile (M K : Type 0) : Type 0 where
   pub default_filter : Option M
   pub overrides : List (Compiled M K (OverrideUse M))
-  pub script_rules : List (Compiled M K ScriptUse)
+  pub script_rules : List (Compiled M K ScriptRuleUse)
 
 -- a layer: a source that gave text, and its profiles by name
 pub record Layer (M K : Type 0) : Type 0 where
@@ -75,13 +80,16 @@ override_rule engines id o = record {
 }
 
 -- the rule of a script rule
-abbrev pub script_rule : {M K P : Type 0} → Readings M K P → ScriptRuleText
-    → Compiled M K ScriptUse
-script_rule engines r = record {
+abbrev pub script_rule : {M K P : Type 0} → Readings M K P → RuleId → ScriptRuleText
+    → Compiled M K ScriptRuleUse
+script_rule engines id r = record {
   host = spec_meaning engines r.platform.host;
   target = spec_meaning engines r.platform.target;
   filter = filter_meaning engines DefaultFilter r.filter;
-  writes = r.scripts;
+  writes = record {
+    id = id;
+    scripts = r.scripts;
+  };
 }
 
 -- the overrides of a profile: each gives one rule, at its position
@@ -91,13 +99,20 @@ override_rules engines source name texts = map
     (λ e. override_rule engines (record { source = source; profile = name; index = e.0 }) e.1)
     (enumerate_from 0 texts)
 
+-- the script rules of a profile: each gives one rule, at its position
+abbrev pub script_rules : {M K P : Type 0} → Readings M K P → Source → Name
+    → List ScriptRuleText → List (Compiled M K ScriptRuleUse)
+script_rules engines source name texts = map
+    (λ e. script_rule engines (record { source = source; profile = name; index = e.0 }) e.1)
+    (enumerate_from 0 texts)
+
 -- a profile of a source, by what its texts mean
 abbrev pub layer_profile : {M K P : Type 0} → Readings M K P → Source → Name → ProfileText
     → LayerProfile M K
 layer_profile engines source name p = record {
   default_filter = filter_meaning engines DefaultFilter p.default_filter;
   overrides = override_rules engines source name p.overrides;
-  script_rules = map (script_rule engines) p.script_rules;
+  script_rules = script_rules engines source name p.script_rules;
 }
 
 -- the layer of a source with these profiles

@@ -117,7 +117,7 @@ script_cause_in leaves known order =
 abbrev pub empty_steps_of : {M K : Type 0} → Source → Name → LayerProfile M K → List LoadStep
 empty_steps_of source name p =
     warn_if_some (λ rules. empty_sections source name (length rules))
-    (filter (λ r. names_none r.writes) p.script_rules)
+    (filter (λ r. names_none r.writes.scripts) p.script_rules)
 
 -- the warnings of script rules that name no script, in the order of the profiles
 abbrev pub empty_steps_in : {M K : Type 0} → Source → (order : List (Name × LayerProfile M K))

@@ -3,20 +3,28 @@ use Rattle.std.specs.Prelude.{ℕ, List, String, map, string_bytes}
 use Rattle.std.specs.Borrow.{Bor}
 use Rattle.std.specs.declared.alloc.Global.{Global}
 use Rattle.nextest_sources.specs.Sources.{source_view}
-use Rattle.nextest_tables.specs.FileTexts.{ScriptUse}
 use Rattle.nextest_tables.specs.View.{by_name, settings_view, uses_view}
 use Rattle.nextest_tables.specs.Written.{Name}
 use Rattle.nextest_rules.specs.Meaning.{layer_profile_meaning}
-use Rattle.nextest_rules.specs.Rules.{RuleId, Compiled, OverrideUse, LayerProfile, Layer}
+use Rattle.nextest_rules.specs.Rules.{RuleId, Compiled, OverrideUse, ScriptRuleUse, LayerProfile, Layer}
 use Rattle.nextest_rules.specs.declared.overrides.OverrideId.{OverrideId}
+use Rattle.nextest_rules.specs.declared.overrides.ScriptRuleId.{ScriptRuleId}
 use Rattle.nextest_rules.specs.declared.overrides.CompiledOverride.{CompiledOverride}
 use Rattle.nextest_rules.specs.declared.overrides.CompiledProfileScripts.{CompiledProfileScripts}
 use Rattle.nextest_rules.specs.declared.overrides.CompiledProfile.{CompiledProfile}
 use Rattle.nextest_rules.specs.declared.overrides.LayerRules.{LayerRules}
 
--- where an override stands
+-- which override
 abbrev pub id_view : OverrideId → RuleId
 id_view i = record {
+  source = source_view i.config_source;
+  profile = string_bytes i.profile_name;
+  index = i.index;
+}
+
+-- which script rule
+abbrev pub script_rule_id_view : ScriptRuleId → RuleId
+script_rule_id_view i = record {
   source = source_view i.config_source;
   profile = string_bytes i.profile_name;
   index = i.index;
@@ -38,12 +46,15 @@ override_rule_view r = record {
 
 -- a script rule
 abbrev pub script_rule_view : {F S E T N P : Type 0} → CompiledProfileScripts F S E T N P
-    → Compiled E N ScriptUse
+    → Compiled E N ScriptRuleUse
 script_rule_view r = record {
   host = r.platforms.host;
   target = r.platforms.target;
   filter = r.filter;
-  writes = uses_view r.scripts;
+  writes = record {
+    id = script_rule_id_view r.id;
+    scripts = uses_view r.scripts;
+  };
 }
 
 -- the rules of a profile

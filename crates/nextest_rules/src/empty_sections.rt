@@ -24,7 +24,7 @@ fn names_none(scripts: &ScriptUses) -> bool
 
 /// How many script rules name no script.
 fn count_empty<F: Filters, S: Specs>(rules: &[CompiledProfileScripts<F, S>]) -> usize
-    ensures { result ≡ length (filter (λ r. faults.names_none r.writes)
+    ensures { result ≡ length (filter (λ r. faults.names_none r.writes.scripts)
         (map (script_rule_meaning F.meaning S.spec_meaning) (map script_rule_view rules.now))) }
 {
     let mut count = 0;

@@ -33,6 +33,32 @@ impl Clone for OverrideId {
     }
 }
 
+/// Which script rule wraps a test or enables a script.
+#[derive(Debug, Drop, PartialEq, Eq, Hash)]
+pub struct ScriptRuleId {
+    /// The source whose file has the rule.
+    pub config_source: ConfigSource,
+    /// The profile that has the rule.
+    pub profile_name: String,
+    /// Its position among the script rules of that profile in that file, from 0.
+    pub index: usize,
+}
+
+impl Clone for ScriptRuleId {
+    ghost use Rattle.std.specs.Prelude.{◌≡◌};
+    ghost use Rattle.nextest_rules.specs.View.{script_rule_id_view};
+
+    ghost is_clone = { λ id copy. script_rule_id_view copy ≡ script_rule_id_view id };
+
+    fn clone(&self) -> Result<Self, AllocError> {
+        Ok(ScriptRuleId {
+            config_source: self.config_source.clone()?,
+            profile_name: self.profile_name.clone()?,
+            index: self.index,
+        })
+    }
+}
+
 /// The platform specs of a rule: where one is absent, every platform meets it.
 #[derive(Drop)]
 pub struct PlatformSpecs<S: Specs> {
@@ -98,6 +124,7 @@ impl<F: Filters, S: Specs> CompiledOverride<F, S> {
 /// A script rule whose texts the engines have read.
 #[derive(Drop)]
 pub struct CompiledProfileScripts<F: Filters, S: Specs> {
+    pub(crate) id: ScriptRuleId,
     pub(crate) platforms: PlatformSpecs<S>,
     pub(crate) filter: Option<F::Expr>,
     pub(crate) scripts: ScriptUses,
@@ -105,12 +132,19 @@ pub struct CompiledProfileScripts<F: Filters, S: Specs> {
 
 impl<F: Filters, S: Specs> CompiledProfileScripts<F, S> {
     ghost use Rattle.std.specs.Prelude.{◌≡◌, map, option_map};
-    ghost use Rattle.nextest_rules.specs.View.{script_rule_view};
+    ghost use Rattle.nextest_rules.specs.View.{script_rule_view, script_rule_id_view};
     ghost use Rattle.nextest_scripts.specs.ScriptId.{script_text};
+
+    /// Which rule it is.
+    pub fn id(&self) -> &ScriptRuleId
+        ensures { script_rule_id_view result.now ≡ (script_rule_view self.now).writes.id }
+    {
+        &self.id
+    }
 
     /// The setup scripts that the rule names, in the order of the file.
     pub fn setup(&self) -> &[ScriptId]
-        ensures { map script_text result.now ≡ (script_rule_view self.now).writes.setup }
+        ensures { map script_text result.now ≡ (script_rule_view self.now).writes.scripts.setup }
     {
         &self.scripts.setup
     }
@@ -118,7 +152,7 @@ impl<F: Filters, S: Specs> CompiledProfileScripts<F, S> {
     /// The wrapper that the rule names for binaries that list their tests.
     pub fn list_wrapper(&self) -> Option<&ScriptId>
         ensures { option_map (λ id. script_text id.now) result
-            ≡ (script_rule_view self.now).writes.list_wrapper }
+            ≡ (script_rule_view self.now).writes.scripts.list_wrapper }
     {
         self.scripts.list_wrapper.as_ref()
     }
@@ -126,7 +160,7 @@ impl<F: Filters, S: Specs> CompiledProfileScripts<F, S> {
     /// The wrapper that the rule names for tests that run.
     pub fn run_wrapper(&self) -> Option<&ScriptId>
         ensures { option_map (λ id. script_text id.now) result
-            ≡ (script_rule_view self.now).writes.run_wrapper }
+            ≡ (script_rule_view self.now).writes.scripts.run_wrapper }
     {
         self.scripts.run_wrapper.as_ref()
     }

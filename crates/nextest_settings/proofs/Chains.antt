@@ -13,7 +13,7 @@ use Rattle.nextest_load.proofs.Agreement.{zip_from}
 use Rattle.nextest_load.proofs.Keeping.{IfThere}
 use Rattle.nextest_load.proofs.ProfileNodes.{layer_node, profile_in_layer}
 use Rattle.nextest_load.proofs.RulesOfNode.{HasNoRules}
-use Rattle.nextest_rules.specs.Rules.{LayerProfile, Layer, filter_meaning, override_rules, script_rule, at_name}
+use Rattle.nextest_rules.specs.Rules.{LayerProfile, Layer, filter_meaning, override_rules, script_rules, at_name}
 use Rattle.nextest_sources.specs.InputFaults.{Each}
 use Rattle.nextest_sources.specs.Inputs.{SourceText}
 use Rattle.nextest_sources.specs.Sources.{Source}
@@ -106,7 +106,7 @@ module _ {M K P : Type 0} (engines : Readings M K P) where
   no_script_rules : (source : Source) (name : Name) (o : Option Node) → IfThere HasNoRules o
       → unwrap_or (option_map (λ (p : LayerProfile M K). p.script_rules) (layer_node engines source name o)) [] ≡ []
   no_script_rules source name None h = refl
-  no_script_rules source name (Some n) h = ap (map (script_rule engines)) h.script_rules
+  no_script_rules source name (Some n) h = ap (script_rules engines source name) h.script_rules
 
   no_filter : (source : Source) (name : Name) (o : Option Node) → IfThere HasNoRules o
       → option_and_then (λ (p : LayerProfile M K). p.default_filter) (layer_node engines source name o) ≡ None

@@ -2,8 +2,7 @@
 use Rattle.std.proofs.Common.{◌≡◌, ◌⊎◌, inl, inr, ◌∙◌, List, [], ◌∷◌, ◌++◌, ◌&&◌, Bool, true, false, cond, find, Option, None, Some, IsSome, is_some, option_and_then, option_map, refl, ap}
 use Rattle.std.specs.Option.{option_or}
 use Rattle.nextest_elements.specs.declared.run_mode.NextestRunMode.{NextestRunMode}
-use Rattle.nextest_rules.specs.Rules.{OverrideUse}
-use Rattle.nextest_tables.specs.FileTexts.{ScriptUse}
+use Rattle.nextest_rules.specs.Rules.{OverrideUse, ScriptRuleUse}
 use Rattle.nextest_tables.specs.Written.{WrittenFields}
 use Rattle.nextest_settings.specs.Deciding.{QueryContext, decides, rule_holds, winner}
 use Rattle.nextest_settings.specs.Platforms.{EvaluatedRule}
@@ -50,7 +49,7 @@ second false b h = absurd cc
 
 -- where the same override decides a setting, the same is written for it
 module _ {M : Type 0} (query : QueryContext M) (mode : NextestRunMode)
-    (xs ys : List (EvaluatedRule M (OverrideUse M))) (rules : List (EvaluatedRule M ScriptUse)) where
+    (xs ys : List (EvaluatedRule M (OverrideUse M))) (rules : List (EvaluatedRule M ScriptRuleUse)) where
   pub value_same : (s : Setting) → deciding_override query mode xs s ≡ deciding_override query mode ys s
       → written_value query mode xs rules s ≡ written_value query mode ys rules s
   value_same at.RunWrapper same = refl
@@ -64,7 +63,7 @@ module _ {M : Type 0} (query : QueryContext M) (mode : NextestRunMode)
 -- what one more override decides is what it writes
 module _ {M : Type 0} (query : QueryContext M) (mode : NextestRunMode)
     (before : List (EvaluatedRule M (OverrideUse M))) (r : EvaluatedRule M (OverrideUse M))
-    (rules : List (EvaluatedRule M ScriptUse)) (fields : List WrittenFields) where
+    (rules : List (EvaluatedRule M ScriptRuleUse)) (fields : List WrittenFields) where
   pub value_taken : (s : Setting) → deciding_override query mode before s ≡ None
       → decides query (λ w. is_set w.settings mode s) r ≡ true
       → value_by query mode (before ++ r ∷ []) rules fields s ≡ sets r.writes.settings mode s

@@ -2,7 +2,7 @@
 use Rattle.std.proofs.Common.{◌≡◌, ◌≤◌, ◌↔◌, ℕ, map, ◌∷◌, [], Some, is_some, length, refl, slice_get}
 use Rattle.std.specs.List.{Contains, count_by}
 use Rattle.nextest_elements.specs.declared.run_mode.NextestRunMode.{NextestRunMode}
-use Rattle.nextest_tables.specs.FileTexts.{ScriptUse}
+use Rattle.nextest_rules.specs.Rules.{ScriptRuleUse}
 use Rattle.nextest_settings.specs.Deciding.{QueryContext}
 use Rattle.nextest_settings.specs.Profile.{EvaluatableModel}
 use Rattle.nextest_settings.specs.Queries.{evaluated_for_test, filters_of, IsEvaluatedForTest}
@@ -23,13 +23,13 @@ module _ {M : Type 0} (query : QueryContext M) (mode : NextestRunMode) (p : Eval
   pub test_exactly : (n : ℕ) → Contains (evaluated_for_test query mode p) n ↔ IsEvaluatedForTest query mode p n
   test_exactly n = (
     both_evaluated (λ (s : Setting) w. is_set w.settings mode s) settings each_there
-        (λ (u : Unit {0}) (w : ScriptUse). is_some w.run_wrapper) (tt ∷ []) one_there query p.overrides
+        (λ (u : Unit {0}) (w : ScriptRuleUse). is_some w.scripts.run_wrapper) (tt ∷ []) one_there query p.overrides
         p.script_rules n,
     evaluated_both (λ (s : Setting) w. is_set w.settings mode s) settings each_there
-        (λ (u : Unit {0}) (w : ScriptUse). is_some w.run_wrapper) (tt ∷ []) one_there query p.overrides
+        (λ (u : Unit {0}) (w : ScriptRuleUse). is_some w.scripts.run_wrapper) (tt ∷ []) one_there query p.overrides
         p.script_rules n,
   )
 
   pub test_count : length (evaluated_for_test query mode p) ≤ count_by is_some (filters_of p)
   test_count = both_count (map (λ s w. is_set w.settings mode s) settings)
-      ((λ (w : ScriptUse). is_some w.run_wrapper) ∷ []) query p.overrides p.script_rules
+      ((λ (w : ScriptRuleUse). is_some w.scripts.run_wrapper) ∷ []) query p.overrides p.script_rules

@@ -3,8 +3,8 @@ use Rattle.std.proofs.Common.{◌≡◌, ◌∙◌, Option, Some, None, option_m
 use Rattle.std.proofs.lemmas.Option.{slice_get-map}
 use Rattle.std.specs.Option.{option_or}
 use Rattle.nextest_elements.specs.declared.test_group.TestGroup.TheVariants.{Global}
-use Rattle.nextest_tables.specs.FileTexts.{ScriptUse}
 use Rattle.nextest_tables.specs.Written.{WrittenFields}
+use Rattle.nextest_rules.specs.Rules.{ScriptRuleUse}
 use Rattle.nextest_settings.specs.ChainValues.{AreValues}
 use Rattle.nextest_settings.specs.Deciding.{QueryContext}
 use Rattle.nextest_settings.specs.Pass.{Override, slots_view, winners_of}
@@ -62,7 +62,7 @@ slot_is f slots w shown s = sym (slot-map f slots s) ∙ ap (λ l. slot_at l s) 
 
 -- the settings of a test whose slots and wrapper are what the rules decide
 module _ {F S Src E T N P M : Type 0} (meaning : E → M) (t : TestSettings F S Src E T N P)
-    (query : QueryContext M) (overrides : List (Override M)) (script_rules : List (EvaluatedRule M ScriptUse))
+    (query : QueryContext M) (overrides : List (Override M)) (script_rules : List (EvaluatedRule M ScriptRuleUse))
     (shown : slots_view meaning t.winners.slots ≡ winners_of query t.mode overrides settings)
     (wrapped : option_map (λ w. (script_rule_ref_view w.rule).writes) t.run_wrapper
     ≡ option_map (λ r. r.writes) (wrapping_rule query script_rules)) where
@@ -77,7 +77,7 @@ module _ {F S Src E T N P M : Type 0} (meaning : E → M) (t : TestSettings F S 
   by_slot s h = sym (option_and_then-map (meant_override meaning) h (slot_at t.winners.slots s))
       ∙ ap (option_and_then h) (slot-shown s)
 
-  by_wrapper : {C : Type 0} (h : ScriptUse → Option C)
+  by_wrapper : {C : Type 0} (h : ScriptRuleUse → Option C)
       → option_and_then (λ w. h (script_rule_ref_view w.rule).writes) t.run_wrapper
       ≡ option_and_then (λ r. h r.writes) (wrapping_rule query script_rules)
   by_wrapper h =
@@ -87,7 +87,7 @@ module _ {F S Src E T N P M : Type 0} (meaning : E → M) (t : TestSettings F S 
   written_shown : (s : Setting) → written_at t s ≡ written_value query t.mode overrides script_rules s
   written_shown at.Priority = by_slot at.Priority (λ r. sets r.writes.settings t.mode at.Priority)
   written_shown at.ThreadsRequired = by_slot at.ThreadsRequired (λ r. sets r.writes.settings t.mode at.ThreadsRequired)
-  written_shown at.RunWrapper = by_wrapper (λ w. w.run_wrapper)
+  written_shown at.RunWrapper = by_wrapper (λ w. w.scripts.run_wrapper)
   written_shown at.RunExtraArgs = by_slot at.RunExtraArgs (λ r. sets r.writes.settings t.mode at.RunExtraArgs)
   written_shown at.Retries = by_slot at.Retries (λ r. sets r.writes.settings t.mode at.Retries)
   written_shown at.FlakyResult = by_slot at.FlakyResult (λ r. sets r.writes.settings t.mode at.FlakyResult)

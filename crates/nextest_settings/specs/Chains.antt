@@ -2,8 +2,7 @@
 use Rattle.std.specs.Prelude.{ℕ, List, [], ◌++◌, Option, option_map, option_and_then, unwrap_or, filter_map, flat_map, codes}
 use Rattle.nextest_inheritance.specs.Names.{default_name}
 use Rattle.nextest_load.specs.Config.{MergedProfile}
-use Rattle.nextest_rules.specs.Rules.{Compiled, OverrideUse, LayerProfile, Layer, at_name}
-use Rattle.nextest_tables.specs.FileTexts.{ScriptUse}
+use Rattle.nextest_rules.specs.Rules.{Compiled, OverrideUse, ScriptRuleUse, LayerProfile, Layer, at_name}
 use Rattle.nextest_tables.specs.Written.{Name, WrittenFields}
 use Rattle.nextest_tree.specs.Schema.{first}
 
@@ -24,7 +23,7 @@ overrides_of layers names = in_order (λ p. p.overrides) layers names
 
 -- the script rules of profiles, in order
 abbrev pub script_rules_of : {M K : Type 0} → List (Layer M K) → List Name
-    → List (Compiled M K ScriptUse)
+    → List (Compiled M K ScriptRuleUse)
 script_rules_of layers names = in_order (λ p. p.script_rules) layers names
 
 -- what the profiles of names write, in their order

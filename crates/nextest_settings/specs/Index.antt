@@ -7,9 +7,9 @@ use Rattle.nextest_engines.specs.declared.queries.BuildPlatform.{BuildPlatform}
 use Rattle.nextest_engines.specs.declared.queries.BuildPlatform.TheVariants.{Host, Target}
 use Rattle.nextest_rules.specs.declared.overrides.CompiledOverride.{CompiledOverride}
 use Rattle.nextest_rules.specs.declared.overrides.CompiledProfileScripts.{CompiledProfileScripts}
-use Rattle.nextest_tables.specs.FileTexts.{ScriptUse}
 use Rattle.rule_lists.specs.Rows.{list_at, rows_of}
 use Rattle.rule_lists.specs.declared.rows.Row.{Row}
+use Rattle.nextest_rules.specs.Rules.{ScriptRuleUse}
 use Rattle.nextest_settings.specs.Platforms.{EvaluatedRule, is_on}
 use Rattle.nextest_settings.specs.Settings.{is_set, index_of, settings}
 use Rattle.nextest_settings.specs.View.{evaluated_override_view, evaluated_script_rule_view}
@@ -26,9 +26,9 @@ abbrev pub is_listed : {M W : Type 0} → BuildPlatform → (W → Bool) → Eva
 is_listed platform wants rule = is_on rule platform && wants rule.writes
 
 -- a script rule names a wrapper
-abbrev pub names_wrapper : Wrapper → ScriptUse → Bool
-names_wrapper wrappers.Run uses = is_some uses.run_wrapper
-names_wrapper wrappers.List uses = is_some uses.list_wrapper
+abbrev pub names_wrapper : Wrapper → ScriptRuleUse → Bool
+names_wrapper wrappers.Run uses = is_some uses.scripts.run_wrapper
+names_wrapper wrappers.List uses = is_some uses.scripts.list_wrapper
 
 -- of each setting, which overrides stand in its list
 abbrev pub override_tests : {F S E T N P : Type 0} → BuildPlatform → NextestRunMode

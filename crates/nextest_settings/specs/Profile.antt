@@ -4,9 +4,8 @@ use Rattle.nextest_elements.specs.declared.test_group.TestGroupConfig.{TestGroup
 use Rattle.nextest_engines.specs.declared.queries.BuildPlatforms.{BuildPlatforms}
 use Rattle.nextest_inheritance.specs.Parents.{with_default}
 use Rattle.nextest_load.specs.Config.{ConfigModel, ScriptTables}
-use Rattle.nextest_rules.specs.Rules.{Compiled, OverrideUse, at_name}
+use Rattle.nextest_rules.specs.Rules.{Compiled, OverrideUse, ScriptRuleUse, at_name}
 use Rattle.nextest_scripts.specs.Paths.{joined_path}
-use Rattle.nextest_tables.specs.FileTexts.{ScriptUse}
 use Rattle.nextest_tables.specs.Written.{Name, WrittenFields}
 use Rattle.nextest_settings.specs.Chains.{overrides_of, script_rules_of, fields_of, FilterChoice, nearest_filter, match_all_filter}
 use Rattle.nextest_settings.specs.Platforms.{EvaluatedRule, rule_on, default_filter_of}
@@ -32,7 +31,7 @@ pub record ProfileFacts : Type 0 where
 pub record EarlyModel (M K : Type 0) : Type 0 where
   pub facts : ProfileFacts
   pub overrides : List (Compiled M K (OverrideUse M))
-  pub script_rules : List (Compiled M K ScriptUse)
+  pub script_rules : List (Compiled M K ScriptRuleUse)
   pub nearest_filter : Option (FilterChoice M)
   pub match_all : M
 
@@ -66,7 +65,7 @@ profile_of configured name chain = record {
 pub record EvaluatableModel (M : Type 0) : Type 0 where
   pub facts : ProfileFacts
   pub overrides : List (EvaluatedRule M (OverrideUse M))
-  pub script_rules : List (EvaluatedRule M ScriptUse)
+  pub script_rules : List (EvaluatedRule M ScriptRuleUse)
   pub default_filter : FilterChoice M
 
 -- a profile on the platforms of a build

@@ -10,10 +10,9 @@ use Rattle.nextest_elements.specs.declared.test_group.TestGroup.TheVariants.{Glo
 use Rattle.nextest_engines.specs.Engines.{Test, Binary}
 use Rattle.nextest_load.specs.Closed.{BinaryMatch}
 use Rattle.nextest_rules.specs.Accepted.{IfWritten}
-use Rattle.nextest_rules.specs.Rules.{RuleId, OverrideUse}
+use Rattle.nextest_rules.specs.Rules.{RuleId, OverrideUse, ScriptRuleUse}
 use Rattle.nextest_scripts.specs.ScriptTexts.{SetupScriptText}
 use Rattle.nextest_sources.specs.InputFaults.{Each}
-use Rattle.nextest_tables.specs.FileTexts.{ScriptUse}
 use Rattle.nextest_tables.specs.Written.{Name, WrittenFields}
 use Rattle.nextest_tree.specs.Schema.{is_one_of}
 use Rattle.nextest_settings.specs.declared.setting.Setting.{Setting}
@@ -49,22 +48,22 @@ abbrev pub deciding_override : {M : Type 0} → QueryContext M → NextestRunMod
 deciding_override query mode overrides s = winner query (λ w. is_set w.settings mode s) overrides
 
 -- the first script rule that holds and names a run wrapper
-abbrev pub wrapping_rule : {M : Type 0} → QueryContext M → List (EvaluatedRule M ScriptUse)
-    → Option (EvaluatedRule M ScriptUse)
-wrapping_rule query script_rules = winner query (λ w. is_some w.run_wrapper) script_rules
+abbrev pub wrapping_rule : {M : Type 0} → QueryContext M → List (EvaluatedRule M ScriptRuleUse)
+    → Option (EvaluatedRule M ScriptRuleUse)
+wrapping_rule query script_rules = winner query (λ w. is_some w.scripts.run_wrapper) script_rules
 
 -- what rules write for a setting: what the first one writes that holds and sets it
 abbrev pub written_value : {M : Type 0} → QueryContext M → NextestRunMode
-    → List (EvaluatedRule M (OverrideUse M)) → List (EvaluatedRule M ScriptUse) → (s : Setting)
+    → List (EvaluatedRule M (OverrideUse M)) → List (EvaluatedRule M ScriptRuleUse) → (s : Setting)
     → Option (ValueOf s)
 written_value query mode overrides script_rules at.RunWrapper =
-    option_and_then (λ r. r.writes.run_wrapper) (wrapping_rule query script_rules)
+    option_and_then (λ r. r.writes.scripts.run_wrapper) (wrapping_rule query script_rules)
 written_value query mode overrides script_rules s =
     option_and_then (λ r. sets r.writes.settings mode s) (deciding_override query mode overrides s)
 
 -- the value of a setting by these rules, over what the profiles of a chain write
 abbrev pub value_by : {M : Type 0} → QueryContext M → NextestRunMode
-    → List (EvaluatedRule M (OverrideUse M)) → List (EvaluatedRule M ScriptUse)
+    → List (EvaluatedRule M (OverrideUse M)) → List (EvaluatedRule M ScriptRuleUse)
     → List WrittenFields → (s : Setting) → Option (ValueOf s)
 value_by query mode overrides script_rules fields s =
     option_or (written_value query mode overrides script_rules s) (fallback_of fields mode s)
@@ -91,7 +90,7 @@ fallback_origin _ = Some by_profile
 
 -- the origin of what rules write for a setting
 abbrev pub written_origin : {M : Type 0} → QueryContext M → NextestRunMode
-    → List (EvaluatedRule M (OverrideUse M)) → List (EvaluatedRule M ScriptUse) → Setting
+    → List (EvaluatedRule M (OverrideUse M)) → List (EvaluatedRule M ScriptRuleUse) → Setting
     → Option Origin
 written_origin query mode overrides script_rules at.RunWrapper =
     option_map (λ r. by_script) (wrapping_rule query script_rules)
@@ -100,7 +99,7 @@ written_origin query mode overrides script_rules s =
 
 -- the origin of a setting by these rules
 abbrev pub origin_by : {M : Type 0} → QueryContext M → NextestRunMode
-    → List (EvaluatedRule M (OverrideUse M)) → List (EvaluatedRule M ScriptUse) → Setting
+    → List (EvaluatedRule M (OverrideUse M)) → List (EvaluatedRule M ScriptRuleUse) → Setting
     → Option Origin
 origin_by query mode overrides script_rules s =
     option_or (written_origin query mode overrides script_rules s) (fallback_origin s)
@@ -112,10 +111,10 @@ setting_origin query mode p s = origin_by query mode p.overrides p.script_rules 
 
 -- the numbers of the rules among these whose filters are evaluated for the settings of a test
 abbrev pub evaluated_by : {M : Type 0} → QueryContext M → NextestRunMode
-    → List (EvaluatedRule M (OverrideUse M)) → List (EvaluatedRule M ScriptUse) → List ℕ
+    → List (EvaluatedRule M (OverrideUse M)) → List (EvaluatedRule M ScriptRuleUse) → List ℕ
 evaluated_by query mode overrides script_rules =
     asked_from (map (λ s w. is_set w.settings mode s) settings) 0 query [] overrides
-    ++ asked_from ((λ w. is_some w.run_wrapper) ∷ []) (length overrides) query [] script_rules
+    ++ asked_from ((λ w. is_some w.scripts.run_wrapper) ∷ []) (length overrides) query [] script_rules
 
 -- The rules whose filters are evaluated for the settings of a test, by number: overrides, and then
 -- script rules, which are counted on from them.
@@ -130,12 +129,12 @@ abbrev pub IsEvaluatedForTest : {M : Type 0} → QueryContext M → NextestRunMo
 IsEvaluatedForTest query mode p n =
     IsEvaluated (λ (s : Setting) w. is_set w.settings mode s) query p.overrides n
     ⊎ ((k : ℕ) × (n ≡ length p.overrides + k)
-    × IsEvaluated (λ (wrapper : Unit {0}) w. is_some w.run_wrapper) query p.script_rules k)
+    × IsEvaluated (λ (wrapper : Unit {0}) w. is_some w.scripts.run_wrapper) query p.script_rules k)
 
 -- the first script rule that holds and names a list wrapper
-abbrev pub listing_rule : {M : Type 0} → QueryContext M → List (EvaluatedRule M ScriptUse)
-    → Option (EvaluatedRule M ScriptUse)
-listing_rule query script_rules = winner query (λ w. is_some w.list_wrapper) script_rules
+abbrev pub listing_rule : {M : Type 0} → QueryContext M → List (EvaluatedRule M ScriptRuleUse)
+    → Option (EvaluatedRule M ScriptRuleUse)
+listing_rule query script_rules = winner query (λ w. is_some w.scripts.list_wrapper) script_rules
 
 -- a filter, if there is one, has an answer for each binary, whatever the default filter means
 abbrev pub HasBinaryAnswers : {M : Type 0} → BinaryMatch M → Option M → Type 0
@@ -144,16 +143,16 @@ HasBinaryAnswers {M} matches filter =
 
 -- Script rules answer for binaries: the filter of each rule with a list wrapper has an answer for
 -- each binary, whatever the default filter means.
-abbrev pub AnswerForBinaries : {M : Type 0} → BinaryMatch M → List (EvaluatedRule M ScriptUse)
+abbrev pub AnswerForBinaries : {M : Type 0} → BinaryMatch M → List (EvaluatedRule M ScriptRuleUse)
     → Type 0
 AnswerForBinaries matches rules =
-    Each (λ r. IsSome r.writes.list_wrapper → HasBinaryAnswers matches r.filter) rules
+    Each (λ r. IsSome r.writes.scripts.list_wrapper → HasBinaryAnswers matches r.filter) rules
 
 -- the list wrapper by these script rules
-abbrev pub list_wrapper_by : {M : Type 0} → QueryContext M → List (EvaluatedRule M ScriptUse)
+abbrev pub list_wrapper_by : {M : Type 0} → QueryContext M → List (EvaluatedRule M ScriptRuleUse)
     → Option Name
 list_wrapper_by query script_rules =
-    option_and_then (λ r. r.writes.list_wrapper) (listing_rule query script_rules)
+    option_and_then (λ r. r.writes.scripts.list_wrapper) (listing_rule query script_rules)
 
 -- The list wrapper of a binary: that of the first script rule that holds for it and names one.
 abbrev pub list_wrapper_of : {M : Type 0} → QueryContext M → EvaluatableModel M → Option Name
@@ -161,10 +160,10 @@ list_wrapper_of query p = list_wrapper_by query p.script_rules
 
 -- the script rules among these whose filters are evaluated for a list wrapper, counted on from the
 -- first number
-abbrev pub listed_by : {M : Type 0} → QueryContext M → ℕ → List (EvaluatedRule M ScriptUse)
+abbrev pub listed_by : {M : Type 0} → QueryContext M → ℕ → List (EvaluatedRule M ScriptRuleUse)
     → List ℕ
 listed_by query first script_rules =
-    asked_from ((λ w. is_some w.list_wrapper) ∷ []) first query [] script_rules
+    asked_from ((λ w. is_some w.scripts.list_wrapper) ∷ []) first query [] script_rules
 
 -- the script rules whose filters are evaluated for the list wrapper of a binary, by number
 abbrev pub evaluated_for_list : {M : Type 0} → QueryContext M → EvaluatableModel M → List ℕ
@@ -174,16 +173,16 @@ evaluated_for_list query p = listed_by query (length p.overrides) p.script_rules
 -- of a script rule which is evaluated for the wrapper.
 abbrev pub IsEvaluatedForList : {M : Type 0} → QueryContext M → EvaluatableModel M → ℕ → Type 0
 IsEvaluatedForList query p n = (k : ℕ) × (n ≡ length p.overrides + k)
-    × IsEvaluated (λ (wrapper : Unit {0}) w. is_some w.list_wrapper) query p.script_rules k
+    × IsEvaluated (λ (wrapper : Unit {0}) w. is_some w.scripts.list_wrapper) query p.script_rules k
 
 -- whether a script rule that names a setup script holds
-abbrev pub is_enabled_for : {M : Type 0} → QueryContext M → List (EvaluatedRule M ScriptUse)
+abbrev pub is_enabled_for : {M : Type 0} → QueryContext M → List (EvaluatedRule M ScriptRuleUse)
     → Name → Bool
 is_enabled_for query rules id =
-    list_any (λ r. rule_holds query r && is_one_of r.writes.setup id) rules
+    list_any (λ r. rule_holds query r && is_one_of r.writes.scripts.setup id) rules
 
 -- the setup scripts that queries enable by these rules
-abbrev pub enabled_by : {M X : Type 0} → List (QueryContext M) → List (EvaluatedRule M ScriptUse)
+abbrev pub enabled_by : {M X : Type 0} → List (QueryContext M) → List (EvaluatedRule M ScriptRuleUse)
     → List (Name × X) → List (Name × X)
 enabled_by queries rules scripts =
     filter (λ e. list_any (λ query. is_enabled_for query rules e.0) queries) scripts

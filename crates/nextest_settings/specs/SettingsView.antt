@@ -3,7 +3,7 @@ use Rattle.std.specs.Prelude.{List, Option, None, Some, option_map, option_and_t
 use Rattle.std.specs.Option.{option_or}
 use Rattle.nextest_elements.specs.declared.run_mode.NextestRunMode.{NextestRunMode}
 use Rattle.nextest_elements.specs.declared.test_group.TestGroup.{TestGroup}
-use Rattle.nextest_rules.specs.Rules.{Compiled, OverrideUse}
+use Rattle.nextest_rules.specs.Rules.{Compiled, OverrideUse, ScriptRuleUse}
 use Rattle.nextest_scripts.specs.ScriptTexts.{WrapperScriptText, wrapper_script_view}
 use Rattle.nextest_settings.specs.ChainValues.{stored_in, slow_timeout_of}
 use Rattle.nextest_settings.specs.Queries.{Origin, by_override, by_script, fallback_origin}
@@ -13,7 +13,6 @@ use Rattle.nextest_settings.specs.declared.setting.Setting.{Setting}
 use Rattle.nextest_settings.specs.declared.setting.Setting.TheVariants as at
 use Rattle.nextest_settings.specs.declared.test_settings.TestSettings.{TestSettings}
 use Rattle.nextest_settings.specs.declared.values.ProfileValues.{ProfileValues}
-use Rattle.nextest_tables.specs.FileTexts.{ScriptUse}
 
 -- what the slot of a setting holds
 abbrev pub slot_at : {R : Type 0} → List (Option R) → Setting → Option R
@@ -42,7 +41,7 @@ fallback_view v group mode at.JunitFlakyFailStatus = Some (stored_in v.report).f
 abbrev pub written_at : {F S Src E T N P : Type 0} → TestSettings F S Src E T N P → (s : Setting)
     → Option (ValueOf s)
 written_at t at.RunWrapper =
-    option_and_then (λ w. (script_rule_ref_view w.rule).writes.run_wrapper) t.run_wrapper
+    option_and_then (λ w. (script_rule_ref_view w.rule).writes.scripts.run_wrapper) t.run_wrapper
 written_at t s =
     option_and_then (λ r. sets (override_ref_view r.rule).writes.settings t.mode s)
     (slot_at t.winners.slots s)
@@ -71,7 +70,7 @@ override_at t s = option_map (λ r. override_ref_view r.rule) (slot_at t.winners
 
 -- what the script rule writes that gives the test its wrapper, if one does
 abbrev pub wrapping_use_at : {F S Src E T N P : Type 0} → TestSettings F S Src E T N P
-    → Option ScriptUse
+    → Option ScriptRuleUse
 wrapping_use_at t = option_map (λ w. (script_rule_ref_view w.rule).writes) t.run_wrapper
 
 -- the script that wraps the test

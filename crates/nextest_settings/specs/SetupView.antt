@@ -2,8 +2,8 @@
 use Rattle.std.specs.Prelude.{List, map, drop}
 use Rattle.nextest_scripts.specs.ScriptId.{script_text}
 use Rattle.nextest_scripts.specs.ScriptTexts.{SetupScriptText, setup_script_view}
-use Rattle.nextest_tables.specs.FileTexts.{ScriptUse}
 use Rattle.nextest_tables.specs.Written.{Name}
+use Rattle.nextest_rules.specs.Rules.{ScriptRuleUse}
 use Rattle.nextest_settings.specs.Platforms.{EvaluatedRule}
 use Rattle.nextest_settings.specs.View.{meant_script_rule}
 use Rattle.nextest_settings.specs.declared.setup_scripts.NamedSetupScript.{NamedSetupScript}
@@ -14,7 +14,7 @@ use Rattle.nextest_settings.specs.declared.setup_scripts.SetupScriptIter.{SetupS
 
 -- a rule, by what its filter means
 abbrev pub numbered_rule_view : {F S E T N P M : Type 0} → (E → M) → NumberedRule F S E T N P
-    → EvaluatedRule M ScriptUse
+    → EvaluatedRule M ScriptRuleUse
 numbered_rule_view meaning r = meant_script_rule meaning r.rule
 
 -- a setup script by its id
@@ -27,12 +27,12 @@ script_id_view s = script_text s.script.id.now
 
 -- the rules among which those stand that name a setup script
 abbrev pub setup_rules_view : {F S E T N P M : Type 0} → (E → M) → SetupScript F S E T N P
-    → List (EvaluatedRule M ScriptUse)
+    → List (EvaluatedRule M ScriptRuleUse)
 setup_rules_view meaning s = map (numbered_rule_view meaning) s.rules.now
 
 -- the rules among which those stand that name setup scripts
 abbrev pub setup_scripts_rules_view : {F S E T N P M : Type 0} → (E → M) → SetupScripts F S E T N P
-    → List (EvaluatedRule M ScriptUse)
+    → List (EvaluatedRule M ScriptRuleUse)
 setup_scripts_rules_view meaning s = map (numbered_rule_view meaning) s.rules.items
 
 -- setup scripts, in their order

@@ -1,8 +1,7 @@
 -- What contracts see of the source of a setting.
 use Rattle.std.specs.Prelude.{Option, None, Some}
-use Rattle.nextest_rules.specs.Rules.{Compiled, OverrideUse}
+use Rattle.nextest_rules.specs.Rules.{Compiled, OverrideUse, ScriptRuleUse}
 use Rattle.nextest_rules.specs.View.{override_rule_view, script_rule_view}
-use Rattle.nextest_tables.specs.FileTexts.{ScriptUse}
 use Rattle.nextest_settings.specs.Queries.{Origin, unwritten, by_profile, by_override, by_script}
 use Rattle.nextest_settings.specs.declared.source.SettingSource.{SettingSource}
 use Rattle.nextest_settings.specs.declared.source.SettingSource.TheVariants.{Default, Profile, Override, Script}
@@ -15,7 +14,7 @@ setting_source_view (Override rule) = by_override (override_rule_view rule.now).
 setting_source_view (Script rule) = by_script
 
 -- what the script rule writes that a source tells, if it tells one
-abbrev pub source_use : {F S E T N P : Type 0} → SettingSource F S E T N P → Option ScriptUse
+abbrev pub source_use : {F S E T N P : Type 0} → SettingSource F S E T N P → Option ScriptRuleUse
 source_use (Script rule) = Some (script_rule_view rule.now).writes
 source_use Default = None
 source_use Profile = None
@@ -45,8 +44,8 @@ MarksOverride shows (Some rule) (Some source) = shows source rule
 MarksOverride shows (Some rule) None = ⊥
 
 -- a mark is there exactly where a script rule is, and is right for what the rule writes
-abbrev pub MarksScriptRule : {Source : Type 0} → (Source → ScriptUse → Type 0) → Option Source
-    → Option ScriptUse → Type 0
+abbrev pub MarksScriptRule : {Source : Type 0} → (Source → ScriptRuleUse → Type 0) → Option Source
+    → Option ScriptRuleUse → Type 0
 MarksScriptRule shows None None = Unit {0}
 MarksScriptRule shows (Some source) (Some uses) = shows source uses
 MarksScriptRule shows None (Some uses) = ⊥

@@ -3,13 +3,13 @@ use Rattle.std.specs.Borrow.{Bor}
 use Rattle.std.specs.Prelude.{List, option_map}
 use Rattle.nextest_load.specs.Config.{ScriptTables}
 use Rattle.nextest_rules.specs.Accepted.{IfWritten}
-use Rattle.nextest_rules.specs.Rules.{Compiled, OverrideUse}
+use Rattle.nextest_rules.specs.Rules.{Compiled, OverrideUse, ScriptRuleUse}
 use Rattle.nextest_sources.specs.InputFaults.{Each}
 use Rattle.nextest_rules.specs.Meaning.{use_meaning}
 use Rattle.nextest_rules.specs.View.{override_rule_view, script_rule_view}
 use Rattle.nextest_rules.specs.declared.overrides.CompiledOverride.{CompiledOverride}
 use Rattle.nextest_rules.specs.declared.overrides.CompiledProfileScripts.{CompiledProfileScripts}
-use Rattle.nextest_tables.specs.FileTexts.{ScriptUse, names_in, IsIn}
+use Rattle.nextest_tables.specs.FileTexts.{names_in, IsIn}
 use Rattle.nextest_tables.specs.View.{fields_view}
 use Rattle.nextest_tables.specs.Written.{WrittenFields}
 use Rattle.nextest_tables.specs.declared.profile_table.ProfileFields.{ProfileFields}
@@ -23,7 +23,7 @@ override_ref_view r = override_rule_view r.now
 
 -- a script rule behind a reference
 abbrev pub script_rule_ref_view : {F S E T N P : Type 0} → Bor (CompiledProfileScripts F S E T N P)
-    → Compiled E N ScriptUse
+    → Compiled E N ScriptRuleUse
 script_rule_ref_view r = script_rule_view r.now
 
 -- what a profile behind a reference writes
@@ -42,7 +42,7 @@ evaluated_override_view r = record {
 
 -- a script rule on the platforms of a build
 abbrev pub evaluated_script_rule_view : {F S E T N P : Type 0}
-    → EvaluatedRule' (CompiledProfileScripts F S E T N P) → EvaluatedRule E ScriptUse
+    → EvaluatedRule' (CompiledProfileScripts F S E T N P) → EvaluatedRule E ScriptRuleUse
 evaluated_script_rule_view r = record {
   filter = (script_rule_ref_view r.rule).filter;
   for_host = r.for_host;
@@ -66,8 +66,8 @@ abbrev pub evaluated_override_meaning : {E M : Type 0} → (E → M) → Evaluat
 evaluated_override_meaning f r = evaluated_meaning f (use_meaning f) r
 
 -- a script rule on the platforms of a build, by what its filter means
-abbrev pub evaluated_script_rule_meaning : {E M : Type 0} → (E → M) → EvaluatedRule E ScriptUse
-    → EvaluatedRule M ScriptUse
+abbrev pub evaluated_script_rule_meaning : {E M : Type 0} → (E → M) → EvaluatedRule E ScriptRuleUse
+    → EvaluatedRule M ScriptRuleUse
 evaluated_script_rule_meaning f r = evaluated_meaning f (λ u. u) r
 
 -- an override that code holds, by what its filters mean
@@ -77,7 +77,7 @@ meant_override meaning r = evaluated_override_meaning meaning (evaluated_overrid
 
 -- a script rule that code holds, by what its filter means
 abbrev pub meant_script_rule : {F S E T N P M : Type 0} → (E → M)
-    → EvaluatedRule' (CompiledProfileScripts F S E T N P) → EvaluatedRule M ScriptUse
+    → EvaluatedRule' (CompiledProfileScripts F S E T N P) → EvaluatedRule M ScriptRuleUse
 meant_script_rule meaning r =
     evaluated_script_rule_meaning meaning (evaluated_script_rule_view r)
 
@@ -91,12 +91,12 @@ override_text_meaning f rule =
 abbrev pub KnowsRunWrappers : {F S E T N P : Type 0} → ScriptTables
     → List (EvaluatedRule' (CompiledProfileScripts F S E T N P)) → Type 0
 KnowsRunWrappers scripts rules = Each
-    (λ r. IfWritten (script_rule_ref_view r.rule).writes.run_wrapper
+    (λ r. IfWritten (script_rule_ref_view r.rule).writes.scripts.run_wrapper
     (IsIn (names_in scripts.wrapper))) rules
 
 -- each list wrapper that script rules name is a wrapper script of a configuration
 abbrev pub KnowsListWrappers : {F S E T N P : Type 0} → ScriptTables
     → List (EvaluatedRule' (CompiledProfileScripts F S E T N P)) → Type 0
 KnowsListWrappers scripts rules = Each
-    (λ r. IfWritten (script_rule_ref_view r.rule).writes.list_wrapper
+    (λ r. IfWritten (script_rule_ref_view r.rule).writes.scripts.list_wrapper
     (IsIn (names_in scripts.wrapper))) rules

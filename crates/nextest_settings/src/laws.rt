@@ -1,7 +1,7 @@
 //! Laws of what decides a setting, of what is evaluated for it, and of the order of rules.
 ghost use Rattle.std.specs.Prelude.{◌≡◌, ◌≤◌, ◌↔◌, List, ℕ, Bool, None, Some, IfSome, Contains, false, count_by, is_some, length, map, slice_get};
 ghost use Rattle.nextest_elements.specs.declared.run_mode.NextestRunMode.{NextestRunMode};
-ghost use Rattle.nextest_rules.specs.Rules.{Layer, OverrideUse};
+ghost use Rattle.nextest_rules.specs.Rules.{Layer, OverrideUse, ScriptRuleUse};
 ghost use Rattle.nextest_settings.specs.Chains.{overrides_of, script_rules_of};
 ghost use Rattle.nextest_settings.specs.Deciding.{QueryContext, Rising, HasFilterAt, StandsFirst, decides, winner};
 ghost use Rattle.nextest_settings.specs.Order.{RulesAreInOrder};
@@ -10,7 +10,6 @@ ghost use Rattle.nextest_settings.specs.Profile.{EvaluatableModel};
 ghost use Rattle.nextest_settings.specs.Queries.{filters_of, evaluated_for_test, evaluated_for_list, IsEvaluatedForTest, IsEvaluatedForList};
 ghost use Rattle.nextest_settings.specs.Settings.{StandsOnce, settings};
 ghost use Rattle.nextest_settings.specs.declared.setting.Setting.{Setting};
-ghost use Rattle.nextest_tables.specs.FileTexts.{ScriptUse};
 ghost use Rattle.nextest_tables.specs.Written.{Name};
 
 use crate::setting::Setting;
@@ -63,12 +62,12 @@ pub fn law_first_override<F: Filters>()
 /// The script rule that names a wrapper is the one at the least number that holds and names one,
 /// and there is none exactly where no script rule does.
 pub fn law_first_script_rule<F: Filters>()
-    ensures some { (query : QueryContext F.Meaning) (wants : ScriptUse → Bool)
-        (rules : List (EvaluatedRule F.Meaning ScriptUse))
+    ensures some { (query : QueryContext F.Meaning) (wants : ScriptRuleUse → Bool)
+        (rules : List (EvaluatedRule F.Meaning ScriptRuleUse))
         → IfSome (winner query wants rules) (StandsFirst (decides query wants) rules) }
-    ensures none { (query : QueryContext F.Meaning) (wants : ScriptUse → Bool)
-        (rules : List (EvaluatedRule F.Meaning ScriptUse)) (n : ℕ)
-        (r : EvaluatedRule F.Meaning ScriptUse) → winner query wants rules ≡ None
+    ensures none { (query : QueryContext F.Meaning) (wants : ScriptRuleUse → Bool)
+        (rules : List (EvaluatedRule F.Meaning ScriptRuleUse)) (n : ℕ)
+        (r : EvaluatedRule F.Meaning ScriptRuleUse) → winner query wants rules ≡ None
         → slice_get rules n ≡ Some r → decides query wants r ≡ false }
 {}
 

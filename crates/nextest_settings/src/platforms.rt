@@ -23,11 +23,19 @@ pub type EvaluatedOverride<'cfg, F, S> = EvaluatedRule<'cfg, CompiledOverride<F,
 /// A script rule on the platforms of a build.
 pub type EvaluatedScriptRule<'cfg, F, S> = EvaluatedRule<'cfg, CompiledProfileScripts<F, S>>;
 
-impl<R> EvaluatedRule<'_, R> {
+impl<'cfg, R> EvaluatedRule<'cfg, R> {
     ghost use Rattle.nextest_settings.specs.Platforms.{by_platform};
 
-    /// Whether the platforms of the rule hold for binaries of a platform.
-    pub(crate) fn is_on(&self, platform: BuildPlatform) -> bool
+    /// The rule.
+    pub fn rule(&self) -> &'cfg R
+        ensures { result ≡ self.now.rule }
+    {
+        self.rule
+    }
+
+    /// Whether the platforms of the rule match those of the build, for binaries that are built for
+    /// the host or for the target.
+    pub fn is_on(&self, platform: BuildPlatform) -> bool
         ensures { result ≡ by_platform self.now.for_host self.now.for_target platform }
     {
         match platform {

@@ -1,10 +1,9 @@
 //! What decides a setting.
 ghost use Rattle.std.specs.Prelude.{◌≡◌, ⊤, Some};
-ghost use Rattle.nextest_rules.specs.Rules.{Compiled, OverrideUse};
+ghost use Rattle.nextest_rules.specs.Rules.{Compiled, OverrideUse, ScriptRuleUse};
 ghost use Rattle.nextest_rules.specs.View.{id_view, override_rule_view, script_rule_view};
 ghost use Rattle.nextest_settings.specs.Queries.{Origin, unwritten, by_profile, by_override, by_script, fallback_origin};
 ghost use Rattle.nextest_settings.specs.SourceView.{setting_source_view, source_override, source_use, MarksOrigin};
-ghost use Rattle.nextest_tables.specs.FileTexts.{ScriptUse};
 
 use crate::setting::Setting;
 use nextest_engines::{Filters, Specs};
@@ -19,7 +18,7 @@ pub trait TrackSource<'p, F: Filters, S: Specs> {
     ghost shows_override: { Self → Compiled F.Expr S.Spec (OverrideUse F.Expr) → Type 0 };
 
     /// Whether a mark is right for a script rule that writes this.
-    ghost shows_use: { Self → ScriptUse → Type 0 };
+    ghost shows_use: { Self → ScriptRuleUse → Type 0 };
 
     /// Nothing that is written decides it.
     fn default_mark() -> Self

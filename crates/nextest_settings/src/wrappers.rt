@@ -159,7 +159,7 @@ pub(crate) fn run_wrapper_rule<'cfg, F: Filters, S: Specs>(
         ++ asked_from ((λ w. is_some w.run_wrapper) ∷ []) first query []
         (map (meant_script_rule F.meaning) rules.now) }
     ensures member { IfSome result (λ r. (n : ℕ) × (slice_get rules.now n ≡ Some r)) }
-    ensures named { IfSome result (λ r. IsSome (script_rule_ref_view r.rule).writes.run_wrapper) }
+    ensures named { IfSome result (λ r. IsSome (script_rule_ref_view r.rule).writes.scripts.run_wrapper) }
 {
     let asked: RunWrapperQuery<'_, F> = RunWrapperQuery {
         query: *query,
@@ -193,7 +193,7 @@ pub(crate) fn list_wrapper_rule<'cfg, F: Filters, S: Specs>(
         ++ asked_from ((λ w. is_some w.list_wrapper) ∷ []) first query []
         (map (meant_script_rule F.meaning) rules.now) }
     ensures member { IfSome result (λ r. (n : ℕ) × (slice_get rules.now n ≡ Some r)) }
-    ensures named { IfSome result (λ r. IsSome (script_rule_ref_view r.rule).writes.list_wrapper) }
+    ensures named { IfSome result (λ r. IsSome (script_rule_ref_view r.rule).writes.scripts.list_wrapper) }
 {
     let asked: ListWrapperQuery<'_, F> = ListWrapperQuery {
         query: *query,
@@ -246,7 +246,7 @@ pub(crate) fn run_wrapper<'cfg, F: Filters, S: Specs>(
         (wrapping_rule query (map (meant_script_rule F.meaning) rules.now)) }
     ensures script { option_map (λ w. Some (wrapper_script_view w.script.now)) result
         ≡ option_map (λ id. at_name id (scripts_view scripts.now).wrapper)
-        (option_and_then (λ w. (script_rule_ref_view w.rule).writes.run_wrapper) result) }
+        (option_and_then (λ w. (script_rule_ref_view w.rule).writes.scripts.run_wrapper) result) }
     ensures tally { let query = test_query_by F.Filters cx.now.default_filter.now query.now in
         F.Tally.numbers tally.new ≡ F.Tally.numbers tally.old
         ++ asked_from ((λ w. is_some w.run_wrapper) ∷ []) first query []

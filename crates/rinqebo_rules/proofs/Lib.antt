@@ -1,4 +1,3 @@
 pub mod Results
 pub mod Zips
-pub mod InOrder
 mod ProfileOrigins

@@ -1,5 +1,5 @@
 -- What the conditions of rules say, and what is known of rules by that.
-use Rattle.std.specs.Prelude.{◌&&◌, Bool, Option, Some, is_some}
+use Rattle.std.specs.Prelude.{◌&&◌, Bool, Option, Some}
 use Rattle.filter_language.specs.declared.filterset.Filterset.{Filterset}
 use Rattle.nextest_engines.specs.Engines.{test_view}
 use Rattle.nextest_engines.specs.declared.queries.BuildPlatforms.{BuildPlatforms}
@@ -10,6 +10,7 @@ use Rattle.nextest_settings.specs.Platforms.{runs_on}
 use Rattle.rule_verdicts.specs.declared.verdict.RuleFacts.{RuleFacts}
 use Rattle.rinqebo_rules.specs.Conditions.{told_condition, is_met_by, filter_matches, is_met, is_matched, asked_if}
 use Rattle.rinqebo_rules.specs.RuleViews.{Rule}
+use Rattle.rinqebo_rules.specs.SettingRules.{writes_it}
 use Rattle.rinqebo_rules.specs.declared.conditions.Answers.{Answers}
 use Rattle.rinqebo_rules.specs.declared.conditions.Asking.{Asking}
 
@@ -45,5 +46,5 @@ facts_told asking rule =
     record {
       is_on = is_met answers.host && is_met answers.target;
       matches = is_matched answers.filter;
-      writes = is_some rule.writes;
+      writes = writes_it rule.writes;
     }

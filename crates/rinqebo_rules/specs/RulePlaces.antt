@@ -37,3 +37,8 @@ place_view p = record {
 abbrev pub id_place : RuleId → Place
 id_place id =
     record { source = id.source; profile = id.profile; part = parts.Override id.index }
+
+-- where the script rule of an id stands
+abbrev pub script_place : RuleId → Place
+script_place id =
+    record { source = id.source; profile = id.profile; part = parts.Script id.index }

@@ -4,6 +4,7 @@ use Rattle.filter_language.specs.declared.filterset.Filterset.{Filterset}
 use Rattle.nextest_filters.specs.declared.compiling.FieldMatcher.{FieldMatcher}
 use Rattle.rinqebo_values.specs.SettingValues.{told_value}
 use Rattle.target_language.specs.declared.expression.TargetSpec.{TargetSpec}
+use Rattle.rinqebo_rules.specs.RulePlaces.{place_view}
 use Rattle.rinqebo_rules.specs.SettingRules.{RuleFor}
 use Rattle.rinqebo_rules.specs.declared.chain_rules.SettingRule.{SettingRule}
 
@@ -17,5 +18,5 @@ setting_rule_view rule = record {
   host = rule.platforms.now.host;
   target = rule.platforms.now.target;
   filter = option_map (λ filter. filter.now) rule.filter;
-  writes = option_map told_value rule.value;
+  writes = record { place = place_view rule.place; value = option_map told_value rule.value };
 }

@@ -1,19 +1,28 @@
 -- The rules that may write a setting, and what each writes for it.
-use Rattle.std.specs.Prelude.{Bool, true, false, if◌then◌else◌, List, map, Option, option_map}
+use Rattle.std.specs.Prelude.{Bool, true, false, if◌then◌else◌, is_some, List, map, Option, option_map}
 use Rattle.nextest_elements.specs.declared.run_mode.NextestRunMode.{NextestRunMode}
-use Rattle.nextest_rules.specs.Rules.{Compiled, LayerProfile, OverrideUse}
+use Rattle.nextest_rules.specs.Rules.{Compiled, OverrideUse, ScriptRuleUse}
 use Rattle.nextest_settings.specs.Settings.{sets}
 use Rattle.nextest_settings.specs.declared.setting.Setting.{Setting}
 use Rattle.nextest_settings.specs.declared.setting.Setting.TheVariants as at
-use Rattle.nextest_tables.specs.FileTexts.{ScriptUse}
 use Rattle.rinqebo_values.specs.Told.{ToldValue, told_of}
+use Rattle.rinqebo_rules.specs.RulePlaces.{Place, id_place, script_place}
 
--- a rule, with what it writes for a setting as it is told: nothing where it does not write it
+-- the place of a rule, and what it writes for a setting as it is reported, if it writes it
+pub record RuleValue : Type 0 where
+  pub place : Place
+  pub value : Option ToldValue
+
+-- whether a rule writes the setting
+abbrev pub writes_it : RuleValue → Bool
+writes_it written = is_some written.value
+
+-- a rule, with its place and what it writes for a setting
 abbrev pub RuleFor : Type 0 → Type 0 → Type 0
-RuleFor M K = Compiled M K (Option ToldValue)
+RuleFor M K = Compiled M K RuleValue
 
 -- a rule for a setting, by what a rule writes for it
-abbrev pub for_setting : {M K W : Type 0} → (W → Option ToldValue) → Compiled M K W → RuleFor M K
+abbrev pub for_setting : {M K W : Type 0} → (W → RuleValue) → Compiled M K W → RuleFor M K
 for_setting writes rule = record {
   host = rule.host;
   target = rule.target;
@@ -22,13 +31,18 @@ for_setting writes rule = record {
 }
 
 -- what an override writes for a setting, in a mode
-abbrev pub override_writes : {M : Type 0} → Setting → NextestRunMode → OverrideUse M
-    → Option ToldValue
-override_writes s mode written = option_map (told_of s) (sets written.settings mode s)
+abbrev pub override_writes : {M : Type 0} → Setting → NextestRunMode → OverrideUse M → RuleValue
+override_writes s mode written = record {
+  place = id_place written.id;
+  value = option_map (told_of s) (sets written.settings mode s);
+}
 
 -- the run wrapper that a script rule names
-abbrev pub wrapper_written : ScriptUse → Option ToldValue
-wrapper_written scripts = option_map (told_of at.RunWrapper) scripts.run_wrapper
+abbrev pub wrapper_written : ScriptRuleUse → RuleValue
+wrapper_written written = record {
+  place = script_place written.id;
+  value = option_map (told_of at.RunWrapper) written.scripts.run_wrapper;
+}
 
 -- Whether script rules write a setting. They name run wrappers.
 abbrev pub is_of_scripts : Setting → Bool
@@ -38,11 +52,7 @@ is_of_scripts s = false
 -- Of the rules of a profile, those that may write a setting, with what each writes for it: script
 -- rules for run wrappers, overrides for all other settings.
 abbrev pub rules_for : {M K : Type 0} → Setting → NextestRunMode
-    → List (Compiled M K (OverrideUse M)) → List (Compiled M K ScriptUse) → List (RuleFor M K)
+    → List (Compiled M K (OverrideUse M)) → List (Compiled M K ScriptRuleUse) → List (RuleFor M K)
 rules_for s mode overrides script_rules =
     if is_of_scripts s then map (for_setting wrapper_written) script_rules
     else map (for_setting (override_writes s mode)) overrides
-
--- the script rules of a profile of a source, with the run wrapper that each names
-abbrev pub wrapper_rules_in : {M K : Type 0} → LayerProfile M K → List (RuleFor M K)
-wrapper_rules_in profile = map (for_setting wrapper_written) profile.script_rules

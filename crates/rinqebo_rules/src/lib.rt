@@ -13,7 +13,7 @@ mod trees;
 mod wrappers;
 
 pub use binary::query_of;
-pub use chain_rules::{SettingRule, rules_for, script_rules};
+pub use chain_rules::{SettingRule, rules_for};
 pub use conditions::{Answers, Asking, default_filter};
 pub use facts::{answers_to, facts_of};
 pub use fallback::fallback_value;

@@ -1,12 +1,12 @@
 //! Where rules stand.
 ghost use Rattle.std.specs.Prelude.{◌≡◌, ◌++◌, [], ◌∷◌, List, IfOk, map, option_map};
 ghost use Rattle.std.specs.List.{AllZip};
-ghost use Rattle.nextest_rules.specs.View.{id_view};
+ghost use Rattle.nextest_rules.specs.View.{id_view, script_rule_id_view};
 ghost use Rattle.rinqebo_rules.specs.Origins.{PathStep, IsOriginOf, key_steps, profile_steps, step_view};
-ghost use Rattle.rinqebo_rules.specs.RulePlaces.{list_of, part_of, place_view, id_place};
+ghost use Rattle.rinqebo_rules.specs.RulePlaces.{list_of, part_of, place_view, id_place, script_place};
 
 use config_places::Step;
-use nextest_config::{ConfigSource, OverrideId, Tree};
+use nextest_config::{ConfigSource, OverrideId, ScriptRuleId, Tree};
 use rinqebo_files::{Layer, path_place, place_of, rule_at};
 use rinqebo_report::{Origin, Part, Written};
 use rinqebo_request::SettingKey;
@@ -82,6 +82,18 @@ impl<'c> RulePlace<'c> {
             source: &id.config_source,
             profile: id.profile_name.as_str(),
             kind: RuleKind::Override,
+            index: id.index,
+        }
+    }
+
+    /// Where a script rule stands.
+    pub fn of_script(id: &'c ScriptRuleId) -> RulePlace<'c>
+        ensures { place_view result ≡ script_place (script_rule_id_view id.now) }
+    {
+        RulePlace {
+            source: &id.config_source,
+            profile: id.profile_name.as_str(),
+            kind: RuleKind::Script,
             index: id.index,
         }
     }

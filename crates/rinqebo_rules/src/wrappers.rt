@@ -1,10 +1,10 @@
 //! Which script rule wraps the run of a test.
 use crate::binary::query_of;
-use crate::chain_rules::{SettingRule, script_rules};
+use crate::chain_rules::{SettingRule, rules_for};
 use crate::conditions::{Asking, default_filter};
 use crate::facts::facts_of;
 use crate::rule_places::RulePlace;
-use nextest_config::BuildPlatforms;
+use nextest_config::{BuildPlatforms, Setting};
 use rinqebo_load::Config;
 use rinqebo_request::TestName;
 use std::alloc::{AllocError, Global};
@@ -33,7 +33,7 @@ pub fn wrapping_place<'c>(
         query: &query,
         default_filter,
     };
-    for rule in &script_rules(alloc, config.layers(), chain)? {
+    for rule in &rules_for(alloc, config, chain, Setting::RunWrapper, test.mode)? {
         if decides(rule, &asking) {
             return Ok(Some(rule.place));
         }

@@ -15,6 +15,7 @@ use Rattle.nextest_settings.specs.Profile.{Configured, profile_of}
 use Rattle.nextest_settings.specs.declared.setting.Setting.{Setting}
 use Rattle.nextest_tables.specs.FileTexts.{names_in, IsIn}
 use Rattle.nextest_tables.specs.Written.{Name}
+use Rattle.rinqebo_files.specs.declared.layers.Layer.{Layer as FileLayer}
 use Rattle.rinqebo_report.specs.declared.report.Content.{Content}
 use Rattle.rinqebo_report.specs.declared.report.Content.TheVariants as contents
 use Rattle.rinqebo_report.specs.declared.report.Report.{Report}
@@ -37,7 +38,7 @@ use Rattle.rinqebo_run.specs.TellsReasons.{AreReasons, AreReasonsIn, configured_
 use Rattle.rinqebo_load.specs.declared.session.Session.{Session}
 
 -- what is told of the rules of a chain for a setting, and then of the fallback
-pub reasons_here : (platforms : BuildPlatforms Platform) (test : TestName) (query : TestQuery) (s : Setting)
+pub reasons_here : (layers : List FileLayer) (platforms : BuildPlatforms Platform) (test : TestName) (query : TestQuery) (s : Setting)
     (default : Filterset FieldMatcher) (c : Configured (Filterset FieldMatcher) TargetSpec) (name : Name)
     (names : List Name) (read : List ReadRule) (before : List Rule) (fallback : Rule) (rules : List Rule)
     → default ≡ default_filter_here platforms c.config (with_default names)
@@ -45,15 +46,15 @@ pub reasons_here : (platforms : BuildPlatforms Platform) (test : TestName) (quer
     (script_rules_of c.config.layers (with_default names))
     → (test_view query).name ≡ test.name.now → (test_view query).binary.binary_id ≡ test.binary.now
     → (test_view query).binary.platform ≡ test.platform
-    → AreRulesTold is_met_by platforms
+    → AreRulesTold layers is_met_by platforms
     (record { platform = test.platform; matches = λ f. filter_matches f (test_view query) default }) read before
     → fallback.verdict ≡ told.Fallback → rules ≡ before ++ fallback ∷ []
-    → AreReasons is_met_by filter_matches platforms test s (profile_of c name names) rules
-reasons_here platforms test query s default c name names read before fallback rules same gathered named binary on
+    → AreReasons layers is_met_by filter_matches platforms test s (profile_of c name names) rules
+reasons_here layers platforms test query s default c name names read before fallback rules same gathered named binary on
     here last are =
     let asked = test_view query in
     let Told : BuildPlatform → Filterset FieldMatcher → List ReadRule → Type 0 =
-    λ p d rs. AreRulesTold is_met_by platforms
+    λ p d rs. AreRulesTold layers is_met_by platforms
     (record { platform = p; matches = λ f. filter_matches f asked d }) rs before in
     record {
       asked = asked;
@@ -86,7 +87,7 @@ pub tells : (session : Session) (profile : Name) (test : TestName) (s : Setting)
     → IsLoadedFrom (readings session.engines.filters) (files_view session.gathered.now) loaded
     → IsIn (names_in loaded.config.profiles) profile → report.content ≡ content
     → IfWhy content (λ named key rules. IsTestNamed test named × (key ≡ key_text s test.mode)
-    × AreReasonsIn is_met_by filter_matches session.engines.platforms (record {
+    × AreReasonsIn session.layers.items is_met_by filter_matches session.engines.platforms (record {
       root = string_bytes session.gathered.now.paths.workspace_root;
       config = loaded.config;
       scripts = loaded.scripts;
@@ -105,16 +106,16 @@ tells session profile test s report content loaded accepted from there same is =
       are_scripts = from.scripts;
       known = subst (λ config. IsIn (names_in config.profiles) profile) from.means there;
       told = why_moved report.content
-          (λ named key rules. IsTestNamed test named × (key ≡ key_text s test.mode) × AreReasonsIn is_met_by filter_matches session.engines.platforms
+          (λ named key rules. IsTestNamed test named × (key ≡ key_text s test.mode) × AreReasonsIn session.layers.items is_met_by filter_matches session.engines.platforms
           read profile test s rules)
-          (λ named key rules. IsTestNamed test named × (key ≡ key_text s test.mode) × AreReasonsIn engines.meets engines.matches_test
+          (λ named key rules. IsTestNamed test named × (key ≡ key_text s test.mode) × AreReasonsIn session.layers.items engines.meets engines.matches_test
           session.engines.platforms (configured_by session loaded.scripts) profile test s rules)
           (λ named key rules h. (
             h.0,
             h.1,
             reasons_of_texts (marks_view names_of) spec_view engines.meets session.engines.platforms
-                engines.matches_test test s read profile rules _ from.means h.2,
+                session.layers.items engines.matches_test test s read profile rules _ from.means h.2,
           ))
           (subst (λ content. IfWhy content (λ named key rules. IsTestNamed test named × (key ≡ key_text s test.mode)
-          × AreReasonsIn is_met_by filter_matches session.engines.platforms read profile test s rules)) (sym same) is);
+          × AreReasonsIn session.layers.items is_met_by filter_matches session.engines.platforms read profile test s rules)) (sym same) is);
     }

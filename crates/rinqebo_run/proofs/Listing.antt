@@ -16,13 +16,13 @@ use Rattle.nextest_load.specs.Load.{Loaded}
 use Rattle.nextest_profiles.proofs.MeaningOfTexts.{profile_means}
 use Rattle.nextest_profiles.specs.Meaning.{configured_meaning, profile_meaning}
 use Rattle.nextest_profiles.specs.Profiles.{IsChainAndDefault}
-use Rattle.nextest_rules.specs.Rules.{Compiled, Layer, OverrideUse}
+use Rattle.nextest_rules.specs.Rules.{Compiled, Layer, OverrideUse, ScriptRuleUse}
 use Rattle.nextest_settings.specs.Chains.{overrides_of, script_rules_of}
 use Rattle.nextest_settings.specs.Deciding.{QueryContext}
 use Rattle.nextest_settings.specs.Platforms.{EvaluatedRule, rule_on}
 use Rattle.nextest_settings.specs.Profile.{Configured, EvaluatableModel, profile_of, profile_on}
 use Rattle.nextest_settings.specs.View.{evaluated_override_meaning, evaluated_script_rule_meaning}
-use Rattle.nextest_tables.specs.FileTexts.{ScriptUse, names_in, IsIn}
+use Rattle.nextest_tables.specs.FileTexts.{names_in, IsIn}
 use Rattle.nextest_tables.specs.Written.{Name}
 use Rattle.rinqebo_list.specs.Rows.{AreTestsTold}
 use Rattle.rinqebo_list.specs.Scripts.{AreScriptsTold}
@@ -40,16 +40,13 @@ use Rattle.test_lists.specs.ListView.{list_view}
 use Rattle.test_lists.specs.Lists.{all_binaries, all_tests}
 use Rattle.rinqebo_load.specs.Accepted.{AreAccepted}
 use Rattle.rinqebo_rules.specs.Conditions.{is_met_by}
-use Rattle.rinqebo_run.specs.ListRules.{bare, placed_view, placed_override, listed_script, AreRulesOf}
-use Rattle.rinqebo_run.specs.Listed.{IsProfileOn, bare_on, placed_on, AreUnused, AreTestsOf, IfListed, TellsTests}
+use Rattle.rinqebo_run.specs.ListRules.{placed_view, placed_override, placed_script, placed_rules}
+use Rattle.rinqebo_run.specs.Listed.{IsProfileOn, placed_on, places_in, AreUnused, AreTestsOf, IfListed, TellsTests}
 use Rattle.rinqebo_run.specs.ListedBy.{read_by, listed_by, AreUnusedPlaces}
 use Rattle.rinqebo_files.specs.declared.layers.Layer.{Layer as FileLayer}
 use Rattle.rinqebo_rules.specs.Origins.{IsOriginOf}
-use Rattle.rinqebo_rules.specs.RulePlaces.{Place, place_view}
-use Rattle.rinqebo_rules.specs.RuleViews.{setting_rule_view}
+use Rattle.rinqebo_rules.specs.RulePlaces.{Place, id_place, place_view, script_place}
 use Rattle.rinqebo_load.specs.Sessions.{files_view, readings, IsLoadedFrom}
-use Rattle.rinqebo_rules.specs.SettingRules.{for_setting, wrapper_written}
-use Rattle.rinqebo_rules.specs.declared.chain_rules.SettingRule.{SettingRule}
 use Rattle.rinqebo_rules.specs.declared.rule_places.RulePlace.{RulePlace}
 use Rattle.rinqebo_load.specs.declared.session.Session.{Session}
 
@@ -68,33 +65,6 @@ pub told_of : (files layers : List FileLayer) (rules others : List RulePlace) (o
 told_of files layers rules others origins same_files same told =
     subst (λ fs. AllZip (λ place. IsOriginOf fs place []) (map place_view others) origins) same_files
     (subst (λ rs. AllZip (λ place. IsOriginOf files place []) (map place_view rs) origins) same told)
-
--- script rules as lists take them are those with the run wrappers that they name, but for what they write
-pub bare_scripts : (rules : List SettingRule)
-    → map bare (map placed_view (map listed_script rules)) ≡ map bare (map setting_rule_view rules)
-bare_scripts [] = refl
-bare_scripts (rule ∷ rules) = ap (λ rest. bare (setting_rule_view rule) ∷ rest) (bare_scripts rules)
-
--- what rules write does not matter where it is left out
-pub bare_wrappers : {M K : Type 0} (rules : List (Compiled M K ScriptUse))
-    → map bare (map (for_setting wrapper_written) rules) ≡ map bare rules
-bare_wrappers [] = refl
-bare_wrappers (rule ∷ rules) = ap (λ rest. bare rule ∷ rest) (bare_wrappers rules)
-
--- all rules of a chain
-pub rules_of_chain : (layers : List (Layer (Filterset FieldMatcher) TargetSpec)) (names : List Name)
-    (overrides all : List (Compiled (Filterset FieldMatcher) TargetSpec RulePlace)) (scripts : List SettingRule)
-    → map placed_view overrides ≡ map placed_override (overrides_of layers names)
-    → map bare (map setting_rule_view scripts) ≡ map bare (script_rules_of layers names)
-    → all ≡ overrides ++ map listed_script scripts → AreRulesOf layers names (map placed_view all)
-rules_of_chain layers names overrides all scripts placed same are =
-    let there = map listed_script scripts in
-    record {
-      scripts = map placed_view there;
-      are = ap (map placed_view) are ∙ map-append placed_view overrides there
-          ∙ ap (λ front. front ++ map placed_view there) placed;
-      same_scripts = bare_scripts scripts ∙ same;
-    }
 
 both : {A B X : Type 0} (g : B → X) (f : A → B) (xs : List A) → map g (map f xs) ≡ map (λ a. g (f a)) xs
 both g f [] = refl
@@ -133,20 +103,17 @@ module _ {E N M K P : Type 0} (f : E → M) (g : N → K) (meets : K → P → O
 
   overrides_placed : (rules : List (Compiled E N (OverrideUse E)))
       → map meant_here (map placed_override rules)
-      ≡ map placed_on (map (evaluated_override_meaning f) (map (rule_on read_meets platforms) rules))
+      ≡ map (placed_on (λ w. id_place w.id))
+      (map (evaluated_override_meaning f) (map (rule_on read_meets platforms) rules))
   overrides_placed [] = refl
   overrides_placed (rule ∷ rules) = ap (λ rest. meant_here (placed_override rule) ∷ rest) (overrides_placed rules)
 
-  bare_meant : {W : Type 0} (rules : List (Compiled E N W))
-      → map bare_on (map meant_here rules) ≡ map meant_here (map bare rules)
-  bare_meant [] = refl
-  bare_meant (rule ∷ rules) = ap (λ rest. meant_here (bare rule) ∷ rest) (bare_meant rules)
-
-  scripts_meant : (rules : List (Compiled E N ScriptUse))
-      → map bare_on (map (evaluated_script_rule_meaning f) (map (rule_on read_meets platforms) rules))
-      ≡ map meant_here (map bare rules)
-  scripts_meant [] = refl
-  scripts_meant (rule ∷ rules) = ap (λ rest. meant_here (bare rule) ∷ rest) (scripts_meant rules)
+  scripts_placed : (rules : List (Compiled E N ScriptRuleUse))
+      → map meant_here (map placed_script rules)
+      ≡ map (placed_on (λ w. script_place w.id))
+      (map (evaluated_script_rule_meaning f) (map (rule_on read_meets platforms) rules))
+  scripts_placed [] = refl
+  scripts_placed (rule ∷ rules) = ap (λ rest. meant_here (placed_script rule) ∷ rest) (scripts_placed rules)
 
   module _ (c : Configured E N) (name : Name) (on : EvaluatableModel E)
       (is : IsProfileOn read_meets platforms c name on) where
@@ -173,35 +140,27 @@ module _ {E N M K P : Type 0} (f : E → M) (g : N → K) (meets : K → P → O
         ap (λ ns. map (rule_on read_meets platforms) (script_rules_of c.config.layers ns)) same
         ∙ ap (λ p. p.script_rules) (sym is.is_profile)
 
+    -- the rules of a chain, with their places, are those of the profile
+    placed_here : (names : List Name) → names ≡ with_default is.chain
+        → map meant_here (placed_rules c.config.layers names) ≡ places_in (profile_meaning f on)
+    placed_here names same =
+        let layers = c.config.layers in
+        ap (λ ns. map meant_here (placed_rules layers ns)) same
+        ∙ map-append meant_here (map placed_override (overrides_of layers (with_default is.chain)))
+        (map placed_script (script_rules_of layers (with_default is.chain)))
+        ∙ (λ i. overrides_placed (overrides_of layers (with_default is.chain)) i
+        ++ scripts_placed (script_rules_of layers (with_default is.chain)) i)
+        ∙ ap (λ p. places_in (profile_meaning f p)) (sym is.is_profile)
+
     -- the rules that hold for no test are told
     pub unused_told : (files : List FileLayer) (names : List Name) (tests : List (QueryContext M))
-        (rules : List (Compiled E N Place)) (unused : List Origin) → names ≡ with_default is.chain → AreRulesOf c.config.layers names rules
+        (unused : List Origin) → names ≡ with_default is.chain
         → AllZip (λ place. IsOriginOf files place [])
-        (map (λ rule. rule.writes) (unused_among tests (map meant_here rules))) unused
+        (map (λ rule. rule.writes) (unused_among tests (map meant_here (placed_rules c.config.layers names)))) unused
         → AreUnused files tests (profile_meaning f on) unused
-    unused_told files names tests rules unused same are told =
-        let chain = with_default is.chain in
-        let layers = c.config.layers in
-        let profile = profile_on read_meets platforms (profile_of c name is.chain) in
-        let scripts = map meant_here are.scripts in
-        let overrides : map meant_here (map placed_override (overrides_of layers names))
-        ≡ map placed_on (profile_meaning f on).overrides =
-        ap (λ ns. map meant_here (map placed_override (overrides_of layers ns))) same
-        ∙ overrides_placed (overrides_of layers chain)
-        ∙ ap (λ p. map placed_on (profile_meaning f p).overrides) (sym is.is_profile) in
-        let rules_meant : map meant_here rules ≡ map placed_on (profile_meaning f on).overrides ++ scripts =
-        ap (map meant_here) are.are
-        ∙ map-append meant_here (map placed_override (overrides_of layers names)) are.scripts
-        ∙ ap (λ front. front ++ scripts) overrides in
-        record {
-          scripts = scripts;
-          same_scripts = bare_meant are.scripts ∙ ap (map meant_here) are.same_scripts
-              ∙ ap (λ ns. map meant_here (map bare (script_rules_of layers ns))) same
-              ∙ sym (scripts_meant (script_rules_of layers chain))
-              ∙ ap (λ p. map bare_on (profile_meaning f p).script_rules) (sym is.is_profile);
-          told = subst (λ rs. AllZip (λ place. IsOriginOf files place [])
-              (map (λ rule. rule.writes) (unused_among tests rs)) unused) rules_meant told;
-        }
+    unused_told files names tests unused same told =
+        subst (λ rs. AllZip (λ place. IsOriginOf files place [])
+        (map (λ rule. rule.writes) (unused_among tests rs)) unused) (placed_here names same) told
 
 -- the script rules of a chain that was loaded are those of the profile
 pub scripts_here : (session : Session) (loaded : Loaded (Filterset FieldMatcher) TargetSpec) (name : Name)
@@ -243,9 +202,8 @@ listed_here session loaded name mode asked on names places tests unused scripts 
       is_profile = given_means f spec_view engines.meets platforms c name on is;
       tests_told = told;
       unused_told = unused_told f spec_view engines.meets platforms c name on is session.layers.items names _
-          are.rules unused
-          (same_names f spec_view engines.meets platforms c name on is names chain) are.are_rules
-          (subst (λ ps. AllZip (λ place. IsOriginOf session.layers.items place []) ps unused) are.are origins);
+          unused (same_names f spec_view engines.meets platforms c name on is names chain)
+          (subst (λ ps. AllZip (λ place. IsOriginOf session.layers.items place []) ps unused) are origins);
       scripts_told = scripted;
     }
 

@@ -1,5 +1,5 @@
 -- What is told of rules as they were read is told of what they mean.
-use Rattle.std.proofs.Common.{◌≡◌, ◌∙◌, ◌&&◌, Bool, true, false, if◌then◌else◌, List, [], ◌∷◌, map, Option, None, Some, is_some, option_map, ap, refl, sym, subst}
+use Rattle.std.proofs.Common.{◌≡◌, ◌∙◌, ◌&&◌, Bool, true, false, if◌then◌else◌, List, [], ◌∷◌, map, Option, None, Some, option_map, ap, refl, sym, subst}
 use Rattle.std.specs.List.{AllZip, zip}
 use Rattle.nextest_elements.specs.declared.run_mode.NextestRunMode.{NextestRunMode}
 use Rattle.nextest_engines.specs.Engines.{Test}
@@ -12,13 +12,13 @@ use Rattle.nextest_load.specs.Meaning.{config_meaning}
 use Rattle.nextest_profiles.proofs.MeaningOfTexts.{overrides_meaning, script_rules_meaning, profile_means}
 use Rattle.nextest_profiles.specs.Meaning.{with_config, configured_meaning}
 use Rattle.nextest_rules.specs.Meaning.{rule_meaning, override_meaning, script_rule_meaning}
-use Rattle.nextest_rules.specs.Rules.{Compiled, OverrideUse}
+use Rattle.nextest_rules.specs.Rules.{Compiled, OverrideUse, ScriptRuleUse}
 use Rattle.nextest_settings.specs.Deciding.{QueryContext, filter_holds}
 use Rattle.nextest_settings.specs.Platforms.{spec_holds, specs_hold, runs_on, rule_on, by_platform}
 use Rattle.nextest_settings.specs.Profile.{Configured, profile_of, profile_on}
 use Rattle.nextest_settings.specs.declared.setting.Setting.{Setting}
-use Rattle.nextest_tables.specs.FileTexts.{ScriptUse}
 use Rattle.nextest_tables.specs.Written.{Name}
+use Rattle.rinqebo_files.specs.declared.layers.Layer.{Layer as FileLayer}
 use Rattle.rinqebo_report.specs.declared.report.Rule.{Rule}
 use Rattle.rinqebo_request.specs.declared.request.TestName.{TestName}
 use Rattle.rule_verdicts.proofs.VerdictsOf.{verdicts-facts}
@@ -29,7 +29,7 @@ use Rattle.rinqebo_rules.specs.Conditions.{told_condition, is_met, asked_if}
 use Rattle.rinqebo_rules.specs.RuleAnswers.{answers_by, answers_told}
 use Rattle.rinqebo_run.specs.Reasons.{IsRuleTold, AreRulesTold, verdicts_here, AreRulesToldHere}
 use Rattle.rinqebo_rules.specs.RuleViews.{Rule as ReadRule, setting_rule_view}
-use Rattle.rinqebo_rules.specs.SettingRules.{RuleFor, for_setting, override_writes, wrapper_written, is_of_scripts, rules_for}
+use Rattle.rinqebo_rules.specs.SettingRules.{RuleFor, writes_it, for_setting, override_writes, wrapper_written, is_of_scripts, rules_for}
 use Rattle.rinqebo_run.specs.TellsReasons.{AreReasons, AreReasonsIn}
 use Rattle.rinqebo_rules.specs.declared.chain_rules.SettingRule.{SettingRule}
 use Rattle.rinqebo_rules.specs.declared.conditions.Asking.{Asking}
@@ -46,19 +46,19 @@ zip_moved h R S moved (x ∷ xs) (v ∷ vs) [] all = absurd all
 zip_moved h R S moved (x ∷ xs) (v ∷ vs) (y ∷ ys) all = (moved x v y all.0, zip_moved h R S moved xs vs ys all.1)
 
 -- a rule as code holds it is told with a verdict, for what is asked
-abbrev pub IsToldHere : Asking → SettingRule × Verdict → Rule → Type 0
-IsToldHere asking p =
-    IsRuleTold (setting_rule_view p.0).writes (answers_told asking (setting_rule_view p.0)) p.1
+abbrev pub IsToldHere : List FileLayer → Asking → SettingRule × Verdict → Rule → Type 0
+IsToldHere layers asking p =
+    IsRuleTold layers (setting_rule_view p.0).writes (answers_told asking (setting_rule_view p.0)) p.1
 
 -- the rules that are told are those that code holds
-pub told_here : (asking : Asking) (rules : List SettingRule) (verdicts : List Verdict) (told : List Rule)
-    → verdicts ≡ verdicts_here asking (map setting_rule_view rules)
-    → AllZip (IsToldHere asking) (zip rules verdicts) told
-    → AreRulesToldHere asking (map setting_rule_view rules) told
-told_here asking rules verdicts told same all =
-    let R : ReadRule × Verdict → Rule → Type 0 = λ p. IsRuleTold p.0.writes (answers_told asking p.0) p.1 in
+pub told_here : (layers : List FileLayer) (asking : Asking) (rules : List SettingRule) (verdicts : List Verdict)
+    (told : List Rule) → verdicts ≡ verdicts_here asking (map setting_rule_view rules)
+    → AllZip (IsToldHere layers asking) (zip rules verdicts) told
+    → AreRulesToldHere layers asking (map setting_rule_view rules) told
+told_here layers asking rules verdicts told same all =
+    let R : ReadRule × Verdict → Rule → Type 0 = λ p. IsRuleTold layers p.0.writes (answers_told asking p.0) p.1 in
     subst (λ vs. AllZip R (zip (map setting_rule_view rules) vs) told) same
-    (zip_moved setting_rule_view (IsToldHere asking) R (λ r v rule is. is) rules verdicts told all)
+    (zip_moved setting_rule_view (IsToldHere layers asking) R (λ r v rule is. is) rules verdicts told all)
 
 -- what is made of one of two lists
 map_if : {X Y : Type 0} (h : X → Y) (b : Bool) (xs ys : List X)
@@ -119,42 +119,42 @@ module _ {E N M K P : Type 0} (f : E → M) (g : N → K) (meets : K → P → O
         }
 
     facts_meant : (r : RuleFor E N)
-        → facts_of read_query is_some (rule_on read_meets platforms r)
-        ≡ facts_of query is_some (rule_on meets platforms (rule_meaning f g (λ w. w) r))
+        → facts_of read_query writes_it (rule_on read_meets platforms r)
+        ≡ facts_of query writes_it (rule_on meets platforms (rule_meaning f g (λ w. w) r))
     facts_meant r = λ i. record {
       is_on = by_platform (specs_meant Host r.host r.target i) (specs_meant Target r.host r.target i) query.platform;
       matches = filter_meant r.filter i;
-      writes = is_some r.writes;
+      writes = writes_it r.writes;
     }
 
     all_facts_meant : (rs : List (RuleFor E N))
-        → map (facts_of read_query is_some) (map (rule_on read_meets platforms) rs)
-        ≡ map (facts_of query is_some) (map (rule_on meets platforms) (map (rule_meaning f g (λ w. w)) rs))
+        → map (facts_of read_query writes_it) (map (rule_on read_meets platforms) rs)
+        ≡ map (facts_of query writes_it) (map (rule_on meets platforms) (map (rule_meaning f g (λ w. w)) rs))
     all_facts_meant [] = refl
     all_facts_meant (r ∷ rs) = λ i. facts_meant r i ∷ all_facts_meant rs i
 
     -- what comes of rules
     verdicts_meant : (rs : List (RuleFor E N))
-        → verdicts_of read_query is_some (map (rule_on read_meets platforms) rs)
-        ≡ verdicts_of query is_some (map (rule_on meets platforms) (map (rule_meaning f g (λ w. w)) rs))
+        → verdicts_of read_query writes_it (map (rule_on read_meets platforms) rs)
+        ≡ verdicts_of query writes_it (map (rule_on meets platforms) (map (rule_meaning f g (λ w. w)) rs))
     verdicts_meant rs =
-        verdicts-facts read_query is_some (map (rule_on read_meets platforms) rs)
+        verdicts-facts read_query writes_it (map (rule_on read_meets platforms) rs)
         ∙ ap (verdicts_by false) (all_facts_meant rs)
-        ∙ sym (verdicts-facts query is_some (map (rule_on meets platforms) (map (rule_meaning f g (λ w. w)) rs)))
+        ∙ sym (verdicts-facts query writes_it (map (rule_on meets platforms) (map (rule_meaning f g (λ w. w)) rs)))
 
     -- what is told of rules for a setting
-    rules_meant : (rs : List (RuleFor E N)) (rules : List Rule)
-        → AreRulesTold read_meets platforms read_query rs rules
-        → AreRulesTold meets platforms query (map (rule_meaning f g (λ w. w)) rs) rules
-    rules_meant rs rules all =
+    rules_meant : (layers : List FileLayer) (rs : List (RuleFor E N)) (rules : List Rule)
+        → AreRulesTold layers read_meets platforms read_query rs rules
+        → AreRulesTold layers meets platforms query (map (rule_meaning f g (λ w. w)) rs) rules
+    rules_meant layers rs rules all =
         let R : RuleFor E N × Verdict → Rule → Type 0 =
-        λ p. IsRuleTold p.0.writes (answers_by read_meets platforms read_query p.0) p.1 in
+        λ p. IsRuleTold layers p.0.writes (answers_by read_meets platforms read_query p.0) p.1 in
         let S : RuleFor M K × Verdict → Rule → Type 0 =
-        λ p. IsRuleTold p.0.writes (answers_by meets platforms query p.0) p.1 in
+        λ p. IsRuleTold layers p.0.writes (answers_by meets platforms query p.0) p.1 in
         subst (λ vs. AllZip S (zip (map (rule_meaning f g (λ w. w)) rs) vs) rules) (verdicts_meant rs)
         (zip_moved (rule_meaning f g (λ w. w)) R S
-        (λ r v rule is. subst (λ answers. IsRuleTold r.writes answers v rule) (answers_meant r) is)
-        rs (verdicts_of read_query is_some (map (rule_on read_meets platforms) rs)) rules all)
+        (λ r v rule is. subst (λ answers. IsRuleTold layers r.writes answers v rule) (answers_meant r) is)
+        rs (verdicts_of read_query writes_it (map (rule_on read_meets platforms) rs)) rules all)
 
   module _ (s : Setting) (mode : NextestRunMode) where
     -- overrides for a setting
@@ -166,14 +166,14 @@ module _ {E N M K P : Type 0} (f : E → M) (g : N → K) (meets : K → P → O
         λ i. for_setting (override_writes s mode) (override_meaning f g r) ∷ overrides_for rs i
 
     -- script rules for a run wrapper
-    scripts_for : (rs : List (Compiled E N ScriptUse))
+    scripts_for : (rs : List (Compiled E N ScriptRuleUse))
         → map (rule_meaning f g (λ w. w)) (map (for_setting wrapper_written) rs)
         ≡ map (for_setting wrapper_written) (map (script_rule_meaning f g) rs)
     scripts_for [] = refl
     scripts_for (r ∷ rs) = λ i. for_setting wrapper_written (script_rule_meaning f g r) ∷ scripts_for rs i
 
     -- the rules of a profile for a setting
-    rules_meaning : (overrides : List (Compiled E N (OverrideUse E))) (scripts : List (Compiled E N ScriptUse))
+    rules_meaning : (overrides : List (Compiled E N (OverrideUse E))) (scripts : List (Compiled E N ScriptRuleUse))
         → map (rule_meaning f g (λ w. w)) (rules_for s mode overrides scripts)
         ≡ rules_for s mode (map (override_meaning f g) overrides) (map (script_rule_meaning f g) scripts)
     rules_meaning overrides scripts =
@@ -181,16 +181,16 @@ module _ {E N M K P : Type 0} (f : E → M) (g : N → K) (meets : K → P → O
         (map (for_setting (override_writes s mode)) overrides)
         ∙ (λ i. if is_of_scripts s then scripts_for scripts i else overrides_for overrides i)
 
-  module _ (matches : M → Test → M → Bool) (test : TestName) (s : Setting) (c : Configured E N) (name : Name)
-      (rules : List Rule) where
+  module _ (layers : List FileLayer) (matches : M → Test → M → Bool) (test : TestName) (s : Setting)
+      (c : Configured E N) (name : Name) (rules : List Rule) where
     -- whether a filter that was read matches a test
     abbrev pub read_matches : E → Test → E → Bool
     read_matches e asked default = matches (f e) asked (f default)
 
     -- what is told of the rules of a chain
     reasons_meant : (chain : List Name)
-        → AreReasons read_meets read_matches platforms test s (profile_of c name chain) rules
-        → AreReasons meets matches platforms test s (profile_of (configured_meaning f g c) name chain) rules
+        → AreReasons layers read_meets read_matches platforms test s (profile_of c name chain) rules
+        → AreReasons layers meets matches platforms test s (profile_of (configured_meaning f g c) name chain) rules
     reasons_meant chain is =
         let profile = profile_of c name chain in
         let written = rules_for s test.mode profile.overrides profile.script_rules in
@@ -207,21 +207,21 @@ module _ {E N M K P : Type 0} (f : E → M) (g : N → K) (meets : K → P → O
           fallback = is.fallback;
           are = is.are;
           rules_told =
-              subst (λ rs. AreRulesTold meets platforms
+              subst (λ rs. AreRulesTold layers meets platforms
               (query (profile_on meets platforms meant).default_filter.filter) rs is.before)
               (rules_meaning s test.mode profile.overrides profile.script_rules
               ∙ (λ i. rules_for s test.mode (overrides_meaning f g c.config.layers (with_default chain) i)
               (script_rules_meaning f g c.config.layers (with_default chain) i)))
-              (subst (λ d. AreRulesTold meets platforms (query d) (map (rule_meaning f g (λ w. w)) written) is.before)
+              (subst (λ d. AreRulesTold layers meets platforms (query d) (map (rule_meaning f g (λ w. w)) written) is.before)
               (ap (λ p. p.default_filter.filter) (profile_means f g meets platforms c name chain))
-              (rules_meant (query (f default)) written is.before is.rules_told));
+              (rules_meant (query (f default)) layers written is.before is.rules_told));
           fallback_told = is.fallback_told;
         }
 
     -- what is told of the rules of a profile, by what texts mean
     pub reasons_of_texts : (texts : ConfigModel M K) → config_meaning f g c.config ≡ texts
-        → AreReasonsIn read_meets read_matches platforms c name test s rules
-        → AreReasonsIn meets matches platforms (with_config c texts) name test s rules
+        → AreReasonsIn layers read_meets read_matches platforms c name test s rules
+        → AreReasonsIn layers meets matches platforms (with_config c texts) name test s rules
     reasons_of_texts texts same is =
         let chain = is.is_profile.chain in
         record {
@@ -232,8 +232,8 @@ module _ {E N M K P : Type 0} (f : E → M) (g : N → K) (meets : K → P → O
                 is.is_profile.is_chain;
             is_profile = refl;
           };
-          reasons = subst (λ config. AreReasons meets matches platforms test s
+          reasons = subst (λ config. AreReasons layers meets matches platforms test s
               (profile_of (with_config c config) name chain) rules) same
-              (reasons_meant chain (subst (λ p. AreReasons read_meets read_matches platforms test s p rules)
+              (reasons_meant chain (subst (λ p. AreReasons layers read_meets read_matches platforms test s p rules)
               is.is_profile.is_profile is.reasons));
         }

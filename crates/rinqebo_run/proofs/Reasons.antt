@@ -1,5 +1,5 @@
 -- What is told of rules is what comes of them.
-use Rattle.std.proofs.Common.{◌≡◌, ◌∙◌, ◌&&◌, ◌||◌, Bool, true, false, List, [], ◌∷◌, map, Option, None, Some, ap, is_some, refl, sym, unwrap_or}
+use Rattle.std.proofs.Common.{◌≡◌, ◌∙◌, ◌&&◌, ◌||◌, Bool, true, false, List, [], ◌∷◌, map, Option, None, Some, ap, refl, sym, unwrap_or}
 use Rattle.std.specs.List.{AllZip}
 use Rattle.nextest_engines.specs.declared.queries.BuildPlatform.{BuildPlatform}
 use Rattle.nextest_engines.specs.declared.queries.BuildPlatform.TheVariants.{Host, Target}
@@ -14,6 +14,7 @@ use Rattle.rinqebo_rules.specs.Conditions.{told_answer, told_condition, told_fil
 use Rattle.rinqebo_rules.specs.RuleAnswers.{asked_query, facts_told}
 use Rattle.rinqebo_run.specs.Reasons.{rule_here, verdicts_here}
 use Rattle.rinqebo_rules.specs.RuleViews.{Rule}
+use Rattle.rinqebo_rules.specs.SettingRules.{writes_it}
 use Rattle.rinqebo_rules.specs.declared.conditions.Asking.{Asking}
 
 -- an answer counts as met where what is told of it does not stand against the rule
@@ -91,7 +92,7 @@ same_verdicts d (f ∷ fs) (g ∷ gs) all =
 module _ (asking : Asking) where
   -- what is told of a rule gives it the verdict that comes of it
   told_same : (rule : Rule)
-      → GiveSame (facts_told asking rule) (facts_of (asked_query asking) is_some (rule_here asking rule))
+      → GiveSame (facts_told asking rule) (facts_of (asked_query asking) writes_it (rule_here asking rule))
   told_same rule =
       let platforms = asking.platforms.now in
       let build = asking.test.now.platform in
@@ -105,7 +106,7 @@ module _ (asking : Asking) where
 
   all_same : (rules : List Rule)
       → AllZip GiveSame (map (facts_told asking) rules)
-      (map (facts_of (asked_query asking) is_some) (map (rule_here asking) rules))
+      (map (facts_of (asked_query asking) writes_it) (map (rule_here asking) rules))
   all_same [] = tt
   all_same (rule ∷ rules) = (told_same rule, all_same rules)
 
@@ -114,4 +115,4 @@ module _ (asking : Asking) where
       → verdicts_by false (map (facts_told asking) rules) ≡ verdicts_here asking rules
   told_verdicts rules =
       same_verdicts false _ _ (all_same rules)
-      ∙ sym (verdicts-facts (asked_query asking) is_some (map (rule_here asking) rules))
+      ∙ sym (verdicts-facts (asked_query asking) writes_it (map (rule_here asking) rules))

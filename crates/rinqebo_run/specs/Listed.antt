@@ -8,7 +8,7 @@ use Rattle.nextest_inheritance.specs.Parents.{parents_in, IsChain}
 use Rattle.nextest_load.specs.Closed.{BinaryMatch}
 use Rattle.nextest_load.specs.Config.{ScriptTables, config_parents}
 use Rattle.nextest_load.specs.Scripts.{AreScriptsOf}
-use Rattle.nextest_rules.specs.Rules.{OverrideUse}
+use Rattle.nextest_rules.specs.Rules.{OverrideUse, ScriptRuleUse}
 use Rattle.nextest_settings.specs.Deciding.{QueryContext}
 use Rattle.nextest_settings.specs.Platforms.{EvaluatedRule}
 use Rattle.nextest_settings.specs.Profile.{Configured, EvaluatableModel, profile_of, profile_on}
@@ -31,7 +31,7 @@ use Rattle.test_lists.specs.ListView.{list_view}
 use Rattle.test_lists.specs.Lists.{all_binaries, all_tests, TestList}
 use Rattle.rinqebo_load.specs.Accepted.{AreAccepted}
 use Rattle.rinqebo_rules.specs.Origins.{IsOriginOf}
-use Rattle.rinqebo_rules.specs.RulePlaces.{Place, id_place}
+use Rattle.rinqebo_rules.specs.RulePlaces.{Place, id_place, script_place}
 use Rattle.rinqebo_load.specs.Sessions.{files_view, readings}
 use Rattle.rinqebo_run.specs.TellsReasons.{configured_by}
 use Rattle.rinqebo_load.specs.declared.session.Session.{Session}
@@ -43,34 +43,27 @@ pub record IsProfileOn {M K P : Type 0} (meets : K → P → Option Bool) (platf
   pub is_chain : IsChain (parents_in (config_parents configured.config)) name chain
   pub is_profile : profile ≡ profile_on meets platforms (profile_of configured name chain)
 
--- a rule on the platforms of a build, without what it writes
-abbrev pub bare_on : {M W : Type 0} → EvaluatedRule M W → EvaluatedRule M (Unit {0})
-bare_on rule = record {
+-- a rule on the platforms of a build, with its place instead of what it writes
+abbrev pub placed_on : {M W : Type 0} → (W → Place) → EvaluatedRule M W → EvaluatedRule M Place
+placed_on place rule = record {
   filter = rule.filter;
   for_host = rule.for_host;
   for_target = rule.for_target;
-  writes = tt;
+  writes = place rule.writes;
 }
 
--- an override on the platforms of a build, with where it stands in place of what it writes
-abbrev pub placed_on : {M : Type 0} → EvaluatedRule M (OverrideUse M) → EvaluatedRule M Place
-placed_on rule = record {
-  filter = rule.filter;
-  for_host = rule.for_host;
-  for_target = rule.for_target;
-  writes = id_place rule.writes.id;
-}
+-- The rules of a profile on the platforms of a build, each with its place: the overrides in order,
+-- and then the script rules in order.
+abbrev pub places_in : {M : Type 0} → EvaluatableModel M → List (EvaluatedRule M Place)
+places_in profile = map (placed_on (λ w. id_place w.id)) profile.overrides
+    ++ map (placed_on (λ w. script_place w.id)) profile.script_rules
 
--- Origins tell the rules of a profile that hold for none of the tests, and no others: the overrides
--- in order, and then the script rules in order, each with its place in the layers.
-pub record AreUnused {M : Type 0} (layers : List Layer) (tests : List (QueryContext M))
-    (profile : EvaluatableModel M) (unused : List Origin) : Type 0 where
-  pub scripts : List (EvaluatedRule M Place)
-  pub same_scripts : map bare_on scripts ≡ map bare_on profile.script_rules
-  pub told : AllZip (λ place. IsOriginOf layers place [])
-      (map (λ rule. rule.writes)
-      (unused_among tests (map placed_on profile.overrides ++ scripts)))
-      unused
+-- The origins are those of the rules of a profile that hold for none of the tests, and of no others,
+-- in the order of the rules.
+abbrev pub AreUnused : {M : Type 0} → List Layer → List (QueryContext M) → EvaluatableModel M
+    → List Origin → Type 0
+AreUnused layers tests profile unused = AllZip (λ place. IsOriginOf layers place [])
+    (map (λ rule. rule.writes) (unused_among tests (places_in profile))) unused
 
 -- Tests are told as the profile of a name gives them settings on the platforms of a build, of its
 -- rules those that hold for none, and the scripts that it gives to the list.

@@ -10,7 +10,7 @@ use Rattle.nextest_filters.specs.Engine.{Filter, filter_holds}
 use Rattle.nextest_filters.specs.declared.compiling.FieldMatcher.{FieldMatcher}
 use Rattle.nextest_load.specs.Load.{Loaded}
 use Rattle.nextest_profiles.specs.Meaning.{configured_meaning}
-use Rattle.nextest_rules.specs.Rules.{Compiled, Layer}
+use Rattle.nextest_rules.specs.Rules.{Layer}
 use Rattle.nextest_settings.specs.Profile.{Configured, EvaluatableModel}
 use Rattle.nextest_settings.specs.Queries.{query_in}
 use Rattle.nextest_tables.specs.Written.{Name}
@@ -25,7 +25,7 @@ use Rattle.target_language.specs.declared.expression.TargetSpec.{TargetSpec}
 use Rattle.target_platforms.specs.declared.Platform.{Platform}
 use Rattle.test_lists.specs.ListView.{list_view}
 use Rattle.rinqebo_rules.specs.Conditions.{is_met_by}
-use Rattle.rinqebo_run.specs.ListRules.{AreRulesOf}
+use Rattle.rinqebo_run.specs.ListRules.{placed_rules}
 use Rattle.rinqebo_run.specs.Listed.{AreTestsOf}
 use Rattle.rinqebo_rules.specs.RulePlaces.{Place}
 use Rattle.rinqebo_load.specs.Sessions.{readings}
@@ -42,14 +42,13 @@ read_by session loaded = record {
 
 -- Places are those of the rules of a chain that hold for none of the tests which a profile is asked
 -- of.
-pub record AreUnusedPlaces (platforms : BuildPlatforms Platform)
-    (layers : List (Layer (Filterset FieldMatcher) TargetSpec)) (names : List Name)
-    (profile : EvaluatableModel Filter) (list : List Test) (places : List Place) : Type 0 where
-  pub rules : List (Compiled (Filterset FieldMatcher) TargetSpec Place)
-  pub are_rules : AreRulesOf layers names rules
-  pub are : places ≡ map (λ rule. rule.writes)
-      (unused_among (map (query_in filter_holds profile) list)
-      (map (meant_on (marks_view names_of) is_met_by platforms) rules))
+abbrev pub AreUnusedPlaces : BuildPlatforms Platform
+    → List (Layer (Filterset FieldMatcher) TargetSpec) → List Name → EvaluatableModel Filter
+    → List Test → List Place → Type 0
+AreUnusedPlaces platforms layers names profile list places =
+    places ≡ map (λ rule. rule.writes)
+    (unused_among (map (query_in filter_holds profile) list)
+    (map (meant_on (marks_view names_of) is_met_by platforms) (placed_rules layers names)))
 
 -- tests, rules and scripts are told as the profile of a name gives them, by what was loaded
 abbrev pub listed_by : Session → Loaded (Filterset FieldMatcher) TargetSpec → Name

@@ -1,22 +1,24 @@
 -- What comes of the rules of a setting, and how it is told.
-use Rattle.std.specs.Prelude.{◌≡◌, Bool, List, map, Option, is_some, option_map}
+use Rattle.std.specs.Prelude.{◌≡◌, Bool, List, [], map, Option, option_map}
 use Rattle.std.specs.List.{AllZip, zip}
 use Rattle.filter_language.specs.declared.filterset.Filterset.{Filterset}
 use Rattle.nextest_engines.specs.declared.queries.BuildPlatforms.{BuildPlatforms}
 use Rattle.nextest_filters.specs.declared.compiling.FieldMatcher.{FieldMatcher}
 use Rattle.nextest_settings.specs.Deciding.{QueryContext}
 use Rattle.nextest_settings.specs.Platforms.{EvaluatedRule, rule_on}
+use Rattle.rinqebo_files.specs.declared.layers.Layer.{Layer}
 use Rattle.rinqebo_report.specs.declared.report.Rule.{Rule}
 use Rattle.rinqebo_report.specs.declared.report.Verdict as report
 use Rattle.rinqebo_report.specs.declared.report.Verdict.TheVariants as told
-use Rattle.rinqebo_values.specs.Told.{ToldValue, value_view}
+use Rattle.rinqebo_values.specs.Told.{value_view}
 use Rattle.rule_verdicts.specs.Verdicts.{verdicts_of}
 use Rattle.rule_verdicts.specs.declared.verdict.Verdict.{Verdict}
 use Rattle.rule_verdicts.specs.declared.verdict.Verdict.TheVariants as verdicts
 use Rattle.rinqebo_rules.specs.Conditions.{is_met_by}
+use Rattle.rinqebo_rules.specs.Origins.{IsOriginOf}
 use Rattle.rinqebo_rules.specs.RuleAnswers.{answers_by, asked_query}
 use Rattle.rinqebo_rules.specs.RuleViews.{Rule as ReadRule}
-use Rattle.rinqebo_rules.specs.SettingRules.{RuleFor}
+use Rattle.rinqebo_rules.specs.SettingRules.{RuleFor, RuleValue, writes_it}
 use Rattle.rinqebo_rules.specs.declared.conditions.Answers.{Answers}
 use Rattle.rinqebo_rules.specs.declared.conditions.Asking.{Asking}
 
@@ -28,35 +30,37 @@ told_verdict verdicts.SetsNothing = told.SetsNothing
 told_verdict verdicts.DecidedBefore = told.DecidedBefore
 told_verdict verdicts.Decides = told.Decides
 
--- A rule is told: what comes of it, what its conditions say, and what it writes for a setting.
-pub record IsRuleTold (written : Option ToldValue) (answers : Answers) (verdict : Verdict)
-    (rule : Rule) : Type 0 where
+-- A rule is reported: its verdict, its place in the layers, what its conditions say, and what it writes
+-- for a setting.
+pub record IsRuleTold (layers : List Layer) (written : RuleValue) (answers : Answers)
+    (verdict : Verdict) (rule : Rule) : Type 0 where
   pub verdict_told : rule.verdict ≡ told_verdict verdict
+  pub origin : IsOriginOf layers written.place [] rule.origin
   pub host : rule.host.answer ≡ answers.host
   pub target : rule.target.answer ≡ answers.target
   pub filter : rule.filter.answer ≡ answers.filter
-  pub value : option_map value_view rule.value ≡ written
+  pub value : option_map value_view rule.value ≡ written.value
 
 -- Rules for a setting are told in their order, each with what comes of it.
-abbrev pub AreRulesTold : {M K P : Type 0} → (K → P → Option Bool) → BuildPlatforms P
-    → QueryContext M → List (RuleFor M K) → List Rule → Type 0
-AreRulesTold {M} {K} meets platforms query rules told = AllZip
-    (λ (p : RuleFor M K × Verdict). IsRuleTold p.0.writes (answers_by meets platforms query p.0)
-    p.1)
-    (zip rules (verdicts_of query is_some (map (rule_on meets platforms) rules)))
+abbrev pub AreRulesTold : {M K P : Type 0} → List Layer → (K → P → Option Bool)
+    → BuildPlatforms P → QueryContext M → List (RuleFor M K) → List Rule → Type 0
+AreRulesTold {M} {K} layers meets platforms query rules told = AllZip
+    (λ (p : RuleFor M K × Verdict).
+    IsRuleTold layers p.0.writes (answers_by meets platforms query p.0) p.1)
+    (zip rules (verdicts_of query writes_it (map (rule_on meets platforms) rules)))
     told
 
 -- a rule on the platforms of the build
-abbrev pub rule_here : Asking → ReadRule → EvaluatedRule (Filterset FieldMatcher) (Option ToldValue)
+abbrev pub rule_here : Asking → ReadRule → EvaluatedRule (Filterset FieldMatcher) RuleValue
 rule_here asking rule = rule_on is_met_by asking.platforms.now rule
 
 -- What comes of rules for a setting, in their order: of the one that decides, those before it and
 -- those behind it.
 abbrev pub verdicts_here : Asking → List ReadRule → List Verdict
 verdicts_here asking rules =
-    verdicts_of (asked_query asking) is_some (map (rule_here asking) rules)
+    verdicts_of (asked_query asking) writes_it (map (rule_here asking) rules)
 
 -- rules for a setting are told, each with what comes of it for what is asked
-abbrev pub AreRulesToldHere : Asking → List ReadRule → List Rule → Type 0
-AreRulesToldHere asking rules told =
-    AreRulesTold is_met_by asking.platforms.now (asked_query asking) rules told
+abbrev pub AreRulesToldHere : List Layer → Asking → List ReadRule → List Rule → Type 0
+AreRulesToldHere layers asking rules told =
+    AreRulesTold layers is_met_by asking.platforms.now (asked_query asking) rules told

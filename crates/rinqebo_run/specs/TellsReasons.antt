@@ -12,6 +12,7 @@ use Rattle.nextest_settings.specs.declared.setting.Setting.{Setting}
 use Rattle.nextest_sources.specs.Inputs.{sources_in}
 use Rattle.nextest_tables.specs.FileTexts.{names_in, IsIn}
 use Rattle.nextest_tables.specs.Written.{Name}
+use Rattle.rinqebo_files.specs.declared.layers.Layer.{Layer}
 use Rattle.rinqebo_report.specs.declared.report.Content.{Content}
 use Rattle.rinqebo_report.specs.declared.report.Content.TheVariants as contents
 use Rattle.rinqebo_report.specs.declared.report.Report.{Report}
@@ -30,9 +31,9 @@ use Rattle.rinqebo_load.specs.declared.session.Session.{Session}
 -- The rules of a setting are told for a test of a name: each override of a profile, in order, or
 -- for a run wrapper each script rule, with what comes of it on the platforms of a build, and then
 -- what counts where none decides.
-pub record AreReasons {M K P : Type 0} (meets : K → P → Option Bool) (matches : M → Test → M → Bool)
-    (platforms : BuildPlatforms P) (test : TestName) (s : Setting) (profile : EarlyModel M K)
-    (rules : List Rule) : Type 0 where
+pub record AreReasons {M K P : Type 0} (layers : List Layer) (meets : K → P → Option Bool)
+    (matches : M → Test → M → Bool) (platforms : BuildPlatforms P) (test : TestName) (s : Setting)
+    (profile : EarlyModel M K) (rules : List Rule) : Type 0 where
   pub asked : Test
   pub name : asked.name ≡ test.name.now
   pub binary : asked.binary.binary_id ≡ test.binary.now
@@ -40,18 +41,18 @@ pub record AreReasons {M K P : Type 0} (meets : K → P → Option Bool) (matche
   pub before : List Rule
   pub fallback : Rule
   pub are : rules ≡ before ++ fallback ∷ []
-  pub rules_told : AreRulesTold meets platforms
+  pub rules_told : AreRulesTold layers meets platforms
       (query_in matches (profile_on meets platforms profile) asked)
       (rules_for s test.mode profile.overrides profile.script_rules) before
   pub fallback_told : fallback.verdict ≡ told.Fallback
 
 -- The rules of a setting are told for a test in the profile of a name.
-pub record AreReasonsIn {M K P : Type 0} (meets : K → P → Option Bool)
+pub record AreReasonsIn {M K P : Type 0} (layers : List Layer) (meets : K → P → Option Bool)
     (matches : M → Test → M → Bool) (platforms : BuildPlatforms P) (configured : Configured M K)
     (name : Name) (test : TestName) (s : Setting) (rules : List Rule) : Type 0 where
   pub profile : EarlyModel M K
   pub is_profile : IsProfileOf configured name profile
-  pub reasons : AreReasons meets matches platforms test s profile rules
+  pub reasons : AreReasons layers meets matches platforms test s profile rules
 
 -- what the files of a session mean, with these scripts
 abbrev pub configured_by : Session → ScriptTables → Configured Filter Spec
@@ -86,6 +87,6 @@ pub record TellsReasons (session : Session) (profile : List ℕ) (test : TestNam
   -- profile.
   pub told : IfWhy report.content (λ named key rules. IsTestNamed test named
       × (key ≡ key_text s test.mode)
-      × AreReasonsIn (readings session.engines.filters).meets
+      × AreReasonsIn session.layers.items (readings session.engines.filters).meets
       (readings session.engines.filters).matches_test session.engines.platforms
       (configured_by session scripts) profile test s rules)

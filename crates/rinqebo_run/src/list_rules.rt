@@ -1,25 +1,31 @@
 //! The rules of a chain of profiles, as lists take them.
 ghost use Rattle.std.specs.Prelude.{◌≡◌, ◌++◌, IfOk, map};
 ghost use Rattle.nextest_inheritance.specs.View.{borrowed_view};
-ghost use Rattle.nextest_rules.specs.View.{override_rule_view};
-ghost use Rattle.nextest_settings.specs.View.{override_ref_view};
+ghost use Rattle.nextest_rules.specs.View.{override_rule_view, script_rule_view};
+ghost use Rattle.nextest_settings.specs.View.{override_ref_view, script_rule_ref_view};
 ghost use Rattle.rinqebo_list.specs.RuleViews.{list_rule_view};
-ghost use Rattle.rinqebo_run.specs.ListRules.{placed_view, placed_override, listed_script, AreRulesOf};
+ghost use Rattle.rinqebo_run.specs.ListRules.{placed_view, placed_override, placed_script, placed_rules};
 
-use nextest_config::CompiledOverride;
+use nextest_config::{CompiledOverride, CompiledProfileScripts};
 use nextest_filters::NextestFilters;
 use nextest_settings::rules_of;
 use rinqebo_list::ListRule;
 use rinqebo_load::Config;
-use rinqebo_rules::{RulePlace, SettingRule, script_rules};
+use rinqebo_rules::RulePlace;
 use std::alloc::{AllocError, Global};
 use target_language::TargetSpecs;
 
-/// A rule of a list, which is told by where it stands.
+/// A rule of a list, with its place.
 pub type Rule<'c> = ListRule<'c, NextestFilters, TargetSpecs, RulePlace<'c>>;
 
+/// An override of a configuration.
+type Override = CompiledOverride<NextestFilters, TargetSpecs>;
+
+/// A script rule of a configuration.
+type ScriptRule = CompiledProfileScripts<NextestFilters, TargetSpecs>;
+
 /// An override, as lists take it.
-fn override_rule(rule: &CompiledOverride<NextestFilters, TargetSpecs>) -> Rule<'_>
+fn override_rule(rule: &Override) -> Rule<'_>
     ensures { placed_view (list_rule_view result) ≡ placed_override (override_rule_view rule.now) }
 {
     ListRule {
@@ -32,7 +38,7 @@ fn override_rule(rule: &CompiledOverride<NextestFilters, TargetSpecs>) -> Rule<'
 /// Overrides, as lists take them.
 fn override_rules<'c>(
     alloc: Global,
-    overrides: &[&'c CompiledOverride<NextestFilters, TargetSpecs>],
+    overrides: &[&'c Override],
 ) -> Result<Vec<Rule<'c>>, AllocError>
     ensures { IfOk result (λ rules. map placed_view (map list_rule_view rules.items)
         ≡ map placed_override (map override_ref_view overrides.now)) }
@@ -45,27 +51,28 @@ fn override_rules<'c>(
 }
 
 /// A script rule, as lists take it.
-fn script_rule<'c>(rule: &SettingRule<'c>) -> Rule<'c>
-    ensures { list_rule_view result ≡ listed_script rule.now }
+fn script_rule(rule: &ScriptRule) -> Rule<'_>
+    ensures { placed_view (list_rule_view result) ≡ placed_script (script_rule_view rule.now) }
 {
     ListRule {
-        platforms: rule.platforms,
-        filter: rule.filter,
-        tag: rule.place,
+        platforms: rule.platforms(),
+        filter: rule.filter(),
+        tag: RulePlace::of_script(rule.id()),
     }
 }
 
 /// The rules that were found, and then these script rules.
 fn with_script_rules<'c>(
     found: Vec<Rule<'c>>,
-    scripts: &[SettingRule<'c>],
+    scripts: &[&'c ScriptRule],
 ) -> Result<Vec<Rule<'c>>, AllocError>
-    ensures { IfOk result (λ more. map list_rule_view more.items
-        ≡ map list_rule_view found.entry.items ++ map listed_script scripts.now) }
+    ensures { IfOk result (λ more. map placed_view (map list_rule_view more.items)
+        ≡ map placed_view (map list_rule_view found.entry.items)
+        ++ map placed_script (map script_rule_ref_view scripts.now)) }
 {
     let mut found = found;
     for rule in scripts {
-        found.push(script_rule(rule))?;
+        found.push(script_rule(*rule))?;
     }
     Ok(found)
 }
@@ -76,10 +83,11 @@ pub fn wrapper_rules<'c>(
     config: &'c Config,
     chain: &[&'c str],
 ) -> Result<Vec<Rule<'c>>, AllocError> {
+    let found = rules_of(alloc, config.layers(), chain)?;
     let mut rules = Vec::new(alloc);
-    for rule in &script_rules(alloc, config.layers(), chain)? {
-        if rule.value.is_some() {
-            rules.push(script_rule(rule))?;
+    for rule in &found.script_rules {
+        if rule.run_wrapper().is_some() {
+            rules.push(script_rule(*rule))?;
         }
     }
     Ok(rules)
@@ -91,12 +99,10 @@ pub fn all_rules<'c>(
     config: &'c Config,
     chain: &[&'c str],
 ) -> Result<Vec<Rule<'c>>, AllocError>
-    ensures { IfOk result (λ rules. AreRulesOf config.now.config.layers (borrowed_view chain.now)
-        (map placed_view (map list_rule_view rules.items))) }
+    ensures { IfOk result (λ rules. map placed_view (map list_rule_view rules.items)
+        ≡ placed_rules config.now.config.layers (borrowed_view chain.now)) }
 {
-    let layers = config.layers();
-    let found = rules_of(alloc, layers, chain)?;
+    let found = rules_of(alloc, config.layers(), chain)?;
     let overrides = override_rules(alloc, &found.overrides)?;
-    let scripts = script_rules(alloc, layers, chain)?;
-    with_script_rules(overrides, &scripts)
+    with_script_rules(overrides, &found.script_rules)
 }

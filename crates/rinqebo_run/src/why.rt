@@ -71,7 +71,8 @@ fn reported_rule(
     verdict: rule_verdicts::Verdict,
 ) -> Result<Rule, AllocError>
     ensures { let view = setting_rule_view rule.now in
-        IfOk result (IsRuleTold view.writes (answers_told asking.now view) verdict) }
+        IfOk result
+        (IsRuleTold layers.now view.writes (answers_told asking.now view) verdict) }
 {
     let table = rule.place.table(layers);
     let answers = answers_to(rule, asking);
@@ -124,7 +125,7 @@ fn rules_with_verdicts(
 ) -> Result<Vec<Rule>, AllocError>
     ensures { verdicts.now ≡ verdicts_here asking.now (map setting_rule_view rules.now)
         → IfOk result (λ told.
-        AreRulesToldHere asking.now (map setting_rule_view rules.now) told.items) }
+        AreRulesToldHere layers.now asking.now (map setting_rule_view rules.now) told.items) }
 {
     let mut reported = Vec::new(alloc);
     for (rule, verdict) in rules.iter().zip(verdicts) {
@@ -141,7 +142,7 @@ fn reported_rules(
     asking: &Asking<'_, '_>,
 ) -> Result<Vec<Rule>, AllocError>
     ensures { IfOk result (λ told.
-        AreRulesToldHere asking.now (map setting_rule_view rules.now) told.items) }
+        AreRulesToldHere layers.now asking.now (map setting_rule_view rules.now) told.items) }
 {
     let verdicts = all_verdicts(alloc, rules, asking)?;
     rules_with_verdicts(alloc, layers, rules, &verdicts, asking)
@@ -201,8 +202,9 @@ fn rules_and_fallback<'c>(
     ensures { (configured : Configured (Filterset FieldMatcher) TargetSpec) (name : Name)
         (names : List Name) → configured.config ≡ config.now.config
         → borrowed_view chain.now ≡ with_default names
-        → IfOk result (λ rules. AreReasons is_met_by filter_matches session.now.engines.platforms
-        test.now setting (profile_of configured name names) rules.items) }
+        → IfOk result (λ rules. AreReasons session.now.layers.items is_met_by filter_matches
+        session.now.engines.platforms test.now setting (profile_of configured name names)
+        rules.items) }
 {
     let platforms = &session.engines.platforms;
     let query = query_of(test);
@@ -245,8 +247,8 @@ fn reasons<'c>(
         → IsIn (names_in config.now.config.profiles) profile.now
         → IfOk result (λ content. IfWhy content (λ named key rules. IsTestNamed test.now named
         × (key ≡ key_text setting test.now.mode)
-        × AreReasonsIn is_met_by filter_matches session.now.engines.platforms configured
-        profile.now test.now setting rules)) }
+        × AreReasonsIn session.now.layers.items is_met_by filter_matches
+        session.now.engines.platforms configured profile.now test.now setting rules)) }
 {
     let chain = chain_of_profile(alloc, config, profile)?;
     let asked = asked_of(alloc, session, profile, &chain, test.mode)?;

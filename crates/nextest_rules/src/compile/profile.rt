@@ -8,11 +8,13 @@ ghost use Rattle.nextest_sources.specs.Sources.{source_view};
 ghost use Rattle.nextest_tables.specs.View.{override_view, profile_view, script_rule_table_view};
 ghost use Rattle.nextest_rules.specs.CompileFaults.{default_filter_cause, fault_in, override_faults, script_rule_faults, profile_faults};
 ghost use Rattle.nextest_rules.specs.Meaning.{override_meaning, layer_profile_meaning, script_rule_meaning};
-ghost use Rattle.nextest_rules.specs.Rules.{filter_meaning, layer_profile, override_rules, script_rule};
+ghost use Rattle.nextest_rules.specs.Rules.{filter_meaning, layer_profile, override_rules, script_rules};
 ghost use Rattle.nextest_rules.specs.View as view;
 ghost use Rattle.nextest_rules.specs.View.{layer_profile_view, override_rule_view};
 
-use crate::compile::rules::{add_error, compile_override, compile_script_rule, override_id};
+use crate::compile::rules::{
+    add_error, compile_override, compile_script_rule, override_id, script_rule_id,
+};
 use crate::compile::texts::{Refusals, read_filter};
 use crate::overrides::{CompiledOverride, CompiledProfile, CompiledProfileScripts};
 use nextest_engines::{Filters, FiltersetKind, ParseContext, Specs};
@@ -85,6 +87,7 @@ fn compile_overrides<F: Filters, S: Specs>(
 fn compile_script_rules<F: Filters, S: Specs>(
     alloc: Global,
     pcx: &ParseContext<'_, F, S>,
+    source: &ConfigSource,
     profile: &str,
     tables: Vec<ScriptRuleTable>,
     errors: &mut Vec<ConfigCompileError>,
@@ -92,7 +95,8 @@ fn compile_script_rules<F: Filters, S: Specs>(
     ensures rules { let engines = readings_view F.Filters S.Specs pcx.now in
         IfOk result (λ rules.
         map (script_rule_meaning F.meaning S.spec_meaning) (map view.script_rule_view rules.items)
-        ≡ map (script_rule engines) (map script_rule_table_view tables.items)) }
+        ≡ script_rules engines (source_view source.now) profile.now
+        (map script_rule_table_view tables.items)) }
     ensures errors { let engines = readings_view F.Filters S.Specs pcx.now in
         OnOk result (map compile_error_view errors.new.items
         ≡ map compile_error_view errors.old.items
@@ -100,7 +104,8 @@ fn compile_script_rules<F: Filters, S: Specs>(
 {
     let mut rules = Vec::new(alloc);
     for (index, table) in tables.into_iter().enumerate() {
-        let (rule, error) = compile_script_rule(alloc, pcx, table)?;
+        let id = script_rule_id(alloc, source, profile, index)?;
+        let (rule, error) = compile_script_rule(alloc, pcx, id, table)?;
         rules.push(rule)?;
         let section = ConfigCompileSection::Script(index);
         add_error(alloc, errors, profile, section, error)?;
@@ -135,7 +140,7 @@ pub(crate) fn compile_profile<F: Filters, S: Specs>(
     } = table;
     let default_filter = compile_default_filter(alloc, pcx, name, &text, errors)?;
     let overrides = compile_overrides(alloc, pcx, source, name, overrides, errors)?;
-    let scripts = compile_script_rules(alloc, pcx, name, scripts, errors)?;
+    let scripts = compile_script_rules(alloc, pcx, source, name, scripts, errors)?;
     Ok(CompiledProfile {
         default_filter,
         overrides,

@@ -11,10 +11,12 @@ ghost use Rattle.nextest_rules.specs.Meaning.{override_meaning, script_rule_mean
 ghost use Rattle.nextest_rules.specs.Refusals.{refusals_view};
 ghost use Rattle.nextest_rules.specs.Rules.{filter_meaning, spec_meaning, override_rule, override_rules, script_rule};
 ghost use Rattle.nextest_rules.specs.View as view;
-ghost use Rattle.nextest_rules.specs.View.{id_view, override_rule_view};
+ghost use Rattle.nextest_rules.specs.View.{id_view, override_rule_view, script_rule_id_view};
 
 use crate::compile::texts::{Refusals, read_filter, read_platforms};
-use crate::overrides::{CompiledOverride, CompiledProfileScripts, OverrideId, PlatformSpecs};
+use crate::overrides::{
+    CompiledOverride, CompiledProfileScripts, OverrideId, PlatformSpecs, ScriptRuleId,
+};
 use nextest_engines::{Filters, FiltersetKind, ParseContext, Specs};
 use nextest_sources::{
     ConfigCompileError, ConfigCompileErrorKind, ConfigCompileSection, ConfigSource,
@@ -145,12 +147,13 @@ pub(crate) fn compile_override<F: Filters, S: Specs>(
 pub(crate) fn compile_script_rule<F: Filters, S: Specs>(
     alloc: Global,
     pcx: &ParseContext<'_, F, S>,
+    id: ScriptRuleId,
     table: ScriptRuleTable,
 ) -> Result<(CompiledProfileScripts<F, S>, Option<ConfigCompileErrorKind>), AllocError>
     ensures rule { let engines = readings_view F.Filters S.Specs pcx.now in
         IfOk result (λ made.
         script_rule_meaning F.meaning S.spec_meaning (view.script_rule_view made.0)
-        ≡ script_rule engines (script_rule_table_view table)) }
+        ≡ script_rule engines (script_rule_id_view id) (script_rule_table_view table)) }
     ensures error { let engines = readings_view F.Filters S.Specs pcx.now in
         IfOk result (λ made. option_map compile_cause_view made.1
         ≡ script_rule_cause engines (script_rule_table_view table)) }
@@ -162,6 +165,7 @@ pub(crate) fn compile_script_rule<F: Filters, S: Specs>(
     let error = script_rule_error(&table, refusals);
     let ScriptRuleTable { scripts, .. } = table;
     let rule = CompiledProfileScripts {
+        id,
         platforms,
         filter,
         scripts,
@@ -169,7 +173,7 @@ pub(crate) fn compile_script_rule<F: Filters, S: Specs>(
     Ok((rule, error))
 }
 
-/// Where an override stands.
+/// The id of an override.
 pub(crate) fn override_id(
     alloc: Global,
     source: &ConfigSource,
@@ -180,6 +184,23 @@ pub(crate) fn override_id(
         ≡ record { source = source_view source.now; profile = profile.now; index = index }) }
 {
     Ok(OverrideId {
+        config_source: source.clone()?,
+        profile_name: String::from_str(alloc, profile)?,
+        index,
+    })
+}
+
+/// The id of a script rule.
+pub(crate) fn script_rule_id(
+    alloc: Global,
+    source: &ConfigSource,
+    profile: &str,
+    index: usize,
+) -> Result<ScriptRuleId, AllocError>
+    ensures { IfOk result (λ id. script_rule_id_view id
+        ≡ record { source = source_view source.now; profile = profile.now; index = index }) }
+{
+    Ok(ScriptRuleId {
         config_source: source.clone()?,
         profile_name: String::from_str(alloc, profile)?,
         index,

@@ -7,9 +7,9 @@ use Rattle.nextest_rules.proofs.empty_sections.count_empty.Given as goal
 -- the rules so far, with those that are left
 abbrev pub invariant-loop-rule : goal.invariant-loop-rule
 invariant-loop-rule g l =
-    (l.count + length (filter (λ r. names_none r.writes)
+    (l.count + length (filter (λ r. names_none r.writes.scripts)
     (map (script_rule_meaning g.F.Filters.meaning g.S.Specs.spec_meaning)
     (map script_rule_view (drop l.rule-index l.rules))))
-    ≡ length (filter (λ r. names_none r.writes)
+    ≡ length (filter (λ r. names_none r.writes.scripts)
     (map (script_rule_meaning g.F.Filters.meaning g.S.Specs.spec_meaning) (map script_rule_view l.rules))))
     × (l.count ≤ l.rule-index)

@@ -18,10 +18,10 @@ pub returns : goal.returns
 returns g c =
     let s = source_view c.args.source.now in
     let n = c.count_empty-count.result in
-    let rules = filter (λ r. names_none r.writes)
+    let rules = filter (λ r. names_none r.writes.scripts)
     (map (script_rule_meaning g.F.Filters.meaning g.S.Specs.spec_meaning)
     (map script_rule_view c.args.profile.now.scripts.items)) in
-    let count : n ≡ length rules = c.count_empty-count.ensures ∙ ap (λ xs. length (filter (λ r. names_none r.writes)
+    let count : n ≡ length rules = c.count_empty-count.ensures ∙ ap (λ xs. length (filter (λ r. names_none r.writes.scripts)
     (map (script_rule_meaning g.F.Filters.meaning g.S.Specs.spec_meaning) (map script_rule_view xs))))
     c.deref.ensures.value in
     subst (λ steps. Ran steps (g.W.ConfigWarnings.warnings c.args.warnings.now)

@@ -27,8 +27,8 @@ loop-rule-preserved g c =
     let next : drop i rules ≡ rule ∷ drop (i + 1) rules =
     drop_more rules i rule c.loop-rule-test.true ∙ ap (λ x. x ∷ drop (i + 1) rules) (sym c.rule-item.is) in
     let one : ScriptFaults = record {
-      unknown_scripts = unknown_scripts_of known profile (uses_of r.writes);
-      wrong_scripts = wrong_scripts_of known profile (uses_of r.writes);
+      unknown_scripts = unknown_scripts_of known profile (uses_of r.writes.scripts);
+      wrong_scripts = wrong_scripts_of known profile (uses_of r.writes.scripts);
       list_filters = list_filters_of leaves known profile r;
     } in
     let old = c.loop-rule.errors in

@@ -1,5 +1,5 @@
 use Rattle.std.proofs.Common.{◌∷◌, [], is_some, length}
-use Rattle.nextest_tables.specs.FileTexts.{ScriptUse}
+use Rattle.nextest_rules.specs.Rules.{ScriptRuleUse}
 use Rattle.nextest_settings.proofs.IsEvaluated.{asked_evaluated, evaluated_asked, asked_count}
 use Rattle.nextest_settings.proofs.IsEvaluatedForTest.{one_there, test_exactly, test_count}
 use Rattle.nextest_settings.proofs.laws.law_evaluated_exactly.Goals as goal
@@ -12,12 +12,12 @@ returns-clause-test_count g c = λ query mode p. test_count query mode p
 
 pub returns-clause-list : goal.returns-clause-list
 returns-clause-list g c = λ query p n. (
-  asked_evaluated (λ (u : Unit {0}) (w : ScriptUse). is_some w.list_wrapper) (tt ∷ []) query p.script_rules
+  asked_evaluated (λ (u : Unit {0}) (w : ScriptRuleUse). is_some w.scripts.list_wrapper) (tt ∷ []) query p.script_rules
       one_there (length p.overrides) n,
-  λ e. evaluated_asked (λ (u : Unit {0}) (w : ScriptUse). is_some w.list_wrapper) (tt ∷ []) query
+  λ e. evaluated_asked (λ (u : Unit {0}) (w : ScriptRuleUse). is_some w.scripts.list_wrapper) (tt ∷ []) query
       p.script_rules one_there (length p.overrides) n e.0 e.1 e.2,
 )
 
 pub returns-clause-list_count : goal.returns-clause-list_count
 returns-clause-list_count g c =
-    λ query p. asked_count ((λ (w : ScriptUse). is_some w.list_wrapper) ∷ []) query (length p.overrides) p.script_rules
+    λ query p. asked_count ((λ (w : ScriptRuleUse). is_some w.scripts.list_wrapper) ∷ []) query (length p.overrides) p.script_rules

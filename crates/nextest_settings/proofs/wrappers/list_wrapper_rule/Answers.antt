@@ -11,8 +11,8 @@ use Rattle.nextest_settings.proofs.wrappers.list_wrapper_rule.Goals as goal
 pub walk_rows-requires-clause-answers : goal.walk_rows-requires-clause-answers
 walk_rows-requires-clause-answers g c = λ k r at listed.
     let F = g.F.Filters in
-    let named : IsSome (script_rule_ref_view r.rule).writes.list_wrapper = one-writes _ _ listed in
-    each-there (λ r. IsSome r.writes.list_wrapper → HasBinaryAnswers F.holds_binary r.filter)
+    let named : IsSome (script_rule_ref_view r.rule).writes.scripts.list_wrapper = one-writes _ _ listed in
+    each-there (λ r. IsSome r.writes.scripts.list_wrapper → HasBinaryAnswers F.holds_binary r.filter)
     (meant_script_rule F.meaning) c.args.rules.now k r c.requires.answers at named
 
 pub returns-clause-rule : goal.returns-clause-rule
@@ -43,9 +43,9 @@ pub returns-clause-named : goal.returns-clause-named
 returns-clause-named g c =
     let F = g.F.Filters in
     let query = binary_query_by F c.args.cx.now.default_filter.now c.args.query.now in
-    subst (λ o. IfSome o (λ r. IsSome (script_rule_ref_view r.rule).writes.list_wrapper))
+    subst (λ o. IfSome o (λ r. IsSome (script_rule_ref_view r.rule).writes.scripts.list_wrapper))
     (sym (head-found _ _ _ c.walk_rows.ensures.found))
     (if-some (λ r. listed (meant_script_rule F.meaning) names_wrapper query wrappers.List r ≡ true)
-    (λ r. IsSome (script_rule_ref_view r.rule).writes.list_wrapper) _ (λ r e. writes-it _ _ e)
+    (λ r. IsSome (script_rule_ref_view r.rule).writes.scripts.list_wrapper) _ (λ r e. writes-it _ _ e)
     (found-passes (met (meant_script_rule F.meaning) names_wrapper query)
     (listed (meant_script_rule F.meaning) names_wrapper query wrappers.List) c.args.rules.now))

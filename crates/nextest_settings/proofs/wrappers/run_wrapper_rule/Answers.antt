@@ -38,9 +38,9 @@ pub returns-clause-named : goal.returns-clause-named
 returns-clause-named g c =
     let F = g.F.Filters in
     let query = test_query_by F c.args.cx.now.default_filter.now c.args.query.now in
-    subst (λ o. IfSome o (λ r. IsSome (script_rule_ref_view r.rule).writes.run_wrapper))
+    subst (λ o. IfSome o (λ r. IsSome (script_rule_ref_view r.rule).writes.scripts.run_wrapper))
     (sym (head-found _ _ _ c.walk_rows.ensures.found))
     (if-some (λ r. listed (meant_script_rule F.meaning) names_wrapper query wrappers.Run r ≡ true)
-    (λ r. IsSome (script_rule_ref_view r.rule).writes.run_wrapper) _ (λ r e. writes-it _ _ e)
+    (λ r. IsSome (script_rule_ref_view r.rule).writes.scripts.run_wrapper) _ (λ r e. writes-it _ _ e)
     (found-passes (met (meant_script_rule F.meaning) names_wrapper query)
     (listed (meant_script_rule F.meaning) names_wrapper query wrappers.Run) c.args.rules.now))

@@ -1,16 +1,18 @@
 use Rattle.std.proofs.Common.{◌∙◌, ap, option_map}
 use Rattle.nextest_settings.specs.Settings.{sets}
 use Rattle.rinqebo_values.specs.Told.{told_of}
+use Rattle.rinqebo_rules.specs.RulePlaces.{id_place}
 use Rattle.rinqebo_rules.proofs.chain_rules.override_rule.Goals as goal
 
 pub returns : goal.returns
 returns c =
     let s = c.args.setting in
-    let writes = c.written_value.ensures
+    let value = c.written_value.ensures
     ∙ ap (λ written. option_map (told_of s) (sets written c.args.mode s)) c.settings.ensures in
+    let place = c.of_override.ensures ∙ ap id_place c.id.ensures in
     λ i. record {
       host = c.platforms.ensures.host i;
       target = c.platforms.ensures.target i;
       filter = c.filter.ensures i;
-      writes = writes i;
+      writes = record { place = place i; value = value i };
     }

@@ -1,9 +1,13 @@
+use Rattle.std.proofs.Common.{◌∙◌, ap}
+use Rattle.rinqebo_rules.specs.RulePlaces.{script_place}
 use Rattle.rinqebo_rules.proofs.chain_rules.script_rule.Goals as goal
 
 pub returns : goal.returns
-returns c = λ i. record {
-  host = c.platforms.ensures.host i;
-  target = c.platforms.ensures.target i;
-  filter = c.filter.ensures i;
-  writes = c.named_wrapper.ensures i;
-}
+returns c =
+    let place = c.of_script.ensures ∙ ap script_place c.id.ensures in
+    λ i. record {
+      host = c.platforms.ensures.host i;
+      target = c.platforms.ensures.target i;
+      filter = c.filter.ensures i;
+      writes = record { place = place i; value = c.named_wrapper.ensures i };
+    }

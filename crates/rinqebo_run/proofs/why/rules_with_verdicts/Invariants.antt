@@ -6,4 +6,4 @@ use Rattle.rinqebo_run.proofs.why.rules_with_verdicts.Given as goal
 -- the rules so far
 abbrev pub invariant-loop-rule : goal.invariant-loop-rule
 invariant-loop-rule l =
-    AllZip (IsToldHere l.asking) (take (length l.yielded) (zip l.rules l.verdicts)) l.reported.items
+    AllZip (IsToldHere l.layers l.asking) (take (length l.yielded) (zip l.rules l.verdicts)) l.reported.items

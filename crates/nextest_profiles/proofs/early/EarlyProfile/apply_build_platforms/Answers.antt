@@ -12,10 +12,10 @@ new-requires-clause-known g c =
     let before = c.self.inside.rules.script_rules.items in
     let after = c.in-Ok.rules.script_rules.items in
     let same : map evaluated_use after ≡ map named_use before =
-    sym (fused (λ r. r.writes) evaluated_script_rule_view after)
-    ∙ ap (map (λ r. r.writes)) c.in-Ok.ensures.script_rules
-    ∙ fused (λ r. r.writes) (rule_on (meets_by g.S.Specs) c.args.platforms.now) (map script_rule_ref_view before)
-    ∙ fused (λ r. r.writes) script_rule_ref_view before in
+    sym (fused (λ r. r.writes.scripts) evaluated_script_rule_view after)
+    ∙ ap (map (λ r. r.writes.scripts)) c.in-Ok.ensures.script_rules
+    ∙ fused (λ r. r.writes.scripts) (rule_on (meets_by g.S.Specs) c.args.platforms.now) (map script_rule_ref_view before)
+    ∙ fused (λ r. r.writes.scripts) script_rule_ref_view before in
     rw same c.self.invariant.0
 
 pub new-requires-clause-answers : goal.new-requires-clause-answers

@@ -59,7 +59,7 @@ invariant_of-result g c =
     let of_rules = ap borrowed_view c.deref-2.ensures.value ∙ c.in_ok-names.ensures.is in
     let script_rules = c.in_ok-rules_of.ensures.script_rules
     ∙ (λ i. script_rules_of (c.layers-layers.ensures i) (of_rules i)) in
-    let uses = sym (fused (λ r. r.writes) script_rule_ref_view c.in_ok-rules_of.field-0.script_rules.items)
+    let uses = sym (fused (λ r. r.writes.scripts) script_rule_ref_view c.in_ok-rules_of.field-0.script_rules.items)
     ∙ ap uses_of script_rules in
     let there = ap (λ facts. facts.scripts) (c.in_ok-new.ensures chain of_new) in
     let rule = rules.script_rule_meaning g.F.Filters.meaning g.S.Specs.spec_meaning in
