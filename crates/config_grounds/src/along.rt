@@ -57,7 +57,7 @@ fn node_along<'t>(tree: &'t Tree, path: &[&str]) -> Option<&'t Tree>
     Some(node)
 }
 
-/// What stands at a path in the document of the layer at a position.
+/// The node at a path of the document of the layer at a position.
 pub(crate) fn node_in<'t>(
     layers: &[Option<&'t Tree>],
     position: usize,

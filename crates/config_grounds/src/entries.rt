@@ -295,10 +295,10 @@ fn entries_at<'t>(
 /// The leaves that layers write in the profiles of a chain, the nearest first, and in the tables
 /// `scripts`, `store` and `test-groups`: those that count, and with `with_hidden` all.
 ///
-/// Where keys are given, a leaf is told if the keys of its path up to one of them, with dots
-/// between them, spell one of these. The rules of profiles are not told, and the parent of a profile
-/// is told of the nearest one alone. Leaves stand by their paths, and those of one path from the
-/// nearest profile and the highest layer on.
+/// Where keys are given, the list has a leaf if the keys of its path up to one of them, with dots
+/// between them, spell one of these. It has no rules of profiles, and a parent for the nearest
+/// profile alone. Leaves are sorted by their paths, and those of one path from the nearest profile
+/// and the highest layer on.
 pub fn entries_of<'t>(
     alloc: Global,
     layers: &'t [Option<&'t Tree>],

@@ -1,4 +1,4 @@
-//! The layer that shows what stands at a path.
+//! The layer that shows a path.
 ghost use Rattle.std.specs.Prelude.{◌≡◌, ◌∷◌, List, MatchOption, is_some};
 ghost use Rattle.nextest_tree.specs.Node.{Node};
 ghost use Rattle.nextest_documents.specs.Merge.{merged};

@@ -1,4 +1,4 @@
-//! Grounds of a configuration: which layer shows what stands at a path, from which layers the
+//! Grounds of a configuration: which layer shows a path, from which layers the
 //! values of profiles come, and which leaves count.
 //!
 //! A layer is the tree of a source, the lowest one the table of defaults. No setting is known here,

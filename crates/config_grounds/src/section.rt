@@ -1,4 +1,4 @@
-//! The sections of layers whose leaves are told.
+//! The sections of layers whose leaves are listed.
 ghost use Rattle.std.specs.Prelude.{◌≡◌, ◌≤◌, ◌++◌, IfOk, length, take};
 ghost use Rattle.config_grounds.specs.Layers.{keys_view};
 ghost use Rattle.config_grounds.specs.Sections.{section_view, base_path, is_rules, is_beside, is_told, is_group, value_length, value_path};
@@ -42,7 +42,7 @@ fn is_beside(key: &str) -> bool
     key == "scripts" || key == "store" || key == "test-groups"
 }
 
-/// Whether a leaf of a section is told.
+/// Whether a leaf of a section is listed.
 pub(crate) fn is_told(section: Section<'_>, path: &[&str]) -> bool
     ensures { result ≡ is_told (section_view section.entry) (keys_view path.now) }
 {

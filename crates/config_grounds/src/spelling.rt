@@ -28,7 +28,7 @@ fn is_below(alloc: Global, path: &[&str], key: &str) -> Result<bool, AllocError>
     Ok(false)
 }
 
-/// Whether a path is asked for: no keys are, or it is below one of them.
+/// Whether keys select a path: there are none, or it is below one of them.
 pub(crate) fn is_asked(alloc: Global, keys: &[&str], path: &[&str]) -> Result<bool, AllocError>
     ensures { IfOk result (λ is_asked. IsTrue is_asked
         ↔ IsAsked (keys_view keys.now) (keys_view path.now)) }

@@ -1,7 +1,7 @@
-//! What may stand at a place of a file.
+//! The values that a file may have at a place.
 use nextest_tree::Key;
 
-/// Texts that are told apart by how they are written.
+/// The kinds of text that the program distinguishes by their form.
 #[derive(Clone, Copy, Debug, PartialEq, Eq)]
 pub enum Pattern {
     /// A duration, as `1h 30m`.
@@ -16,7 +16,7 @@ pub enum Pattern {
     EnvironmentKey,
 }
 
-/// Which texts may stand at a place.
+/// The texts that a file may have at a place.
 #[derive(Clone, Copy, Debug)]
 pub enum TextShape {
     /// Any text.
@@ -34,11 +34,11 @@ pub struct Field<S> {
     pub key: Key,
     /// Whether a file has to write it.
     pub is_required: bool,
-    /// What may stand at the key.
+    /// The values that the key may have.
     pub shape: S,
 }
 
-/// What may stand at a place of a file.
+/// The values that a file may have at a place.
 #[derive(Debug, Drop)]
 pub enum Shape {
     /// Anything at all.

@@ -14,7 +14,7 @@ use crate::words::Field;
 use arrayvec::ArrayVec;
 use nextest_engines::BinaryQuery;
 
-/// What a filter is asked about: a test, or a binary without regard to its tests.
+/// What a filter is evaluated for: a test, or a binary without regard to its tests.
 #[derive(Clone, Copy)]
 pub struct Subject<'a> {
     pub binary: BinaryQuery<'a>,

@@ -14,10 +14,10 @@
 //! its escapes resolved (of a regex `\/` alone). A fault says that the pattern is malformed, and the
 //! reader reports `InvalidGlob` or `InvalidRegex` with the argument's span.
 //! [`Matchers::has_package_graph`] says whether `deps` and `rdeps` are answered; where it is false,
-//! a text with one is refused by `NoPackageGraph` after it was read whole, so `compile` is asked for
+//! a text with one is refused by `NoPackageGraph` after it was read whole, so `compile` is called for
 //! their patterns too.
 //!
-//! A compiled matcher is asked for one name: of the test, of the binary or its id, of its kind, or
+//! A compiled matcher is called with one name: that of the test, of the binary or its id, of its kind, or
 //! of its package. For `deps` and `rdeps` that is the package's name too, and the matcher is the
 //! set of the members' names that they stand for.
 #![tactic(auto)]

@@ -16,7 +16,7 @@ pub struct Match<M> {
     pub matcher: M,
 }
 
-/// What is asked of a test or a binary.
+/// A predicate of a test or a binary.
 #[derive(Drop)]
 pub enum Question<M> {
     /// `all()`

@@ -158,7 +158,7 @@ impl<F: Filters, S: Specs> NextestConfig<F, S> {
         Self::from_load(root, loaded, warnings)
     }
 
-    /// Loads as `from_sources` does, and tells the warnings in place of keeping them.
+    /// Loads as `from_sources` does, and reports the warnings in place of keeping them.
     pub fn from_sources_with_warnings<W: ConfigWarnings>(
         alloc: Global,
         workspace_root: &str,

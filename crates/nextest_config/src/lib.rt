@@ -1,8 +1,8 @@
 //! The configuration of nextest, from the texts of files to the settings of tests.
 //!
 //! A caller names this crate and an engine of filters and platforms, and no more: all that the
-//! calls take and answer is given on here. Files are read by the caller, who hands in what came of
-//! it.
+//! calls take and return is re-exported here. The caller reads the files and passes the outcome of
+//! reading each.
 //!
 //! ```text
 //! fn retries_of<F: Filters, S: Specs>(
@@ -24,7 +24,7 @@
 //! ```
 //!
 //! `Inputs`, `resolve` and `ResolveFault` are those of [`run`]; a row has each value, and `source`
-//! tells what decides it. [`NextestConfig`] does the same step by step: it is loaded, gives a
+//! returns what decides it. [`NextestConfig`] does the same step by step: it is loaded, gives a
 //! profile, and that, on the platforms of a build, the settings of each test.
 #![tactic(auto)]
 

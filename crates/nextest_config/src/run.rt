@@ -35,7 +35,7 @@ pub struct Inputs<'a> {
 }
 
 /// The settings that a profile gives to tests on the platforms of a build, from the texts of files
-/// on: a row for each test, in order. Warnings are told as they are met, also before a refusal, and
+/// on: a row for each test, in order. Warnings are reported as they are found, also before an error, and
 /// rules whose filters are evaluated go into the tally.
 pub fn resolve<F: Filters, S: Specs, W: ConfigWarnings>(
     alloc: Global,

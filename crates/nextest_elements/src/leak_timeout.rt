@@ -21,7 +21,7 @@ pub enum LeakTimeoutResult {
     Fail,
 }
 
-/// How long what a test started may outlive it, and what comes of a test where it does.
+/// How long what a test started may outlive it, and the result of a test where it does.
 #[derive(Clone, Copy, Debug, PartialEq, Eq)]
 pub struct LeakTimeout {
     /// Nanoseconds from the test's end on, after which the test counts as leaky.

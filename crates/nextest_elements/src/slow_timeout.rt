@@ -16,7 +16,7 @@ use std::fmt;
 /// The nanoseconds of the grace period where none is given.
 pub const USUAL_GRACE_PERIOD: u128 = 10_000_000_000;
 
-/// What comes of a test that is ended for its slowness.
+/// The result of a test that is ended for its slowness.
 #[derive(Clone, Copy, Debug, PartialEq, Eq)]
 pub enum SlowTimeoutResult {
     /// The test fails.
@@ -34,7 +34,7 @@ pub struct SlowTimeout {
     pub terminate_after: Option<u64>,
     /// Nanoseconds that a test has to end itself, before it is killed.
     pub grace_period: u128,
-    /// What comes of a test that is ended.
+    /// The result of a test that is ended.
     pub on_timeout: SlowTimeoutResult,
 }
 

@@ -1,4 +1,4 @@
-//! Which tests are told of.
+//! Which tests are reported.
 ghost use Rattle.std.specs.Prelude.{Some};
 ghost use Rattle.nextest_tree.specs.Leaf.{Spells};
 ghost use Rattle.nextest_elements.specs.StatusLevel.{status_level_at, status_level_text, a_status_level, final_status_level_at, final_status_level_text, a_final_status_level};
@@ -7,7 +7,7 @@ use nextest_tree::{Element, ElementFault, Tree, Walk, read_one_of};
 use std::alloc::Global;
 use std::fmt;
 
-/// Which tests are told of while they run. Each level tells of what those before it tell of too.
+/// Which tests are reported while they run. Each level includes those before it.
 #[derive(Clone, Copy, Debug, PartialEq, Eq, PartialOrd, Ord)]
 pub enum StatusLevel {
     /// No test.
@@ -72,8 +72,7 @@ impl fmt::Display for StatusLevel {
     }
 }
 
-/// Which tests are told of at the end of a run. Each level tells of what those before it tell of
-/// too.
+/// Which tests are reported at the end of a run. Each level includes those before it.
 #[derive(Clone, Copy, Debug, PartialEq, Eq, PartialOrd, Ord)]
 pub enum FinalStatusLevel {
     /// No test.

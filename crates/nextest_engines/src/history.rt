@@ -1,4 +1,4 @@
-//! The rules that an engine was asked, kept for contracts alone.
+//! The rules that an engine evaluated, kept for contracts alone.
 use std::marker::Model;
 use std::mem;
 use std::snapshot::Snapshot;

@@ -1,4 +1,4 @@
-//! What filters are asked of: tests and binaries, and the platforms of a build.
+//! What filters are evaluated for: tests and binaries, and the platforms of a build.
 ghost use Rattle.std.specs.Prelude.{◌≡◌};
 ghost use Rattle.nextest_engines.specs.Engines.{named_test, test_view};
 

@@ -38,7 +38,7 @@ pub(crate) struct KeptTable {
     pub(crate) profiles: BTreeMap<String, MergedProfile>,
 }
 
-/// The rules of a table, and what was kept of it, if that was asked for.
+/// The rules of a table, and what was kept of it, if the caller keeps it.
 #[derive(Drop)]
 pub(crate) struct CheckedTable<F: Filters, S: Specs> {
     pub(crate) rules: LayerRules<F, S>,

@@ -94,7 +94,7 @@ fn read_tree(
     Ok((laid, names))
 }
 
-/// What a tree says, and its unknown paths; its first fault is told at the source.
+/// What a tree says, and its unknown paths; its first fault has the source.
 pub(crate) fn read_elements(
     alloc: Global,
     source: &ConfigSource,

@@ -158,7 +158,7 @@ impl<'cfg, F: Filters, S: Specs> EvaluatableProfile<'cfg, F, S> {
         self.facts.values().tests.retries
     }
 
-    /// What comes of a flaky test where no rule says so.
+    /// The result of a flaky test where no rule sets it.
     pub fn flaky_result(&self) -> FlakyResult
         ensures { nearest (λ f. f.flaky_result) self.now.facts.fields ≡ Some result }
     {
@@ -334,8 +334,8 @@ impl<'cfg, F: Filters, S: Specs> EvaluatableProfile<'cfg, F, S> {
     }
 
     /// The groups of tests by name, for filters that ask for the group of a test. Of tests of one
-    /// name the last that gets a custom group counts; where it is asked for a name that is not
-    /// among them, the global group answers.
+    /// name the last that gets a custom group counts; for a name that is not among them
+    /// the group is the global one.
     pub fn precompute_group_memberships(
         &self,
         alloc: Global,

@@ -25,8 +25,8 @@ use nextest_engines::{Filters, Specs};
 
 /// A profile of a configuration, on the platforms of a build, means the profile of that name by
 /// what the texts of the sources mean. The premises are what the load and `profile` ensure, and the
-/// profile on the platforms is the one that `apply_build_platforms` answers; whatever it is asked,
-/// it answers by its meaning.
+/// profile on the platforms is the one that `apply_build_platforms` returns; its results are
+/// those of its meaning.
 pub fn law_settings_of_texts<F: Filters, S: Specs>()
     ensures { (engines : Readings F.Meaning S.SpecMeaning S.Platform) (sources : List SourceText)
         (configured : Configured F.Expr S.Spec) (name : Name) (early : EarlyModel F.Expr S.Spec)

@@ -223,7 +223,7 @@ impl<'p, F: Filters, S: Specs, Source: TrackSource<'p, F, S>> TestSettings<'p, F
             .unwrap_or(self.values.tests.retries)
     }
 
-    /// What comes of the test where it passes at a later try.
+    /// The result of the test if it passes at a later try.
     pub fn flaky_result(&self) -> FlakyResult
         ensures { Some result ≡ value_at self.now Setting.FlakyResult }
     {

@@ -17,12 +17,12 @@ use nextest_texts::ToolName;
 use std::alloc::{AllocError, Global};
 use std::collections::BTreeMap;
 
-/// A source, and what came of reading its file.
+/// A source, and the outcome of reading its file.
 #[derive(Drop)]
 pub struct SourceInput<'a> {
     /// The source.
     pub source: ConfigSource,
-    /// What came of reading its file.
+    /// The outcome of reading its file.
     pub outcome: &'a ReadOutcome,
 }
 
@@ -56,7 +56,7 @@ fn repository_file<'a>(files: &ConfigInputs<'a>) -> Result<SourceInput<'a>, Allo
     }
 }
 
-/// The repository's source, where faults of what all sources make together are told.
+/// The repository's source, which faults of all sources together have.
 pub fn repository_source(files: &ConfigInputs<'_>) -> Result<ConfigSource, AllocError>
     ensures { IfOk result (λ source. source_view source ≡ repository_of (inputs_view files.now)) }
 {

@@ -48,7 +48,7 @@ impl fmt::Display for ConfigPath {
     }
 }
 
-/// What came of reading a file.
+/// The outcome of reading a file.
 #[derive(Debug, Drop)]
 pub enum ReadOutcome {
     /// Its text.
@@ -66,7 +66,7 @@ pub enum ReadOutcome {
 pub struct FileInput {
     /// Where it was looked for.
     pub path: ConfigPath,
-    /// What came of reading it.
+    /// The outcome of reading it.
     pub outcome: ReadOutcome,
 }
 

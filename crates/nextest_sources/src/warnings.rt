@@ -1,4 +1,4 @@
-//! Who is told of warnings.
+//! Receivers of warnings.
 ghost use Rattle.std.specs.Prelude.{◌≡◌, ◌++◌, ◌∷◌, [], List, map, IfOk, OnOk, OnErr, string_bytes};
 ghost use Rattle.nextest_sources.specs.Sources.{source_view};
 ghost use Rattle.nextest_sources.specs.Warnings.{Warning, unknown_keys, reserved_profiles, deprecated_scripts, empty_sections, texts_view};
@@ -10,7 +10,7 @@ use std::alloc::{AllocError, Global};
 use std::collections::BTreeSet;
 use std::fmt;
 
-/// Who is told of a load's warnings. Its meaning is the list of them: a call that answers Ok
+/// A receiver of a load's warnings. Its meaning is the list of them: a call that answers Ok
 /// appends exactly one, and one that answers Err leaves the list as it was.
 pub trait ConfigWarnings {
     /// The warnings that were told, the latest last.

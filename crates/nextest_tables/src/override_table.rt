@@ -21,7 +21,7 @@ pub struct OverrideRuns {
     pub run_extra_args: Option<Vec<String>>,
     /// How often a test is tried again.
     pub retries: Option<RetryPolicy>,
-    /// What comes of a test that passes at a later try.
+    /// The result of a test that passes at a later try.
     pub flaky_result: Option<FlakyResult>,
     /// When a test counts as slow, and when it is ended.
     pub slow_timeout: Option<SlowTimeout>,

@@ -19,7 +19,7 @@ use std::collections::BTreeMap;
 pub struct ProfileRuns {
     /// How often a test is tried again.
     pub retries: Option<RetryPolicy>,
-    /// What comes of a test that passes at a later try.
+    /// The result of a test that passes at a later try.
     pub flaky_result: Option<FlakyResult>,
     /// How many tests run at once.
     pub test_threads: Option<TestThreads>,

@@ -22,7 +22,7 @@ fn member<'a>(members: &'a BTreeMap<String, Tree>, key: &str) -> Option<&'a Tree
     members.get(key)
 }
 
-/// Reads what stands at a key of the tree that the walk is at.
+/// Reads the value of a key of the tree that the walk is at.
 #[tactic(auto, unfolding(crate::specs::ReadSteps::reading_below))]
 pub fn read_below<T: Element>(
     alloc: Global,

@@ -9,7 +9,7 @@ use crate::tree::Tree;
 use crate::walk::Walk;
 use std::alloc::Global;
 
-/// The value of the name that stands at the walk's path. `expected` lists the names.
+/// The value of the name at the walk's path. `expected` lists the names.
 #[tactic(auto, unfolding(crate::specs::Reads::reading, crate::specs::Reads::walk_view))]
 pub fn read_one_of<T: Copy>(
     alloc: Global,

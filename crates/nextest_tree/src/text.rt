@@ -1,4 +1,4 @@
-//! The readers of texts and truth values, and of what is known and never looked into.
+//! The readers of strings and booleans, and of what is known and never looked into.
 ghost use Rattle.std.specs.Prelude.{◌≡◌, Ok, List, Option, ℕ, None};
 ghost use Rattle.nextest_tree.specs.Leaf.{Spells, IsText, a_text, bool_at, a_bool};
 ghost use Rattle.nextest_tree.specs.Schema.{any, FaultCause};

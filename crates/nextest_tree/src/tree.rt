@@ -17,9 +17,9 @@ pub enum Tree {
     Array(Vec<Tree>),
     /// A text.
     Text(String),
-    /// A whole number.
+    /// An integer.
     Int(i64),
-    /// A truth value.
+    /// A boolean.
     Bool(bool),
     /// A float, a date or a time: no setting of nextest is one.
     Opaque,
@@ -58,7 +58,7 @@ impl Tree {
         }
     }
 
-    /// A whole number.
+    /// An integer.
     pub fn as_integer(&self) -> Option<i64>
         ensures { result ≡ as_int (tree_view self.now) }
     {
@@ -68,7 +68,7 @@ impl Tree {
         }
     }
 
-    /// A truth value.
+    /// A boolean.
     pub fn as_bool(&self) -> Option<bool>
         ensures { result ≡ as_bool (tree_view self.now) }
     {

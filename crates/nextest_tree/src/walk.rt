@@ -15,7 +15,7 @@ use std::collections::BTreeSet;
 pub struct Walk {
     /// Keys and positions from the root on, joined by dots.
     pub path: String,
-    /// The paths of the keys that no schema knows. They are told and not refused.
+    /// The paths of the keys that no schema knows. They are reported and not refused.
     pub unknown: BTreeSet<String>,
 }
 
@@ -42,7 +42,7 @@ fn join_key(alloc: Global, path: &str, key: &str) -> Result<String, AllocError>
 impl Walk {
     ghost use Rattle.nextest_tree.specs.Reads.{start, walk_view, noting, inside, back_at, fault_at, fault_view, Fails};
 
-    /// The walk that stands at the root and has noted nothing.
+    /// A walk at the root that has noted nothing.
     pub fn new(alloc: Global) -> Walk
         ensures { walk_view result ≡ start }
     {
@@ -87,7 +87,7 @@ impl Walk {
         }
     }
 
-    /// Notes that no schema knows what stands at a key.
+    /// Notes a key that no schema knows.
     pub fn note(&mut self, alloc: Global, key: &str) -> Result<(), ElementFault>
         ensures ok { OnOk result (walk_view self.new
             ≡ noting (below (walk_view self.old).path key.now ∷ []) (walk_view self.old)) }
@@ -102,7 +102,7 @@ impl Walk {
         Ok(())
     }
 
-    /// Goes to what stands at a key, and answers how long the path was before.
+    /// Goes to the value of a key, and returns how long the path was before.
     pub fn enter(&mut self, alloc: Global, key: &str) -> Result<usize, ElementFault>
         ensures ok { OnOk result (walk_view self.new ≡ inside key.now (walk_view self.old)) }
         ensures outer { IfOk result (λ outer. outer ≡ length (walk_view self.old).path) }

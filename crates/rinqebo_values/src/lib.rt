@@ -1,4 +1,4 @@
-//! The values of settings as the program `rinqebo` tells them: a boolean, a number, a text, a length of
+//! The values of settings as the program `rinqebo` reports them: a boolean, a number, a text, a length of
 //! time, texts, or a table.
 #![tactic(auto)]
 

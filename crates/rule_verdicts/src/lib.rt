@@ -1,4 +1,4 @@
-//! What comes of each rule of a profile for a test and a setting.
+//! The verdict of each rule of a profile for a test and a setting.
 #![tactic(auto)]
 
 mod laws;

@@ -4,7 +4,7 @@ ghost use Rattle.rule_verdicts.specs.VerdictsBy.{decides_by, verdict_by, verdict
 
 use std::alloc::{AllocError, Global};
 
-/// What comes of a rule for a test and a setting.
+/// The verdict of a rule for a test and a setting.
 #[derive(Clone, Copy, PartialEq, Eq)]
 pub enum Verdict {
     /// Its platforms do not hold.
@@ -56,7 +56,7 @@ impl RuleFacts {
     }
 }
 
-/// What comes of each rule, in their order.
+/// The verdict of each rule, in their order.
 pub fn verdicts_of(alloc: Global, rules: &[RuleFacts]) -> Result<Vec<Verdict>, AllocError>
     ensures { IfOk result (λ verdicts. verdicts.items ≡ verdicts_by false rules.now) }
 {

@@ -33,7 +33,7 @@ pub fn law_lines()
     ensures { LinesAreAmong }
 {}
 
-/// Where features are given, or none is asked for, a spec has a known value.
+/// Where features are given, or the spec names none, a spec has a known value.
 pub fn law_known()
     ensures { ValuesAreKnown }
 {}

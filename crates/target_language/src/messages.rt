@@ -1,4 +1,4 @@
-//! What is told of a fault.
+//! The message of a fault.
 ghost use Rattle.std.specs.Prelude.{◌≡◌, Some};
 ghost use Rattle.target_language.specs.Messages.{expected_label, kind_label, label_of, message, words as words_of, subject as subject_of};
 
@@ -80,7 +80,7 @@ impl FaultKind {
 }
 
 impl TargetSpecFault {
-    /// What is told of it, but for its place.
+    /// Its message, without its place.
     pub fn label(&self) -> &'static str
         ensures { result.now ≡ label_of self.now.kind self.now.expected }
     {

@@ -35,7 +35,7 @@ pub enum ToyExpr {
     AnyOf(Vec<Vec<Term>>),
 }
 
-/// What a filter is asked about: a test, or a binary without regard to its tests.
+/// What a filter is evaluated for: a test, or a binary without regard to its tests.
 #[derive(Clone, Copy)]
 pub struct Subject<'a> {
     pub binary_id: &'a str,

@@ -54,7 +54,7 @@ pub struct TestRow {
     pub run_extra_args: Vec<String>,
     /// How often it is tried again, and how long after.
     pub retries: RetryPolicy,
-    /// What comes of it where it passes at a later try.
+    /// The result of the test if it passes at a later try.
     pub flaky_result: FlakyResult,
     /// When it counts as slow, and when it is ended.
     pub slow_timeout: SlowTimeout,
