@@ -21,7 +21,7 @@ pub returns : goal.returns
 returns c =
     let report = c.args.report.now in
     let nothing : view Null ≡ null = search (rules, the_lemmas) in
-    let none : members_view c.new-members.result.entries ≡ no_members = search rules in
+    let none : members_view c.new-members.result.entries ≡ no_members = ap members_view c.new-members.ensures.empty in
     let chain = and_then (codes "chain") (Array c.new.result) c.new-members.result.entries c.put.new.map.entries
     (array no_items) _ c.in_ok-put.ensures.ok
     (empty c.new.result c.new.ensures.items) none in
