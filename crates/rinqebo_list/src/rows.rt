@@ -61,6 +61,7 @@ fn decider_of<'c, F: Filters, S: Specs, T: Copy>(
 }
 
 /// The row of a setting.
+#[tactic(auto, using(rinqebo_values::proofs::ToldOf::told_by_kind))]
 fn setting_row<'c, F: Filters, S: Specs, T: Copy, O: OriginTeller<T>>(
     alloc: Global,
     settings: &SourcedSettings<'c, F, S>,

@@ -77,6 +77,7 @@ fn origins_of(
 }
 
 /// A setting of a row.
+#[tactic(auto, using(rinqebo_values::proofs::ToldOf::told_by_kind))]
 fn setting_row(
     alloc: Global,
     grounds: &Grounds<'_, '_>,
