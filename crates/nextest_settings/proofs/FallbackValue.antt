@@ -11,7 +11,7 @@ use Rattle.nextest_settings.specs.declared.setting.Setting.{Setting}
 use Rattle.nextest_settings.specs.declared.setting.Setting.TheVariants as at
 
 -- none of some profiles writes what no profile writes
-unwritten : {X : Type 0} (fs : List WrittenFields) → nearest {X} (λ f. None) fs ≡ None
+unwritten : {X : Type 0} (fs : List WrittenFields) → ◌≡◌ {A = Option X} (nearest (λ f. None) fs) None
 unwritten [] = refl
 unwritten (f ∷ fs) = unwritten fs
 

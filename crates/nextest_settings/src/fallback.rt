@@ -59,10 +59,18 @@ fn stated_value<'v>(setting: Setting, has_report: bool) -> Option<SettingValue<'
     let unreported = !has_report;
     match setting {
         Setting::Priority => Some(SettingValue::Priority(TestPriority(0))),
+        Setting::ThreadsRequired => None,
+        Setting::RunWrapper => None,
+        Setting::RunExtraArgs => None,
+        Setting::Retries => None,
+        Setting::FlakyResult => None,
+        Setting::SlowTimeout => None,
+        Setting::LeakTimeout => None,
         Setting::TestGroup => Some(SettingValue::GlobalGroup),
-        Setting::JunitStoreSuccessOutput | Setting::JunitStoreFailureOutput => {
-            unreported.then_some(SettingValue::IsStored(false))
-        }
+        Setting::SuccessOutput => None,
+        Setting::FailureOutput => None,
+        Setting::JunitStoreSuccessOutput => unreported.then_some(SettingValue::IsStored(false)),
+        Setting::JunitStoreFailureOutput => unreported.then_some(SettingValue::IsStored(false)),
         Setting::JunitReportSkipped => {
             unreported.then_some(SettingValue::Skipped(ReportSkipPolicy::None))
         }
@@ -70,15 +78,6 @@ fn stated_value<'v>(setting: Setting, has_report: bool) -> Option<SettingValue<'
             let status = JunitFlakyFailStatus::Failure;
             unreported.then_some(SettingValue::FlakyFailStatus(status))
         }
-        Setting::ThreadsRequired
-        | Setting::RunWrapper
-        | Setting::RunExtraArgs
-        | Setting::Retries
-        | Setting::FlakyResult
-        | Setting::SlowTimeout
-        | Setting::LeakTimeout
-        | Setting::SuccessOutput
-        | Setting::FailureOutput => None,
     }
 }
 
