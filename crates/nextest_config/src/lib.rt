@@ -60,8 +60,8 @@ pub use nextest_profiles::{EarlyProfile, EvaluatableProfile, KnownGroups};
 pub use nextest_rules::{CompiledOverride, CompiledProfileScripts, OverrideId, PlatformSpecs};
 pub use nextest_settings::{
     CompiledDefaultFilter, CompiledDefaultFilterSection, GroupLookup, ListSettings,
-    PrecomputedGroupMembership, Setting, SettingSource, SetupScript, SetupScriptIter, SetupScripts,
-    TestSettings, TrackSource,
+    PrecomputedGroupMembership, Setting, SettingSource, SettingValue, SettingValues, SetupScript,
+    SetupScriptIter, SetupScripts, TestSettings, TrackSource,
 };
 pub use nextest_tables::{OverrideOutputs, OverrideRuns, OverrideSettings};
 
