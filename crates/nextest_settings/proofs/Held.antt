@@ -1,4 +1,4 @@
--- Values that code holds, by the values that they are.
+-- What follows of values that are held from the values that are there.
 use Rattle.std.proofs.Common.{◌≡◌, Option, None, Some, option_map, is_some, refl, sym}
 use Rattle.std.proofs.lemmas.Option.{none-some}
 use Rattle.std.specs.Option.{option_or}

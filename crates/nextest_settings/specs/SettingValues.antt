@@ -57,7 +57,7 @@ setting_value_view (held.IsStored value) = is_stored value
 setting_value_view (held.Skipped policy) = skipped policy
 setting_value_view (held.FlakyFailStatus status) = flaky_fail_status status
 
--- the kind of a setting: its value, whatever the setting
+-- a value of a setting, by its kind
 abbrev pub by_kind : (s : Setting) → ValueOf s → ValueByKind
 by_kind at.Priority value = priority value
 by_kind at.ThreadsRequired value = threads value

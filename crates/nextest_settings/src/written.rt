@@ -99,9 +99,11 @@ fn profile_timeout(fields: &ProfileFields, mode: NextestRunMode) -> Option<SlowT
 /// What a profile writes of the settings of its report.
 fn profile_report(fields: &ProfileFields) -> JunitOverride
     ensures success_output { result.store_success_output
-        ≡ profile_sets (fields_view fields.now) NextestRunMode.Test Setting.JunitStoreSuccessOutput }
+        ≡ profile_sets (fields_view fields.now) NextestRunMode.Test
+        Setting.JunitStoreSuccessOutput }
     ensures failure_output { result.store_failure_output
-        ≡ profile_sets (fields_view fields.now) NextestRunMode.Test Setting.JunitStoreFailureOutput }
+        ≡ profile_sets (fields_view fields.now) NextestRunMode.Test
+        Setting.JunitStoreFailureOutput }
     ensures skipped { result.report_skipped
         ≡ profile_sets (fields_view fields.now) NextestRunMode.Test Setting.JunitReportSkipped }
     ensures status { result.flaky_fail_status

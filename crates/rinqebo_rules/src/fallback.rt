@@ -21,7 +21,8 @@ pub fn fallback_of_chain<'c>(
     mode: NextestRunMode,
 ) -> Result<Option<SettingValue<'c>>, AllocError>
     ensures { IfOk result (λ value. option_map told_value value ≡ option_map (told_of setting)
-        (fallback_of (fields_of config.now.config.profiles (borrowed_view chain.now)) mode setting)) }
+        (fallback_of (fields_of config.now.config.profiles (borrowed_view chain.now)) mode
+        setting)) }
 {
     let fields = fields_of(alloc, config.profiles(), chain)?;
     Ok(fallback_of(&fields, setting, mode))
