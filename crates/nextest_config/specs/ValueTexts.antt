@@ -1,5 +1,5 @@
 -- How values are spelled where a row shows them: one definition for each kind of value.
-use Rattle.std.specs.Prelude.{ℕ, List, ◌++◌, Bool, Option, None, Some, codes, if◌then◌else◌}
+use Rattle.std.specs.Prelude.{ℕ, List, ◌++◌, Bool, Option, None, Some, option_map, codes, if◌then◌else◌}
 use Rattle.std.specs.Fmt.{decimal, signed_decimal}
 use Rattle.std.specs.List.{join_by}
 use Rattle.nextest_elements.specs.FlakyResult.{flaky_result_text}
@@ -14,8 +14,9 @@ use Rattle.nextest_elements.specs.declared.retry_policy.RetryPolicy.{RetryPolicy
 use Rattle.nextest_elements.specs.declared.retry_policy.RetryPolicy.TheVariants as policies
 use Rattle.nextest_elements.specs.declared.slow_timeout.SlowTimeout.{SlowTimeout}
 use Rattle.nextest_settings.specs.Settings.{ValueOf}
+use Rattle.nextest_settings.specs.SettingValues as kinds
+use Rattle.nextest_settings.specs.SettingValues.{ValueByKind, by_kind}
 use Rattle.nextest_settings.specs.declared.setting.Setting.{Setting}
-use Rattle.nextest_settings.specs.declared.setting.Setting.TheVariants as at
 use Rattle.nextest_tables.specs.Written.{Arguments}
 
 -- A duration is spelled in whole nanoseconds, with their unit.
@@ -62,24 +63,22 @@ leak_timeout_text leak =
     codes "period=" ++ duration_text leak.period
     ++ codes " result=" ++ leak_result_text leak.result
 
--- A value of a setting is spelled by its kind.
-abbrev pub spelled : (s : Setting) → ValueOf s → List ℕ
-spelled at.Priority priority = signed_decimal priority.0
-spelled at.ThreadsRequired threads = threads_required_text threads
-spelled at.RunWrapper id = id
-spelled at.RunExtraArgs arguments = arguments_text arguments
-spelled at.Retries retries = retries_text retries
-spelled at.FlakyResult result = flaky_result_text result
-spelled at.SlowTimeout slow = slow_timeout_text slow
-spelled at.LeakTimeout leak = leak_timeout_text leak
-spelled at.TestGroup group = group_text group
-spelled at.SuccessOutput display = test_output_display_text display
-spelled at.FailureOutput display = test_output_display_text display
-spelled at.JunitStoreSuccessOutput stored = bool_text stored
-spelled at.JunitStoreFailureOutput stored = bool_text stored
-spelled at.JunitReportSkipped policy = report_skip_policy_text policy
-spelled at.JunitFlakyFailStatus status = junit_flaky_fail_status_text status
+-- A value is spelled by its kind.
+abbrev pub kind_text : ValueByKind → List ℕ
+kind_text (kinds.priority value) = signed_decimal value.0
+kind_text (kinds.threads value) = threads_required_text value
+kind_text (kinds.wrapper id) = id
+kind_text (kinds.arguments texts) = arguments_text texts
+kind_text (kinds.retries policy) = retries_text policy
+kind_text (kinds.flaky_result result) = flaky_result_text result
+kind_text (kinds.slow_timeout timeout) = slow_timeout_text timeout
+kind_text (kinds.leak_timeout timeout) = leak_timeout_text timeout
+kind_text (kinds.group value) = group_text value
+kind_text (kinds.output display) = test_output_display_text display
+kind_text (kinds.is_stored value) = bool_text value
+kind_text (kinds.skipped policy) = report_skip_policy_text policy
+kind_text (kinds.flaky_fail_status status) = junit_flaky_fail_status_text status
 
 -- The value of a setting in a row is spelled by its kind, and where there is none, as `none`.
 abbrev pub value_text : (s : Setting) → Option (ValueOf s) → List ℕ
-value_text s value = optional_text (spelled s) value
+value_text s value = optional_text kind_text (option_map (by_kind s) value)

@@ -6,6 +6,8 @@ pub mod Listed
 pub mod Wrapped
 pub mod ScriptTables
 pub mod FallbackOf
+pub mod FallbackValue
+pub mod Held
 pub mod ValueBy
 pub mod RulesAreInOrder
 pub mod Rising

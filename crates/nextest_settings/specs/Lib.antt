@@ -3,6 +3,7 @@ pub mod Platforms
 pub mod Profile
 pub mod Values
 pub mod Settings
+pub mod SettingValues
 pub mod Deciding
 pub mod Queries
 pub mod Engines

@@ -3,6 +3,7 @@
 
 mod default_filter;
 mod evaluated;
+mod fallback;
 mod gather;
 mod groups;
 mod index;
@@ -11,6 +12,7 @@ mod list_settings;
 mod pass;
 mod platforms;
 mod setting;
+mod setting_value;
 mod setup_scripts;
 mod source;
 mod test_settings;
@@ -22,6 +24,7 @@ pub use default_filter::{
     CompiledDefaultFilter, CompiledDefaultFilterSection, default_filter_of, nearest_filter,
 };
 pub use evaluated::EvaluatedRules;
+pub use fallback::fallback_of;
 pub use gather::{ChainRules, fields_of, rules_of};
 pub use groups::{GroupLookup, PrecomputedGroupMembership};
 pub use index::{Place, PlatformIndex, RuleIndex, Wrapper};
@@ -35,6 +38,7 @@ pub use platforms::{
     evaluate_script_rules,
 };
 pub use setting::Setting;
+pub use setting_value::{SettingValue, SettingValues};
 pub use setup_scripts::{SetupScript, SetupScriptIter, SetupScripts};
 pub use source::{SettingSource, TrackSource};
 pub use test_settings::TestSettings;

@@ -25,6 +25,7 @@ use crate::index::Wrapper;
 use crate::pass::winners;
 use crate::platforms::EvaluatedOverride;
 use crate::setting::{SETTING_COUNT, Setting};
+use crate::setting_value::{SettingValue, SettingValues};
 use crate::source::{TrackSource, fallback_mark};
 use crate::values::{ProfileValues, StoredValues};
 use crate::wrappers::{RunWrapper, run_wrapper};
@@ -418,6 +419,46 @@ impl<'p, F: Filters, S: Specs, Source: TrackSource<'p, F, S>> TestSettings<'p, F
         match &self.run_wrapper {
             Some(wrapper) => Some(Source::script_mark(wrapper.rule)),
             None => None,
+        }
+    }
+}
+
+impl<'p, F: Filters, S: Specs, Source: TrackSource<'p, F, S>> SettingValues
+    for TestSettings<'p, F, S, Source>
+{
+    ghost values = { λ settings _ s. value_at settings s };
+
+    /// Returns the value of a setting, if it has one: only a run wrapper may be absent. Rules were
+    /// judged for the mode that the settings were made for, so the mode here changes nothing.
+    fn value(&self, setting: Setting, mode: NextestRunMode) -> Option<SettingValue<'_>> {
+        let _mode = mode;
+        match setting {
+            Setting::Priority => Some(SettingValue::Priority(self.priority())),
+            Setting::ThreadsRequired => Some(SettingValue::Threads(self.threads_required())),
+            Setting::RunWrapper => match self.run_wrapper_id() {
+                Some(id) => Some(SettingValue::Wrapper(id)),
+                None => None,
+            },
+            Setting::RunExtraArgs => Some(SettingValue::Arguments(self.run_extra_args())),
+            Setting::Retries => Some(SettingValue::Retries(self.retries())),
+            Setting::FlakyResult => Some(SettingValue::FlakyResult(self.flaky_result())),
+            Setting::SlowTimeout => Some(SettingValue::SlowTimeout(self.slow_timeout())),
+            Setting::LeakTimeout => Some(SettingValue::LeakTimeout(self.leak_timeout())),
+            Setting::TestGroup => Some(SettingValue::Group(self.test_group())),
+            Setting::SuccessOutput => Some(SettingValue::Output(self.success_output())),
+            Setting::FailureOutput => Some(SettingValue::Output(self.failure_output())),
+            Setting::JunitStoreSuccessOutput => {
+                Some(SettingValue::IsStored(self.junit_store_success_output()))
+            }
+            Setting::JunitStoreFailureOutput => {
+                Some(SettingValue::IsStored(self.junit_store_failure_output()))
+            }
+            Setting::JunitReportSkipped => {
+                Some(SettingValue::Skipped(self.junit_report_skipped()))
+            }
+            Setting::JunitFlakyFailStatus => {
+                Some(SettingValue::FlakyFailStatus(self.junit_flaky_fail_status()))
+            }
         }
     }
 }

@@ -6,10 +6,10 @@ ghost use Rattle.nextest_settings.specs.SettingsView.{origin_at, value_at};
 ghost use Rattle.rinqebo_list.specs.Settings.{is_by_rule, told_settings, IsSettingTold};
 
 use crate::origins::{Decider, OriginTeller};
-use crate::values::{SourcedSettings, value_in_settings};
+use crate::values::SourcedSettings;
 use nextest_elements::NextestRunMode;
 use nextest_engines::{Filters, Specs};
-use nextest_settings::{Setting, SettingSource};
+use nextest_settings::{Setting, SettingSource, SettingValues};
 use rinqebo_report::SettingRow;
 use rinqebo_request::{AskedSettings, SettingKey};
 use rinqebo_values::reported_if_set;
@@ -61,6 +61,7 @@ fn decider_of<'c, F: Filters, S: Specs, T: Copy>(
 }
 
 /// The row of a setting.
+#[tactic(auto, using(rinqebo_values::proofs::ToldOf::told_by_kind))]
 fn setting_row<'c, F: Filters, S: Specs, T: Copy, O: OriginTeller<T>>(
     alloc: Global,
     settings: &SourcedSettings<'c, F, S>,
@@ -78,7 +79,7 @@ fn setting_row<'c, F: Filters, S: Specs, T: Copy, O: OriginTeller<T>>(
     };
     Ok(SettingRow {
         key: key.text(alloc)?,
-        value: reported_if_set(alloc, value_in_settings(settings, setting))?,
+        value: reported_if_set(alloc, settings.value(setting, mode))?,
         origins,
     })
 }

@@ -14,9 +14,8 @@ use nextest_config::{
     CompiledOverride, CompiledProfileScripts, NextestRunMode, PlatformSpecs, Setting,
 };
 use nextest_filters::NextestFilters;
-use nextest_settings::rules_of;
+use nextest_settings::{SettingValue, SettingValues, rules_of};
 use rinqebo_load::Config;
-use rinqebo_values::{SettingValue, written_value};
 use std::alloc::{AllocError, Global};
 use target_language::TargetSpecs;
 
@@ -48,7 +47,7 @@ fn override_rule(rule: &Override, setting: Setting, mode: NextestRunMode) -> Set
         place: RulePlace::of_override(rule.id()),
         platforms: rule.platforms(),
         filter: rule.filter(),
-        value: written_value(rule.settings(), setting, mode),
+        value: rule.settings().value(setting, mode),
     }
 }
 

@@ -16,7 +16,7 @@ pub use binary::query_of;
 pub use chain_rules::{SettingRule, rules_for};
 pub use conditions::{Answers, Asking, default_filter};
 pub use facts::{answers_to, facts_of};
-pub use fallback::fallback_value;
+pub use fallback::fallback_of_chain;
 pub use grounds::{built_in, idle_grounds, profile_grounds};
 pub use rule_places::{RuleKind, RulePlace};
 pub use trees::trees_of;

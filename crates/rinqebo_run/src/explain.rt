@@ -19,7 +19,7 @@ use rinqebo_load::{Failure, Session, chain_of_profile};
 use rinqebo_report::{Content, Origin, Platform, Report, SettingRow, TestRows};
 use rinqebo_request::{SettingKey, TestName};
 use rinqebo_rules::{RuleKind, RulePlace, built_in, profile_grounds, query_of, wrapping_place};
-use rinqebo_values::{reported_if_set, value_in_row};
+use rinqebo_values::reported_if_set;
 use std::alloc::{AllocError, Global};
 
 /// What a row's settings are told with: the layers, the chain of the profile, and where the script
@@ -78,6 +78,7 @@ fn origins_of(
 }
 
 /// A setting of a row.
+#[tactic(auto, using(rinqebo_values::proofs::ToldOf::told_by_kind))]
 fn setting_row(
     alloc: Global,
     grounds: &Grounds<'_, '_>,
@@ -91,7 +92,7 @@ fn setting_row(
     let key = SettingKey::of(setting, mode);
     Ok(SettingRow {
         key: key.text(alloc)?,
-        value: reported_if_set(alloc, value_in_row(row, setting))?,
+        value: reported_if_set(alloc, row.value(setting))?,
         origins: origins_of(alloc, grounds, row.source(setting), key)?,
     })
 }

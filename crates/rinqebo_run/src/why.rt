@@ -28,7 +28,7 @@ use rinqebo_load::{Config, Failure, Session, chain_of_profile};
 use rinqebo_report::{Condition, ConditionAnswer, Content, Origin, Report, Rule, TestId, Verdict};
 use rinqebo_request::{SettingKey, TestName};
 use rinqebo_rules::{
-    Asking, SettingRule, answers_to, built_in, default_filter, facts_of, fallback_value,
+    Asking, SettingRule, answers_to, built_in, default_filter, facts_of, fallback_of_chain,
     profile_grounds, query_of, rules_for,
 };
 use rinqebo_values::reported_if_set;
@@ -179,7 +179,7 @@ fn fallback_rule(
     ensures { IfOk result (λ rule. rule.verdict ≡ told.Fallback) }
 {
     let key = SettingKey::of(setting, mode);
-    let value = fallback_value(alloc, config, chain, setting, mode)?;
+    let value = fallback_of_chain(alloc, config, chain, setting, mode)?;
     Ok(Rule {
         verdict: Verdict::Fallback,
         origin: fallback_origin(alloc, &session.layers, chain, setting, key)?,

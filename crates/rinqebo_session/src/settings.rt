@@ -11,9 +11,9 @@ use crate::status::DONE;
 use nextest_config::{ScriptId, TestGroup, TestSettings, TestThreads};
 use nextest_filters::NextestFilters;
 use session_forms::{
-    Duration, GroupThreads, LeakNumbers, RetryNumbers, SlowNumbers, ThreadNumbers, flaky_number,
-    group_threads, leak_numbers, output_number, report_number, retry_numbers, slow_numbers,
-    status_number, thread_numbers,
+    Duration, GroupThreads, LeakNumbers, RetryNumbers, SlowNumbers, ThreadNumbers, flag_number,
+    flaky_number, group_threads, leak_numbers, output_number, report_number, retry_numbers,
+    slow_numbers, status_number, thread_numbers,
 };
 use target_language::TargetSpecs;
 
@@ -107,13 +107,6 @@ impl SettingNumbers {
             run_extra_args: 0,
         }
     }
-}
-
-/// 1 or 0.
-fn flag_number(flag: bool) -> u32
-    ensures { result ≡ flag_number flag }
-{
-    if flag { 1 } else { 0 }
 }
 
 /// The place of the group of a name, if it is there.

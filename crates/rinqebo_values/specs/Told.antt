@@ -14,8 +14,9 @@ use Rattle.nextest_elements.specs.declared.slow_timeout.SlowTimeout.{SlowTimeout
 use Rattle.nextest_elements.specs.declared.threads_required.ThreadsRequired.{ThreadsRequired}
 use Rattle.nextest_elements.specs.declared.threads_required.ThreadsRequired.TheVariants as threads
 use Rattle.nextest_settings.specs.Settings.{ValueOf}
+use Rattle.nextest_settings.specs.SettingValues as kinds
+use Rattle.nextest_settings.specs.SettingValues.{ValueByKind, by_kind}
 use Rattle.nextest_settings.specs.declared.setting.Setting.{Setting}
-use Rattle.nextest_settings.specs.declared.setting.Setting.TheVariants as at
 use Rattle.rinqebo_report.specs.declared.value.Field.{Field}
 use Rattle.rinqebo_report.specs.declared.value.Scalar.{Scalar}
 use Rattle.rinqebo_report.specs.declared.value.Scalar.TheVariants as scalars
@@ -121,20 +122,22 @@ told_threads (threads.Count n) = told_count n
 told_threads threads.NumCpus = text (threads_required_text threads.NumCpus)
 told_threads threads.NumTestThreads = text (threads_required_text threads.NumTestThreads)
 
--- The value of a setting is told by its kind.
+-- A value is told by its kind.
+abbrev pub told : ValueByKind → ToldValue
+told (kinds.priority value) = scalar (integer value.0)
+told (kinds.threads value) = scalar (told_threads value)
+told (kinds.wrapper id) = scalar (text id)
+told (kinds.arguments items) = texts items
+told (kinds.retries policy) = told_retries policy
+told (kinds.flaky_result result) = scalar (text (flaky_result_text result))
+told (kinds.slow_timeout timeout) = told_slow timeout
+told (kinds.leak_timeout timeout) = told_leak timeout
+told (kinds.group value) = scalar (text (group_text value))
+told (kinds.output display) = scalar (text (test_output_display_text display))
+told (kinds.is_stored value) = scalar (boolean value)
+told (kinds.skipped policy) = scalar (text (report_skip_policy_text policy))
+told (kinds.flaky_fail_status status) = scalar (text (junit_flaky_fail_status_text status))
+
+-- the value of a setting, as it is told
 abbrev pub told_of : (s : Setting) → ValueOf s → ToldValue
-told_of at.Priority priority = scalar (integer priority.0)
-told_of at.ThreadsRequired threads = scalar (told_threads threads)
-told_of at.RunWrapper id = scalar (text id)
-told_of at.RunExtraArgs arguments = texts arguments
-told_of at.Retries retries = told_retries retries
-told_of at.FlakyResult result = scalar (text (flaky_result_text result))
-told_of at.SlowTimeout slow = told_slow slow
-told_of at.LeakTimeout leak = told_leak leak
-told_of at.TestGroup group = scalar (text (group_text group))
-told_of at.SuccessOutput display = scalar (text (test_output_display_text display))
-told_of at.FailureOutput display = scalar (text (test_output_display_text display))
-told_of at.JunitStoreSuccessOutput stored = scalar (boolean stored)
-told_of at.JunitStoreFailureOutput stored = scalar (boolean stored)
-told_of at.JunitReportSkipped policy = scalar (text (report_skip_policy_text policy))
-told_of at.JunitFlakyFailStatus status = scalar (text (junit_flaky_fail_status_text status))
+told_of s value = told (by_kind s value)

@@ -3,7 +3,5 @@
 #![tactic(auto)]
 
 mod reporting;
-mod setting_value;
 
 pub use reporting::{reported, reported_if_set};
-pub use setting_value::{SettingValue, value_in_row, written_value};

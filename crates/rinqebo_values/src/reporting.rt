@@ -3,10 +3,10 @@ ghost use Rattle.std.specs.Prelude.{◌≡◌, ◌++◌, IfOk, OnOk, map, option
 ghost use Rattle.rinqebo_values.specs.SettingValues.{told_value};
 ghost use Rattle.rinqebo_values.specs.Told.{ToldScalar, ToldValue, scalar_view, field_view, value_view, told_count, one, one_if, one_if_true, retry_fields, is_plain, told_fixed, told_retries, told_slow, told_leak, told_threads};
 
-use crate::setting_value::SettingValue;
 use nextest_config::{
     LeakTimeout, RetryPolicy, SlowTimeout, TestGroup, TestPriority, ThreadsRequired,
 };
+use nextest_settings::SettingValue;
 use rinqebo_report::{Field, Scalar, Value};
 use std::alloc::{AllocError, Global};
 

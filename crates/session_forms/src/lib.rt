@@ -14,8 +14,8 @@ pub use fault::{Holder, Place, RequestFault, Wanted};
 pub use machines::{EngineFault, filters_of, platform_of, platforms_of};
 pub use numbers::{
     Duration, GroupThreads, LeakNumbers, RetryNumbers, SlowNumbers, ThreadNumbers, duration_parts,
-    flaky_number, group_threads, leak_numbers, output_number, report_number, retry_numbers,
-    slow_numbers, status_number, thread_numbers,
+    flag_number, flaky_number, group_threads, leak_numbers, output_number, report_number,
+    retry_numbers, slow_numbers, status_number, thread_numbers,
 };
 pub use request::{LoadRequest, Machine, Switches};
 pub use run_request::RunRequest;

@@ -77,8 +77,8 @@ pub struct GroupThreads {
     pub count: i64,
 }
 
-/// 1 or 0.
-fn flag_number(flag: bool) -> u32
+/// Returns 1 for true, else 0.
+pub fn flag_number(flag: bool) -> u32
     ensures { result ≡ flag_number flag }
 {
     if flag { 1 } else { 0 }

@@ -1,6 +1,7 @@
 //! Rows: the settings of tests as values of their own, each with its source.
 ghost use Rattle.std.specs.Prelude.{◌≡◌, Some, IfOk, map, option_map, string_bytes};
 ghost use Rattle.nextest_scripts.specs.ScriptId.{script_text};
+ghost use Rattle.nextest_settings.specs.SettingValues.{by_kind, setting_value_view};
 ghost use Rattle.nextest_settings.specs.SettingsView.{slot_at, value_at, origin_at};
 ghost use Rattle.nextest_settings.specs.declared.setting.Setting.{Setting};
 ghost use Rattle.nextest_config.specs.RowView.{origin_view, row_value, row_source};
@@ -15,11 +16,11 @@ use nextest_elements::{
 };
 use nextest_engines::{Filters, Specs};
 use nextest_scripts::ScriptId;
-use nextest_settings::{Setting, SettingSource, TestSettings};
+use nextest_settings::{Setting, SettingSource, SettingValue, TestSettings};
 use nextest_sources::ConfigSource;
 use sources::sources_of;
 use std::alloc::{AllocError, Global};
-use values::{arguments_text, leak_timeout_text, retries_text, slow_timeout_text, wrapper_text};
+use values::value_text;
 
 /// What decides a setting.
 #[derive(Debug, Drop, PartialEq, Eq)]
@@ -90,28 +91,48 @@ impl TestRow {
         }
     }
 
-    /// The value of a setting as a text, in the spelling of files: durations are whole nanoseconds,
-    /// and what is absent is `none`.
+    /// Returns the value of a setting, if it has one: only a run wrapper may be absent.
+    pub fn value(&self, setting: Setting) -> Option<SettingValue<'_>>
+        ensures { option_map setting_value_view result
+            ≡ option_map (by_kind setting) (row_value self.now setting) }
+    {
+        match setting {
+            Setting::Priority => Some(SettingValue::Priority(self.priority)),
+            Setting::ThreadsRequired => Some(SettingValue::Threads(self.threads_required)),
+            Setting::RunWrapper => match &self.run_wrapper {
+                Some(id) => Some(SettingValue::Wrapper(id)),
+                None => None,
+            },
+            Setting::RunExtraArgs => Some(SettingValue::Arguments(&self.run_extra_args)),
+            Setting::Retries => Some(SettingValue::Retries(self.retries)),
+            Setting::FlakyResult => Some(SettingValue::FlakyResult(self.flaky_result)),
+            Setting::SlowTimeout => Some(SettingValue::SlowTimeout(self.slow_timeout)),
+            Setting::LeakTimeout => Some(SettingValue::LeakTimeout(self.leak_timeout)),
+            Setting::TestGroup => Some(SettingValue::Group(&self.test_group)),
+            Setting::SuccessOutput => Some(SettingValue::Output(self.success_output)),
+            Setting::FailureOutput => Some(SettingValue::Output(self.failure_output)),
+            Setting::JunitStoreSuccessOutput => {
+                Some(SettingValue::IsStored(self.junit_store_success_output))
+            }
+            Setting::JunitStoreFailureOutput => {
+                Some(SettingValue::IsStored(self.junit_store_failure_output))
+            }
+            Setting::JunitReportSkipped => Some(SettingValue::Skipped(self.junit_report_skipped)),
+            Setting::JunitFlakyFailStatus => {
+                Some(SettingValue::FlakyFailStatus(self.junit_flaky_fail_status))
+            }
+        }
+    }
+
+    /// Returns the value of a setting as a text, in the spelling of files: durations are whole
+    /// nanoseconds, and what is absent is `none`.
     pub fn value_text(&self, alloc: Global, setting: Setting) -> Result<String, AllocError>
         ensures { IfOk result (λ text. string_bytes text
             ≡ value_text setting (row_value self.now setting)) }
     {
-        match setting {
-            Setting::Priority => self.priority.0.to_string(alloc),
-            Setting::ThreadsRequired => self.threads_required.to_string(alloc),
-            Setting::RunWrapper => wrapper_text(alloc, &self.run_wrapper),
-            Setting::RunExtraArgs => arguments_text(alloc, &self.run_extra_args),
-            Setting::Retries => retries_text(alloc, self.retries),
-            Setting::FlakyResult => self.flaky_result.to_string(alloc),
-            Setting::SlowTimeout => slow_timeout_text(alloc, self.slow_timeout),
-            Setting::LeakTimeout => leak_timeout_text(alloc, self.leak_timeout),
-            Setting::TestGroup => self.test_group.to_string(alloc),
-            Setting::SuccessOutput => self.success_output.to_string(alloc),
-            Setting::FailureOutput => self.failure_output.to_string(alloc),
-            Setting::JunitStoreSuccessOutput => self.junit_store_success_output.to_string(alloc),
-            Setting::JunitStoreFailureOutput => self.junit_store_failure_output.to_string(alloc),
-            Setting::JunitReportSkipped => self.junit_report_skipped.to_string(alloc),
-            Setting::JunitFlakyFailStatus => self.junit_flaky_fail_status.to_string(alloc),
+        match self.value(setting) {
+            Some(value) => value_text(alloc, value),
+            None => String::from_str(alloc, "none"),
         }
     }
 }

@@ -1,10 +1,10 @@
-//! Values of a row as texts.
-ghost use Rattle.std.specs.Prelude.{◌≡◌, IfOk, Some, map, option_map, string_bytes};
-ghost use Rattle.nextest_scripts.specs.ScriptId.{script_text};
+//! Values of settings as texts.
+ghost use Rattle.std.specs.Prelude.{◌≡◌, IfOk, Some, map, string_bytes};
+ghost use Rattle.nextest_settings.specs.SettingValues.{setting_value_view};
 ghost use Rattle.nextest_config.specs.ValueTexts as spelled;
 
-use nextest_elements::{LeakTimeout, RetryPolicy, SlowTimeout};
-use nextest_scripts::ScriptId;
+use nextest_elements::{LeakTimeout, RetryPolicy, SlowTimeout, TestGroup, TestPriority};
+use nextest_settings::SettingValue;
 use std::alloc::{AllocError, Global};
 use std::fmt;
 
@@ -54,7 +54,7 @@ impl fmt::Display for OptionalDuration {
 }
 
 /// The text of a retry policy.
-pub(super) fn retries_text(alloc: Global, retries: RetryPolicy) -> Result<String, AllocError>
+fn retries_text(alloc: Global, retries: RetryPolicy) -> Result<String, AllocError>
     ensures { IfOk result (λ text. string_bytes text ≡ spelled.retries_text retries) }
 {
     match retries {
@@ -82,7 +82,7 @@ pub(super) fn retries_text(alloc: Global, retries: RetryPolicy) -> Result<String
 }
 
 /// The text of a slow timeout.
-pub(super) fn slow_timeout_text(alloc: Global, slow: SlowTimeout) -> Result<String, AllocError>
+fn slow_timeout_text(alloc: Global, slow: SlowTimeout) -> Result<String, AllocError>
     ensures { IfOk result (λ text. string_bytes text ≡ spelled.slow_timeout_text slow) }
 {
     let period = Duration(slow.period);
@@ -95,7 +95,7 @@ pub(super) fn slow_timeout_text(alloc: Global, slow: SlowTimeout) -> Result<Stri
 }
 
 /// The text of a leak timeout.
-pub(super) fn leak_timeout_text(alloc: Global, leak: LeakTimeout) -> Result<String, AllocError>
+fn leak_timeout_text(alloc: Global, leak: LeakTimeout) -> Result<String, AllocError>
     ensures { IfOk result (λ text. string_bytes text ≡ spelled.leak_timeout_text leak) }
 {
     let period = Duration(leak.period);
@@ -105,7 +105,7 @@ pub(super) fn leak_timeout_text(alloc: Global, leak: LeakTimeout) -> Result<Stri
 
 /// The text of arguments.
 #[tactic(auto, using(crate::proofs::JoinedTexts::joined_texts))]
-pub(super) fn arguments_text(alloc: Global, arguments: &[String]) -> Result<String, AllocError>
+fn arguments_text(alloc: Global, arguments: &[String]) -> Result<String, AllocError>
     ensures { IfOk result (λ text. string_bytes text
         ≡ spelled.arguments_text (map string_bytes arguments.now)) }
 {
@@ -113,13 +113,26 @@ pub(super) fn arguments_text(alloc: Global, arguments: &[String]) -> Result<Stri
     format!(in alloc; "[{joined}]")
 }
 
-/// The text of the id of a run wrapper, if there is one.
-pub(super) fn wrapper_text(alloc: Global, wrapper: &Option<ScriptId>) -> Result<String, AllocError>
+/// The text of a value.
+#[tactic(auto, unfolding(nextest_elements::specs::TestGroup::global_text))]
+pub(super) fn value_text(alloc: Global, value: SettingValue<'_>) -> Result<String, AllocError>
     ensures { IfOk result (λ text. string_bytes text
-        ≡ spelled.optional_text (λ id. id) (option_map script_text wrapper.now)) }
+        ≡ spelled.kind_text (setting_value_view value.entry)) }
 {
-    match wrapper {
-        Some(id) => id.to_string(alloc),
-        None => String::from_str(alloc, "none"),
+    match value {
+        SettingValue::Priority(TestPriority(priority)) => priority.to_string(alloc),
+        SettingValue::Threads(threads) => threads.to_string(alloc),
+        SettingValue::Wrapper(id) => id.to_string(alloc),
+        SettingValue::Arguments(arguments) => arguments_text(alloc, arguments),
+        SettingValue::Retries(retries) => retries_text(alloc, retries),
+        SettingValue::FlakyResult(result) => result.to_string(alloc),
+        SettingValue::SlowTimeout(slow) => slow_timeout_text(alloc, slow),
+        SettingValue::LeakTimeout(leak) => leak_timeout_text(alloc, leak),
+        SettingValue::Group(group) => group.to_string(alloc),
+        SettingValue::GlobalGroup => String::from_str(alloc, TestGroup::GLOBAL_STR),
+        SettingValue::Output(display) => display.to_string(alloc),
+        SettingValue::IsStored(is_stored) => is_stored.to_string(alloc),
+        SettingValue::Skipped(policy) => policy.to_string(alloc),
+        SettingValue::FlakyFailStatus(status) => status.to_string(alloc),
     }
 }

@@ -1,5 +1,5 @@
 use Rattle.std.proofs.Common.{refl}
-use Rattle.rinqebo_values.proofs.setting_value.value_in_row.Goals as goal
+use Rattle.nextest_config.proofs.run.row.TestRow.value.Goals as goal
 
 pub returns-in-Priority : goal.returns-in-Priority
 returns-in-Priority c = rw c.in-Priority.is refl
