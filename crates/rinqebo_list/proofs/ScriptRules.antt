@@ -6,14 +6,13 @@ use Rattle.nextest_engines.specs.Engines.{Binary}
 use Rattle.nextest_engines.specs.declared.queries.BuildPlatforms.{BuildPlatforms}
 use Rattle.nextest_load.specs.Closed.{BinaryMatch}
 use Rattle.nextest_profiles.specs.Meaning.{profile_meaning}
-use Rattle.nextest_rules.specs.Rules.{Compiled}
+use Rattle.nextest_rules.specs.Rules.{Compiled, ScriptRuleUse}
 use Rattle.nextest_scripts.specs.ScriptId.{script_text}
 use Rattle.nextest_scripts.specs.declared.script_id.ScriptId.{ScriptId}
 use Rattle.nextest_settings.specs.Platforms.{rule_on}
 use Rattle.nextest_settings.specs.Profile.{EvaluatableModel}
 use Rattle.nextest_settings.specs.Queries.{list_wrapper_by}
 use Rattle.nextest_settings.specs.View.{evaluated_script_rule_meaning}
-use Rattle.nextest_tables.specs.FileTexts.{ScriptUse}
 use Rattle.nextest_tables.specs.Written.{Name}
 use Rattle.rinqebo_list.proofs.Listing.{made_twice}
 use Rattle.rinqebo_list.specs.Scripts.{binary_in, script_rule_on, wrapper_at, wrapper_view}
@@ -21,7 +20,7 @@ use Rattle.rinqebo_report.specs.declared.report.ListWrapper.{ListWrapper}
 
 -- script rules that are those of a profile mean what those of the profile mean
 pub meant_scripts : {E M N P : Type 0} (f : E → M) (meets : N → P → Option Bool) (platforms : BuildPlatforms P)
-    (rules : List (Compiled E N ScriptUse)) (profile : EvaluatableModel E)
+    (rules : List (Compiled E N ScriptRuleUse)) (profile : EvaluatableModel E)
     → map (rule_on meets platforms) rules ≡ profile.script_rules
     → map (script_rule_on f meets platforms) rules ≡ (profile_meaning f profile).script_rules
 meant_scripts f meets platforms rules profile same =
@@ -30,7 +29,7 @@ meant_scripts f meets platforms rules profile same =
 
 -- the list wrapper that a profile gives a binary is the one by script rules that are those of the profile
 pub wrapper_given : {E M N P : Type 0} (f : E → M) (meets : N → P → Option Bool) (platforms : BuildPlatforms P)
-    (rules : List (Compiled E N ScriptUse)) (profile : EvaluatableModel E) (matches : BinaryMatch M) (binary : Binary)
+    (rules : List (Compiled E N ScriptRuleUse)) (profile : EvaluatableModel E) (matches : BinaryMatch M) (binary : Binary)
     (id : Option Name) → map (rule_on meets platforms) rules ≡ profile.script_rules
     → id ≡ list_wrapper_by (binary_in matches (profile_meaning f profile) binary)
     (map (script_rule_on f meets platforms) rules)

@@ -2,8 +2,7 @@
 ghost use Rattle.std.specs.Prelude.{List};
 ghost use Rattle.nextest_settings.specs.Deciding.{QueryContext};
 ghost use Rattle.nextest_settings.specs.Platforms.{EvaluatedRule};
-ghost use Rattle.nextest_rules.specs.Rules.{OverrideUse};
-ghost use Rattle.nextest_tables.specs.FileTexts.{ScriptUse};
+ghost use Rattle.nextest_rules.specs.Rules.{OverrideUse, ScriptRuleUse};
 ghost use Rattle.rinqebo_list.specs.Selections.{IsSelection};
 ghost use Rattle.rinqebo_list.specs.Unused.{HoldsForNone, unused_among};
 
@@ -15,6 +14,6 @@ pub fn law_unused<F: Filters>()
         (rules : List (EvaluatedRule F.Meaning (OverrideUse F.Meaning)))
         → IsSelection (HoldsForNone tests) rules (unused_among tests rules) }
     ensures script_rules { (tests : List (QueryContext F.Meaning))
-        (rules : List (EvaluatedRule F.Meaning ScriptUse))
+        (rules : List (EvaluatedRule F.Meaning ScriptRuleUse))
         → IsSelection (HoldsForNone tests) rules (unused_among tests rules) }
 {}
