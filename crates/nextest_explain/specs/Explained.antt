@@ -1,7 +1,6 @@
 -- WHAT THE COMMAND PROMISES: from the texts of files to the bytes of the lines.
 use Rattle.std.specs.Prelude.{◌≡◌, ℕ, List, [], ◌∷◌, Option, option_map, Ok, String, string_bytes, codes}
 use Rattle.std.specs.Option.{option_map_or}
-use Rattle.std.specs.Io.KnownBytes.{Appends}
 use Rattle.std.specs.declared.alloc.Global.{Global}
 use Rattle.nextest_config.specs.Headline.{Request, Row, Run, Resolves}
 use Rattle.nextest_engines.specs.Engines.{Test}
@@ -80,10 +79,11 @@ pub record AreAskedRows (gives : List ℕ → Outcome → Type 0) (places : Plac
   pub are_files : AreFilesOf gives command files
   pub are_rows : AreRowsFor command files rows
 
--- A writer was given the lines of a command: known bytes grew by exactly the lines of the rows that
--- it asks for, over the files that it names, as a reader gives them; they tell places as it asks.
-pub record Explains (gives : List ℕ → Outcome → Type 0) (old new : Option (List ℕ)) : Type 0 where
+-- A writer got lines: known bytes grew, by all of them or by a prefix, as `grows` says. They are
+-- the lines of the rows that a command asks for, with places as it asks for them.
+pub record Explains (grows : Option (List ℕ) → Option (List ℕ) → List ℕ → Type 0)
+    (gives : List ℕ → Outcome → Type 0) (old new : Option (List ℕ)) : Type 0 where
   pub places : Places
   pub rows : List Row
   pub asked : AreAskedRows gives places rows
-  pub lines : Appends old new (lines_telling places rows)
+  pub lines : grows old new (lines_telling places rows)
