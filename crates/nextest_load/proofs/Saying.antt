@@ -188,11 +188,11 @@ policy_says q (table es) h =
     free.1.1.0)
     (λ d is said. ap (is_below max_delay) (sym said)
     ∙ second_false (grows_in es) (is_below max_delay delay) (ap grows there ∙ is) not_below))
-policy_says q (array ns) h = map_some _ (result_ok (count_at (array ns))) (leaf_says q (count_at (array ns)) h)
-policy_says q (text t) h = map_some _ (result_ok (count_at (text t))) (leaf_says q (count_at (text t)) h)
+policy_says q (array ns) h = absurd (cc)
+policy_says q (text t) h = absurd (cc)
 policy_says q (int z) h = map_some _ (result_ok (count_at (int z))) (leaf_says q (count_at (int z)) h)
-policy_says q (bool b) h = map_some _ (result_ok (count_at (bool b))) (leaf_says q (count_at (bool b)) h)
-policy_says q opaque h = map_some _ (result_ok (count_at opaque)) (leaf_says q (count_at opaque) h)
+policy_says q (bool b) h = absurd (cc)
+policy_says q opaque h = absurd (cc)
 
 -- the report says all but its path
 record ReportSays (r : Option WrittenReport) : Type 0 where
