@@ -1,5 +1,5 @@
 -- The node that a text stands for.
-use Rattle.std.specs.Prelude.{ℕ, List, Option, option_map}
+use Rattle.std.specs.Prelude.{ℕ, ◌≤◌, List, length, Option, option_map}
 use Rattle.toml.specs.Parse.{parse_document}
 use Rattle.nextest_tree.specs.Node.{Node, table}
 use Rattle.nextest_documents.specs.Value.{from_members}
@@ -12,5 +12,11 @@ tree_of text = option_map (λ members. table (from_members members)) (parse_docu
 
 -- the fault is the text's, and not want of memory
 abbrev pub IsNotDocument : TextFault → Type 0
-IsNotDocument (NotDocument message) = Unit {0}
+IsNotDocument (NotDocument fault) = Unit {0}
 IsNotDocument Memory = ⊥
+
+-- the bytes at fault are bytes of the text
+abbrev pub IsWithinText : List ℕ → TextFault → Type 0
+IsWithinText text (NotDocument fault) =
+    (fault.span.start ≤ fault.span.end) × (fault.span.end ≤ length text)
+IsWithinText text Memory = Unit {0}

@@ -1,20 +1,33 @@
 //! Trees of texts.
-ghost use Rattle.std.specs.Prelude.{◌≡◌, IfOk, IfErr, Some, None};
+ghost use Rattle.std.specs.Prelude.{◌≡◌, ℕ, List, IfOk, IfErr, Some, None};
 ghost use Rattle.nextest_tree.specs.Node.{IsSorted};
 ghost use Rattle.nextest_tree.specs.View.{tree_view};
-ghost use Rattle.toml.specs.Errors.{IsMemory};
-ghost use Rattle.nextest_documents.specs.Text.{IsNotDocument, tree_of};
+ghost use Rattle.toml.specs.Errors.{IsMemory, IsWithin};
+ghost use Rattle.nextest_documents.specs.Text.{IsNotDocument, IsWithinText, tree_of};
 
 use nextest_tree::Tree;
 use std::alloc::{AllocError, Global};
+use std::ops::Range;
 use thiserror::Error;
+
+/// Why a text is no TOML document.
+#[derive(Debug, Drop, Error)]
+#[error("{message}")]
+pub struct DocumentFault {
+    /// The whole message, for people to read: the line, the column and the reason, on two lines.
+    pub message: String,
+    /// The reason alone.
+    pub reason: String,
+    /// The bytes of the text that are at fault.
+    pub span: Range<usize>,
+}
 
 /// Why a text gives no tree.
 #[derive(Debug, Drop, Error)]
 pub enum TextFault {
-    /// The text is no TOML document. The message says where and why, for people to read.
+    /// The text is no TOML document.
     #[error("{0}")]
-    NotDocument(String),
+    NotDocument(DocumentFault),
     /// Want of memory, which says nothing of the text.
     #[error("out of memory")]
     Memory,
@@ -30,27 +43,38 @@ impl From<AllocError> for TextFault {
     }
 }
 
+impl TextFault {
+    /// The fault that a text has by an error of its reader.
+    fn of(alloc: Global, error: &toml::de::Error) -> Result<TextFault, AllocError>
+        ensures memory { IsMemory error.now → IfOk result (λ fault. fault ≡ TextFault.Memory) }
+        ensures span { (text : List ℕ) → IsWithin text error.now → IfOk result (IsWithinText text) }
+    {
+        let Some(span) = error.span() else {
+            return Ok(TextFault::Memory);
+        };
+        Ok(TextFault::NotDocument(DocumentFault {
+            message: error.to_string(alloc)?,
+            reason: error.message().to_string(alloc)?,
+            span,
+        }))
+    }
+}
+
 /// The tree of a text that is a TOML document.
+///
+/// # Errors
+///
+/// [`TextFault::NotDocument`] if the text is no TOML document, with the bytes at fault.
+/// [`TextFault::Memory`] if memory ran out.
 pub fn tree_from_text(alloc: Global, text: &str) -> Result<Tree, TextFault>
     ensures is { IfOk result (λ tree. tree_of text.now ≡ Some (tree_view tree)) }
     ensures sorted { IfOk result (λ tree. IsSorted (tree_view tree)) }
     ensures refused { IfErr result (λ fault. IsNotDocument fault → tree_of text.now ≡ None) }
+    ensures span { IfErr result (IsWithinText text.now) }
 {
     let document = match toml::table_from_str(alloc, text) {
         Ok(document) => document,
-        Err(error) => return Err(fault_of(alloc, &error)),
+        Err(error) => return Err(TextFault::of(alloc, &error)?),
     };
     Ok(Tree::from_toml(alloc, &toml::Value::Table(document))?)
-}
-
-fn fault_of(alloc: Global, error: &toml::de::Error) -> TextFault
-    ensures { IsMemory error.now → result ≡ TextFault.Memory }
-{
-    if error.is_memory() {
-        return TextFault::Memory;
-    }
-    match error.to_string(alloc) {
-        Ok(message) => TextFault::NotDocument(message),
-        Err(_) => TextFault::Memory,
-    }
 }

@@ -7,6 +7,6 @@ mod document;
 mod laid;
 mod merge;
 
-pub use document::{TextFault, tree_from_text};
+pub use document::{DocumentFault, TextFault, tree_from_text};
 pub use laid::{Displaced, Laid, lay_upon};
 pub use merge::{copy_tree, lay_over};

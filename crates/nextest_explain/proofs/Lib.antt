@@ -3,3 +3,5 @@ pub mod LineLists
 pub mod AskedRows
 pub mod Endings
 pub mod Writers
+pub mod Taken
+pub mod Reading

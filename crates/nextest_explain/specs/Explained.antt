@@ -1,7 +1,6 @@
 -- WHAT THE COMMAND PROMISES: from the texts of files to the bytes of the lines.
 use Rattle.std.specs.Prelude.{◌≡◌, ℕ, List, [], ◌∷◌, Option, option_map, Ok, String, string_bytes, codes}
 use Rattle.std.specs.Option.{option_map_or}
-use Rattle.std.specs.Io.KnownBytes.{Appends}
 use Rattle.std.specs.declared.alloc.Global.{Global}
 use Rattle.nextest_config.specs.Headline.{Request, Row, Run, Resolves}
 use Rattle.nextest_engines.specs.Engines.{Test}
@@ -14,6 +13,7 @@ use Rattle.toy_engines.specs.Filters.{filter_read, filter_matches, filter_holds_
 use Rattle.toy_engines.specs.Platforms.{Platforms, spec_read, meets}
 use Rattle.nextest_explain.specs.Files.{AreFilesOf}
 use Rattle.nextest_explain.specs.Lines.{lines_telling}
+use Rattle.nextest_explain.specs.Words.{IsCommandOf}
 use Rattle.nextest_explain.specs.declared.command.Command.{Command}
 use Rattle.nextest_explain.specs.declared.options.Places.{Places}
 
@@ -70,20 +70,24 @@ pub record AreRowsFor (command : Command) (files : LoadInputs) (rows : List Row)
   pub answered : run.answer ≡ Ok rows
   pub resolves : Resolves toy_readings request run
 
--- Rows are asked for by some command, with lines that tell places so, over the files that it names,
--- as a reader gives them.
-pub record AreAskedRows (gives : List ℕ → Outcome → Type 0) (places : Places) (rows : List Row)
-    : Type 0 where
+-- Rows are those that words ask for, and the words ask for places in this form: the words give a
+-- command, and the rows are those of the command over the files that it names, as a reader gives
+-- them.
+pub record AreAskedRows (gives : List ℕ → Outcome → Type 0) (words : List (List ℕ))
+    (places : Places) (rows : List Row) : Type 0 where
   pub command : Command
+  pub is_command : IsCommandOf words command
   pub places_asked : command.options.places ≡ places
   pub files : LoadInputs
   pub are_files : AreFilesOf gives command files
   pub are_rows : AreRowsFor command files rows
 
--- A writer was given the lines of a command: known bytes grew by exactly the lines of the rows that
--- it asks for, over the files that it names, as a reader gives them; they tell places as it asks.
-pub record Explains (gives : List ℕ → Outcome → Type 0) (old new : Option (List ℕ)) : Type 0 where
+-- A writer got lines: known bytes grew, by all of them or by a prefix, as `grows` says. They are
+-- the lines of the rows that words ask for, with places in the form that the words ask for.
+pub record Explains (grows : Option (List ℕ) → Option (List ℕ) → List ℕ → Type 0)
+    (gives : List ℕ → Outcome → Type 0) (words : List (List ℕ)) (old new : Option (List ℕ))
+    : Type 0 where
   pub places : Places
   pub rows : List Row
-  pub asked : AreAskedRows gives places rows
-  pub lines : Appends old new (lines_telling places rows)
+  pub asked : AreAskedRows gives words places rows
+  pub lines : grows old new (lines_telling places rows)

@@ -1,4 +1,9 @@
 //! The words of the command line.
+ghost use Rattle.std.specs.Prelude.{◌≡◌, [], ◌∷◌, ◌≤◌, IfOk, IfSome, IsFalse, OnOk, codes, length, map, nat_eq, string_bytes};
+ghost use Rattle.std.specs.List.{starts_with};
+ghost use Rattle.nextest_explain.specs.Words.{IsCommandOf, mode_word};
+ghost use Rattle.nextest_explain.specs.Taking.{IsLineOf, ReadsItem, TakesItem};
+
 use crate::options::{OptionName, Options};
 use nextest_config::{InvalidIdentifier, NextestRunMode};
 use std::alloc::{AllocError, Global};
@@ -50,8 +55,10 @@ impl From<InvalidIdentifier> for CommandError {
 
 impl<'a> Command<'a> {
     /// Reads the words, without the program's name.
-    pub fn parse(alloc: Global, words: &'a [String]) -> Result<Command<'a>, CommandError> {
-        let (arguments, options) = split(alloc, words)?;
+    pub fn parse(alloc: Global, words: &'a [String]) -> Result<Command<'a>, CommandError>
+        ensures { IfOk result (λ command. IsCommandOf (map string_bytes words.now) command) }
+    {
+        let Line { arguments, options } = Line::read(alloc, words)?;
         let [root, profile, mode, binary, test] = arguments.as_slice() else {
             return Err(CommandError::Usage);
         };
@@ -69,37 +76,77 @@ impl<'a> Command<'a> {
     }
 }
 
-/// The arguments and the options of some words. The word after an option that takes a value is this
-/// value, whatever it is.
-fn split<'a>(
-    alloc: Global,
-    words: &'a [String],
-) -> Result<(Vec<&'a str>, Options<'a>), CommandError> {
-    let mut arguments = Vec::new(alloc);
-    let mut options = Options::new(alloc);
-    let mut waiting: Option<OptionName> = None;
-    for word in words {
-        let word = word.as_str();
-        if let Some(name) = waiting.take() {
-            options.set(alloc, name, word)?;
-        } else if word == "--host-binary" {
-            options.set_host_binary()?;
-        } else if word == "--all" {
-            options.set_whole_places()?;
-        } else if word.starts_with("--") {
-            waiting = Some(OptionName::of(word).ok_or(CommandError::Usage)?);
-        } else {
-            arguments.push(word).map_err(AllocError::from)?;
+/// The arguments and the options of a command line.
+#[derive(Drop)]
+struct Line<'a> {
+    arguments: Vec<&'a str>,
+    options: Options<'a>,
+}
+
+impl<'a> Line<'a> {
+    /// Reads all words of a line.
+    fn read(alloc: Global, words: &'a [String]) -> Result<Line<'a>, CommandError>
+        ensures { IfOk result (λ line. IsLineOf (map string_bytes words.now) line) }
+    {
+        let mut line = Line {
+            arguments: Vec::new(alloc),
+            options: Options::new(alloc),
+        };
+        let mut rest = words;
+        while let Some((word, behind)) = rest.split_first() {
+            rest = line.take_item(alloc, word.as_str(), behind)?;
+        }
+        Ok(line)
+    }
+
+    /// Takes the item that begins with a word, and returns the words behind it. The word behind an
+    /// option that takes a value is this value, whatever it is.
+    fn take_item(
+        &mut self,
+        alloc: Global,
+        word: &'a str,
+        behind: &'a [String],
+    ) -> Result<&'a [String], CommandError>
+        ensures taken { IfOk result (λ rest. ReadsItem (word.now ∷ map string_bytes behind.now)
+            (map string_bytes rest.now) self.old self.new) }
+        ensures shorter { IfOk result (λ rest. length rest.now ≤ length behind.now) }
+    {
+        let Some(name) = OptionName::of(word) else {
+            self.take_word(word)?;
+            return Ok(behind);
+        };
+        let Some((value, rest)) = behind.split_first() else {
+            return Err(CommandError::Usage);
+        };
+        self.options.set(alloc, name, value.as_str())?;
+        Ok(rest)
+    }
+
+    /// Takes a flag or an argument.
+    fn take_word(&mut self, word: &'a str) -> Result<(), CommandError>
+        ensures { OnOk result (TakesItem (word.now ∷ []) self.old self.new) }
+    {
+        match word {
+            "--host-binary" => self.options.set_host_binary(),
+            "--all" => self.options.set_whole_places(),
+            _ if word.starts_with("--") => Err(CommandError::Usage),
+            _ => Ok(self.push(word)?),
         }
     }
-    match waiting {
-        Some(_) => Err(CommandError::Usage),
-        None => Ok((arguments, options)),
+
+    fn push(&mut self, word: &'a str) -> Result<(), AllocError>
+        ensures { IsFalse (starts_with nat_eq word.now (codes "--"))
+            → OnOk result (TakesItem (word.now ∷ []) self.old self.new) }
+    {
+        self.arguments.push(word)?;
+        Ok(())
     }
 }
 
 /// The mode of a word.
-fn mode_of(word: &str) -> Option<NextestRunMode> {
+fn mode_of(word: &str) -> Option<NextestRunMode>
+    ensures { IfSome result (λ mode. word.now ≡ mode_word mode) }
+{
     match word {
         "test" => Some(NextestRunMode::Test),
         "benchmark" => Some(NextestRunMode::Benchmark),

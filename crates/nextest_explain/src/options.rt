@@ -1,4 +1,10 @@
 //! The options among the words of the command line.
+ghost use Rattle.std.specs.Prelude.{◌≡◌, [], ◌∷◌, ◌++◌, IfSome, OnOk, codes};
+ghost use Rattle.nextest_explain.specs.Words.{given, AreOptionsOf};
+ghost use Rattle.nextest_explain.specs.Taking.{option_word, TakesOption};
+ghost use Rattle.nextest_elements.specs.Experimental.{experimental_text};
+ghost use Rattle.nextest_texts.specs.IdentifierText.{tool_name_text};
+
 use crate::command::CommandError;
 use nextest_config::{BuildPlatform, ConfigExperimental, ToolName};
 use std::alloc::{AllocError, Global};
@@ -54,7 +60,9 @@ pub enum OptionName {
 
 impl OptionName {
     /// The option that a word spells.
-    pub fn of(word: &str) -> Option<OptionName> {
+    pub fn of(word: &str) -> Option<OptionName>
+        ensures { IfSome result (λ name. word.now ≡ option_word name) }
+    {
         match word {
             "--config-file" => Some(OptionName::ConfigFile),
             "--organisation-config-file" => Some(OptionName::OrganisationConfigFile),
@@ -69,7 +77,9 @@ impl OptionName {
 
 impl<'a> Options<'a> {
     /// No option yet.
-    pub fn new(alloc: Global) -> Options<'a> {
+    pub fn new(alloc: Global) -> Options<'a>
+        ensures { AreOptionsOf [] result }
+    {
         Options {
             config_file: None,
             organisation_config_file: None,
@@ -88,7 +98,10 @@ impl<'a> Options<'a> {
         alloc: Global,
         name: OptionName,
         value: &'a str,
-    ) -> Result<(), CommandError> {
+    ) -> Result<(), CommandError>
+        ensures { OnOk result
+            (TakesOption (option_word name ∷ value.now ∷ []) self.old self.new) }
+    {
         match name {
             OptionName::ConfigFile => set_once(&mut self.config_file, value),
             OptionName::OrganisationConfigFile => {
@@ -102,7 +115,9 @@ impl<'a> Options<'a> {
     }
 
     /// Says that the test's binary is built for the host.
-    pub fn set_host_binary(&mut self) -> Result<(), CommandError> {
+    pub fn set_host_binary(&mut self) -> Result<(), CommandError>
+        ensures { OnOk result (TakesOption (codes "--host-binary" ∷ []) self.old self.new) }
+    {
         match self.platform {
             BuildPlatform::Host => Err(CommandError::Usage),
             BuildPlatform::Target => {
@@ -113,7 +128,9 @@ impl<'a> Options<'a> {
     }
 
     /// Says that lines tell the whole place of each value.
-    pub fn set_whole_places(&mut self) -> Result<(), CommandError> {
+    pub fn set_whole_places(&mut self) -> Result<(), CommandError>
+        ensures { OnOk result (TakesOption (codes "--all" ∷ []) self.old self.new) }
+    {
         match self.places {
             Places::Whole => Err(CommandError::Usage),
             Places::Words => {
@@ -123,26 +140,57 @@ impl<'a> Options<'a> {
         }
     }
 
-    fn add_tool_file(&mut self, alloc: Global, value: &'a str) -> Result<(), CommandError> {
-        let Some((tool, path)) = value.split_once(':') else {
+    fn add_tool_file(&mut self, alloc: Global, value: &'a str) -> Result<(), CommandError>
+        ensures { OnOk result
+            (TakesOption (codes "--tool-config-file" ∷ value.now ∷ []) self.old self.new) }
+    {
+        let Some((tool, path)) = split_at_colon(value) else {
             return Err(CommandError::Usage);
         };
         let tool = ToolName::new(alloc, tool)?;
-        self.tool_files
-            .push(ToolFile { tool, path })
-            .map_err(AllocError::from)?;
+        self.push_tool_file(ToolFile { tool, path })?;
         Ok(())
     }
 
-    fn add_feature(&mut self, value: &str) -> Result<(), CommandError> {
-        let feature = feature_of(value).ok_or(CommandError::Usage)?;
-        self.features.insert(feature).map_err(AllocError::from)?;
+    fn push_tool_file(&mut self, file: ToolFile<'a>) -> Result<(), AllocError>
+        ensures { let value = tool_name_text file.entry.tool ++ 58 ∷ file.entry.path.now in
+            OnOk result (TakesOption (codes "--tool-config-file" ∷ value ∷ []) self.old self.new) }
+    {
+        self.tool_files.push(file)?;
+        Ok(())
+    }
+
+    fn add_feature(&mut self, value: &str) -> Result<(), CommandError>
+        ensures { OnOk result
+            (TakesOption (codes "--experimental" ∷ value.now ∷ []) self.old self.new) }
+    {
+        let Some(feature) = feature_of(value) else {
+            return Err(CommandError::Usage);
+        };
+        self.switch_on(feature)?;
+        Ok(())
+    }
+
+    fn switch_on(&mut self, feature: ConfigExperimental) -> Result<(), AllocError>
+        ensures { OnOk result (TakesOption
+            (codes "--experimental" ∷ experimental_text feature ∷ []) self.old self.new) }
+    {
+        self.features.insert(feature)?;
         Ok(())
     }
 }
 
+/// What stands before the first colon of a text, and behind it.
+fn split_at_colon(text: &str) -> Option<(&str, &str)>
+    ensures { IfSome result (λ parts. text.now ≡ parts.0.now ++ 58 ∷ parts.1.now) }
+{
+    text.split_once(':')
+}
+
 /// Sets an option that may be given once.
-fn set_once<'a>(option: &mut Option<&'a str>, value: &'a str) -> Result<(), CommandError> {
+fn set_once<'a>(option: &mut Option<&'a str>, value: &'a str) -> Result<(), CommandError>
+    ensures { OnOk result (given option.new ≡ given option.old ++ value.now ∷ []) }
+{
     match option.replace(value) {
         Some(_) => Err(CommandError::Usage),
         None => Ok(()),
@@ -150,7 +198,9 @@ fn set_once<'a>(option: &mut Option<&'a str>, value: &'a str) -> Result<(), Comm
 }
 
 /// The feature of a name.
-fn feature_of(name: &str) -> Option<ConfigExperimental> {
+fn feature_of(name: &str) -> Option<ConfigExperimental>
+    ensures { IfSome result (λ feature. name.now ≡ experimental_text feature) }
+{
     match name {
         "setup-scripts" => Some(ConfigExperimental::SetupScripts),
         "wrapper-scripts" => Some(ConfigExperimental::WrapperScripts),

@@ -8,6 +8,7 @@ ghost use Rattle.nextest_explain.specs.Explained.{usual_host, asked_test, AreRow
 ghost use Rattle.nextest_explain.specs.Files.{sources_view};
 ghost use Rattle.nextest_explain.specs.Lines.{lines_telling};
 ghost use Rattle.nextest_explain.specs.Statuses.{IsRefusalStatus, IsStatus};
+ghost use Rattle.nextest_explain.specs.Writing.{AppendsPrefix};
 
 use crate::command::Command;
 use crate::failure::{Failure, OUT_OF_MEMORY};
@@ -25,11 +26,12 @@ use toy_engines::platforms::ToySpecs;
 /// The triple of the host where none is named.
 const HOST: &str = "x86_64-unknown-linux-gnu";
 
-/// Explains what a configuration gives a test, and answers the exit status: 0, or 2 for a usage
+/// Explains what a configuration gives a test, and returns the exit status: 0, or 2 for a usage
 /// fault, 3 for a refused configuration, 4 where there is no such profile, 5 for want of memory, 6
-/// where a write fails. Warnings come first, also before a refusal. After a write that failed
-/// nothing more is written. With status 0 the lines are those of the rows that resolve the request of
-/// a command, over the files that it names.
+/// where a write fails. Warnings come first, also before a refusal. With status 0 the lines are those
+/// of the rows that resolve the request of the command that the words give, over the files that it
+/// names. After a write or a flush that failed nothing more is written: standard output then holds a
+/// prefix of these lines.
 pub fn explain<R: FileReader, O: Write, E: Write>(
     alloc: Global,
     words: &[String],
@@ -39,8 +41,11 @@ pub fn explain<R: FileReader, O: Write, E: Write>(
 ) -> u8
     ensures status { IsStatus result }
     ensures quiet { (result ≡ 0) ⊎ (result ≡ 6) ⊎ (O.contents out.new ≡ O.contents out.old) }
-    ensures lines { result ≡ 0
-        → Explains (R.MayGive files.now) (O.contents out.old) (O.contents out.new) }
+    ensures lines { result ≡ 0 → Explains Appends (R.MayGive files.now)
+        (map string_bytes words.now) (O.contents out.old) (O.contents out.new) }
+    ensures begun { result ≡ 6 → (O.contents out.new ≡ O.contents out.old)
+        ⊎ Explains AppendsPrefix (R.MayGive files.now)
+        (map string_bytes words.now) (O.contents out.old) (O.contents out.new) }
 {
     let mut warnings = DefaultConfigWarnings::new(alloc);
     let answer = run(alloc, words, files, &mut warnings);
@@ -116,6 +121,8 @@ fn tell<O: Write, E: Write>(
     ensures quiet { (result ≡ 0) ⊎ (result ≡ 6) ⊎ (O.contents out.new ≡ O.contents out.old) }
     ensures lines { result ≡ 0 → Appends (O.contents out.old) (O.contents out.new)
         (lines_telling places (map row_view rows.now)) }
+    ensures begun { result ≡ 6 → AppendsPrefix (O.contents out.old) (O.contents out.new)
+        (lines_telling places (map row_view rows.now)) }
 {
     match write_rows(alloc, rows, places, out) {
         Ok(()) => 0,
@@ -132,7 +139,7 @@ fn run<R: FileReader>(
     warnings: &mut DefaultConfigWarnings,
 ) -> Result<Asked, Failure>
     ensures { IfOk result
-        (λ asked. AreAskedRows (R.MayGive files.now) asked.places
+        (λ asked. AreAskedRows (R.MayGive files.now) (map string_bytes words.now) asked.places
         (map row_view asked.rows.items)) }
 {
     let command = Command::parse(alloc, words)?;

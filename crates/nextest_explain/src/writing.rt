@@ -3,8 +3,7 @@ ghost use Rattle.std.specs.Prelude.{◌≡◌, ◌≤◌, ◌<◌, OnOk, OnErr, 
 ghost use Rattle.std.specs.Io.KnownBytes.{Appends, Keeps};
 ghost use Rattle.nextest_config.specs.RowView.{row_view};
 ghost use Rattle.nextest_explain.specs.Lines.{lines_of, lines_telling};
-ghost use Rattle.nextest_explain.specs.Writing.{AppendsBeginning};
-ghost use Rattle.nextest_explain.specs.declared.options.Places.TheVariants as told_in;
+ghost use Rattle.nextest_explain.specs.Writing.{AppendsBeginning, AppendsPrefix};
 ghost use Rattle.nextest_explain.specs.declared.writing.ExplainFault.TheVariants as faults;
 
 use crate::lines::lines_of_rows;
@@ -57,6 +56,26 @@ fn write_bytes<W: Write>(bytes: &[u8], out: &mut W) -> Result<(), ExplainFault>
     Ok(())
 }
 
+/// Writes the lines of rows, with places as they are asked for. All lines are made before the first
+/// is written.
+fn write_lines<W: Write>(
+    alloc: Global,
+    rows: &[TestRow],
+    places: Places,
+    out: &mut W,
+) -> Result<(), ExplainFault>
+    ensures ok { OnOk result (Appends (W.contents out.old) (W.contents out.new)
+        (lines_telling places (map row_view rows.now))) }
+    ensures begun { IfErr result (λ fault. fault ≡ faults.Write → AppendsBeginning
+        (W.contents out.old) (W.contents out.new) (lines_telling places (map row_view rows.now))) }
+    ensures memory { IfErr result (λ fault. fault ≡ faults.Memory → out.new ≡ out.old) }
+{
+    match lines_of_rows(alloc, rows, places) {
+        Ok(text) => write_bytes(text.as_bytes(), out),
+        Err(_) => Err(ExplainFault::Memory),
+    }
+}
+
 /// Writes a line for each setting of each row, with its value and its place: `default`, `profile`,
 /// `script`, a dash, or the override with its profile, its position there, and its file.
 ///
@@ -74,49 +93,21 @@ pub fn explain_all<W: Write>(
         (W.contents out.old) (W.contents out.new) (lines_of (map row_view rows.now))) }
     ensures memory { IfErr result (λ fault. fault ≡ faults.Memory → out.new ≡ out.old) }
 {
-    match lines_of_rows(alloc, rows, Places::Whole) {
-        Ok(text) => write_bytes(text.as_bytes(), out),
-        Err(_) => Err(ExplainFault::Memory),
-    }
+    write_lines(alloc, rows, Places::Whole, out)
 }
 
-/// Writes the lines of rows, each with its place in one word.
-fn explain_in_words<W: Write>(
-    alloc: Global,
-    rows: &[TestRow],
-    out: &mut W,
-) -> Result<(), ExplainFault>
-    ensures ok { OnOk result (Appends (W.contents out.old) (W.contents out.new)
-        (lines_telling told_in.Words (map row_view rows.now))) }
-    ensures memory { IfErr result (λ fault. fault ≡ faults.Memory → out.new ≡ out.old) }
+/// Flushes a writer.
+fn flush<W: Write>(out: &mut W) -> Result<(), ExplainFault>
+    ensures fault { IfErr result (λ fault. fault ≡ faults.Write) }
+    ensures kept { Keeps (W.contents out.old) (W.contents out.new) }
 {
-    let Ok(text) = lines_of_rows(alloc, rows, Places::Words) else {
-        return Err(ExplainFault::Memory);
-    };
-    match out.write_all(text.as_bytes()) {
-        Ok(()) => Ok(()),
-        Err(_) => Err(ExplainFault::Write),
-    }
-}
-
-/// Writes the lines of rows, each with its whole place, and flushes.
-fn explain_and_flush<W: Write>(
-    alloc: Global,
-    rows: &[TestRow],
-    out: &mut W,
-) -> Result<(), ExplainFault>
-    ensures ok { OnOk result (Appends (W.contents out.old) (W.contents out.new)
-        (lines_telling told_in.Whole (map row_view rows.now))) }
-    ensures memory { IfErr result (λ fault. fault ≡ faults.Memory → out.new ≡ out.old) }
-{
-    explain_all(alloc, rows, out)?;
     match out.flush() {
         Ok(()) => Ok(()),
         Err(_) => Err(ExplainFault::Write),
     }
 }
 
-/// Writes the lines of rows, which tell places as they are to.
+/// Writes the lines of rows, with places as they are asked for, and flushes behind whole places.
 pub fn write_rows<W: Write>(
     alloc: Global,
     rows: &[TestRow],
@@ -125,10 +116,13 @@ pub fn write_rows<W: Write>(
 ) -> Result<(), ExplainFault>
     ensures ok { OnOk result (Appends (W.contents out.old) (W.contents out.new)
         (lines_telling places (map row_view rows.now))) }
+    ensures begun { IfErr result (λ fault. fault ≡ faults.Write → AppendsPrefix
+        (W.contents out.old) (W.contents out.new) (lines_telling places (map row_view rows.now))) }
     ensures memory { IfErr result (λ fault. fault ≡ faults.Memory → out.new ≡ out.old) }
 {
+    write_lines(alloc, rows, places, out)?;
     match places {
-        Places::Words => explain_in_words(alloc, rows, out),
-        Places::Whole => explain_and_flush(alloc, rows, out),
+        Places::Words => Ok(()),
+        Places::Whole => flush(out),
     }
 }

@@ -27,3 +27,4 @@ pub mod Agreement
 pub mod RulesOfNode
 pub mod WritesOnlyParent
 pub mod AreScriptsOf
+pub mod Saying

@@ -9,7 +9,6 @@ use Rattle.nextest_rules.specs.Definitions.{Features}
 use Rattle.nextest_rules.specs.Steps.{written_parents}
 use Rattle.nextest_sources.specs.Causes.{NameSet, bad_element}
 use Rattle.nextest_sources.specs.Inputs.{LoadInputs, sources_in}
-use Rattle.nextest_tables.specs.Complete.{HasCompleteDefault}
 use Rattle.nextest_tables.specs.FileTexts.{FileText}
 use Rattle.nextest_tables.specs.Tables.{a_file}
 use Rattle.nextest_tree.specs.Node.{Node}
@@ -20,7 +19,6 @@ use Rattle.nextest_load.specs.Closed.{IsClosed}
 use Rattle.nextest_load.specs.Config.{ScriptTables, config_of}
 use Rattle.nextest_load.specs.Scripts.{AreScriptsOf}
 use Rattle.nextest_load.specs.Steps.{element_cause}
-use Rattle.nextest_load.specs.Trees.{merged_file}
 
 -- A fault is the least of a file's tree: it is one of its faults, and its place stands before the
 -- places of all others.
@@ -55,10 +53,10 @@ AnswerDefaultFilters {M} engines = (text : Text) (m : M)
     → engines.read_filter DefaultFilter text ≡ Ok m → engines.leaves m ≡ []
     → (binary : Binary) (default : M) → IsSome (engines.matches_binary m binary default)
 
--- accepted files are closed: the configuration that they mean, with their scripts, if their merged
--- tree has a complete default profile and the engines answer default filters
+-- accepted files are closed: the configuration that they mean, with their scripts, if the engines
+-- answer default filters
 abbrev pub AcceptedAreClosed : {M K P : Type 0} → Readings M K P → Type 0
 AcceptedAreClosed engines = (features : Features) (files : LoadInputs) (scripts : ScriptTables)
-    → AnswerDefaultFilters engines → HasCompleteDefault (merged_file (sources_in files))
-    → IsAccepted engines features files → AreScriptsOf (sources_in files) scripts
+    → AnswerDefaultFilters engines → IsAccepted engines features files
+    → AreScriptsOf (sources_in files) scripts
     → IsClosed engines.matches_binary (config_of engines (sources_in files)) scripts

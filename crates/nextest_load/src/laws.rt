@@ -46,8 +46,6 @@ pub fn law_shown()
 
 /// A configuration of accepted files is closed: no rule of it names an undefined script or group,
 /// each profile has one chain, and `default` is complete.
-///
-/// The merged tree of files that a load accepts always has a complete default profile.
 pub fn law_closed<F: Filters, S: Specs>()
     ensures { (engines : Readings F.Meaning S.SpecMeaning S.Platform) → AcceptedAreClosed engines }
 {}

@@ -62,9 +62,9 @@ fn read_text(alloc: Global, file: &SourceFile<'_>) -> Result<Tree, ConfigParseEr
 {
     match tree_from_text(alloc, file.text) {
         Ok(tree) => Ok(tree),
-        Err(TextFault::NotDocument(message)) => Err(ConfigParseError::at(
+        Err(TextFault::NotDocument(fault)) => Err(ConfigParseError::at(
             file.source,
-            ConfigParseErrorKind::BuildError(message),
+            ConfigParseErrorKind::BuildError(fault.message),
         )),
         Err(TextFault::Memory) => Err(ConfigParseError::memory()),
     }

@@ -4,7 +4,9 @@ use crate::numbers::add_numbers;
 use crate::profile::{add_early, add_profile};
 use crate::rows::add_rows;
 use crate::run::{Config, ENGINES, Early, Profile, Run};
-use crate::tests::{add_binary, add_groups, add_setup_scripts, add_test};
+use crate::tests::{
+    add_binary, add_debug_settings, add_empty_groups, add_groups, add_setup_scripts, add_test,
+};
 use nextest_config::{
     ConfigParseError, ConfigParseErrorKind, DefaultConfigWarnings, NextestConfig, ProfileError,
 };
@@ -128,8 +130,10 @@ fn add_evaluatable(run: &Run<'_>, lines: &mut Lines<'_>, profile: &Profile<'_>) 
     for binary in &case.binaries {
         add_binary(lines, profile, binary);
     }
+    add_debug_settings(lines, profile);
     add_setup_scripts(run, lines, profile);
     add_groups(run, lines, profile);
+    add_empty_groups(run, lines);
     add_rows(run, lines);
     add_numbers(lines, case, profile);
 }

@@ -2,8 +2,9 @@
 use crate::lines::{Call, Lines, once_more, override_text};
 use crate::run::{Profile, Run};
 use nextest_config::{
-    BinaryQuery, EvalContext, Filters, GroupLookup, NameMatcher, NextestRunMode, OverrideId,
-    PrecomputedGroupMembership, SettingSource, SetupScript, TestQuery, TestSettings,
+    BinaryQuery, EvalContext, Filters, GroupLookup, ListSettings, NameMatcher, NextestRunMode,
+    OverrideId, PrecomputedGroupMembership, SettingSource, SetupScript, TestQuery, TestSettings,
+    WrapperScriptConfig,
 };
 use std::alloc::{AllocError, Global};
 use std::fmt::Debug;
@@ -84,11 +85,29 @@ fn id_text(alloc: Global, id: &OverrideId) -> Result<String, AllocError> {
 /// Adds the program that wraps the listing of a binary's tests.
 pub fn add_binary(lines: &mut Lines<'_>, profile: &Profile<'_>, binary: &BinaryQuery<'_>) {
     let settings = profile.list_settings_for(binary, &mut ToyTally::new());
-    let program = match settings.list_wrapper() {
+    let program = program_of(settings.list_wrapper());
+    lines.add_of("list-wrapper-of", binary.binary_id, &program);
+}
+
+/// The program of a wrapper, if there is one.
+fn program_of(wrapper: Option<&WrapperScriptConfig>) -> Option<&str> {
+    match wrapper {
         Some(wrapper) => Some(wrapper.command.program.as_str()),
         None => None,
-    };
-    lines.add_of("list-wrapper-of", binary.binary_id, &program);
+    }
+}
+
+/// Adds, for each wrapper script, the programs that wrap a listing by settings that are made empty,
+/// before and after the wrapper is set.
+pub fn add_debug_settings(lines: &mut Lines<'_>, profile: &Profile<'_>) {
+    for (id, wrapper) in profile.script_config().wrapper.iter() {
+        let mut settings = ListSettings::debug_empty();
+        let before = program_of(settings.list_wrapper());
+        settings.debug_set_list_wrapper(wrapper);
+        let after = program_of(settings.list_wrapper());
+        let id = id.as_identifier().as_str();
+        lines.add_of("debug-list-wrapper", id, &(before, after));
+    }
 }
 
 /// Adds the setup scripts that tests enable, in order, and which test enables which.
@@ -153,6 +172,16 @@ impl<'a> NameMatcher for Named<'a> {
 
     fn is_match(&self, name: &str) -> bool {
         name == self.0
+    }
+}
+
+/// Adds the names of the members of some groups where no test is in a group of its own.
+pub fn add_empty_groups(run: &Run<'_>, lines: &mut Lines<'_>) {
+    let members = PrecomputedGroupMembership::empty(run.alloc);
+    for group in &run.case.groups {
+        if let Some(names) = lines.made(members_of(run.alloc, &members, &run.case.tests, group)) {
+            lines.add_of("empty-members-of", group, &names);
+        }
     }
 }
 

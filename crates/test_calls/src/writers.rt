@@ -26,20 +26,29 @@ impl FileReader for OneFile {
     }
 }
 
-/// A writer that takes this many bytes and then fails, and counts what comes after that.
+/// A writer that takes this many bytes and then fails, or fails to flush, and counts the writes and
+/// flushes that come after that.
 #[derive(Clone, Copy)]
 struct Failing {
     room: usize,
+    can_flush: bool,
     taken: usize,
     failed: bool,
     tries_after: usize,
 }
 
-impl Write for Failing {
-    fn write(&mut self, buf: &[u8]) -> io::Result<usize> {
+impl Failing {
+    /// Counts a call that comes after a failure.
+    fn count_call(&mut self) {
         if self.failed {
             self.tries_after = self.tries_after.wrapping_add(1);
         }
+    }
+}
+
+impl Write for Failing {
+    fn write(&mut self, buf: &[u8]) -> io::Result<usize> {
+        self.count_call();
         let count = buf.len().min(self.room);
         if count == 0 {
             self.failed = true;
@@ -51,13 +60,19 @@ impl Write for Failing {
     }
 
     fn flush(&mut self) -> io::Result<()> {
-        Ok(())
+        self.count_call();
+        if self.can_flush {
+            return Ok(());
+        }
+        self.failed = true;
+        Err(io::Error::from(ErrorKind::BrokenPipe))
     }
 }
 
 fn failing_after(room: usize) -> Failing {
     Failing {
         room,
+        can_flush: true,
         taken: 0,
         failed: false,
         tries_after: 0,
@@ -121,8 +136,9 @@ fn check_failing(
 }
 
 /// The words, and the status where the writers take all.
-static ROWS: [(&str, u8); 6] = [
+static ROWS: [(&str, u8); 7] = [
     ("/w default test b t", 0),
+    ("/w default test b t --all", 0),
     ("/w default test b", 2),
     ("/w x test b t", 4),
     ("/w default test b t --config-file full", 5),
@@ -138,5 +154,32 @@ fn nothing_follows_a_write_that_fails_at_some_byte(rt: HostRuntime) -> Result<()
             check_failing(&rt, room, line, whole)?;
         }
     }
+    Ok(())
+}
+
+/// Runs the program where standard output takes all bytes and fails to flush: the status, and what
+/// became of the writer.
+fn without_flush(alloc: Global, line: &str) -> Result<(u8, Failing), AllocError> {
+    let mut out = failing_after(usize::MAX);
+    out.can_flush = false;
+    let mut err = failing_after(usize::MAX);
+    let status = status_of(alloc, line, &mut out, &mut err)?;
+    Ok((status, out))
+}
+
+#[test]
+fn a_flush_that_fails_ends_as_a_write_that_fails(rt: HostRuntime) -> Result<(), Fail> {
+    let line = "/w default test b t --all";
+    let (taken, _) = check_whole(&rt, line, 0)?;
+    let (status, out) = without_flush(rt.alloc(), line)?;
+    assert!(rt; status == 6);
+    assert!(rt; out.failed && out.taken == taken && out.tries_after == 0);
+    Ok(())
+}
+
+#[test]
+fn lines_with_places_in_words_are_not_flushed(rt: HostRuntime) -> Result<(), Fail> {
+    let (status, out) = without_flush(rt.alloc(), "/w default test b t")?;
+    assert!(rt; status == 0 && !out.failed);
     Ok(())
 }

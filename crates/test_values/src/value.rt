@@ -2,7 +2,9 @@
 //!
 //! A row is the name of a reader, a space and a TOML value, as `duration "1h 30m"`. The readers of
 //! texts, as `duration`, are in `value/texts.rt`; those of settings, as `slow-timeout`, in
-//! `value/elements.rt`; those of scripts in `value/scripts.rt`.
+//! `value/elements.rt`; those of scripts in `value/scripts.rt`. `test-thread-count` and
+//! `required-thread-count` print how many threads the `threads` of a table are, with its `cpus` and
+//! `test-threads`.
 //!
 //! Each row is printed with ` => ` behind it and then the value, or `refused: ` and the cause. The
 //! words of a command line, an identifier and its copy, a command's program and a script's id within a
@@ -12,7 +14,7 @@ mod scripts;
 mod texts;
 
 use crate::row::RowError;
-use elements::{groups_answer, read, read_name};
+use elements::{groups_answer, read, read_name, required_thread_count, test_thread_count};
 use nextest_documents::tree_from_text;
 use nextest_elements::{
     BenchConfig, BenchOverride, CustomTestGroup, Element, FinalStatusLevel, FlakyResult,
@@ -70,6 +72,8 @@ fn answer(alloc: Global, reader: &str, tree: &Tree, walk: &mut Walk) -> Result<S
         "test-group" => shown(alloc, TestGroup::read(alloc, tree, walk)),
         "custom-group" => shown(alloc, CustomTestGroup::read(alloc, tree, walk)),
         "test-groups" => groups_answer(alloc, tree, walk),
+        "test-thread-count" => test_thread_count(alloc, tree, walk),
+        "required-thread-count" => required_thread_count(alloc, tree, walk),
         "program" => program_answer(alloc, tree, walk),
         "no-capture" => no_capture_answer(alloc, tree, walk),
         "unique-id" => unique_id_answer(alloc, tree),

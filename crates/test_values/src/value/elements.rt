@@ -1,7 +1,9 @@
 //! What readers of settings read.
 use super::refusal;
 use crate::row::RowError;
-use nextest_elements::{CustomTestGroup, Element, TestGroupConfig, Tree, Walk};
+use nextest_elements::{
+    CustomTestGroup, Element, TestGroupConfig, TestThreads, ThreadsRequired, Tree, Walk,
+};
 use std::alloc::{AllocError, Global};
 use std::collections::{BTreeMap, BTreeSet};
 use std::fmt::{Debug, Display};
@@ -55,5 +57,43 @@ pub fn groups_answer(alloc: Global, tree: &Tree, walk: &mut Walk) -> Result<Stri
             Ok(text)
         }
         Err(fault) => refusal(alloc, &fault),
+    }
+}
+
+/// How many tests run at a time by the `threads` of a table, on a machine with its `cpus`, or the
+/// fault.
+pub fn test_thread_count(alloc: Global, table: &Tree, walk: &mut Walk) -> Result<String, RowError> {
+    match TestThreads::read(alloc, member(table, "threads")?, walk) {
+        Ok(threads) => Ok(threads.compute(count(table, "cpus")?).to_string(alloc)?),
+        Err(fault) => refusal(alloc, &fault),
+    }
+}
+
+/// How many threads a test takes up by the `threads` of a table, where there are its `cpus` and its
+/// `test-threads`, or the fault.
+pub fn required_thread_count(
+    alloc: Global,
+    table: &Tree,
+    walk: &mut Walk,
+) -> Result<String, RowError> {
+    match ThreadsRequired::read(alloc, member(table, "threads")?, walk) {
+        Ok(threads) => {
+            let count = threads.compute(count(table, "cpus")?, count(table, "test-threads")?);
+            Ok(count.to_string(alloc)?)
+        }
+        Err(fault) => refusal(alloc, &fault),
+    }
+}
+
+/// The value of a key of a table.
+fn member<'a>(table: &'a Tree, key: &str) -> Result<&'a Tree, RowError> {
+    table.get(key).ok_or(RowError::NoRow)
+}
+
+/// The number of a key of a table.
+fn count(table: &Tree, key: &str) -> Result<u64, RowError> {
+    match member(table, key)? {
+        Tree::Int(count) => u64::try_from(*count).ok().ok_or(RowError::NoRow),
+        _ => Err(RowError::NoRow),
     }
 }
