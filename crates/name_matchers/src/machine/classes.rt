@@ -18,7 +18,8 @@ pub struct Classes {
 impl Classes {
     /// The classes of bytes that an automaton does not tell apart.
     pub fn new(alloc: Global, nfa: &Nfa) -> Result<Classes, AllocError>
-        ensures classes { IfOk result (λ classes. AreClasses nfa.now classes.of classes.bytes.items) }
+        ensures classes { IfOk result
+            (λ classes. AreClasses nfa.now classes.of classes.bytes.items) }
         ensures few { IfOk result (λ classes. vec_len classes.bytes ≤ 128) }
         ensures size { IfOk result (λ classes. length classes.of ≡ 128) }
     {
