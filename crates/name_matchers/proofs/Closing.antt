@@ -1,17 +1,17 @@
 -- States closed under the edges that read no byte.
-use Rattle.std.proofs.Common.{◌≡◌, ℕ, ◌+◌, ◌<◌, ◌≤◌, List, [], length, get_or, refl, sym, ap, ◌∙◌, ⊎_elim, arith, append-nil, length-append}
+use Rattle.std.proofs.Common.{◌≡◌, ℕ, ◌+◌, ◌<◌, ◌≤◌, List, [], length, get_or, sym, ap, ◌∙◌, ⊎_elim, arith, append-nil, length-append}
 use Rattle.std.specs.Prelude.{Contains}
 use Rattle.std.proofs.lemmas.Bool.{cases_eq}
 use Rattle.std.proofs.lemmas.List.{get_or_append_left}
 use Rattle.std.proofs.lemmas.List.Elements.{Contains-get_or}
 use Rattle.regex_nfa.specs.Run.{state_of}
-use Rattle.regex_nfa.specs.Paths.{EmptyEdge, matched, skipped}
+use Rattle.regex_nfa.specs.Paths.{EmptyEdge}
 use Rattle.regex_nfa.specs.declared.state.State.TheVariants.{Match}
 use Rattle.regex_nfa.specs.declared.nfa.Nfa.{Nfa}
 use Rattle.regex_nfa.proofs.PathsLemmas.{EmptyEdge-IsBelow}
 use Rattle.regex_nfa.proofs.RunLemmas.{any_default}
 use Rattle.regex_vm.proofs.NfaLemmas.{below_within}
-use Rattle.name_matchers.specs.Runs.{AreStates, Extends, AddsTargets, SomeSucceeds, IsClosing}
+use Rattle.name_matchers.specs.Runs.{AreStates, Extends, AddsTargets, Reached, among, behind, IsClosing}
 use Rattle.name_matchers.proofs.Targets.{extends_on, keeps}
 
 -- The state ends no match, and each state to which it leads with no byte is among these.
@@ -23,7 +23,7 @@ pub record IsFollowed (nfa : Nfa) (name : List ℕ) (at q : ℕ) (states : List 
 pub record IsFollowedTo (nfa : Nfa) (name : List ℕ) (at : ℕ) (old states : List ℕ) (done : ℕ) : Type 0 where
   pub within : AreStates nfa states
   pub kept : Extends old states
-  pub sound : SomeSucceeds nfa name at states → SomeSucceeds nfa name at old
+  pub reached : (q : ℕ) → Contains states q → Reached nfa name at old q
   pub some : done ≤ length states
   pub followed : (k : ℕ) → k < done → IsFollowed nfa name at (get_or states k 0) states
 
@@ -40,7 +40,7 @@ module _ (nfa : Nfa) (name : List ℕ) (at : ℕ) where
   none_followed states within = record {
     within = within;
     kept = ([], sym (append-nil states));
-    sound = λ some. some;
+    reached = λ q there. among q there;
     some = omega arith;
     followed = λ k below. absurd (omega arith);
   }
@@ -58,14 +58,11 @@ module _ (nfa : Nfa) (name : List ℕ) (at : ℕ) where
       ⊎_elim (λ old. within r old) (λ edge. below_within nfa r q (EmptyEdge-IsBelow nfa name at q r edge))
       (adds.added r there)
 
-  -- A match from a state that was added is one from the state that led there.
-  sound_more : (q : ℕ) (states new : List ℕ) → Contains states q → AddsTargets nfa name at q states new
-      → SomeSucceeds nfa name at new → SomeSucceeds nfa name at states
-  sound_more q states new there adds (r, found, succeeds) =
-      ⊎_elim
-      (λ old. (r, old, succeeds))
-      (λ edge. (q, there, (succeeds.0, (succeeds.1.0, skipped q at r edge succeeds.1.1))))
-      (adds.added r found)
+  -- A state that was added is reached through the state that led there.
+  reached_more : (q : ℕ) (old states new : List ℕ) → ((p : ℕ) → Contains states p → Reached nfa name at old p)
+      → Contains states q → AddsTargets nfa name at q states new → (r : ℕ) → Contains new r → Reached nfa name at old r
+  reached_more q old states new reached there adds r found =
+      ⊎_elim (λ before. reached r before) (λ edge. behind q r (reached q there) edge) (adds.added r found)
 
   -- One more is followed.
   pub followed_more : (old states new : List ℕ) (done q : ℕ) → IsFollowedTo nfa name at old states done
@@ -78,7 +75,7 @@ module _ (nfa : Nfa) (name : List ℕ) (at : ℕ) where
       record {
         within = within_more q states new before.within adds;
         kept = extends_on old states new before.kept adds.kept;
-        sound = λ some. before.sound (sound_more q states new there adds some);
+        reached = reached_more q old states new before.reached there adds;
         some = omega arith;
         followed = λ k h.
             let place : k < length states = let le = before.some in omega arith in
@@ -90,12 +87,12 @@ module _ (nfa : Nfa) (name : List ℕ) (at : ℕ) where
             (cases_eq k done));
       }
 
-  -- A state that ends a match succeeds.
-  pub matches_here : (old states : List ℕ) (done q : ℕ) → at ≤ length name
-      → IsFollowedTo nfa name at old states done → done < length states
-      → q ≡ get_or states done 0 → state_of nfa q ≡ Match → SomeSucceeds nfa name at old
-  matches_here old states done q within before below is ends =
-      before.sound (q, rw is (Contains-get_or states done 0 below), (within, (at, matched q at ends refl)))
+  -- A state that ends a match is reached.
+  pub matches_here : (old states : List ℕ) (done q : ℕ) → IsFollowedTo nfa name at old states done
+      → done < length states → q ≡ get_or states done 0 → state_of nfa q ≡ Match
+      → (r : ℕ) × Reached nfa name at old r × (state_of nfa r ≡ Match)
+  matches_here old states done q before below is ends =
+      (q, before.reached q (rw is (Contains-get_or states done 0 below)), ends)
 
   -- Where all are followed, the states are closed.
   pub closed_when_done : (old states : List ℕ) (done : ℕ) → IsFollowedTo nfa name at old states done
@@ -108,7 +105,7 @@ module _ (nfa : Nfa) (name : List ℕ) (at : ℕ) where
       rw same at (before.followed k (omega arith)) in
       record {
         kept = before.kept;
-        sound = before.sound;
+        reached = before.reached;
         closed = record {
           unmatched = λ q there. (of q there).unmatched;
           targets =

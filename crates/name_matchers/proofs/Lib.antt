@@ -4,6 +4,11 @@ pub mod Closing
 pub mod Reading
 pub mod Steps
 pub mod Searches
+pub mod Sights
+pub mod Rows
+pub mod Tables
+pub mod Classes
+pub mod Follows
 pub mod Turns
 pub mod Parts
 pub mod RegexTexts

@@ -1,14 +1,16 @@
 -- What a state leads to with no byte.
-use Rattle.std.proofs.Common.{◌≡◌, ℕ, ◌⊎◌, true, List, [], ◌∷◌, ◌++◌, sym, ap, ◌∙◌, ⊎_elim, inl, inr, append_assoc, append-nil}
+use Rattle.std.proofs.Common.{◌≡◌, ℕ, ◌+◌, ◌<◌, ◌⊎◌, true, List, [], ◌∷◌, ◌++◌, length, take, get_or, arith, sym, ap, ◌∙◌, subst, ⊎_elim, inl, inr, append_assoc, append-nil}
 use Rattle.std.specs.Prelude.{Contains}
-use Rattle.std.proofs.lemmas.List.Elements.{Contains-append_left, Contains-push_cases}
+use Rattle.std.proofs.Math.Seq.{take-length}
+use Rattle.std.proofs.lemmas.List.{take_more, length-take}
+use Rattle.std.proofs.lemmas.List.Elements.{Contains-append_left, Contains-push, Contains-push_cases}
 use Rattle.regex_hir.specs.Looks.{holds}
 use Rattle.regex_hir.specs.declared.look.Look as look
 use Rattle.regex_nfa.specs.Run.{state_of}
 use Rattle.regex_nfa.specs.Paths.{EmptyEdge, by_first, by_second, by_save, by_look}
 use Rattle.regex_nfa.specs.declared.state.State.TheVariants.{Split, Save, Look}
 use Rattle.regex_nfa.specs.declared.nfa.Nfa.{Nfa}
-use Rattle.name_matchers.specs.StateLists.{AddsState}
+use Rattle.name_matchers.specs.StateLists.{AddsAll, AddsState, HasSame}
 use Rattle.name_matchers.specs.Runs.{AddsTargets, Extends}
 
 -- Where a state is added, the old list stays in front.
@@ -32,6 +34,54 @@ cases_of q old new r adds there =
     (λ (same : new ≡ old). inl (rw same at there))
     (λ (more : new ≡ old ++ q ∷ []). Contains-push_cases old q r (rw more at there))
     adds.after
+
+-- One more of some states is added.
+pub adds_more : (states base old new : List ℕ) (i q : ℕ) → i < length states → q ≡ get_or states i 0
+    → AddsAll (take i states) base old → AddsState q old new → AddsAll (take (i + 1) states) base new
+adds_more states base old new i q below is all adds r =
+    rw (take_more states i 0 below, ← is) (
+      λ there.
+          ⊎_elim
+          (λ (before : Contains old r).
+          ⊎_elim
+          (λ first. inl first)
+          (λ among. inr (Contains-append_left (take i states) (q ∷ []) r among))
+          ((all r).0 before))
+          (λ (same : q ≡ r). inr (subst (λ s. Contains (take i states ++ q ∷ []) s) same (Contains-push (take i states) q)))
+          (cases_of q old new r adds there),
+      λ from.
+          ⊎_elim
+          (λ (first : Contains base r). keeps old new r (extends_of q old new adds) ((all r).1 (inl first)))
+          (λ (among : Contains (take i states ++ q ∷ []) r).
+          ⊎_elim
+          (λ (earlier : Contains (take i states) r).
+          keeps old new r (extends_of q old new adds) ((all r).1 (inr earlier)))
+          (λ (same : q ≡ r). rw same at adds.there)
+          (Contains-push_cases (take i states) q r among))
+          from,
+    )
+
+-- Where none is added.
+pub adds_none : (states base : List ℕ) → AddsAll (take 0 states) base base
+adds_none states base q =
+    (λ there. inl there, λ from. ⊎_elim (λ first. first) (λ none. absurd (no_state q none)) from)
+  where
+    no_state : (q : ℕ) → Contains (take 0 states) q → ⊥
+    no_state q none = omega (arith, none.1, length-take 0 states)
+
+-- Where all are added.
+pub adds_done : (states base new : List ℕ) (i : ℕ) → AddsAll (take i states) base new → i ≡ length states
+    → AddsAll states base new
+adds_done states base new i all same = rw take-length at (rw same at all)
+
+-- States that are added to none are the same.
+pub added_to_none : (states old new : List ℕ) → old ≡ [] → AddsAll states old new → HasSame states new
+added_to_none states old new none all q = (
+  λ there.
+      ⊎_elim (λ (before : Contains old q). absurd (let e = rw none at before in omega (arith, e.1))) (λ among. among)
+      ((all q).0 there),
+  λ among. (all q).1 (inr among),
+)
 
 module _ (nfa : Nfa) (name : List ℕ) (at q : ℕ) where
   -- Where one state is added, to which alone a state leads.

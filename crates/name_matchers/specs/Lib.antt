@@ -1,5 +1,7 @@
 pub mod StateLists
 pub mod Runs
+pub mod Classes
+pub mod Tables
 pub mod RegexTexts
 pub mod GlobClasses
 pub mod Globs

@@ -1,5 +1,5 @@
 -- Lists of states.
-use Rattle.std.specs.Prelude.{◌≡◌, ℕ, ◌^◌, ◌<◌, ◌≤◌, ◌⊎◌, Bool, true, false, List, [], ◌∷◌, ◌++◌, length, take, All, Contains, fold, slice_set, slice_index_or}
+use Rattle.std.specs.Prelude.{◌≡◌, ℕ, ◌^◌, ◌<◌, ◌≤◌, ◌⊎◌, ◌↔◌, Bool, true, false, List, [], ◌∷◌, ◌++◌, length, take, All, Contains, fold, slice_set, slice_index_or}
 use Rattle.regex_vm.specs.Bits.{members}
 
 -- the flags without those of the states
@@ -21,3 +21,11 @@ pub record IsListed (room : ℕ) (flags : List Bool) (states : List ℕ) (len : 
 pub record AddsState (state : ℕ) (old new : List ℕ) : Type 0 where
   pub there : Contains new state
   pub after : (new ≡ old) ⊎ (new ≡ old ++ state ∷ [])
+
+-- The new list has the states of the old one, and these.
+abbrev pub AddsAll : List ℕ → List ℕ → List ℕ → Type 0
+AddsAll states old new = (q : ℕ) → Contains new q ↔ (Contains old q ⊎ Contains states q)
+
+-- The lists have the same states.
+abbrev pub HasSame : List ℕ → List ℕ → Type 0
+HasSame xs ys = (q : ℕ) → Contains ys q ↔ Contains xs q

@@ -1,8 +1,9 @@
 //! A search for a match of an automaton in a name.
-ghost use Rattle.std.specs.Prelude.{◌≡◌, ◌+◌, ◌≤◌, length, vec_len, IsTrue, ◌<◌, ◌↔◌};
+ghost use Rattle.std.specs.Prelude.{◌≡◌, ◌+◌, ◌≤◌, [], length, vec_len, IsTrue, ◌<◌, ◌↔◌};
 ghost use Rattle.regex_nfa.specs.Run.{state_of};
 ghost use Rattle.regex_nfa.specs.declared.state.State.TheVariants as state;
-ghost use Rattle.name_matchers.specs.Runs.{finds, in_turn, AreStates, AddsTargets, Closes, Reads, ReadsState, Steps};
+ghost use Rattle.name_matchers.specs.StateLists.{HasSame};
+ghost use Rattle.name_matchers.specs.Runs.{finds, in_turn, AreStates, AddsTargets, Closes, IsSearched, Reads, ReadsState, Steps};
 
 use crate::machine::state_list::StateList;
 use regex_nfa::{Nfa, State, StateId, holds};
@@ -17,18 +18,36 @@ pub struct Search<'a, const ROOM: usize> {
 }
 
 impl<const ROOM: usize> Search<'_, ROOM> {
-    /// Whether there is a match somewhere in the name.
-    pub fn has_match(&self, name: &[u8]) -> bool
+    /// Whether there is a match somewhere in the name, where the search has come to this position in
+    /// these states.
+    pub fn has_match(&self, name: &[u8], from: usize, states: &[u16]) -> bool
+        requires from { from ≤ length name.now }
+        requires searched { ∥ IsSearched self.now.nfa.now name.now from states.now ∥₁ }
         ensures { result ≡ finds self.now.nfa.now name.now }
     {
         let mut even = StateList::new();
         let mut odd = StateList::new();
-        for at in 0..name.len() + 1 {
+        self.put(from, states, &mut even, &mut odd);
+        for at in from..name.len() + 1 {
             if self.turn(name, at, &mut even, &mut odd) {
                 return true;
             }
         }
         false
+    }
+
+    // Puts states into that of the lists, which are empty, from which the step at this position is made.
+    fn put(&self, at: usize, states: &[u16], even: &mut StateList<ROOM>, odd: &mut StateList<ROOM>)
+        requires states { AreStates self.now.nfa.now states.now }
+        requires none { in_turn at even.old odd.old ≡ [] }
+        ensures states { AreStates self.now.nfa.now (in_turn at even.new odd.new) }
+        ensures same { HasSame states.now (in_turn at even.new odd.new) }
+    {
+        if at % 2 == 0 {
+            even.insert_all(states);
+        } else {
+            odd.insert_all(states);
+        }
     }
 
     // Makes the step at this position, from the one list to the other in turn.
@@ -78,8 +97,8 @@ impl<const ROOM: usize> Search<'_, ROOM> {
         false
     }
 
-    // Adds the states to which these lead with no byte, and says whether one of all ends a match.
-    fn close(&self, name: &[u8], at: usize, states: &mut StateList<ROOM>) -> bool
+    /// Adds the states to which these lead with no byte, and says whether one of all ends a match.
+    pub fn close(&self, name: &[u8], at: usize, states: &mut StateList<ROOM>) -> bool
         requires at { at ≤ length name.now }
         requires states { AreStates self.now.nfa.now states.old }
         ensures states { AreStates self.now.nfa.now states.new }
@@ -119,8 +138,8 @@ impl<const ROOM: usize> Search<'_, ROOM> {
         false
     }
 
-    // Adds the states to which these lead on a byte.
-    fn advance(&self, byte: u8, states: &StateList<ROOM>, next: &mut StateList<ROOM>)
+    /// Adds the states to which these lead on a byte.
+    pub fn advance(&self, byte: u8, states: &StateList<ROOM>, next: &mut StateList<ROOM>)
         requires { AreStates self.now.nfa.now states.now }
         ensures { Reads self.now.nfa.now byte states.now next.old next.new }
     {

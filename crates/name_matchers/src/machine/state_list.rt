@@ -1,6 +1,6 @@
 //! A set of states as a list, each once.
-ghost use Rattle.std.specs.Prelude.{◌≡◌, ◌^◌, ◌<◌, ◌≤◌, ℕ, List, [], length, slice_index, take};
-ghost use Rattle.name_matchers.specs.StateLists.{AddsState, IsListed};
+ghost use Rattle.std.specs.Prelude.{◌≡◌, ◌^◌, ◌<◌, ◌≤◌, ℕ, Contains, List, [], length, slice_index, take};
+ghost use Rattle.name_matchers.specs.StateLists.{AddsAll, AddsState, IsListed};
 
 use crate::machine::state_flags::StateFlags;
 use regex_nfa::StateId;
@@ -53,6 +53,13 @@ impl<const ROOM: usize> StateList<ROOM> {
         StateId::from(states[index])
     }
 
+    /// The states, in the order in which they were added.
+    pub fn as_slice(&self) -> &[u16]
+        ensures { result.now ≡ self.now }
+    {
+        &self.states[..self.len]
+    }
+
     /// Takes all states out, in time in proportion to their number.
     pub fn clear(&mut self)
         ensures { self.new ≡ [] }
@@ -69,6 +76,16 @@ impl<const ROOM: usize> StateList<ROOM> {
         if self.listed.insert(state as usize) {
             self.states[self.len] = state as u16;
             self.len += 1;
+        }
+    }
+
+    /// Adds these states, each unless it is there.
+    pub fn insert_all(&mut self, states: &[u16])
+        requires { (q : ℕ) → Contains states.now q → q < ROOM }
+        ensures { AddsAll states.now self.old self.new }
+    {
+        for state in states {
+            self.insert(StateId::from(*state));
         }
     }
 }

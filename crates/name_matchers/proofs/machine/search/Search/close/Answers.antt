@@ -22,7 +22,7 @@ returns-then-follow-clause-states g c = within_more _ _ _ _ _ _ c.loop-done.inva
 
 pub returns-then-follow-clause-closes : goal.returns-then-follow-clause-closes
 returns-then-follow-clause-closes g c =
-    matches_here _ _ _ _ _ _ _ c.requires.at c.loop-done.invariant (omega arith) c.get-id.ensures
+    matches_here _ _ _ _ _ _ _ c.loop-done.invariant (omega arith) c.get-id.ensures
     (c.follow.ensures.ends.0 c.if-follow.true)
 
 pub returns-clause-closes : goal.returns-clause-closes
