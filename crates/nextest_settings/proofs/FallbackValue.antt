@@ -4,7 +4,7 @@ use Rattle.std.specs.Option.{option_or}
 use Rattle.nextest_elements.specs.declared.run_mode.NextestRunMode.{NextestRunMode}
 use Rattle.nextest_elements.specs.declared.run_mode.NextestRunMode.TheVariants.{Test, Benchmark}
 use Rattle.nextest_tables.specs.Written.{WrittenFields}
-use Rattle.nextest_settings.specs.Settings.{ValueOf, fallback_of, if_reported, report_path}
+use Rattle.nextest_settings.specs.Settings.{fallback_of, if_reported, report_path}
 use Rattle.nextest_settings.specs.SettingValues.{profile_sets, stated_value}
 use Rattle.nextest_settings.specs.Values.{nearest}
 use Rattle.nextest_settings.specs.declared.setting.Setting.{Setting}

@@ -1,5 +1,5 @@
 -- The values of settings by their kind, and what a profile writes for each setting.
-use Rattle.std.specs.Prelude.{List, Bool, true, false, Option, None, Some, map, pos, string_bytes}
+use Rattle.std.specs.Prelude.{Bool, false, Option, None, Some, map, pos, string_bytes}
 use Rattle.nextest_elements.specs.declared.flaky_result.FlakyResult.{FlakyResult}
 use Rattle.nextest_elements.specs.declared.junit.JunitFlakyFailStatus.{JunitFlakyFailStatus}
 use Rattle.nextest_elements.specs.declared.junit.JunitFlakyFailStatus.TheVariants as statuses

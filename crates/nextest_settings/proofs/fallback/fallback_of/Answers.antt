@@ -1,5 +1,5 @@
-use Rattle.std.proofs.Common.{◌∙◌, ap, is_some, map, option_map, sym}
-use Rattle.nextest_settings.specs.SettingValues.{by_kind, profile_sets, stated_value}
+use Rattle.std.proofs.Common.{◌∙◌, ap, map, option_map, sym}
+use Rattle.nextest_settings.specs.SettingValues.{by_kind, profile_sets}
 use Rattle.nextest_settings.specs.Values.{nearest}
 use Rattle.nextest_settings.specs.View.{fields_ref_view}
 use Rattle.nextest_settings.proofs.FallbackValue.{fallback_is}

@@ -1,5 +1,5 @@
-use Rattle.std.proofs.Common.{◌≡◌, ◌∙◌, Bool, true, false, not, Option, None, Some, ap, option_map, refl}
-use Rattle.core.specs.Bool.{then_some}
+use Rattle.std.proofs.Common.{◌≡◌, Bool, true, false, not, Option, None, Some, ap, option_map, refl}
+use Rattle.std.specs.Bool.{then_some}
 use Rattle.nextest_settings.specs.SettingValues.{ValueByKind, by_kind, setting_value_view, stated_value}
 use Rattle.nextest_settings.specs.declared.setting.Setting.TheVariants as at
 use Rattle.nextest_settings.specs.declared.setting_value.SettingValue.{SettingValue}
