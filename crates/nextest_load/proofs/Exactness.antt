@@ -183,7 +183,7 @@ module _ (files : LoadInputs) where
   empty_sections_of source (p ∷ order) =
       both (empty_steps_of source p.0 p.1) (empty_steps_in source order)
       (warned (λ rules. empty_sections source p.0 (length rules))
-      (filter (λ r. names_none r.writes) p.1.script_rules)) (empty_sections_of source order)
+      (filter (λ r. names_none r.writes.scripts) p.1.script_rules)) (empty_sections_of source order)
 
   names_of_rules : {M K : Type 0} (leaves : M → List (List ℕ)) (known : KnownSets) (source : Source)
       (order : List (Name × LayerProfile M K)) → AreExact (name_steps leaves known source order)
