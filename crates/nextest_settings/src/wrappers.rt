@@ -152,11 +152,11 @@ pub(crate) fn run_wrapper_rule<'cfg, F: Filters, S: Specs>(
         ≡ rows_of (script_tests query.now.binary_query.platform Wrapper.Run) first rules.now }
     ensures rule { let query = test_query_by F.Filters cx.now.default_filter.now query.now in
         option_map (meant_script_rule F.meaning) result
-        ≡ winner query (λ w. is_some w.run_wrapper)
+        ≡ winner query (λ w. is_some w.scripts.run_wrapper)
         (map (meant_script_rule F.meaning) rules.now) }
     ensures tally { let query = test_query_by F.Filters cx.now.default_filter.now query.now in
         F.Tally.numbers tally.new ≡ F.Tally.numbers tally.old
-        ++ asked_from ((λ w. is_some w.run_wrapper) ∷ []) first query []
+        ++ asked_from ((λ w. is_some w.scripts.run_wrapper) ∷ []) first query []
         (map (meant_script_rule F.meaning) rules.now) }
     ensures member { IfSome result (λ r. (n : ℕ) × (slice_get rules.now n ≡ Some r)) }
     ensures named { IfSome result (λ r. IsSome (script_rule_ref_view r.rule).writes.scripts.run_wrapper) }
@@ -186,11 +186,11 @@ pub(crate) fn list_wrapper_rule<'cfg, F: Filters, S: Specs>(
         (map (meant_script_rule F.meaning) rules.now) }
     ensures rule { let query = binary_query_by F.Filters cx.now.default_filter.now query.now in
         option_map (meant_script_rule F.meaning) result
-        ≡ winner query (λ w. is_some w.list_wrapper)
+        ≡ winner query (λ w. is_some w.scripts.list_wrapper)
         (map (meant_script_rule F.meaning) rules.now) }
     ensures tally { let query = binary_query_by F.Filters cx.now.default_filter.now query.now in
         F.Tally.numbers tally.new ≡ F.Tally.numbers tally.old
-        ++ asked_from ((λ w. is_some w.list_wrapper) ∷ []) first query []
+        ++ asked_from ((λ w. is_some w.scripts.list_wrapper) ∷ []) first query []
         (map (meant_script_rule F.meaning) rules.now) }
     ensures member { IfSome result (λ r. (n : ℕ) × (slice_get rules.now n ≡ Some r)) }
     ensures named { IfSome result (λ r. IsSome (script_rule_ref_view r.rule).writes.scripts.list_wrapper) }
@@ -249,7 +249,7 @@ pub(crate) fn run_wrapper<'cfg, F: Filters, S: Specs>(
         (option_and_then (λ w. (script_rule_ref_view w.rule).writes.scripts.run_wrapper) result) }
     ensures tally { let query = test_query_by F.Filters cx.now.default_filter.now query.now in
         F.Tally.numbers tally.new ≡ F.Tally.numbers tally.old
-        ++ asked_from ((λ w. is_some w.run_wrapper) ∷ []) first query []
+        ++ asked_from ((λ w. is_some w.scripts.run_wrapper) ∷ []) first query []
         (map (meant_script_rule F.meaning) rules.now) }
 {
     match run_wrapper_rule(rules, rows, first, query, cx, tally) {
