@@ -181,7 +181,7 @@ pub fn idle_grounds(
         (option_map (λ table. table.now) key.table) key.key.now) }
 {
     let trees = trees_of(alloc, layers)?;
-    if is_counted(alloc, &trees, chain, key)? {
+    if is_counted(alloc, &trees, &*chain, key)? {
         return Ok(Vec::new(alloc));
     }
     let path = key_path(alloc, key)?;
