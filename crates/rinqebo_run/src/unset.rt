@@ -14,7 +14,11 @@ const OTHER_KEYS: [&str; 3] = ["scripts", "store", "test-groups"];
 fn key_hint(alloc: Global, key: &str) -> Result<Option<String>, AllocError> {
     let shape = file_shape(alloc)?;
     let settings = all_keys(alloc, NextestRunMode::Test)?;
-    let mut known: Vec<&str> = keys_of(alloc, &shape, &["profile", "default"])?;
+    let keys = keys_of(alloc, &shape, &["profile", "default"])?;
+    let mut known = Vec::new(alloc);
+    for name in &keys {
+        known.push(*name)?;
+    }
     for name in &OTHER_KEYS {
         known.push(*name)?;
     }
