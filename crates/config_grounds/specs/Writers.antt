@@ -43,7 +43,8 @@ pub record IsEntry (layers : List Node) (keys : List (List ℕ)) (with_hidden : 
   pub wanted : IsWanted with_hidden leaf
 
 -- a region of a layer has this entry at a path, or none
-abbrev pub IsFound : List Node → List (List ℕ) → Bool → Path → Region × ℕ → Option Leaf → Type 0
+abbrev pub IsFound : List Node → List (List ℕ) → Bool → Path → Region × ℕ → Option Leaf
+    → Type 0
 IsFound layers keys with_hidden p writer found =
     MatchOption found ((leaf : Leaf) → ¬ IsEntry layers keys with_hidden p writer leaf)
     (IsEntry layers keys with_hidden p writer)
