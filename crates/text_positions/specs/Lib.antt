@@ -1,2 +1,4 @@
 pub mod Positions
+pub mod Offsets
+pub mod Pieces
 pub mod Law

@@ -1,7 +1,7 @@
-//! Laws of positions.
+//! Laws of positions and offsets.
 ghost use Rattle.std.specs.Prelude.{◌≡◌};
 ghost use Rattle.text_positions.specs.Positions.{IsPlace};
-ghost use Rattle.text_positions.specs.Law.{PositionsRise};
+ghost use Rattle.text_positions.specs.Law.{OffsetsReopen, PositionsRise};
 
 use crate::position::{ColumnUnit, byte_at, position_at};
 
@@ -18,3 +18,8 @@ pub fn law_positions(text: &str, byte: usize, unit: ColumnUnit) -> usize
 {
     byte_at(text, position_at(text, byte, unit), unit)
 }
+
+/// Opened anew where its token writes a character, a string has the characters from that one on.
+pub fn law_offsets_reopen()
+    ensures { OffsetsReopen }
+{}
