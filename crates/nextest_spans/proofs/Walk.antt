@@ -1,10 +1,8 @@
 -- The walk over a text, token by token.
-use Rattle.std.proofs.Common.{◌≡◌, ℕ, ◌+◌, ◌-◌, ◌<◌, ◌≤◌, List, [], ◌∷◌, ◌++◌, Option, Some, None, length, take, drop, refl, sym, ap, ◌∙◌, subst, arith, length-append, length-drop}
+use Rattle.std.proofs.Common.{◌≡◌, ℕ, ◌+◌, ◌-◌, ◌<◌, ◌≤◌, List, [], ◌∷◌, ◌++◌, Option, Some, None, length, take, drop, refl, sym, ap, ◌∙◌, subst, arith, length-append}
 use Rattle.std.specs.Str.{IsUtf8}
 use Rattle.std.proofs.lemmas.List.{drop-drop, drop_at, take_at}
-use Rattle.nextest_spans.specs.declared.token.Span.{Span}
 use Rattle.nextest_spans.specs.declared.token.Token.{Token}
-use Rattle.nextest_spans.specs.declared.token.TokenKind.{TokenKind}
 use Rattle.nextest_spans.specs.Tokens.{AreTokens, IsCut, IsRest, IsRightKind, IsTaken, IsToken, at, text_at}
 
 pub all_rest : (text : List ℕ) → IsRest text text

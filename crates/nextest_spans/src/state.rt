@@ -1,8 +1,6 @@
 //! What may stand next in a text.
 
-use crate::lens::{
-    bare_len, blank_len, is_multi, line_string_len, multi_string_len, word_len,
-};
+use crate::lens::{bare_len, blank_len, is_multi, line_string_len, multi_string_len, word_len};
 use crate::token::Container;
 use std::alloc::{AllocError, Global};
 use toml_parser::bytes::is_bare;
