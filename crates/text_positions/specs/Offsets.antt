@@ -21,7 +21,7 @@ pub record ReadsOn (delim : ℕ) (multi : Bool) (content bytes : List ℕ) : Typ
   pub pieces : ℕ
   pub reads : body delim multi pieces content ≡ Some (bytes, [])
 
--- a content begins with a backslash that is no text
+-- a content begins with an escape
 abbrev pub starts_escape : ℕ → List ℕ → Bool
 starts_escape delim content = first content == backslash && delim == quote
 

@@ -9,7 +9,7 @@ use toml_parser::text::{byte_at, first, skip, starts_newline};
 use toml_parser::{ParseError, quoted, starts_string};
 
 /// The bytes of a string's token at which its characters are written, and last that of its closing
-/// delimiter. The result is `None` where the token is no string of TOML, or more than one.
+/// delimiter. It returns `None` if the token is not exactly one string of TOML.
 ///
 /// In `"\u00e9x"`, the first character is written at byte 1 and the second one at byte 7, and the
 /// string closes at byte 8. A backslash at the end of a line and the white space behind it write

@@ -13,7 +13,7 @@ use toml_parser::text::{first, skip, skip_blank, skip_ws, starts_newline};
 pub(crate) struct Quotes {
     /// A quote or an apostrophe.
     pub(crate) delim: u8,
-    /// Whether three delimiters stand at each end.
+    /// Whether there are three delimiters at each end.
     pub(crate) is_multi: bool,
 }
 
@@ -58,14 +58,14 @@ fn closes(content: &str, quotes: Quotes) -> bool
     first(content) == quotes.delim && (!quotes.is_multi || run_len(content, quotes.delim) == 3)
 }
 
-/// How many times the byte stands at the front.
+/// The number of copies of a byte at the front of a text.
 fn run_len(text: &str, byte: u8) -> usize
     ensures { result ≡ prefix_len (λ c. c == byte) text.now }
 {
     text.as_bytes().iter().take_while(|b| **b == byte).count()
 }
 
-/// Whether the content begins with a backslash that is no text.
+/// Whether the content begins with an escape.
 fn starts_escape(content: &str, quotes: Quotes) -> bool
     ensures { result ≡ starts_escape quotes.delim content.now }
 {
