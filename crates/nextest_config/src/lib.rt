@@ -63,8 +63,8 @@ pub use nextest_rules::{
 pub use nextest_settings::{
     CompiledDefaultFilter, CompiledDefaultFilterSection, EvaluatedOverride, EvaluatedRule,
     EvaluatedRules, EvaluatedScriptRule, GroupLookup, ListSettings, PrecomputedGroupMembership,
-    Setting, SettingSource, SettingValue, SettingValues, SetupScript, SetupScriptIter, SetupScripts,
-    TestSettings, TrackSource,
+    Setting, SettingSource, SettingValue, SettingValues, SetupScript, SetupScriptIter,
+    SetupScripts, TestSettings, TrackSource,
 };
 pub use nextest_tables::{OverrideOutputs, OverrideRuns, OverrideSettings};
 

@@ -357,9 +357,11 @@ readable : {M K P : Type 0} (engines : Readings M K P) (features : Features) (al
     → AllByRecursion IsReadable (map tree_in ss)
 readable engines features all below [] each is = tt
 readable engines features all below (s ∷ ss) each is =
-    let accepted = each below s ss is in
-    (accepted.elements, readable engines features all (below ++ s ∷ []) ss each
-    (is ∙ sym (append_assoc below (s ∷ []) ss)))
+    let accepted = each below s ss is in (
+      accepted.elements,
+      readable engines features all (below ++ s ∷ []) ss each
+          (is ∙ sym (append_assoc below (s ∷ []) ss)),
+    )
 
 -- the merged tree of files that a load accepts has a complete profile `default`
 pub accepted_complete : {M K P : Type 0} (engines : Readings M K P) (features : Features) (files : LoadInputs)

@@ -424,8 +424,7 @@ impl<'p, F: Filters, S: Specs, Source: TrackSource<'p, F, S>> TestSettings<'p, F
 }
 
 impl<'p, F: Filters, S: Specs, Source: TrackSource<'p, F, S>> SettingValues
-    for TestSettings<'p, F, S, Source>
-{
+    for TestSettings<'p, F, S, Source> {
     ghost values = { λ settings _ s. value_at settings s };
 
     /// Returns the value of a setting, if it has one: only a run wrapper may be absent. Rules were
