@@ -7,8 +7,8 @@ ghost use Rattle.nextest_tree.specs.Node.{as_bool};
 ghost use Rattle.nextest_tree.specs.View.{tree_view};
 ghost use Rattle.rinqebo_files.specs.Features.{repository_file, experimental_in, is_this_text, SwitchesOn, AreWith, AreAdded, AreFeaturesOf};
 
+use crate::document::tree_of;
 use crate::files::Gathered;
-use crate::layers::tree_of;
 use nextest_config::{ConfigExperimental, ReadOutcome, Tree};
 use rinqebo_request::{FEATURES, feature_name};
 use std::alloc::{AllocError, Global};

@@ -1,19 +1,18 @@
 //! The sources of a run, with their texts and trees.
 ghost use Rattle.std.specs.Prelude.{◌≡◌, ◌++◌, ◌↔◌, Some, IfOk, IsTrue, MatchOption, OnOk, map, option_map, reverse, string_bytes};
-ghost use Rattle.nextest_documents.specs.Text.{tree_of as document_of};
 ghost use Rattle.nextest_sources.specs.Sources.{source_kind_view, source_view};
 ghost use Rattle.nextest_tree.specs.View.{tree_view};
 ghost use Rattle.rinqebo_files.specs.Features.{tree_read};
 ghost use Rattle.rinqebo_files.specs.Layers.{default_layer, file_layer, layer_view, layers_read, repository_layer, text_read, tool_layer};
 ghost use Rattle.rinqebo_files.specs.Origins.{HasNoFile, IsFileAt, told_file, told_kind};
 
+use crate::document::{NoDocument, read_document};
 use crate::files::Gathered;
 use config_places::Places;
 use nextest_config::{
     ConfigPath, ConfigSource, ConfigSourceKind, FileInput, ReadOutcome, ToolConfigFile, ToolName,
     Tree,
 };
-use nextest_documents::{TextFault, tree_from_text};
 use nextest_tables::default_tree;
 use rinqebo_report::{Source, SourceKind};
 use std::alloc::{AllocError, Global};
@@ -27,27 +26,8 @@ pub struct Layer<'t> {
     pub places: Option<Places<'t>>,
     /// The tree of its text, if that is a document.
     pub tree: Option<Tree>,
-}
-
-/// The tree of a text, if it is a document.
-fn tree_of_text(alloc: Global, text: &str) -> Result<Option<Tree>, AllocError>
-    ensures { IfOk result (λ tree. option_map tree_view tree ≡ document_of text.now) }
-{
-    match tree_from_text(alloc, text) {
-        Ok(tree) => Ok(Some(tree)),
-        Err(TextFault::NotDocument(_)) => Ok(None),
-        Err(TextFault::Memory) => Err(AllocError),
-    }
-}
-
-/// The tree of what was read, if it is a document.
-pub fn tree_of(alloc: Global, outcome: &ReadOutcome) -> Result<Option<Tree>, AllocError>
-    ensures { IfOk result (λ tree. option_map tree_view tree ≡ tree_read outcome.now) }
-{
-    match outcome {
-        ReadOutcome::Text(text) => tree_of_text(alloc, text.as_str()),
-        ReadOutcome::NotFound | ReadOutcome::NotADirectory | ReadOutcome::Failed(_) => Ok(None),
-    }
+    /// Why its text is not a document, if it is not one.
+    pub fault: Option<NoDocument>,
 }
 
 /// The places in the text that was read, if one was.
@@ -69,13 +49,15 @@ fn layer_of<'t>(
     ensures { IfOk result (λ layer.
         layer_view layer ≡ file_layer (told_kind kind) file.entry.now) }
 {
+    let (tree, fault) = read_document(alloc, &file.outcome)?;
     Ok(Layer {
         source: Source {
             kind,
             path: Some(String::from_str(alloc, file.path.absolute_path())?),
         },
         places: places_of(alloc, &file.outcome)?,
-        tree: tree_of(alloc, &file.outcome)?,
+        tree,
+        fault,
     })
 }
 
@@ -90,6 +72,7 @@ fn defaults_layer<'t>(alloc: Global) -> Result<Layer<'t>, AllocError>
         },
         places: None,
         tree: Some(default_tree(alloc)?),
+        fault: None,
     })
 }
 

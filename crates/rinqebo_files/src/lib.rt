@@ -2,16 +2,18 @@
 //! lines that bring what stands there, and the experimental features that they switch on.
 #![tactic(auto)]
 
+mod document;
 mod features;
 mod files;
 mod layers;
 mod places;
 mod root;
 
+pub use document::{NoDocument, tree_of};
 pub use features::features_of;
 pub use files::{GatherFault, Gathered, gather};
 pub use layers::{
     Layer, host_text, layers_of, place_at, place_of, profile_table, rule_at, rule_table,
-    sources_of, target_text, text_at, tree_of,
+    sources_of, target_text, text_at,
 };
 pub use places::{highest_place, path_place, spelled_place};

@@ -1,5 +1,5 @@
 //! The root of a workspace, looked for from a folder upward.
-use crate::layers::tree_of;
+use crate::document::tree_of;
 use nextest_config::{CONFIG_PATH, ReadOutcome, join_paths};
 use nextest_files::FileReader;
 use std::alloc::{AllocError, Global};

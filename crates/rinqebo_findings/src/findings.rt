@@ -4,7 +4,7 @@ use crate::paths::{path_text, spelled_path};
 use crate::refused_values::Fault;
 use config_places::Step;
 use nextest_config::{ConfigSource, ConfigWarning, DefaultConfigWarnings, Tree};
-use rinqebo_files::{Layer, path_place, place_of};
+use rinqebo_files::{Layer, NoDocument, path_place, place_of};
 use rinqebo_report::{Finding, Level, Place};
 use std::alloc::{AllocError, Global};
 
@@ -21,6 +21,11 @@ impl<'l, 't> SourceAt<'l, 't> {
     /// The tree of the source, if its text is a document.
     pub fn tree(self) -> Option<&'l Tree> {
         self.layers.get(self.position?)?.tree.as_ref()
+    }
+
+    /// Why the text of the source is not a document, if it is not one.
+    pub fn fault(self) -> Option<&'l NoDocument> {
+        self.layers.get(self.position?)?.fault.as_ref()
     }
 
     /// The place of the whole source.

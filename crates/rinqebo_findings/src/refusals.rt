@@ -31,13 +31,6 @@ fn add_outcome(refused: &mut Refused<'_, '_>, outcome: &ReadOutcome) -> Result<(
     }
 }
 
-/// The line and the column that the first line of the reader's message names.
-fn told_spot(first: &str) -> Option<(u64, u64)> {
-    let (_, spot) = first.split_once(" at line ")?;
-    let (line, column) = spot.split_once(", column ")?;
-    Some((line.parse::<u64>().ok()?, column.parse::<u64>().ok()?))
-}
-
 /// A text on one line.
 fn on_one_line(alloc: Global, text: &str) -> Result<String, AllocError> {
     let mut joined = String::new(alloc);
@@ -50,22 +43,26 @@ fn on_one_line(alloc: Global, text: &str) -> Result<String, AllocError> {
     Ok(joined)
 }
 
-/// The text is no document: the first line of the reader's message has the place, and the others
-/// say why.
+/// A line or a column as users count it, from 1, of one that is counted from 0.
+fn from_one(count: usize) -> u64 {
+    (count as u64).saturating_add(1)
+}
+
+/// The text is not a document: where it is at fault, and why.
 fn add_no_document(refused: &mut Refused<'_, '_>, message: &str) -> Result<(), AllocError> {
     let alloc = refused.alloc;
-    let (first, reason) = message.split_once('\n').unwrap_or((message, ""));
-    let Some((line, column)) = told_spot(first) else {
+    let Some(fault) = refused.source.fault() else {
         let found = refused.finding(on_one_line(alloc, message)?)?;
         return refused.add_finding(found);
     };
-    let mut found = refused.finding(on_one_line(alloc, reason)?)?;
-    if let Some(place) = &mut found.place {
+    let mut found = refused.finding(on_one_line(alloc, fault.reason.as_str())?)?;
+    if let (Some(place), Some(position)) = (&mut found.place, fault.position) {
+        let line = from_one(position.line);
         place.lines = Some(Lines {
             first: line,
             last: line,
         });
-        found.column = Some(column);
+        found.column = Some(from_one(position.column));
     }
     refused.add_finding(found)
 }
