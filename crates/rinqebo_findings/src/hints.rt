@@ -1,6 +1,7 @@
 //! Hints of findings: which known name, or key of the same table, a wrong one most likely means.
+use crate::shapes::shape_at;
 use config_places::Step;
-use config_shape::{file_shape, keys_of};
+use config_shape::{Shape, TextShape, file_shape, keys_of};
 use rinqebo_request::name_hint;
 use std::alloc::{AllocError, Global};
 use std::collections::BTreeSet;
@@ -18,15 +19,56 @@ pub fn known_hint(
     name_hint(alloc, name, &names)
 }
 
-/// The hint that one of the names is meant which a text has between backquotes, if one is near.
-pub fn quoted_hint(alloc: Global, name: &str, text: &str) -> Result<Option<String>, AllocError> {
-    let mut names = Vec::new(alloc);
-    for (place, part) in text.split('`').enumerate() {
-        if place % 2 == 1 {
-            names.push(part)?;
+/// The words of which one shape takes one, if it is a text of some words.
+fn words_of_one(shape: &Shape) -> Option<&'static [&'static str]> {
+    match shape {
+        Shape::Text(TextShape::OneOf(words)) => Some(*words),
+        Shape::Text(TextShape::Any | TextShape::Of(_))
+        | Shape::Anything
+        | Shape::Boolean
+        | Shape::Integer { .. }
+        | Shape::List { .. }
+        | Shape::Table(_)
+        | Shape::Map { .. }
+        | Shape::Either(_) => None,
+    }
+}
+
+/// Adds the words of which one shape takes one.
+fn add_words(words: &mut Vec<&'static str>, shape: &Shape) -> Result<(), AllocError> {
+    if let Some(known) = words_of_one(shape) {
+        for word in known {
+            words.push(*word)?;
         }
     }
-    name_hint(alloc, name, &names)
+    Ok(())
+}
+
+/// The words of which a shape takes one.
+fn words_of(alloc: Global, shape: &Shape) -> Result<Vec<&'static str>, AllocError> {
+    let mut words = Vec::new(alloc);
+    match shape {
+        Shape::Either(shapes) => {
+            for one in shapes {
+                add_words(&mut words, one)?;
+            }
+        }
+        one => add_words(&mut words, one)?,
+    }
+    Ok(words)
+}
+
+/// The hint that one of the words is meant of which the shape of a file takes one at a path, if one
+/// is near.
+pub fn word_hint(
+    alloc: Global,
+    word: &str,
+    path: &[Step<'_>],
+) -> Result<Option<String>, AllocError> {
+    match shape_at(&file_shape(alloc)?, path) {
+        Some(shape) => name_hint(alloc, word, &words_of(alloc, shape)?),
+        None => Ok(None),
+    }
 }
 
 /// A step as the shape of a file has it: any position stands for all items of a list.

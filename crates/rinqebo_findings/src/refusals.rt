@@ -3,7 +3,7 @@ use crate::expected::expected_at;
 use crate::expressions::add_refused_texts;
 use crate::findings::SourceAt;
 use crate::given::given_at;
-use crate::hints::quoted_hint;
+use crate::hints::word_hint;
 use crate::paths::spelled_path;
 use crate::refused::Refused;
 use crate::refused_values::Fault;
@@ -102,7 +102,7 @@ fn add_element(refused: &mut Refused<'_, '_>, fault: &ElementFault) -> Result<()
             let wrong = format!(in alloc; "invalid value `{given}`")?;
             let mut found = refused.at(&path, wrong.as_str())?;
             found.expected = Some(String::from_str(alloc, *expected)?);
-            found.help = quoted_hint(alloc, given.as_str(), *expected)?;
+            found.help = word_hint(alloc, given.as_str(), &path)?;
             refused.add_finding(found)
         }
         cause => {
