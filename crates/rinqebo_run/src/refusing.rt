@@ -9,10 +9,24 @@ ghost use Rattle.rinqebo_run.specs.Statuses.{failure_status};
 use crate::status::Status;
 use crate::telling::{refuse_for_memory, refuse_message, refuse_with, tell};
 use rinqebo_load::Failure;
-use rinqebo_report::{Format, Report, render};
+use rinqebo_report::{Format, Report, render, render_findings};
 use rinqebo_request::Request;
-use std::alloc::Global;
+use std::alloc::{AllocError, Global};
 use std::io::Write;
+
+/// The findings that say that a profile is missing, and which variable names it, if one does.
+fn profile_message(
+    alloc: Global,
+    report: &Report,
+    request: &Request<'_>,
+) -> Result<String, AllocError> {
+    let mut message = render_findings(alloc, report, request.colour)?;
+    if let Some(variable) = request.profile_source.variable() {
+        let note = format!(in alloc; "note: `{variable}` names the profile\n")?;
+        message.push_str(note.as_str())?;
+    }
+    Ok(message)
+}
 
 /// Writes why a run answers nothing to standard error, and returns the exit status.
 pub fn refuse<E: Write>(alloc: Global, failure: &Failure, request: &Request<'_>, err: &mut E) -> u8
@@ -27,7 +41,8 @@ pub fn refuse<E: Write>(alloc: Global, failure: &Failure, request: &Request<'_>,
             refuse_with(alloc, report, request.colour, Status::Refused as u8, err)
         }
         Failure::NoProfile(report) => {
-            refuse_with(alloc, report, request.colour, Status::NoProfile as u8, err)
+            let message = profile_message(alloc, report, request);
+            refuse_message(message, Status::NoProfile as u8, err)
         }
         Failure::Memory => refuse_for_memory(err),
     }
