@@ -134,13 +134,14 @@ entry e =
     exact_object 2 (and_member _ (exact_truth 2 e.is_hidden)
     (and_member _ (text 2 e.key) (and_member _ (origin e.origin) (and_member _ (value 1 e.value) (no_more 2)))))
 
-rule : (r : Rule) → IsExact 3 (rule_data r)
+rule : (r : Rule) → IsExact 4 (rule_data r)
 rule r =
-    exact_object 2 (and_member _ (exact_text 2 _)
-    (and_member _ (exact_text 2 _)
-    (and_member _ (origin r.origin)
-    (and_member _ (exact_text 2 _)
-    (and_member _ (optional_value 1 r.value) (and_member _ (exact_text 2 _) (no_more 2)))))))
+    exact_object 3 (and_member _ (exact_text 3 _)
+    (and_member _ (exact_text 3 _)
+    (and_member _ (deeper 3 (origin r.origin) (omega arith))
+    (and_member _ (exact_list 2 origin_data origin r.others.items)
+    (and_member _ (exact_text 3 _)
+    (and_member _ (optional_value 2 r.value) (and_member _ (exact_text 3 _) (no_more 3))))))))
 
 tool : (n : ℕ) (k : SourceKind) → IsExact n (tool_data k)
 tool n kinds.Default = exact_null n

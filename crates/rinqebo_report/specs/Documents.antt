@@ -169,9 +169,10 @@ rule_data rule =
     object (member (codes "filter") (string (answer_word rule.filter.answer))
     (member (codes "host") (string (answer_word rule.host.answer))
     (member (codes "origin") (origin_data rule.origin)
+    (member (codes "other-origins") (list_data origin_data rule.others.items)
     (member (codes "target") (string (answer_word rule.target.answer))
     (member (codes "value") (optional_value_data rule.value)
-    (member (codes "verdict") (string (verdict_text rule.verdict)) no_members))))))
+    (member (codes "verdict") (string (verdict_text rule.verdict)) no_members)))))))
 
 -- the word of a kind of source
 abbrev pub kind_word : SourceKind → List ℕ

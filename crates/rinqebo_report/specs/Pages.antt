@@ -34,7 +34,7 @@ use Rattle.rinqebo_report.specs.declared.report.Verdict.{Verdict}
 use Rattle.rinqebo_report.specs.declared.report.Verdict.TheVariants as verdicts
 use Rattle.rinqebo_report.specs.Advice.{message_with_advice}
 use Rattle.rinqebo_report.specs.Joined.{joined}
-use Rattle.rinqebo_report.specs.OriginText.{origin_text, path_at}
+use Rattle.rinqebo_report.specs.OriginText.{all_origins_text, origin_text, path_at}
 use Rattle.rinqebo_report.specs.Pieces.{Run, styled, repeated, numbered, ending, shown_char}
 use Rattle.rinqebo_report.specs.TomlText.{value_text}
 
@@ -178,7 +178,8 @@ conditions_runs rule =
 -- a rule: the verdict, and then what says so
 abbrev pub rule_runs : List ℕ → List Source → List ℕ → ℕ → Rule → List Run
 rule_runs root sources key n rule =
-    verdict_runs n rule.verdict (origin_text root sources rule.origin)
+    verdict_runs n rule.verdict
+    (all_origins_text root sources rule.origin rule.others.items)
     ++ (conditions_runs rule
     ++ written_runs key rule.verdict (option_map value_text rule.value))
 

@@ -311,10 +311,12 @@ fn rule_json(alloc: Global, rule: &Rule) -> Result<Value, AllocError>
     ensures { IfOk result (λ value. view value ≡ rule_data rule.now) }
 {
     let origin = origin_json(alloc, &rule.origin)?;
+    let others = origins_json(alloc, &rule.others)?;
     let value = optional_value_json(alloc, &rule.value)?;
     json!(in alloc; {
         "verdict": rule.verdict.text(),
         "origin": origin,
+        "other-origins": others,
         "host": rule.host.answer.word(),
         "target": rule.target.answer.word(),
         "filter": rule.filter.answer.word(),

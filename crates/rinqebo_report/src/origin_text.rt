@@ -1,7 +1,7 @@
 //! Origins as pages show them.
 ghost use Rattle.std.specs.Prelude.{◌≡◌, ◌++◌, MatchOption, None, Some, option_map, OnOk, IfOk, codes, string_bytes};
 ghost use Rattle.rinqebo_report.specs.Joined.{joined};
-ghost use Rattle.rinqebo_report.specs.OriginText.{after_prefix, ends_with_slash, below, path_at, lines_text, tool_at, tool_text, place_text, part_text, written_text, origin_text};
+ghost use Rattle.rinqebo_report.specs.OriginText.{after_prefix, ends_with_slash, below, path_at, lines_text, tool_at, tool_text, place_text, part_text, written_text, origin_text, all_origins_text};
 
 use crate::origin::{Lines, Origin, Part, Place, Source, SourceKind, Written};
 use crate::toml_text::add_key;
@@ -165,6 +165,25 @@ pub(crate) fn origin_text(
 {
     let mut text = String::new(alloc);
     add_origin(&mut text, root, sources, origin)?;
+    Ok(text)
+}
+
+/// Returns an origin and then others, with commas between them.
+pub(crate) fn all_origins_text(
+    alloc: Global,
+    root: &str,
+    sources: &[Source],
+    first: &Origin,
+    others: &[Origin],
+) -> Result<String, AllocError>
+    ensures { IfOk result (λ text.
+        string_bytes text ≡ all_origins_text root.now sources.now first.now others.now) }
+{
+    let mut text = origin_text(alloc, root, sources, first)?;
+    for origin in others {
+        text.push_str(", ")?;
+        add_origin(&mut text, root, sources, origin)?;
+    }
     Ok(text)
 }
 

@@ -130,8 +130,10 @@ pub struct Condition {
 pub struct Rule {
     /// What comes of it.
     pub verdict: Verdict,
-    /// Where it stands.
+    /// Where it stands, or where the value comes from that counts where no rule decides.
     pub origin: Origin,
+    /// The other origins of a value that several files write parts of.
+    pub others: Vec<Origin>,
     /// What it asks of the host.
     pub host: Condition,
     /// What it asks of the target.

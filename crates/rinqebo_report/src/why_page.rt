@@ -11,7 +11,7 @@ use crate::explain_page::width;
 use crate::json_asked::{put_asked, put_text};
 use crate::json_parts::{rules_json, test_id_json};
 use crate::origin::Source;
-use crate::origin_text::origin_text;
+use crate::origin_text::all_origins_text;
 use crate::piece::{Colour, Piece, Style, add_pieces};
 use crate::report::{Asked, Condition, ConditionAnswer, Rule, TestId, Verdict};
 use crate::toml_text::value_text;
@@ -208,7 +208,7 @@ fn add_rule(
     ensures { OnOk result (string_bytes out.new ≡ string_bytes out.old
         ++ page_text colour (rule_runs root.now sources.now key.now place rule.now)) }
 {
-    let origin = origin_text(alloc, root, sources, &rule.origin)?;
+    let origin = all_origins_text(alloc, root, sources, &rule.origin, &rule.others)?;
     add_verdict(out, colour, place, rule.verdict, origin.as_str())?;
     add_conditions(out, colour, rule)?;
     add_written(alloc, out, colour, key, rule.verdict, rule.value.as_ref())

@@ -245,6 +245,7 @@ impl Builder {
         let rule = Rule {
             verdict,
             origin: Origin::BuiltIn,
+            others: Vec::new(self.alloc),
             host: absent(self.alloc),
             target: absent(self.alloc),
             filter: absent(self.alloc),

@@ -36,6 +36,7 @@ pub record IsRuleTold (layers : List Layer) (written : RuleValue) (answers : Ans
     (verdict : Verdict) (rule : Rule) : Type 0 where
   pub verdict_told : rule.verdict ≡ told_verdict verdict
   pub origin : IsOriginOf layers written.place [] rule.origin
+  pub others : rule.others.items ≡ []
   pub host : rule.host.answer ≡ answers.host
   pub target : rule.target.answer ≡ answers.target
   pub filter : rule.filter.answer ≡ answers.filter

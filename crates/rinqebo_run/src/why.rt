@@ -28,8 +28,8 @@ use rinqebo_load::{Config, Failure, Session, chain_of_profile};
 use rinqebo_report::{Condition, ConditionAnswer, Content, Origin, Report, Rule, TestId, Verdict};
 use rinqebo_request::{SettingKey, TestName};
 use rinqebo_rules::{
-    Asking, SettingRule, answers_to, built_in, default_filter, facts_of, fallback_of_chain,
-    profile_grounds, query_of, rules_for,
+    Asking, SettingRule, answers_to, default_filter, facts_of, fallback_of_chain, profile_grounds,
+    query_of, rules_for,
 };
 use rinqebo_values::reported_if_set;
 use rule_verdicts::{RuleFacts, verdicts_of};
@@ -79,6 +79,7 @@ fn reported_rule(
     Ok(Rule {
         verdict: reported_verdict(verdict),
         origin: rule.place.origin(alloc, layers)?,
+        others: Vec::new(alloc),
         host: condition(alloc, host_text(table), answers.host)?,
         target: condition(alloc, target_text(table), answers.target)?,
         filter: condition(alloc, text_at(table, "filter"), answers.filter)?,
@@ -148,23 +149,18 @@ fn reported_rules(
     rules_with_verdicts(alloc, layers, rules, &verdicts, asking)
 }
 
-/// Where a setting comes from where no rule decides it. Several files may write parts of it: the
-/// first is told.
-fn fallback_origin(
+/// The first of some origins, or built in where there is none, and the others.
+fn first_and_others(
     alloc: Global,
-    layers: &[Layer],
-    chain: &[&str],
-    setting: Setting,
-    key: SettingKey,
-) -> Result<Origin, AllocError> {
-    let origins = match setting {
-        Setting::Priority | Setting::TestGroup | Setting::RunWrapper => built_in(alloc)?,
-        _ => profile_grounds(alloc, layers, chain, key)?,
-    };
-    match origins.into_iter().next() {
-        Some(origin) => Ok(origin),
-        None => Ok(Origin::BuiltIn),
+    origins: Vec<Origin>,
+) -> Result<(Origin, Vec<Origin>), AllocError> {
+    let mut rest = origins.into_iter();
+    let first = rest.next().unwrap_or(Origin::BuiltIn);
+    let mut others = Vec::new(alloc);
+    for origin in rest {
+        others.push(origin)?;
     }
+    Ok((first, others))
 }
 
 /// What counts where no rule decides.
@@ -180,9 +176,12 @@ fn fallback_rule(
 {
     let key = SettingKey::of(setting, mode);
     let value = fallback_of_chain(alloc, config, chain, setting, mode)?;
+    let origins = profile_grounds(alloc, &session.layers, chain, key)?;
+    let (origin, others) = first_and_others(alloc, origins)?;
     Ok(Rule {
         verdict: Verdict::Fallback,
-        origin: fallback_origin(alloc, &session.layers, chain, setting, key)?,
+        origin,
+        others,
         host: condition(alloc, None, ConditionAnswer::Absent)?,
         target: condition(alloc, None, ConditionAnswer::Absent)?,
         filter: condition(alloc, None, ConditionAnswer::Absent)?,
