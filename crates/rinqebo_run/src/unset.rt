@@ -1,34 +1,69 @@
 //! The note of `show-config` where nothing is set under its keys.
 use crate::answer::Answer;
-use crate::status::Status;
-use config_shape::{file_shape, keys_of};
+use config_shape::{Shape, file_shape, keys_of};
 use nextest_config::NextestRunMode;
-use rinqebo_report::Format;
-use rinqebo_request::{Question, Request, all_keys, name_hint};
+use rinqebo_report::{Content, Format, Report};
+use rinqebo_request::{Question, Request, all_keys, text_hint};
 use std::alloc::{AllocError, Global};
 
 /// The keys beside those of a profile.
 const OTHER_KEYS: [&str; 3] = ["scripts", "store", "test-groups"];
 
+/// Adds the keys of the table at a path, each behind a prefix.
+fn add_keys(
+    alloc: Global,
+    shape: &Shape,
+    path: &[&str],
+    prefix: &str,
+    known: &mut Vec<String>,
+) -> Result<(), AllocError> {
+    for name in &keys_of(alloc, shape, path)? {
+        known.push(format!(in alloc; "{prefix}{name}")?)?;
+    }
+    Ok(())
+}
+
+/// Adds the keys of the table that a user spells, of a profile or beside the profiles.
+fn add_table_keys(
+    alloc: Global,
+    shape: &Shape,
+    table: &str,
+    known: &mut Vec<String>,
+) -> Result<(), AllocError> {
+    let prefix = format!(in alloc; "{table}.")?;
+    let mut beside = Vec::new(alloc);
+    let mut within = Vec::new(alloc);
+    within.push("profile")?;
+    within.push("default")?;
+    for part in table.split('.') {
+        beside.push(part)?;
+        within.push(part)?;
+    }
+    add_keys(alloc, shape, &within, prefix.as_str(), known)?;
+    add_keys(alloc, shape, &beside, prefix.as_str(), known)
+}
+
+/// The keys that a file may write where a key is meant.
+fn known_keys(alloc: Global, key: &str) -> Result<Vec<String>, AllocError> {
+    let shape = file_shape(alloc)?;
+    let mut known = all_keys(alloc, NextestRunMode::Test)?;
+    add_keys(alloc, &shape, &["profile", "default"], "", &mut known)?;
+    for name in &OTHER_KEYS {
+        known.push(String::from_str(alloc, *name)?)?;
+    }
+    if let Some((table, _)) = key.rsplit_once('.') {
+        add_table_keys(alloc, &shape, table, &mut known)?;
+    }
+    Ok(known)
+}
+
 /// The hint that a key is meant which a file may write, if one is near, and the key itself is none.
 fn key_hint(alloc: Global, key: &str) -> Result<Option<String>, AllocError> {
-    let shape = file_shape(alloc)?;
-    let settings = all_keys(alloc, NextestRunMode::Test)?;
-    let keys = keys_of(alloc, &shape, &["profile", "default"])?;
-    let mut known = Vec::new(alloc);
-    for name in &keys {
-        known.push(*name)?;
-    }
-    for name in &OTHER_KEYS {
-        known.push(*name)?;
-    }
-    for name in &settings {
-        known.push(name.as_str())?;
-    }
-    if known.iter().any(|name| *name == key) {
+    let known = known_keys(alloc, key)?;
+    if known.iter().any(|name| name.as_str() == key) {
         return Ok(None);
     }
-    name_hint(alloc, key, &known)
+    text_hint(alloc, key, &known)
 }
 
 /// Adds the note that nothing is set under a key.
@@ -40,8 +75,28 @@ fn add_note(alloc: Global, key: &str, notes: &mut String) -> Result<(), AllocErr
     notes.push_str(note.as_str())
 }
 
-/// Adds a note for each key of a request where its answer shows nothing. A document of JSON shows it by
-/// itself.
+/// Whether the key of a leaf is a key, or stands in the table of that key.
+fn is_under(leaf: &str, key: &str) -> bool {
+    match leaf.strip_prefix(key) {
+        Some(rest) => rest.is_empty() || rest.starts_with('.'),
+        None => false,
+    }
+}
+
+/// Whether a report shows a leaf under a key.
+fn shows_under(report: &Report, key: &str) -> bool {
+    match &report.content {
+        Content::ShowConfig { entries, .. } => entries
+            .iter()
+            .any(|entry| is_under(entry.key.as_str(), key)),
+        Content::Explain { .. } | Content::Why { .. } | Content::List { .. } | Content::Check => {
+            false
+        }
+    }
+}
+
+/// Adds a note for each key of a request under which its answer shows nothing. A document of JSON shows
+/// it by itself.
 pub fn add_unset(
     alloc: Global,
     request: &Request<'_>,
@@ -51,11 +106,13 @@ pub fn add_unset(
     let Question::ShowConfig { keys, .. } = &request.question else {
         return Ok(());
     };
-    if answer.status == Status::Success as u8 || matches!(request.format, Format::Json) {
+    if matches!(request.format, Format::Json) {
         return Ok(());
     }
     for key in keys {
-        add_note(alloc, *key, notes)?;
+        if !shows_under(&answer.report, *key) {
+            add_note(alloc, *key, notes)?;
+        }
     }
     Ok(())
 }

@@ -64,6 +64,8 @@ pub struct Case<'a> {
     pub name: &'a str,
     pub files: StoredFiles<'a>,
     pub environment: Environment,
+    /// How many bytes standard output takes before it is closed.
+    pub output_room: usize,
     pub runs: Vec<&'a str>,
 }
 
@@ -105,6 +107,7 @@ impl<'a> Case<'a> {
             name,
             files: StoredFiles(Vec::new(alloc)),
             environment: environment_in(alloc, "/w")?,
+            output_room: usize::MAX,
             runs: Vec::new(alloc),
         })
     }
@@ -120,6 +123,9 @@ impl<'a> Case<'a> {
             "folder" => self.environment.folder = String::from_str(alloc, rest)?,
             "set" => self.set_variable(alloc, line, rest)?,
             "terminal" => self.environment.is_terminal = true,
+            "closes-after" => {
+                self.output_room = rest.parse::<usize>().ok().ok_or(CaseError::Line(line))?;
+            }
             "error-terminal" => self.environment.is_error_terminal = true,
             "run" => self.runs.push(rest).map_err(AllocError::from)?,
             _ => return Err(CaseError::Line(line)),

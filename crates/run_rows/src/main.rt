@@ -12,6 +12,7 @@
 //! | `folder PATH` | the folder that the program runs in |
 //! | `set NAME VALUE` | a variable of the environment |
 //! | `terminal` | standard output is a terminal |
+//! | `closes-after N` | standard output takes N bytes and is then closed |
 //! | `error-terminal` | standard error is a terminal |
 //! | `run WORD ..` | a run over the case's files, its words parted by one space |
 //!

@@ -6,13 +6,36 @@ use rinqebo_files::gather;
 use rinqebo_request::{Command, parse};
 use rinqebo_run::{perform, print_schema, refuse_gathering, refuse_words};
 use std::alloc::{AllocError, Global};
+use std::io::{self, ErrorKind, Write};
+
+/// The standard output of a run, which takes so many bytes and is then closed.
+#[derive(Drop)]
+struct Output {
+    taken: Vec<u8>,
+    room: usize,
+}
+
+impl Write for Output {
+    fn write(&mut self, buf: &[u8]) -> io::Result<usize> {
+        let count = buf.len().min(self.room);
+        if count == 0 {
+            return Err(io::Error::from(ErrorKind::BrokenPipe));
+        }
+        self.room -= count;
+        self.taken.write(&buf[..count])
+    }
+
+    fn flush(&mut self) -> io::Result<()> {
+        Ok(())
+    }
+}
 
 /// Runs over the files of a case, and answers the status.
 fn run(
     alloc: Global,
     case: &Case<'_>,
     words: &[String],
-    out: &mut Vec<u8>,
+    out: &mut Output,
     err: &mut Vec<u8>,
 ) -> Result<u8, AllocError> {
     let request = match parse(alloc, words, &case.environment) {
@@ -33,12 +56,15 @@ fn run(
 
 /// The case's name, the words, the status, and what was written to the two streams.
 pub fn report_of(alloc: Global, case: &Case<'_>, words: &str) -> Result<String, AllocError> {
-    let mut out = Vec::new(alloc);
+    let mut out = Output {
+        taken: Vec::new(alloc),
+        room: case.output_room,
+    };
     let mut err = Vec::new(alloc);
     let status = run(alloc, case, &words_of(alloc, words)?, &mut out, &mut err)?;
     let name = case.name;
     let mut report = format!(in alloc; "case {name}\nrun {words}\nstatus {status}\n")?;
-    add_text(&mut report, "stdout\n", text_of(alloc, out)?.as_str())?;
+    add_text(&mut report, "stdout\n", text_of(alloc, out.taken)?.as_str())?;
     add_text(&mut report, "stderr\n", text_of(alloc, err)?.as_str())?;
     Ok(report)
 }
