@@ -75,7 +75,7 @@ impl<'c, F: Filters, S: Specs> AskingScripts<'_, 'c, F, S> {
         tally: &mut F::Tally,
     ) -> bool
         ensures { let query = binary_query_by F.Filters cx.now.default_filter.now query.now in
-            result ≡ decides query (λ uses. is_some uses.list_wrapper)
+            result ≡ decides query (λ uses. is_some uses.scripts.list_wrapper)
             (script_rule_on F.meaning (meets_by S.Specs) self.now.platforms.now
             (script_rule_view rule.now)) }
     {
