@@ -95,8 +95,8 @@ fn shows_under(report: &Report, key: &str) -> bool {
     }
 }
 
-/// Adds a note for each key of a request under which its answer shows nothing. A document of JSON shows
-/// it by itself.
+/// Adds a note for each key of a request under which its answer shows nothing. A document of JSON
+/// shows it by itself.
 pub fn add_unset(
     alloc: Global,
     request: &Request<'_>,
