@@ -1,6 +1,7 @@
 //! What is printed of a run.
-use crate::case::{Beginnings, Case, Run};
+use crate::case::{Run, Setup};
 use nextest_explain::explain;
+use row_cases::{Beginnings, Case, text_of};
 use std::alloc::{AllocError, Global};
 
 /// What a run ended with.
@@ -33,12 +34,17 @@ fn ending_of(
 }
 
 /// What is printed of a run.
-pub fn report_of(alloc: Global, case: &Case<'_>, run: &Run<'_>) -> Result<String, AllocError> {
+pub fn report_of(
+    alloc: Global,
+    case: &Case<'_>,
+    setup: &Setup<'_>,
+    run: &Run<'_>,
+) -> Result<String, AllocError> {
     let words = words_of(alloc, run.words)?;
     if run.is_cut {
         report_of_cuts(alloc, case, run.words, &words)
     } else {
-        report_of_run(alloc, case, run.words, &words)
+        report_of_run(alloc, case, setup, run.words, &words)
     }
 }
 
@@ -46,17 +52,18 @@ pub fn report_of(alloc: Global, case: &Case<'_>, run: &Run<'_>) -> Result<String
 fn report_of_run(
     alloc: Global,
     case: &Case<'_>,
+    setup: &Setup<'_>,
     line: &str,
     words: &[String],
 ) -> Result<String, AllocError> {
     let ending = ending_of(alloc, case, words, usize::MAX)?;
     let (name, status) = (case.name, ending.status);
     let mut report = format!(in alloc; "case {name}\nargs {line}\nstatus {status}\n")?;
-    match case.shown {
+    match setup.shown {
         Some(shown) => add_lines_with(alloc, &mut report, ending.out.as_str(), shown)?,
         None => add_text(&mut report, "stdout\n", ending.out.as_str())?,
     }
-    if case.hides_details {
+    if setup.hides_details {
         add_without_details(&mut report, ending.err.as_str())?;
     } else {
         add_text(&mut report, "stderr\n", ending.err.as_str())?;
@@ -103,14 +110,6 @@ fn words_of(alloc: Global, line: &str) -> Result<Vec<String>, AllocError> {
     line.split(' ')
         .map(|word| String::from_str(alloc, word))
         .try_collect(alloc)
-}
-
-/// The text of what was written.
-fn text_of(alloc: Global, bytes: Vec<u8>) -> Result<String, AllocError> {
-    match String::from_utf8(bytes) {
-        Ok(text) => Ok(text),
-        Err(_) => String::from_str(alloc, "bytes that are not UTF-8"),
-    }
 }
 
 /// Adds a line, behind two spaces.

@@ -1,87 +1,15 @@
-//! The cases: files in memory, the environment, and the command lines that run over them.
-use nextest_config::ReadOutcome;
-use nextest_files::FileReader;
+//! What the lines of a case say beside its files: the environment, and the command lines that run.
 use rinqebo_request::{Environment, RunVariables};
+use row_cases::{Case, CaseError};
 use std::alloc::{AllocError, Global};
-use thiserror::Error;
 
-/// What is there at the path of a file.
+/// The environment of a case, and the command lines of the runs over its files.
 #[derive(Drop)]
-enum Stored {
-    Text(String),
-    Unreadable,
-    NotADirectory,
-}
-
-impl Stored {
-    /// What comes of reading it.
-    fn read(&self, alloc: Global) -> Result<ReadOutcome, AllocError> {
-        match self {
-            Stored::Text(text) => Ok(ReadOutcome::Text(text.clone()?)),
-            Stored::Unreadable => Ok(ReadOutcome::Failed(String::from_str(alloc, "a disk fault")?)),
-            Stored::NotADirectory => Ok(ReadOutcome::NotADirectory),
-        }
-    }
-}
-
-/// A file of a case.
-#[derive(Drop)]
-struct StoredFile<'a> {
-    path: &'a str,
-    stored: Stored,
-}
-
-/// Whether the path of a file leads through a folder.
-fn lies_in(path: &str, folder: &str) -> bool {
-    match path.strip_prefix(folder) {
-        Some(rest) => rest.starts_with('/') || folder.ends_with('/'),
-        None => false,
-    }
-}
-
-/// The files of a case, and the folder `/w`. There are no others.
-#[derive(Drop)]
-pub struct StoredFiles<'a>(Vec<StoredFile<'a>>);
-
-impl FileReader for StoredFiles<'_> {
-    ghost MayGive = { λ _ _ _. Unit {0} };
-
-    fn read(&self, alloc: Global, path: &str) -> Result<ReadOutcome, AllocError> {
-        match self.0.iter().find(|file| file.path == path) {
-            Some(file) => file.stored.read(alloc),
-            None => Ok(ReadOutcome::NotFound),
-        }
-    }
-
-    fn has_folder(&self, path: &str) -> bool {
-        path == "/w" || self.0.iter().any(|file| lies_in(file.path, path))
-    }
-}
-
-/// Files, an environment, and the command lines of the runs over them.
-#[derive(Drop)]
-pub struct Case<'a> {
-    pub name: &'a str,
-    pub files: StoredFiles<'a>,
+pub struct Setup<'a> {
     pub environment: Environment,
     /// How many bytes standard output takes before it is closed.
     pub output_room: usize,
     pub runs: Vec<&'a str>,
-}
-
-/// Why a text is no list of cases.
-#[derive(Debug, Drop, Error)]
-pub enum CaseError<'a> {
-    #[error("no line of a case: `{0}`")]
-    Line(&'a str),
-    #[error("out of memory")]
-    Memory,
-}
-
-impl<'a> From<AllocError> for CaseError<'a> {
-    fn from(_error: AllocError) -> CaseError<'a> {
-        CaseError::Memory
-    }
 }
 
 /// The environment of a case without variables.
@@ -101,25 +29,11 @@ fn environment_in(alloc: Global, folder: &str) -> Result<Environment, AllocError
     })
 }
 
-impl<'a> Case<'a> {
-    fn new(alloc: Global, name: &'a str) -> Result<Case<'a>, AllocError> {
-        Ok(Case {
-            name,
-            files: StoredFiles(Vec::new(alloc)),
-            environment: environment_in(alloc, "/w")?,
-            output_room: usize::MAX,
-            runs: Vec::new(alloc),
-        })
-    }
-
-    /// Takes a line that stands below the one that begins the case.
+impl<'a> Setup<'a> {
+    /// Takes a line of a case.
     fn take_line(&mut self, alloc: Global, line: &'a str) -> Result<(), CaseError<'a>> {
         let (word, rest) = line.split_once(' ').unwrap_or((line, ""));
         match word {
-            "" => self.add_line(line)?,
-            "file" => self.add_file(rest, Stored::Text(String::new(alloc)))?,
-            "unreadable" => self.add_file(rest, Stored::Unreadable)?,
-            "not-a-directory" => self.add_file(rest, Stored::NotADirectory)?,
             "folder" => self.environment.folder = String::from_str(alloc, rest)?,
             "set" => self.set_variable(alloc, line, rest)?,
             "terminal" => self.environment.is_terminal = true,
@@ -131,31 +45,6 @@ impl<'a> Case<'a> {
             _ => return Err(CaseError::Line(line)),
         }
         Ok(())
-    }
-
-    fn add_file(&mut self, path: &'a str, stored: Stored) -> Result<(), AllocError> {
-        self.files.0.push(StoredFile { path, stored })?;
-        Ok(())
-    }
-
-    /// Takes a line of the text of the last file.
-    fn add_line(&mut self, line: &'a str) -> Result<(), CaseError<'a>> {
-        let Some(written) = line.strip_prefix("  ") else {
-            return Err(CaseError::Line(line));
-        };
-        match self.files.0.last_mut() {
-            Some(
-                StoredFile {
-                    stored: Stored::Text(text),
-                    ..
-                },
-            ) => {
-                text.push_str(written)?;
-                text.push_str("\n")?;
-                Ok(())
-            }
-            _ => Err(CaseError::Line(line)),
-        }
     }
 
     /// Sets a variable of the environment.
@@ -180,25 +69,17 @@ impl<'a> Case<'a> {
         }
         Ok(())
     }
-}
 
-/// The cases of a text.
-pub fn read_cases(alloc: Global, text: &str) -> Result<Vec<Case<'_>>, CaseError<'_>> {
-    let mut cases: Vec<Case<'_>> = Vec::new(alloc);
-    for line in text.lines() {
-        if line.is_empty() || line.starts_with("#") {
-            continue;
+    /// What the lines of a case say beside its files.
+    pub fn of(alloc: Global, case: &Case<'a>) -> Result<Setup<'a>, CaseError<'a>> {
+        let mut setup = Setup {
+            environment: environment_in(alloc, "/w")?,
+            output_room: usize::MAX,
+            runs: Vec::new(alloc),
+        };
+        for line in &case.lines {
+            setup.take_line(alloc, *line)?;
         }
-        if let Some(name) = line.strip_prefix("case ") {
-            cases
-                .push(Case::new(alloc, name)?)
-                .map_err(AllocError::from)?;
-            continue;
-        }
-        match cases.last_mut() {
-            Some(case) => case.take_line(alloc, line)?,
-            None => return Err(CaseError::Line(line)),
-        }
+        Ok(setup)
     }
-    Ok(cases)
 }

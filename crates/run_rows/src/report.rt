@@ -1,10 +1,11 @@
 //! What is printed of a run.
-use crate::case::Case;
+use crate::case::Setup;
 use nextest_config::ReadOutcome;
 use nextest_files::FileReader;
 use rinqebo_files::gather;
 use rinqebo_request::{Command, parse};
 use rinqebo_run::{perform, print_schema, refuse_gathering, refuse_words};
+use row_cases::{Case, text_of};
 use std::alloc::{AllocError, Global};
 use std::io::{self, ErrorKind, Write};
 
@@ -34,11 +35,12 @@ impl Write for Output {
 fn run(
     alloc: Global,
     case: &Case<'_>,
+    setup: &Setup<'_>,
     words: &[String],
     out: &mut Output,
     err: &mut Vec<u8>,
 ) -> Result<u8, AllocError> {
-    let request = match parse(alloc, words, &case.environment) {
+    let request = match parse(alloc, words, &setup.environment) {
         Ok(Command::Answer(request)) => request,
         Ok(Command::Schema) => return Ok(print_schema(alloc, out, err)),
         Err(stop) => return Ok(refuse_words(&stop, out, err)),
@@ -48,20 +50,32 @@ fn run(
     } else {
         ReadOutcome::NotFound
     };
-    match gather(alloc, &request, &case.environment, input, &case.files) {
+    match gather(alloc, &request, &setup.environment, input, &case.files) {
         Ok(gathered) => Ok(perform(alloc, &request, &gathered, out, err)),
         Err(fault) => Ok(refuse_gathering(alloc, &fault, err)),
     }
 }
 
 /// The case's name, the words, the status, and what was written to the two streams.
-pub fn report_of(alloc: Global, case: &Case<'_>, words: &str) -> Result<String, AllocError> {
+pub fn report_of(
+    alloc: Global,
+    case: &Case<'_>,
+    setup: &Setup<'_>,
+    words: &str,
+) -> Result<String, AllocError> {
     let mut out = Output {
         taken: Vec::new(alloc),
-        room: case.output_room,
+        room: setup.output_room,
     };
     let mut err = Vec::new(alloc);
-    let status = run(alloc, case, &words_of(alloc, words)?, &mut out, &mut err)?;
+    let status = run(
+        alloc,
+        case,
+        setup,
+        &words_of(alloc, words)?,
+        &mut out,
+        &mut err,
+    )?;
     let name = case.name;
     let mut report = format!(in alloc; "case {name}\nrun {words}\nstatus {status}\n")?;
     add_text(&mut report, "stdout\n", text_of(alloc, out.taken)?.as_str())?;
@@ -79,14 +93,6 @@ fn words_of(alloc: Global, line: &str) -> Result<Vec<String>, AllocError> {
         }
     }
     Ok(words)
-}
-
-/// The text of what was written.
-fn text_of(alloc: Global, bytes: Vec<u8>) -> Result<String, AllocError> {
-    match String::from_utf8(bytes) {
-        Ok(text) => Ok(text),
-        Err(_) => String::from_str(alloc, "bytes that are not UTF-8"),
-    }
 }
 
 /// Adds a line behind two spaces, with `\e` for each escape, and `\r` for each return.
