@@ -34,14 +34,15 @@ fn words_of_one(shape: &Shape) -> Option<&'static [&'static str]> {
     }
 }
 
-/// Adds the words of which one shape takes one.
-fn add_words(words: &mut Vec<&'static str>, shape: &Shape) -> Result<(), AllocError> {
+/// Returns some words and, behind them, the words of which one shape takes one.
+fn with_words(words: Vec<&'static str>, shape: &Shape) -> Result<Vec<&'static str>, AllocError> {
+    let mut words = words;
     if let Some(known) = words_of_one(shape) {
         for word in known {
             words.push(*word)?;
         }
     }
-    Ok(())
+    Ok(words)
 }
 
 /// The words of which a shape takes one.
@@ -50,12 +51,12 @@ fn words_of(alloc: Global, shape: &Shape) -> Result<Vec<&'static str>, AllocErro
     match shape {
         Shape::Either(shapes) => {
             for one in shapes {
-                add_words(&mut words, one)?;
+                words = with_words(words, one)?;
             }
+            Ok(words)
         }
-        one => add_words(&mut words, one)?,
+        one => with_words(words, one),
     }
-    Ok(words)
 }
 
 /// The hint that one of the words is meant of which the shape of a file takes one at a path, if one

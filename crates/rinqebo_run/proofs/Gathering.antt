@@ -1,5 +1,5 @@
 -- The rules of a setting and the fallback, put together.
-use Rattle.std.proofs.Common.{◌≡◌, ℕ, List, [], ◌∷◌, ◌++◌, subst, sym, string_bytes}
+use Rattle.std.proofs.Common.{◌≡◌, ℕ, List, [], ◌∷◌, ◌++◌, option_map, subst, sym, string_bytes}
 use Rattle.filter_language.specs.Filtersets.{marks_view}
 use Rattle.filter_language.specs.declared.filterset.Filterset.{Filterset}
 use Rattle.nextest_engines.specs.Engines.{test_view}
@@ -10,8 +10,9 @@ use Rattle.nextest_filters.specs.Compiling.{names_of}
 use Rattle.nextest_filters.specs.declared.compiling.FieldMatcher.{FieldMatcher}
 use Rattle.nextest_inheritance.specs.Parents.{with_default}
 use Rattle.nextest_load.specs.Load.{Loaded}
-use Rattle.nextest_settings.specs.Chains.{overrides_of, script_rules_of}
+use Rattle.nextest_settings.specs.Chains.{fields_of, overrides_of, script_rules_of}
 use Rattle.nextest_settings.specs.Profile.{Configured, profile_of}
+use Rattle.nextest_settings.specs.Settings.{fallback_of}
 use Rattle.nextest_settings.specs.declared.setting.Setting.{Setting}
 use Rattle.nextest_tables.specs.FileTexts.{names_in, IsIn}
 use Rattle.nextest_tables.specs.Written.{Name}
@@ -36,6 +37,7 @@ use Rattle.rinqebo_load.specs.Sessions.{files_view, readings, IsLoadedFrom}
 use Rattle.rinqebo_rules.specs.SettingRules.{rules_for}
 use Rattle.rinqebo_run.specs.TellsReasons.{AreReasons, AreReasonsIn, configured_by, IfWhy, IsTestNamed, TellsReasons}
 use Rattle.rinqebo_load.specs.declared.session.Session.{Session}
+use Rattle.rinqebo_values.specs.Told.{told_of, value_view}
 
 -- what is told of the rules of a chain for a setting, and then of the fallback
 pub reasons_here : (layers : List FileLayer) (platforms : BuildPlatforms Platform) (test : TestName) (query : TestQuery) (s : Setting)
@@ -48,10 +50,13 @@ pub reasons_here : (layers : List FileLayer) (platforms : BuildPlatforms Platfor
     → (test_view query).binary.platform ≡ test.platform
     → AreRulesTold layers is_met_by platforms
     (record { platform = test.platform; matches = λ f. filter_matches f (test_view query) default }) read before
-    → fallback.verdict ≡ told.Fallback → rules ≡ before ++ fallback ∷ []
+    → fallback.verdict ≡ told.Fallback
+    → option_map value_view fallback.value
+    ≡ option_map (told_of s) (fallback_of (fields_of c.config.profiles (with_default names)) test.mode s)
+    → rules ≡ before ++ fallback ∷ []
     → AreReasons layers is_met_by filter_matches platforms test s (profile_of c name names) rules
 reasons_here layers platforms test query s default c name names read before fallback rules same gathered named binary on
-    here last are =
+    here last valued are =
     let asked = test_view query in
     let Told : BuildPlatform → Filterset FieldMatcher → List ReadRule → Type 0 =
     λ p d rs. AreRulesTold layers is_met_by platforms
@@ -68,6 +73,7 @@ reasons_here layers platforms test query s default c name names read before fall
           gathered (subst (λ d. Told asked.binary.platform d read) same
           (subst (λ p. Told p default read) (sym on) here));
       fallback_told = last;
+      fallback_value = valued;
     }
 
 -- a fact of a test, a key and rules follows from another one

@@ -216,6 +216,7 @@ module _ {E N M K P : Type 0} (f : E → M) (g : N → K) (meets : K → P → O
               (ap (λ p. p.default_filter.filter) (profile_means f g meets platforms c name chain))
               (rules_meant (query (f default)) layers written is.before is.rules_told));
           fallback_told = is.fallback_told;
+          fallback_value = is.fallback_value;
         }
 
     -- what is told of the rules of a profile, by what texts mean

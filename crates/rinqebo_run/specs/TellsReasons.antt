@@ -1,5 +1,5 @@
 -- That a report tells the rules of a setting, by what the files mean.
-use Rattle.std.specs.Prelude.{◌≡◌, ℕ, List, [], ◌∷◌, ◌++◌, Bool, Option, string_bytes}
+use Rattle.std.specs.Prelude.{◌≡◌, ℕ, List, [], ◌∷◌, ◌++◌, Bool, Option, option_map, string_bytes}
 use Rattle.nextest_engines.specs.Engines.{Test}
 use Rattle.nextest_engines.specs.declared.queries.BuildPlatforms.{BuildPlatforms}
 use Rattle.nextest_filters.specs.Engine.{Filter}
@@ -8,6 +8,7 @@ use Rattle.nextest_load.specs.Scripts.{AreScriptsOf}
 use Rattle.nextest_profiles.specs.Profiles.{IsProfileOf}
 use Rattle.nextest_settings.specs.Profile.{Configured, EarlyModel, profile_on}
 use Rattle.nextest_settings.specs.Queries.{query_in}
+use Rattle.nextest_settings.specs.Settings.{fallback_of}
 use Rattle.nextest_settings.specs.declared.setting.Setting.{Setting}
 use Rattle.nextest_sources.specs.Inputs.{sources_in}
 use Rattle.nextest_tables.specs.FileTexts.{names_in, IsIn}
@@ -27,6 +28,7 @@ use Rattle.rinqebo_run.specs.Reasons.{AreRulesTold}
 use Rattle.rinqebo_load.specs.Sessions.{files_view, readings}
 use Rattle.rinqebo_rules.specs.SettingRules.{rules_for}
 use Rattle.rinqebo_load.specs.declared.session.Session.{Session}
+use Rattle.rinqebo_values.specs.Told.{told_of, value_view}
 
 -- The rules of a setting are told for a test of a name: each override of a profile, in order, or
 -- for a run wrapper each script rule, with what comes of it on the platforms of a build, and then
@@ -45,6 +47,8 @@ pub record AreReasons {M K P : Type 0} (layers : List Layer) (meets : K → P �
       (query_in matches (profile_on meets platforms profile) asked)
       (rules_for s test.mode profile.overrides profile.script_rules) before
   pub fallback_told : fallback.verdict ≡ told.Fallback
+  pub fallback_value : option_map value_view fallback.value
+      ≡ option_map (told_of s) (fallback_of profile.facts.fields test.mode s)
 
 -- The rules of a setting are told for a test in the profile of a name.
 pub record AreReasonsIn {M K P : Type 0} (layers : List Layer) (meets : K → P → Option Bool)

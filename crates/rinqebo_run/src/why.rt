@@ -1,10 +1,12 @@
 //! The rules of a setting, and what comes of each.
-ghost use Rattle.std.specs.Prelude.{◌≡◌, IfErr, IfOk, List, map};
+ghost use Rattle.std.specs.Prelude.{◌≡◌, IfErr, IfOk, List, map, option_map};
 ghost use Rattle.filter_language.specs.declared.filterset.Filterset.{Filterset};
 ghost use Rattle.nextest_filters.specs.declared.compiling.FieldMatcher.{FieldMatcher};
 ghost use Rattle.nextest_inheritance.specs.Parents.{with_default};
 ghost use Rattle.nextest_inheritance.specs.View.{borrowed_view};
+ghost use Rattle.nextest_settings.specs.Chains.{fields_of};
 ghost use Rattle.nextest_settings.specs.Profile.{Configured, profile_of};
+ghost use Rattle.nextest_settings.specs.Settings.{fallback_of};
 ghost use Rattle.nextest_tables.specs.FileTexts.{names_in, IsIn};
 ghost use Rattle.nextest_tables.specs.Written.{Name};
 ghost use Rattle.rinqebo_report.specs.declared.report.Verdict.TheVariants as told;
@@ -16,6 +18,7 @@ ghost use Rattle.rinqebo_findings.specs.Failures.{IsFailureAbout};
 ghost use Rattle.rinqebo_findings.specs.Reports.{IsReportOf};
 ghost use Rattle.rinqebo_rules.specs.RuleViews.{setting_rule_view};
 ghost use Rattle.rinqebo_run.specs.TellsReasons.{AreReasons, AreReasonsIn, IfWhy, IsTestNamed, TellsReasons};
+ghost use Rattle.rinqebo_values.specs.Told.{told_of, value_view};
 ghost use Rattle.target_language.specs.declared.expression.TargetSpec.{TargetSpec};
 
 use crate::asked::asked_of;
@@ -172,7 +175,10 @@ fn fallback_rule(
     setting: Setting,
     mode: NextestRunMode,
 ) -> Result<Rule, AllocError>
-    ensures { IfOk result (λ rule. rule.verdict ≡ told.Fallback) }
+    ensures verdict { IfOk result (λ rule. rule.verdict ≡ told.Fallback) }
+    ensures value { IfOk result (λ rule. option_map value_view rule.value
+        ≡ option_map (told_of setting) (fallback_of
+        (fields_of config.now.config.profiles (borrowed_view chain.now)) mode setting)) }
 {
     let key = SettingKey::of(setting, mode);
     let value = fallback_of_chain(alloc, config, chain, setting, mode)?;
