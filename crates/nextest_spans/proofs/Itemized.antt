@@ -61,19 +61,30 @@ mark_kept sort c a b is same = rw is (ap (λ n. (value (Some c), n, None)) same)
 pub kept : (text : List ℕ) (items : List Item) → KeepsItems text items items
 kept text items = record { marks = refl; each = λ are. are }
 
-pub ended : (text : List ℕ) (items : List Item) (k : ℕ) (d : Item) (c : Container) (start end : ℕ) (own : List ℕ) (kind : Option ValueKind)
-    → k < length items → role_sort (get_or items k d).role ≡ value (Some c) → (get_or items k d).span.start ≡ start
-    → IsTextAt text start end own → kind ≡ read_kind own
-    → KeepsItems text items (set items k (record (get_or items k d) { span = record { start = start; end = end }; kind = kind }))
-ended text items k d c start end own kind less sort start_is own_is kind_is =
-    let span : Span = record { start = start; end = end } in
-    let item : Item = record (get_or items k d) { span = span; kind = kind } in
-    let same : item_mark item ≡ item_mark (get_or items k d) =
-    mark_kept (role_sort (get_or items k d).role) c span (get_or items k d).span sort (sym start_is) in
-    record {
-      marks = marks_set items k d item same less;
+same_at : (items : List Item) (k : ℕ) (d e : Item) → k < length items → get_or items k d ≡ get_or items k e
+same_at [] k d e less = absurd (omega (arith, less))
+same_at (first ∷ items) zero d e less = refl
+same_at (first ∷ items) (suc k) d e less = same_at items k d e (omega (arith, less))
+
+one_at : (items : List Item) (k : ℕ) (x z : Item) → k < length items → x ≡ get_or items k x → z ≡ get_or items k z → x ≡ z
+one_at items k x z less x_is z_is = x_is ∙ same_at items k x z less ∙ sym z_is
+
+pub ended : (text : List ℕ) (items : List Item) (k : ℕ) (x y z new : Item) (c : Container) (end : ℕ) (own : List ℕ) (kind : Option ValueKind)
+    → k < length items → x ≡ get_or items k x → y ≡ get_or items k y → z ≡ get_or items k z → role_sort x.role ≡ value (Some c)
+    → IsTextAt text y.span.start end own → kind ≡ read_kind own
+    → new ≡ record { parent = z.parent; role = z.role; span = record { start = y.span.start; end = end }; kind = kind }
+    → KeepsItems text items (set items k new)
+ended text items k x y z new c end own kind less x_is y_is z_is x_sort own_is kind_is new_is =
+    let span : Span = record { start = y.span.start; end = end } in
+    let item : Item = record { parent = z.parent; role = z.role; span = span; kind = kind } in
+    let sort : role_sort z.role ≡ value (Some c) = subst (λ i. role_sort i.role ≡ value (Some c)) (one_at items k x z less x_is z_is) x_sort in
+    let start_is : y.span.start ≡ z.span.start = ap (λ i. i.span.start) (one_at items k y z less y_is z_is) in
+    let same : item_mark item ≡ item_mark (get_or items k z) = mark_kept (role_sort z.role) c span z.span sort start_is ∙ ap item_mark z_is in
+    rw new_is
+    (record {
+      marks = marks_set items k z item same less;
       each = λ are.
-          let was : IsItem text (0 + k) (get_or items k d) = item_at text 0 items k d are less in
+          let was : IsItem text (0 + k) z = subst (λ i. IsItem text (0 + k) i) (sym z_is) (item_at text 0 items k z are less) in
           let is : IsItem text (0 + k) item =
           record {
             earlier = was.earlier;
@@ -82,7 +93,7 @@ ended text items k d c start end own kind less sort start_is own_is kind_is =
             kind = kind_is ∙ ap read_kind own_is.is ∙ ap (kind_by_sort (text_at text span)) (sym sort);
           } in
           item_set text 0 items k item are is;
-    }
+    })
 
 -- ---- what a token begins
 

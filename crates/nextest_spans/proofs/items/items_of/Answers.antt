@@ -1,4 +1,4 @@
-use Rattle.std.proofs.Common.{◌<◌, Option, IfSome, subst}
+use Rattle.std.proofs.Common.{◌≡◌, ◌<◌, ◌∙◌, Option, IfSome, length, subst, arith}
 use Rattle.nextest_spans.specs.Items.{IsTurn, kind_sort}
 use Rattle.nextest_spans.specs.Tokens.{IsTaken}
 use Rattle.nextest_spans.proofs.Itemized.{itemized_begun, itemized_kept, itemized_skipped, itemized_start, kept}
@@ -22,12 +22,13 @@ tokens-preserved-in-Nothing c =
 
 pub tokens-preserved-in_ok-push-in-Begins : goal.tokens-preserved-in_ok-push-in-Begins
 tokens-preserved-in_ok-push-in-Begins c =
+    let size : c.tokens.items.len ≡ length c.tokens.items.items = omega (arith, c.tokens.items.ok.0) in
     let turn = subst (IsTurn c.len.result (kind_sort c.in-Some.token.kind)) c.in-Begins.is c.in_ok-turn-in-Some.ensures in
     rw c.in_ok-push-in-Begins.ensures.items
     (itemized_begun c.args.text.now c.tokens.rest.now c.in_ok-token.own.now c.in_ok-token.behind.now c.tokens.items.items c.in-Some.token
     c.in-Begins.parent c.in-Begins.role c.in_ok-kind-in-Begins.kind c.tokens.invariant
     (subst (λ t. IsTaken c.args.text.now c.tokens.rest.now t c.in_ok-token.behind.now) c.in-Some.is c.in_ok-token.ensures.taken)
-    (subst (λ n. IfSome c.in-Begins.parent (λ i. i < n)) c.len.ensures turn.0) turn.1 c.in_ok-kind-in-Begins.ensures c.in_ok-token.ensures.own)
+    (subst (λ n. IfSome c.in-Begins.parent (λ i. i < n)) (c.len.ensures ∙ size) turn.0) turn.1 c.in_ok-kind-in-Begins.ensures c.in_ok-token.ensures.own)
 
 pub tokens-preserved : goal.tokens-preserved
 tokens-preserved c =
