@@ -1,5 +1,5 @@
 -- Items that are right, as more are made.
-use Rattle.std.proofs.Common.{◌≡◌, ℕ, zero, suc, ◌+◌, ◌<◌, ◌≤◌, List, [], ◌∷◌, ◌++◌, length, map, set, get_or, Option, Some, None, IfSome, refl, sym, ap, ◌∙◌, subst, arith, zero-add}
+use Rattle.std.proofs.Common.{◌≡◌, ℕ, zero, suc, ◌+◌, ◌<◌, List, [], ◌∷◌, ◌++◌, length, map, set, get_or, Option, Some, None, IfSome, refl, sym, ap, ◌∙◌, subst, arith, zero-add}
 use Rattle.std.specs.List.{between, flat_map}
 use Rattle.std.specs.Str.{IsUtf8}
 use Rattle.std.proofs.lemmas.List.{append-nil, map-append}
@@ -12,8 +12,8 @@ use Rattle.nextest_spans.specs.declared.token.Span.{Span}
 use Rattle.nextest_spans.specs.declared.token.Token.{Token}
 use Rattle.nextest_spans.specs.declared.token.TokenKind.{TokenKind}
 use Rattle.nextest_spans.specs.declared.token.TokenKind.TheVariants as token
-use Rattle.nextest_spans.specs.Tokens.{AreTokens, IsRightKind, IsTaken, IsToken, at, text_at}
-use Rattle.nextest_spans.specs.Items.{AreItems, EachIs, IsItem, IsNamedSort, IsSpan, IsTextAt, KeepsItems, Sort, item_mark, key_part, kind_by_sort, kind_sort, mark, marks_by_sort, read_kind, role_sort, token_marks, value}
+use Rattle.nextest_spans.specs.Tokens.{IsRightKind, IsTaken, IsToken, at, text_at}
+use Rattle.nextest_spans.specs.Items.{AreItems, EachIs, IsItem, IsNamedSort, IsTextAt, KeepsItems, Sort, item_mark, kind_by_sort, kind_sort, mark, marks_by_sort, read_kind, role_sort, token_marks, value}
 use Rattle.nextest_spans.proofs.Walk.{Walked, walk_end, walk_skipped, walk_start, walk_token}
 
 -- ---- items in a list

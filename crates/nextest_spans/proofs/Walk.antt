@@ -1,6 +1,6 @@
 -- The walk over a text, token by token.
-use Rattle.std.proofs.Common.{◌≡◌, ℕ, ◌+◌, ◌-◌, ◌<◌, ◌≤◌, List, [], ◌∷◌, ◌++◌, Option, Some, None, Bool, true, length, take, drop, refl, sym, ap, ◌∙◌, subst, arith, length-append}
-use Rattle.std.specs.List.{All, between, concat}
+use Rattle.std.proofs.Common.{◌≡◌, ℕ, ◌+◌, ◌-◌, ◌<◌, ◌≤◌, List, [], ◌∷◌, ◌++◌, Some, None, true, length, take, drop, refl, sym, ap, ◌∙◌, subst, arith, length-append}
+use Rattle.std.specs.List.{between, concat}
 use Rattle.std.specs.Str.{IsUtf8}
 use Rattle.std.proofs.Math.Seq.{take-add}
 use Rattle.std.proofs.lemmas.List.{append-nil, drop-drop, drop_at, take_at}
@@ -8,8 +8,7 @@ use Rattle.std.proofs.lemmas.List.Edits.{between_none}
 use Rattle.std.proofs.lemmas.List.Elements.{All-append, All-cons, All-nil}
 use Rattle.std.proofs.lemmas.List.Folds.{concat-append}
 use Rattle.nextest_spans.specs.declared.token.Token.{Token}
-use Rattle.nextest_spans.specs.declared.token.TokenKind.{TokenKind}
-use Rattle.nextest_spans.specs.Tokens.{AreGaps, AreTokens, IsCut, IsFound, IsRest, IsRightKind, IsRightPiece, IsTaken, IsToken, at, is_gap, text_at}
+use Rattle.nextest_spans.specs.Tokens.{AreGaps, AreTokens, IsCut, IsRest, IsRightKind, IsTaken, IsToken, at, is_gap, text_at}
 
 pub all_rest : (text : List ℕ) → IsRest text text
 all_rest text =

@@ -1,9 +1,9 @@
 -- Tokens of a text, in order, and what stands between them.
-use Rattle.std.specs.Prelude.{◌≡◌, ◌<◌, ◌≤◌, ◌-◌, ◌==◌, ◌||◌, ◌&&◌, Bool, true, false, not, ℕ, List, [], ◌∷◌, ◌++◌, length, take, drop, Option, Some, None, IfSome, String, string_bytes}
+use Rattle.std.specs.Prelude.{◌≡◌, ◌<◌, ◌≤◌, ◌-◌, ◌==◌, ◌||◌, ◌&&◌, Bool, true, false, not, ℕ, List, [], ◌∷◌, ◌++◌, length, drop, Option, Some, None, String, string_bytes}
 use Rattle.std.specs.List.{All, between, concat}
 use Rattle.std.specs.Str.{IsUtf8}
 use Rattle.std.specs.declared.alloc.Global.{Global}
-use Rattle.toml_parser.specs.Lexical.{comma, dot, equals, first, is_bare, left_brace, left_bracket, right_brace, right_bracket, skip_blank}
+use Rattle.toml_parser.specs.Lexical.{comma, dot, equals, first, left_brace, left_bracket, right_brace, right_bracket, skip_blank}
 use Rattle.toml_parser.specs.Strings.{key, starts_string}
 use Rattle.nextest_spans.specs.declared.token.Container.{Container}
 use Rattle.nextest_spans.specs.declared.token.Container.TheVariants as container

@@ -7,7 +7,9 @@
 //! `a = 4..5 integer`. A name that has other characters than those of a key without quotes is written
 //! in double quotes, and one that reads as no key is `?`.
 
-use nextest_spans::{Container, Item, KeyKind, Role, Token, TokenKind, ValueKind, items_of, tokens_of};
+use nextest_spans::{
+    Container, Item, KeyKind, Role, Token, TokenKind, ValueKind, items_of, tokens_of,
+};
 use std::alloc::{AllocError, Global};
 
 /// The items of a text.
@@ -64,14 +66,16 @@ fn below(alloc: Global, item: &Item, path: String) -> Result<String, AllocError>
 }
 
 fn dot(path: &mut String) -> Result<(), AllocError> {
-    if path.is_empty() { Ok(()) } else { path.push('.') }
+    if path.is_empty() {
+        Ok(())
+    } else {
+        path.push('.')
+    }
 }
 
 fn push_name(path: &mut String, name: &str) -> Result<(), AllocError> {
     let is_bare = !name.is_empty()
-        && name
-            .bytes()
-            .all(|byte| byte.is_ascii_alphanumeric() || byte == b'_' || byte == b'-');
+        && name.bytes().all(|byte| byte.is_ascii_alphanumeric() || byte == b'_' || byte == b'-');
     if is_bare {
         return path.push_str(name);
     }

@@ -1,4 +1,4 @@
-use Rattle.std.proofs.Common.{◌≡◌, ◌<◌, ◌∙◌, Option, IfSome, length, subst, arith}
+use Rattle.std.proofs.Common.{◌≡◌, ◌<◌, ◌∙◌, IfSome, length, subst, arith}
 use Rattle.nextest_spans.specs.Items.{IsTurn, kind_sort}
 use Rattle.nextest_spans.specs.Tokens.{IsTaken}
 use Rattle.nextest_spans.proofs.Itemized.{itemized_begun, itemized_kept, itemized_skipped, itemized_start, kept}
