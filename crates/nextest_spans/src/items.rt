@@ -1,6 +1,6 @@
 //! The items of a text, token by token.
 ghost use Rattle.std.specs.Prelude.{◌≡◌, IfOk, IfSome, OnOk, Some};
-ghost use Rattle.nextest_spans.specs.Items.{AreItems, IsTextAt, KeepsItems, kind_by_sort, role_sort};
+ghost use Rattle.nextest_spans.specs.Items.{AreItems, IsTextAt, KeepsItems};
 ghost use Rattle.nextest_spans.specs.Items as spec;
 
 use crate::item::{Item, Role, ValueKind, read_kind};
@@ -56,7 +56,7 @@ pub fn items_of(alloc: Global, text: &str) -> Result<Vec<Item>, AllocError>
 
 /// The kind of the value that the bytes of an item read as, if it is a value and they read as one.
 fn kind_in(alloc: Global, role: &Role, own: &str) -> Result<Option<ValueKind>, AllocError>
-    ensures { IfOk result (λ kind. kind ≡ kind_by_sort own.now (role_sort role.now)) }
+    ensures { IfOk result (λ kind. kind ≡ spec.kind_by_sort own.now (spec.role_sort role.now)) }
 {
     match role {
         Role::Key { .. } => Ok(None),
@@ -91,7 +91,7 @@ fn close(
 
 /// What the first byte of an item opens, if it is a list or a table.
 fn container_of(role: &Role) -> Option<Container>
-    ensures { IfSome result (λ c. role_sort role.now ≡ spec.value (Some c)) }
+    ensures { IfSome result (λ c. spec.role_sort role.now ≡ spec.value (Some c)) }
 {
     match role {
         Role::Key { .. } => None,

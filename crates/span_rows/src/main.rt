@@ -1,8 +1,8 @@
 //! Prints where the keys and values of texts stand, one text a line.
 //!
 //! A line of standard input is a word, a tab and a text, in which `\n`, `\r`, `\t` and `\\` are
-//! written for a newline, a carriage return, a tab and a backslash. Empty lines and lines that begin
-//! with `#` print nothing.
+//! written for a newline, a carriage return, a tab and a backslash. Empty lines, and lines with `#`
+//! first, print nothing.
 //!
 //! | Word | What is printed |
 //! |---|---|
@@ -10,7 +10,7 @@
 //! | `tokens` | its tokens |
 //! | `cuts` | how many items each front of it has, from the empty one on |
 //!
-//! For a line of another form the program prints an error on standard error, and ends with status 2.
+//! For a line of another form the program prints an error on standard error. Its status is then 2.
 #![tactic(auto)]
 
 mod escapes;
