@@ -1,3 +1,4 @@
 pub mod Cuts
 pub mod Itemized
+pub mod Reached
 pub mod Walk

@@ -101,7 +101,7 @@ fn container_of(role: &Role) -> Option<Container>
 
 /// The bytes of a text from one place up to another, if there are some and they are whole
 /// characters.
-fn span_text(text: &str, start: usize, end: usize) -> Option<&str>
+pub(crate) fn span_text(text: &str, start: usize, end: usize) -> Option<&str>
     ensures { IfSome result (λ own. IsTextAt text.now start end own.now) }
 {
     if start < end {

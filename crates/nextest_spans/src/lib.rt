@@ -6,6 +6,7 @@ mod gap;
 mod item;
 mod items;
 mod lens;
+mod node;
 mod reader;
 mod scan;
 mod sections;
@@ -14,5 +15,6 @@ mod token;
 
 pub use item::{Item, KeyKind, Role, ValueKind};
 pub use items::items_of;
+pub use node::{nodes_of, reads_as};
 pub use scan::tokens_of;
 pub use token::{Container, Span, Token, TokenKind};
