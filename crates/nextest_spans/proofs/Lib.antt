@@ -1,4 +1,3 @@
 pub mod Cuts
 pub mod Itemized
-pub mod Reached
 pub mod Walk

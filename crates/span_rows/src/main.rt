@@ -8,6 +8,7 @@
 //! |---|---|
 //! | `items` | the items of the text (`shown.rt`) |
 //! | `tokens` | its tokens |
+//! | `nodes` | whether each item of a document reads as its node |
 //! | `cuts` | how many items each front of it has, from the empty one on |
 //!
 //! For a line of another form the program prints an error on standard error. Its status is then 2.
@@ -17,7 +18,7 @@ mod escapes;
 mod shown;
 
 use escapes::{RowError, unescaped};
-use shown::{cuts_of, shown_items, shown_tokens};
+use shown::{cuts_of, shown_items, shown_nodes, shown_tokens};
 use std::alloc::Global;
 use std::io;
 use std::process::ExitCode;
@@ -29,6 +30,7 @@ fn answer_to(alloc: Global, line: &str) -> Result<String, RowError> {
     match word {
         "items" => Ok(shown_items(alloc, text.as_str())?),
         "tokens" => Ok(shown_tokens(alloc, text.as_str())?),
+        "nodes" => Ok(shown_nodes(alloc, text.as_str())?),
         "cuts" => Ok(cuts_of(alloc, text.as_str())?),
         _ => Err(RowError::NoRow),
     }

@@ -8,9 +8,11 @@
 //! reads as no key is `?`.
 
 use nextest_spans::{
-    Container, Item, KeyKind, Role, Token, TokenKind, ValueKind, items_of, tokens_of,
+    Container, Item, KeyKind, Role, Token, TokenKind, ValueKind, items_of, nodes_of, reads_as,
+    tokens_of,
 };
 use std::alloc::{AllocError, Global};
+use toml::Value;
 
 /// The items of a text.
 pub fn shown_items(alloc: Global, text: &str) -> Result<String, AllocError> {
@@ -173,6 +175,49 @@ fn token_word(kind: &TokenKind) -> &'static str {
         TokenKind::String => "string",
         TokenKind::Word => "word",
         TokenKind::Other => "other",
+    }
+}
+
+/// Of each item of a document `+` or `-`: whether a part of a key leads to a node, and whether a
+/// value reads as its node. A text that is not a document prints `none`.
+pub fn shown_nodes(alloc: Global, text: &str) -> Result<String, AllocError> {
+    let root = match toml::table_from_str(alloc, text) {
+        Ok(table) => Value::Table(table),
+        Err(error) => {
+            if error.is_memory() {
+                return Err(AllocError);
+            }
+            return String::from_str(alloc, "none");
+        }
+    };
+    let items = items_of(alloc, text)?;
+    let nodes = nodes_of(alloc, &root, &items)?;
+    let mut line = String::new(alloc);
+    for (item, node) in items.iter().zip(nodes.iter()) {
+        if !line.is_empty() {
+            line.push(' ')?;
+        }
+        line.push(if is_right(alloc, text, item, *node)? {
+            '+'
+        } else {
+            '-'
+        })?;
+    }
+    Ok(line)
+}
+
+fn is_right(
+    alloc: Global,
+    text: &str,
+    item: &Item,
+    node: Option<&Value>,
+) -> Result<bool, AllocError> {
+    let Some(node) = node else {
+        return Ok(false);
+    };
+    match &item.role {
+        Role::Key { .. } => Ok(true),
+        Role::Value { .. } => reads_as(alloc, text, item, node),
     }
 }
 
