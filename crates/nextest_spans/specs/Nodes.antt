@@ -59,8 +59,8 @@ IsSame (integer number) node = Some number ≡ as_integer node
 IsSame (boolean flag) node = Some flag ≡ as_bool node
 IsSame (float number) node = is_some (as_float node) ≡ true
 IsSame (datetime date) node = is_some (as_datetime node) ≡ true
-IsSame (array items) node = is_some (as_array node) ≡ true
-IsSame (table members) node = is_some (as_table node) ≡ true
+IsSame (array ds) node = is_some (as_array node) ≡ true
+IsSame (table ms) node = is_some (as_table node) ≡ true
 
 -- the item's bytes read as a value that is the same as the node
 pub record ReadsAs (text : List ℕ) (item : Item) (node : Data) : Type 0 where
