@@ -1,14 +1,12 @@
-use Rattle.std.proofs.Common.{◌∙◌, ap, map, option_map, subst, sym}
+use Rattle.std.proofs.Common.{◌∙◌, ap, map, option_map, sym}
 use Rattle.nextest_inheritance.specs.View.{borrowed_view}
 use Rattle.nextest_settings.specs.Chains.{fields_of, overrides_of, script_rules_of}
 use Rattle.nextest_settings.specs.Settings.{fallback_of}
-use Rattle.rinqebo_rules.specs.Conditions.{default_filter_here, is_met_by}
-use Rattle.rinqebo_rules.specs.RuleAnswers.{asked_query}
+use Rattle.rinqebo_rules.specs.Conditions.{default_filter_here}
 use Rattle.rinqebo_rules.specs.RuleViews.{setting_rule_view}
 use Rattle.rinqebo_rules.specs.SettingRules.{rules_for}
 use Rattle.rinqebo_values.specs.Told.{told_of}
 use Rattle.rinqebo_run.proofs.Gathering.{reasons_here}
-use Rattle.rinqebo_run.specs.Reasons.{AreRulesTold}
 use Rattle.rinqebo_run.proofs.why.rules_and_fallback.Goals as goal
 
 pub returns : goal.returns
@@ -30,6 +28,6 @@ returns c = λ configured name names same_config same_names.
     reasons_here c.args.session.now.layers.items platforms c.args.test.now c.query_of-query.result c.args.setting _ configured name names _
     c.in_ok-reported.reported.items c.in_ok-fallback.fallback _ default gathered c.query_of-query.ensures.name
     c.query_of-query.ensures.binary c.query_of-query.ensures.platform
-    (subst (λ ls. AreRulesTold ls is_met_by platforms (asked_query _) _ _) layers_here c.in_ok-reported.ensures)
+    (rw layers_here at c.in_ok-reported.ensures)
     c.in_ok-fallback.ensures.verdict valued
     c.in_ok-push.ensures.items

@@ -14,8 +14,7 @@ use Rattle.rinqebo_list.specs.Uses.{meant_on}
 use Rattle.rinqebo_run.proofs.Listing.{places_unused}
 use Rattle.rinqebo_run.specs.Begun.{AreFirstWritten}
 use Rattle.rinqebo_rules.specs.Conditions.{is_met_by}
-use Rattle.rinqebo_run.specs.ListRules.{placed_view}
-use Rattle.rinqebo_rules.specs.RulePlaces.{place_view}
+use Rattle.rinqebo_rules.specs.RulePlaces.{Place, place_view}
 use Rattle.rinqebo_run.specs.Written.{StopsList}
 use Rattle.rinqebo_rules.specs.declared.rule_places.RulePlace.{RulePlace}
 use Rattle.test_lists.specs.ListView.{list_view}
@@ -38,15 +37,14 @@ returns-clause-unused g c =
     let rules = map list_rule_view c.in_ok-rules.rules.items in
     let tests = map (query_in filter_holds profile) (all_tests (list_view session.tests)) in
     let written : EvaluatedRule Filter RulePlace → RulePlace = λ rule. rule.writes in
+    let place : EvaluatedRule Filter Place → Place = λ rule. rule.writes in
     IfOk-weaker c.write_tests.result _ _
-    (λ rows is. record {
-      rules = map placed_view rules;
-      are_rules = c.in_ok-rules.ensures;
-      are = ap (map place_view) is
-          ∙ (λ i. map place_view (map written (unused_among (map (query_in filter_holds profile) (asked i))
-          (map (meant_on (marks_view names_of) is_met_by platforms) (map list_rule_view (c.deref-4.ensures.value i))))))
-          ∙ places_unused (marks_view names_of) (λ spec. spec) is_met_by platforms tests rules;
-    })
+    (λ rows is. ap (map place_view) is
+    ∙ (λ i. map place_view (map written (unused_among (map (query_in filter_holds profile) (asked i))
+    (map (meant_on (marks_view names_of) is_met_by platforms) (map list_rule_view (c.deref-4.ensures.value i))))))
+    ∙ places_unused (marks_view names_of) (λ spec. spec) is_met_by platforms tests rules
+    ∙ ap (λ placed. map place (unused_among tests (map (meant_on (marks_view names_of) is_met_by platforms) placed)))
+    c.in_ok-rules.ensures)
     c.write_tests.ensures.unused
 
 pub returns-clause-err : goal.returns-clause-err
