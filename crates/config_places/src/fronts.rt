@@ -2,10 +2,9 @@
 ghost use Rattle.std.specs.Prelude.{◌≡◌, ◌<◌, ◌≤◌, List, ℕ, suc, IfOk, MatchOption, length, option_map};
 ghost use Rattle.nextest_tree.specs.View.{tree_view};
 ghost use Rattle.nextest_documents.specs.Text.{tree_of};
-ghost use Rattle.nextest_script_order.specs.Lines.{first_lines, line_count, line_ends};
-ghost use Rattle.nextest_script_order.specs.Search.{NoDocumentBetween};
-ghost use Rattle.config_places.specs.Index.{AreFronts};
-ghost use Rattle.config_places.specs.Search.{IsLongest};
+ghost use Rattle.config_places.specs.Lines.{first_lines, line_count, line_ends};
+ghost use Rattle.config_places.specs.Search.{IsLongest, NoDocumentBetween};
+ghost use Rattle.config_places.specs.Index.{LeadToEnd};
 
 use crate::place::Lines;
 use nextest_documents::{TextFault, tree_from_text};
@@ -118,20 +117,17 @@ pub(crate) struct Front {
 }
 
 /// The documents that the fronts of a text are which have more than `low` lines, without the text
-/// itself, and the lines behind them, if there are some.
+/// itself, and the lines behind them. These may be none.
 pub(crate) fn fronts_behind(
     alloc: Global,
     fronts: &Fronts,
     low: usize,
-) -> Result<(Vec<Front>, Option<Lines>), AllocError>
+) -> Result<(Vec<Front>, Lines), AllocError>
     requires { low ≤ line_count fronts.now }
-    ensures { IfOk result (λ found. AreFronts fronts.now low found.0.items found.1) }
+    ensures { IfOk result (λ found. LeadToEnd fronts.now low found.0.items found.1) }
 {
     let count = fronts.count();
     let mut found = Vec::new(alloc);
-    if low == count {
-        return Ok((found, None));
-    }
     let mut high = low;
     'up: for last in low + 1..count {
         if let Some(document) = document_of(alloc, fronts.front(last))? {
@@ -147,5 +143,5 @@ pub(crate) fn fronts_behind(
         first: high + 1,
         last: count,
     };
-    Ok((found, Some(rest)))
+    Ok((found, rest))
 }

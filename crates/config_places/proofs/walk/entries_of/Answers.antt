@@ -1,7 +1,7 @@
 use Rattle.std.proofs.Common.{◌≡◌, ◌∙◌, ◌+◌, ◌≤◌, [], IsUtf8, ap, arith, refl, rules, subst, sym}
 use Rattle.toml_parser.specs.Reading.{path_view}
-use Rattle.nextest_script_order.proofs.Steps.{rest_utf8}
-use Rattle.nextest_script_order.specs.Lines.{line_count}
+use Rattle.config_places.proofs.Sections.{rest_utf8}
+use Rattle.config_places.specs.Lines.{line_count}
 use Rattle.config_places.specs.Entries.{kind_in}
 use Rattle.config_places.specs.Pieces.{IsClosed}
 use Rattle.config_places.proofs.Walking.{at_start, not_empty, over_blank, over_entry, piece_rest, piece_shorter, walked}

@@ -1,0 +1,118 @@
+-- What expressions bring of the ids of a table.
+use Rattle.std.proofs.Common.{◌≡◌, ℕ, suc, ◌<◌, ◌≤◌, true, false, cond, List, [], ◌∷◌, ◌++◌, length, get_or, drop, String, Global, string_bytes, Bor, Option, Some, None, unwrap_or, refl, sym, ap, ◌∙◌, inl, inr, arith}
+use Rattle.std.proofs.lemmas.Bool.{cases_Bool}
+use Rattle.std.proofs.lemmas.List.{drop_all, drop_more, drop-map}
+use Rattle.std.specs.Option.{option_or}
+use Rattle.std.specs.Str.{bytes_eq}
+use Rattle.toml_parser.specs.Reading.{path_view}
+use Rattle.config_places.specs.declared.entry.Aim.{Aim}
+use Rattle.config_places.specs.declared.entry.Aim.TheVariants.{Elsewhere, Brings, Counts}
+use Rattle.config_places.specs.declared.entry.Entry.{Entry}
+use Rattle.config_places.specs.declared.entry.Kind.{Kind}
+use Rattle.config_places.specs.declared.entry.Kind.TheVariants.{Pair, Table, Element}
+use Rattle.config_places.specs.declared.place.Lines.{Lines}
+use Rattle.config_places.specs.declared.step.Step.{Step}
+use Rattle.config_places.specs.declared.step.Step.TheVariants.{Key, Position}
+use Rattle.config_places.specs.Entries.{aim_along, aim_at_key, found, outcome_behind, outcome_of, scan, waits}
+use Rattle.config_places.specs.Ids.{AreKeys, outcome_by}
+use Rattle.config_places.specs.Marks.{Mark, fresh, missing, seen, turn}
+use Rattle.config_places.proofs.Aiming.{fresh_marks, scan_found, turned_brings, turned_elsewhere}
+
+-- what an expression has to do with a path and one more key, by what it has to do with the path and
+-- the parts of its key behind it
+abbrev aim_on : Kind → List (List ℕ) → List ℕ → Aim → Aim
+aim_on kind parts id Elsewhere = Elsewhere
+aim_on kind parts id (Counts steps i) = Counts steps i
+aim_on kind [] id Brings = aim_at_key kind
+aim_on kind (part ∷ parts) id Brings = cond (bytes_eq id part) Brings Elsewhere
+
+aim_next : (kind : Kind) (parts : List (List ℕ)) (at : ℕ) (table : List Step) → AreKeys table
+    → (id : Bor (List ℕ)) → aim_along kind parts 0 at (table ++ Key id ∷ [])
+    ≡ aim_on kind (drop (length table) parts) id.now (aim_along kind parts 0 at table)
+aim_next kind [] at [] h id = refl
+aim_next kind (p ∷ ps) at [] h id = refl
+aim_next Pair [] at (Key k ∷ table) h id = refl
+aim_next Table [] at (Key k ∷ table) h id = refl
+aim_next Element [] at (Key k ∷ table) h id = refl
+aim_next kind (p ∷ ps) at (Key k ∷ table) h id =
+    elim (cases_Bool (bytes_eq k.now p)) [
+      | inl same ↦ rw same (aim_next kind ps (suc at) table h id)
+      | inr other ↦ rw other refl
+    ]
+aim_next kind parts at (Position i ∷ table) h id = absurd h
+
+key_counts : (kind : Kind) (steps i : ℕ) → Counts steps i ≡ aim_at_key kind → ⊥
+key_counts Pair steps i is = absurd (cc)
+key_counts Table steps i is = absurd (cc)
+key_counts Element steps i is = absurd (cc)
+
+-- no position counts along keys
+none_counts : (kind : Kind) (parts : List (List ℕ)) (at : ℕ) (table : List Step) → AreKeys table → (steps i : ℕ)
+    → Counts steps i ≡ aim_along kind parts 0 at table → ⊥
+none_counts kind parts at [] h steps i is = absurd (cc)
+none_counts kind [] at (Key k ∷ table) h steps i is = key_counts kind steps i is
+none_counts kind (p ∷ ps) at (Key k ∷ table) h steps i is =
+    elim (cases_Bool (bytes_eq k.now p)) [
+      | inl same ↦ none_counts kind ps (suc at) table h steps i (rw same at is)
+      | inr other ↦ let none : Counts steps i ≡ Elsewhere = rw other at is in absurd (cc)
+    ]
+none_counts kind parts at (Position j ∷ table) h steps i is = absurd h
+
+module _ (kind : Kind) (parts : List (String Global)) (table : List Step) (keys : AreKeys table) (id : Bor (List ℕ)) where
+  aim_is : (a : Aim) → a ≡ aim_along kind (path_view parts) 0 0 table
+      → aim_along kind (path_view parts) 0 0 (table ++ Key id ∷ [])
+      ≡ aim_on kind (path_view (drop (length table) parts)) id.now a
+  aim_is a is =
+      aim_next kind (path_view parts) 0 table keys id
+      ∙ ap (λ ps. aim_on kind ps id.now (aim_along kind (path_view parts) 0 0 table))
+      (drop-map string_bytes (length table) parts)
+      ∙ ap (aim_on kind (path_view (drop (length table) parts)) id.now) (sym is)
+
+  pub brings_none : Elsewhere ≡ aim_along kind (path_view parts) 0 0 table
+      → aim_along kind (path_view parts) 0 0 (table ++ Key id ∷ []) ≡ Elsewhere
+  brings_none is = aim_is Elsewhere is
+
+  pub brings_one : (s : String Global) → Brings ≡ aim_along kind (path_view parts) 0 0 table
+      → length table < length parts → s ≡ get_or parts (length table) s
+      → aim_along kind (path_view parts) 0 0 (table ++ Key id ∷ [])
+      ≡ cond (bytes_eq id.now (string_bytes s)) Brings Elsewhere
+  brings_one s is there part =
+      let this : get_or parts (length table) s ≡ s = sym part in
+      aim_is Brings is ∙ rw (drop_more parts (length table) s there, this) refl
+
+  pub brings_rest : Brings ≡ aim_along kind (path_view parts) 0 0 table → length parts ≤ length table
+      → aim_along kind (path_view parts) 0 0 (table ++ Key id ∷ []) ≡ aim_at_key kind
+  brings_rest is none = aim_is Brings is ∙ rw (drop_all (length table) parts none) refl
+
+  pub brings_counted : {A : Type 0} → (steps i : ℕ) → Counts steps i ≡ aim_along kind (path_view parts) 0 0 table → A
+  brings_counted steps i is = absurd (none_counts kind (path_view parts) 0 table keys steps i is)
+
+-- an entry behind what was found of a path
+module _ (entry : Entry) (path : List Step) where
+  passed : (o : Option Lines) → turn entry.kind (path_view entry.parts.items) (fresh path) ≡ missing (fresh path)
+      → outcome_behind entry (outcome_by o (fresh path)) ≡ outcome_by o (fresh path)
+  passed None is = ap (outcome_of entry.lines (fresh path)) is
+  passed (Some lines) is = refl
+
+  met : (o : Option Lines) → turn entry.kind (path_view entry.parts.items) (fresh path) ≡ seen
+      → outcome_behind entry (outcome_by o (fresh path)) ≡ outcome_by (option_or o (Some entry.lines)) (fresh path)
+  met None is = ap (outcome_of entry.lines (fresh path)) is
+  met (Some lines) is = refl
+
+  pub passes : (o : Option Lines) → aim_along entry.kind (path_view entry.parts.items) 0 0 path ≡ Elsewhere
+      → outcome_behind entry (outcome_by o (fresh path)) ≡ outcome_by o (fresh path)
+  passes o is =
+      let marks = fresh_marks 0 0 path (omega arith) in
+      passed o (rw marks at (turned_elsewhere entry.kind (path_view entry.parts.items) 0 0 path (sym is)))
+
+  pub meets : (o : Option Lines) → aim_along entry.kind (path_view entry.parts.items) 0 0 path ≡ Brings
+      → outcome_behind entry (outcome_by o (fresh path)) ≡ outcome_by (option_or o (Some entry.lines)) (fresh path)
+  meets o is =
+      let marks = fresh_marks 0 0 path (omega arith) in
+      met o (rw marks at (turned_brings entry.kind (path_view entry.parts.items) 0 0 path (sym is)))
+
+-- entries behind what is found
+pub scan_over : (entries : List Entry) (o : Option Lines) (lines : Lines) (ms : List Mark)
+    → scan entries (outcome_by (option_or o (Some lines)) ms) ≡ outcome_by (option_or o (Some lines)) ms
+scan_over entries None lines ms = scan_found entries lines
+scan_over entries (Some found) lines ms = scan_found entries found
