@@ -1,7 +1,8 @@
 -- What expressions bring of the ids of a table.
-use Rattle.std.proofs.Common.{◌≡◌, ℕ, suc, ◌<◌, ◌≤◌, true, false, cond, List, [], ◌∷◌, ◌++◌, length, get_or, drop, String, Global, string_bytes, Bor, Option, Some, None, unwrap_or, refl, sym, ap, ◌∙◌, inl, inr, arith}
-use Rattle.std.proofs.lemmas.Bool.{cases_Bool}
+use Rattle.std.proofs.Common.{◌≡◌, ℕ, suc, ◌+◌, ◌<◌, ◌≤◌, true, false, cond, List, [], ◌∷◌, ◌++◌, length, get_or, drop, String, Global, string_bytes, Bor, Option, Some, None, is_some, refl, sym, ap, ◌∙◌, inl, inr, arith}
+use Rattle.std.proofs.lemmas.Bool.{cases_Bool, false≢true}
 use Rattle.std.proofs.lemmas.List.{drop_all, drop_more, drop-map}
+use Rattle.std.proofs.lemmas.Slice.Eq.{bytes_eq-Decides}
 use Rattle.std.specs.Option.{option_or}
 use Rattle.std.specs.Str.{bytes_eq}
 use Rattle.toml_parser.specs.Reading.{path_view}
@@ -116,3 +117,56 @@ pub scan_over : (entries : List Entry) (o : Option Lines) (lines : Lines) (ms : 
     → scan entries (outcome_by (option_or o (Some lines)) ms) ≡ outcome_by (option_or o (Some lines)) ms
 scan_over entries None lines ms = scan_found entries lines
 scan_over entries (Some found) lines ms = scan_found entries found
+
+some_stays : (o : Option Lines) (lines : Lines) → is_some o ≡ true → option_or o (Some lines) ≡ o
+some_stays None lines h = absurd (false≢true h)
+some_stays (Some found) lines h = refl
+
+apart : (j k : List ℕ) → bytes_eq j k ≡ false → bytes_eq k j ≡ false
+apart j k other =
+    elim (cases_Bool (bytes_eq k j)) [
+      | inl same ↦ absurd (false≢true (sym other ∙ (bytes_eq-Decides j k).1 (sym ((bytes_eq-Decides k j).0 same))))
+      | inr still ↦ still
+    ]
+
+-- what is kept of an id behind an entry that brings the id k
+module _ (entry : Entry) (path : List Step) (id k : List ℕ) (o : Option Lines)
+    (aim : aim_along entry.kind (path_view entry.parts.items) 0 0 path ≡ cond (bytes_eq id k) Brings Elsewhere) where
+  pub now_kept : (new : Option Lines) → (id ≡ k → o ≡ None) → new ≡ cond (bytes_eq k id) (Some entry.lines) o
+      → outcome_behind entry (outcome_by o (fresh path)) ≡ outcome_by new (fresh path)
+  now_kept new none is =
+      elim (cases_Bool (bytes_eq id k)) [
+        | inl same ↦
+            let equal : id ≡ k = (bytes_eq-Decides id k).0 same in
+            let back : bytes_eq k id ≡ true = (bytes_eq-Decides k id).1 (sym equal) in
+            let lines : new ≡ Some entry.lines = is ∙ rw back refl in
+            meets entry path o (aim ∙ rw same refl)
+            ∙ ap (λ n. outcome_by n (fresh path)) (ap (λ p. option_or p (Some entry.lines)) (none equal) ∙ sym lines)
+        | inr other ↦
+            let lines : new ≡ o = is ∙ rw (apart id k other) refl in
+            passes entry path o (aim ∙ rw other refl) ∙ ap (λ n. outcome_by n (fresh path)) (sym lines)
+      ]
+
+  pub still_kept : (id ≡ k → is_some o ≡ true)
+      → outcome_behind entry (outcome_by o (fresh path)) ≡ outcome_by o (fresh path)
+  still_kept some =
+      elim (cases_Bool (bytes_eq id k)) [
+        | inl same ↦
+            meets entry path o (aim ∙ rw same refl)
+            ∙ ap (λ n. outcome_by n (fresh path)) (some_stays o entry.lines (some ((bytes_eq-Decides id k).0 same)))
+        | inr other ↦ passes entry path o (aim ∙ rw other refl)
+      ]
+
+module _ (entries : List Entry) (i : ℕ) (entry : Entry) (here : i < length entries)
+    (is : entry ≡ get_or entries i entry) (o new : Option Lines) (ms : List Mark)
+    (turned : outcome_behind entry (outcome_by o ms) ≡ outcome_by new ms) where
+  pub next_entry : scan (drop (i + 1) entries) (outcome_by new ms) ≡ scan (drop i entries) (outcome_by o ms)
+  next_entry =
+      let this : get_or entries i entry ≡ entry = sym is in
+      rw (drop_more entries i entry here, this) (ap (scan (drop (i + 1) entries)) (sym turned))
+
+-- behind the last entry
+pub last_entry : (entries : List Entry) (i : ℕ) (o : Option Lines) (ms : List Mark) → length entries ≤ i
+    → scan (drop i entries) (outcome_by o ms) ≡ outcome_by (option_or o None) ms
+last_entry entries i None ms over = rw (drop_all i entries over) refl
+last_entry entries i (Some lines) ms over = rw (drop_all i entries over) refl

@@ -2,9 +2,10 @@ pub mod Aiming
 pub mod Among
 pub mod Documents
 pub mod Edits
-pub mod Fronts
+pub mod FirstLines
 pub mod GoesOn
 pub mod IdAims
+pub mod IdPlaces
 pub mod Indexed
 pub mod Joined
 pub mod Keeping

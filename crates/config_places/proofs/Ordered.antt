@@ -1,13 +1,21 @@
 -- Ids in order, from a stable sort by the lines of their places.
-use Rattle.std.proofs.Common.{◌≡◌, ◌⊎◌, ℕ, suc, ◌<◌, ◌≤◌, Bool, true, false, List, [], ◌∷◌, length, get_or, filter, map, nat_cmp, is_lt, Less, refl, sym, ap, ◌∙◌, inl, inr, arith}
+use Rattle.std.proofs.Common.{◌≡◌, ◌⊎◌, ℕ, suc, ◌<◌, ◌≤◌, Bool, true, false, List, [], ◌∷◌, length, get_or, filter, map, nat_cmp, is_lt, Less, Some, refl, sym, ap, ◌∙◌, inl, inr, arith}
 use Rattle.std.proofs.lemmas.Bool.{cases_Bool, cases_lt}
 use Rattle.std.proofs.lemmas.Bool.Decides.{nat_tests}
+use Rattle.std.proofs.lemmas.List.Elements.{All-from_recursion, recursion_from_All}
+use Rattle.std.proofs.lemmas.List.Sorted.{All-permutation, IsPermutation-map, list_any-IsPermutation}
 use Rattle.std.specs.Cmp.Lexicographic.{slice_cmp}
 use Rattle.std.specs.List.{AllByRecursion}
-use Rattle.std.specs.List.Sorted.{IsNonDecreasingBy, IsStableByKey, ties}
+use Rattle.std.specs.List.Sorted.{IsNonDecreasingBy, IsPermutation, IsStableByKey, ties}
+use Rattle.std.specs.Str.{bytes_eq}
+use Rattle.nextest_tree.specs.Node.{Node}
 use Rattle.nextest_documents.specs.Shown.{Path}
-use Rattle.config_places.specs.Order.{AllBefore, IsBefore, IsPlace}
-use Rattle.config_places.specs.Standing.{IdsAscend}
+use Rattle.nextest_documents.specs.Text.{tree_of}
+use Rattle.config_places.specs.declared.order.PlacedId.{PlacedId}
+use Rattle.config_places.specs.Ids.{placed_id}
+use Rattle.config_places.specs.Order.{AllBefore, IsBefore, IsOrder, IsPlace}
+use Rattle.config_places.specs.Standing.{IdsAscend, is_among, keys_at, stands_in}
+use Rattle.config_places.proofs.Among.{each_among, exact_is}
 
 ties_at : (m n : ℕ) → m ≡ n → ties (λ x y. is_lt (nat_cmp x y)) m n ≡ true
 ties_at m n h = grind (arith, nat_tests)
@@ -102,3 +110,34 @@ module _ {X : Type 0} (last : X → ℕ) (id : X → List ℕ) where
     sorted_before xs ys ascends placed up stable =
         all_before ys placed up
         (λ t. rw (stable t) (ascend_kept (tie t) xs (ascend_ids xs ascends)))
+
+few_before : (path : Path) (text : List ℕ) (ids : List (List ℕ)) → length ids < 2 → AllBefore path text ids
+few_before path text [] few = tt
+few_before path text (x ∷ []) few = (tt, tt)
+few_before path text (x ∷ y ∷ ids) few = absurd (omega (arith, few))
+
+module _ (path : Path) (text : List ℕ) (n : Node) (is : tree_of text ≡ Some n) (ids : List (List ℕ))
+    (all : ids ≡ keys_at path n) where
+  -- each id stands in the text
+  pub all_stand : AllByRecursion (λ id. stands_in path text id ≡ true) ids
+  all_stand = each_among ids (λ id. stands_in path text id) (λ id here. sym (exact_is path text n ids is all id) ∙ here)
+
+  -- fewer than two ids are in order
+  pub few_order : length ids < 2 → IsOrder path text ids
+  few_order few = record { ordered = few_before path text ids few; exact = exact_is path text n ids is all }
+
+  -- and more are, once they are sorted by their places
+  pub sorted_order : (xs ys : List PlacedId) → map placed_id xs ≡ ids → IdsAscend ids
+      → AllByRecursion (λ p. IsPlace path text (placed_id p) p.last) xs → IsPermutation xs ys
+      → IsNonDecreasingBy (λ p. p.last) ys → IsStableByKey (λ p. p.last) nat_cmp xs ys
+      → IsOrder path text (map placed_id ys)
+  sorted_order xs ys same ascends placed moved up stable =
+      let P = λ p. IsPlace path text (placed_id p) p.last in
+      let moved_placed = recursion_from_All P ys (All-permutation P xs ys moved (All-from_recursion P xs placed)) in
+      record {
+        ordered = sorted_before (λ p. p.last) placed_id path text xs ys (rw same ascends) moved_placed up stable;
+        exact = λ id.
+            sym (list_any-IsPermutation (bytes_eq id) (map placed_id xs) (map placed_id ys)
+            (IsPermutation-map placed_id xs ys moved))
+            ∙ ap (λ l. is_among l id) same ∙ exact_is path text n ids is all id;
+      }

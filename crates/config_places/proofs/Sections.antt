@@ -7,7 +7,7 @@ use Rattle.nextest_tree.specs.Node.{Node}
 use Rattle.nextest_documents.specs.Text.{tree_of}
 use Rattle.config_places.specs.Lines.{after_lines, first_lines, line_count, line_ends}
 use Rattle.config_places.specs.Search.{IsDocument}
-use Rattle.config_places.proofs.Fronts.{front_boundary, more_left}
+use Rattle.config_places.proofs.FirstLines.{front_boundary, more_left}
 
 none_of : (n : ℕ) → first_lines n [] ≡ []
 none_of zero = refl

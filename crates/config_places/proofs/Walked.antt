@@ -15,7 +15,7 @@ use Rattle.nextest_documents.specs.Value.{from_members}
 use Rattle.config_places.specs.Lines.{after_lines, first_lines, line_count, line_ends}
 use Rattle.config_places.specs.Pieces.{read_lines}
 use Rattle.config_places.proofs.Documents.{bom_grown, grown_from}
-use Rattle.config_places.proofs.Fronts.{more_left}
+use Rattle.config_places.proofs.FirstLines.{more_left}
 use Rattle.config_places.proofs.GoesOn.{GoesOn}
 use Rattle.config_places.proofs.Joined.{joined_runs, split_runs}
 use Rattle.config_places.proofs.Options.{bind_some}

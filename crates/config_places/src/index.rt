@@ -31,9 +31,8 @@ impl Index {
         requires { IsDocument text.now (line_count text.now) }
         ensures { IfOk result (IsIndex text.now) }
     {
-        let lines = Fronts::of(alloc, text)?;
-        let (entries, low) = entries_of(alloc, text, lines.count(), &mut Wanted::All)?;
-        let (fronts, rest) = fronts_behind(alloc, &lines, low)?;
+        let (entries, low) = entries_of(alloc, text, &mut Wanted::All)?;
+        let (fronts, rest) = fronts_behind(alloc, &Fronts::of(alloc, text)?, low)?;
         Ok(Index {
             entries,
             fronts,

@@ -80,10 +80,9 @@ fn placed_ids(
         (λ id. IsPlace (key_path_view path.now) text.now (placed_id id) id.last) placed.items) }
 {
     let table = steps_of(alloc, path)?;
-    let lines = Fronts::of(alloc, text)?;
-    let (entries, low) = wanted_entries(alloc, text, lines.count(), &table, &ids)?;
+    let (entries, low) = wanted_entries(alloc, text, &table, &ids)?;
     let found = IdLines::of(alloc, &entries, &table)?;
-    let (fronts, rest) = behind_entries(alloc, &lines, low, &found, &ids)?;
+    let (fronts, rest) = behind_entries(alloc, text, low, &found, &ids)?;
     let mut placed = Vec::new(alloc);
     for id in ids {
         let last = match found.get(&id) {
@@ -99,38 +98,35 @@ fn placed_ids(
 fn wanted_entries(
     alloc: Global,
     text: &str,
-    total: usize,
     table: &[Step],
     ids: &[String],
 ) -> Result<(Vec<Entry>, usize), AllocError>
-    requires total { total ≡ line_count text.now }
-    requires whole { IsDocument text.now (line_count text.now) }
+    requires { IsDocument text.now (line_count text.now) }
     ensures { IfOk result (λ walked. IsWalked text.now walked.0.items walked.1) }
 {
     let mut wanted = Wanted::of_table(alloc, table, ids)?;
-    entries_of(alloc, text, total, &mut wanted)
+    entries_of(alloc, text, &mut wanted)
 }
 
 /// The fronts of a text behind its entries, and the lines behind these. Where the entries bring all
-/// of the ids, nothing is read behind them.
+/// of the ids, none are read.
 fn behind_entries(
     alloc: Global,
-    lines: &Fronts,
+    text: &str,
     low: usize,
     found: &IdLines,
     ids: &[String],
 ) -> Result<(Vec<Front>, Lines), AllocError>
-    requires { low ≤ line_count lines.now }
+    requires { low ≤ line_count text.now }
     ensures { IfOk result (λ behind.
         AllByRecursion (λ id. IsSome (lines_for found.now (string_bytes id))) ids.now
-        ⊎ LeadToEnd lines.now low behind.0.items behind.1) }
+        ⊎ LeadToEnd text.now low behind.0.items behind.1) }
 {
-    let low = if found.have_all(ids) {
-        lines.count()
-    } else {
-        low
-    };
-    fronts_behind(alloc, lines, low)
+    if found.have_all(ids) {
+        let none = Lines { first: 1, last: 0 };
+        return Ok((Vec::new(alloc), none));
+    }
+    fronts_behind(alloc, &Fronts::of(alloc, text)?, low)
 }
 
 /// The last line of the place of an id that no entry brings.

@@ -17,19 +17,17 @@ use crate::piece::{Piece, begins_element, is_closed, next_piece};
 use crate::place::Lines;
 use std::alloc::{AllocError, Global};
 
-/// The expressions of a document's text of so many lines, in order, as far as they are read one by
-/// one, and the number of lines that they take.
+/// The expressions of a document's text in order, as far as they are read one by one, and the number
+/// of lines that they take.
 ///
 /// These are all lines, unless what is wanted is found before, the last line has no newline, or an
 /// expression is not found by itself.
 pub(crate) fn entries_of(
     alloc: Global,
     text: &str,
-    total: usize,
     wanted: &mut Wanted,
 ) -> Result<(Vec<Entry>, usize), AllocError>
-    requires total { total ≡ line_count text.now }
-    requires whole { IsDocument text.now (line_count text.now) }
+    requires { IsDocument text.now (line_count text.now) }
     ensures { IfOk result (λ walked. IsWalked text.now walked.0.items walked.1) }
 {
     let mut entries = Vec::new(alloc);
@@ -49,9 +47,6 @@ pub(crate) fn entries_of(
         let Some(high) = low.checked_add(count) else {
             return Ok((entries, low));
         };
-        if high > total {
-            return Ok((entries, low));
-        }
         if !is_closed(rest, behind) {
             return Ok((entries, low));
         }

@@ -1,6 +1,6 @@
 use Rattle.std.proofs.Common.{◌≡◌, ◌==◌, ap, arith, false, get_or, length}
 use Rattle.std.proofs.lemmas.Bool.Decides.{nat_tests}
-use Rattle.config_places.proofs.Fronts.{line_goes, line_over, lines_over}
+use Rattle.config_places.proofs.FirstLines.{line_goes, line_over, lines_over}
 use Rattle.config_places.proofs.lines.end_of.Goals.{then-byte-eq10, else-byte-eq10}
 use Rattle.config_places.proofs.lines.end_of.Goals as goal
 

@@ -1,5 +1,5 @@
 use Rattle.std.proofs.Common.{◌∙◌}
-use Rattle.config_places.proofs.Fronts.{front_boundary, front_is}
+use Rattle.config_places.proofs.FirstLines.{front_boundary, front_is}
 use Rattle.config_places.proofs.Sections.{rest_is}
 use Rattle.config_places.proofs.lines.split_lines.Goals as goal
 

@@ -1,10 +1,9 @@
 use Rattle.std.proofs.Common.{◌≡◌, ◌∙◌, ◌+◌, ◌≤◌, [], IsUtf8, ap, arith, refl, rules, subst, sym}
 use Rattle.toml_parser.specs.Reading.{path_view}
 use Rattle.config_places.proofs.Sections.{rest_utf8}
-use Rattle.config_places.specs.Lines.{line_count}
 use Rattle.config_places.specs.Entries.{kind_in}
 use Rattle.config_places.specs.Pieces.{IsClosed}
-use Rattle.config_places.proofs.Walking.{at_start, not_empty, over_blank, over_entry, piece_rest, piece_shorter, walked}
+use Rattle.config_places.proofs.Walking.{at_start, not_empty, over_blank, over_entry, piece_rest, piece_room, piece_shorter, walked}
 use Rattle.config_places.proofs.walk.entries_of.Goals as goal
 
 pub pieces-init : goal.pieces-init
@@ -12,7 +11,7 @@ pieces-init c = (
   search rules,
   refl,
   rw (c.new-entries.ensures.items, c.new-section.ensures.items)
-      (at_start c.args.text.now c.requires.whole),
+      (at_start c.args.text.now c.requires),
 )
 
 pub returns-in_default : goal.returns-in_default
@@ -21,10 +20,6 @@ returns-in_default c =
 
 pub returns-in_default-checked_add : goal.returns-in_default-checked_add
 returns-in_default-checked_add c =
-    walked c.args.text.now c.pieces.low c.pieces.entries.items (path_view c.pieces.section.items) c.pieces.invariant.2
-
-pub returns-then-high-total : goal.returns-then-high-total
-returns-then-high-total c =
     walked c.args.text.now c.pieces.low c.pieces.entries.items (path_view c.pieces.section.items) c.pieces.invariant.2
 
 pub returns-then-not-is_closed : goal.returns-then-not-is_closed
@@ -45,8 +40,7 @@ pieces-smaller-in_ok-push c =
     let section = path_view c.pieces.section.items in
     let piece_is = rw c.in-Some.is at c.in_ok-piece.ensures in
     let some : rest ≡ [] → ⊥ = not_empty rest (sym c.is_empty.ensures ∙ c.pieces-test.true) in
-    let room : low + piece.count ≤ line_count text =
-    omega (arith, c.if-high-total.false, c.requires.total, c.in-Some-checked_add.ensures.1) in
+    let room = piece_room text rest low piece c.pieces.invariant.1 piece_is some c.pieces.invariant.2.within in
     let closed : IsClosed rest piece.rest.now = rw c.if-not-is_closed.false at c.is_closed.ensures in
     piece_shorter text rest low piece entries section c.pieces.invariant.1 piece_is some room closed
 
@@ -60,8 +54,7 @@ pieces-smaller c =
     let section = path_view c.pieces.section.items in
     let piece_is = rw c.in-Some.is at c.in_ok-piece.ensures in
     let some : rest ≡ [] → ⊥ = not_empty rest (sym c.is_empty.ensures ∙ c.pieces-test.true) in
-    let room : low + piece.count ≤ line_count text =
-    omega (arith, c.if-high-total.false, c.requires.total, c.in-Some-checked_add.ensures.1) in
+    let room = piece_room text rest low piece c.pieces.invariant.1 piece_is some c.pieces.invariant.2.within in
     let closed : IsClosed rest piece.rest.now = rw c.if-not-is_closed.false at c.is_closed.ensures in
     piece_shorter text rest low piece entries section c.pieces.invariant.1 piece_is some room closed
 
@@ -75,8 +68,7 @@ pieces-preserved-in_ok-push c =
     let section = path_view c.pieces.section.items in
     let piece_is = rw c.in-Some.is at c.in_ok-piece.ensures in
     let some : rest ≡ [] → ⊥ = not_empty rest (sym c.is_empty.ensures ∙ c.pieces-test.true) in
-    let room : low + piece.count ≤ line_count text =
-    omega (arith, c.if-high-total.false, c.requires.total, c.in-Some-checked_add.ensures.1) in
+    let room = piece_room text rest low piece c.pieces.invariant.1 piece_is some c.pieces.invariant.2.within in
     let closed : IsClosed rest piece.rest.now = rw c.if-not-is_closed.false at c.is_closed.ensures in
     let further = piece_rest text rest low piece entries section c.pieces.invariant.1 piece_is some room closed in
     let made = c.in_ok-entry_of.ensures in
@@ -101,8 +93,7 @@ pieces-preserved c =
     let section = path_view c.pieces.section.items in
     let piece_is = rw c.in-Some.is at c.in_ok-piece.ensures in
     let some : rest ≡ [] → ⊥ = not_empty rest (sym c.is_empty.ensures ∙ c.pieces-test.true) in
-    let room : low + piece.count ≤ line_count text =
-    omega (arith, c.if-high-total.false, c.requires.total, c.in-Some-checked_add.ensures.1) in
+    let room = piece_room text rest low piece c.pieces.invariant.1 piece_is some c.pieces.invariant.2.within in
     let closed : IsClosed rest piece.rest.now = rw c.if-not-is_closed.false at c.is_closed.ensures in
     let further = piece_rest text rest low piece entries section c.pieces.invariant.1 piece_is some room closed in
     rw c.in-Some-checked_add.ensures.1 (
