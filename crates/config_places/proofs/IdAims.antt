@@ -21,15 +21,15 @@ use Rattle.config_places.proofs.Aiming.{fresh_marks, scan_found, turned_brings, 
 
 -- what an expression has to do with a path and one more key, by what it has to do with the path and
 -- the parts of its key behind it
-abbrev aim_on : Kind → List (List ℕ) → List ℕ → Aim → Aim
-aim_on kind parts id Elsewhere = Elsewhere
-aim_on kind parts id (Counts steps i) = Counts steps i
-aim_on kind [] id Brings = aim_at_key kind
-aim_on kind (part ∷ parts) id Brings = cond (bytes_eq id part) Brings Elsewhere
+abbrev aim_on : Kind → List ℕ → Aim → List (List ℕ) → Aim
+aim_on kind id Elsewhere parts = Elsewhere
+aim_on kind id (Counts steps i) parts = Counts steps i
+aim_on kind id Brings [] = aim_at_key kind
+aim_on kind id Brings (part ∷ parts) = cond (bytes_eq id part) Brings Elsewhere
 
 aim_next : (kind : Kind) (parts : List (List ℕ)) (at : ℕ) (table : List Step) → AreKeys table
     → (id : Bor (List ℕ)) → aim_along kind parts 0 at (table ++ Key id ∷ [])
-    ≡ aim_on kind (drop (length table) parts) id.now (aim_along kind parts 0 at table)
+    ≡ aim_on kind id.now (aim_along kind parts 0 at table) (drop (length table) parts)
 aim_next kind [] at [] h id = refl
 aim_next kind (p ∷ ps) at [] h id = refl
 aim_next Pair [] at (Key k ∷ table) h id = refl
@@ -62,12 +62,12 @@ none_counts kind parts at (Position j ∷ table) h steps i is = absurd h
 module _ (kind : Kind) (parts : List (String Global)) (table : List Step) (keys : AreKeys table) (id : Bor (List ℕ)) where
   aim_is : (a : Aim) → a ≡ aim_along kind (path_view parts) 0 0 table
       → aim_along kind (path_view parts) 0 0 (table ++ Key id ∷ [])
-      ≡ aim_on kind (path_view (drop (length table) parts)) id.now a
+      ≡ aim_on kind id.now a (path_view (drop (length table) parts))
   aim_is a is =
       aim_next kind (path_view parts) 0 table keys id
-      ∙ ap (λ ps. aim_on kind ps id.now (aim_along kind (path_view parts) 0 0 table))
+      ∙ ap (aim_on kind id.now (aim_along kind (path_view parts) 0 0 table))
       (drop-map string_bytes (length table) parts)
-      ∙ ap (aim_on kind (path_view (drop (length table) parts)) id.now) (sym is)
+      ∙ ap (λ b. aim_on kind id.now b (path_view (drop (length table) parts))) (sym is)
 
   pub brings_none : Elsewhere ≡ aim_along kind (path_view parts) 0 0 table
       → aim_along kind (path_view parts) 0 0 (table ++ Key id ∷ []) ≡ Elsewhere

@@ -64,9 +64,9 @@ module _ {X : Type 0} (last : X → ℕ) (id : X → List ℕ) where
     | inr gone ↦ rw gone at h
   ]
 
-  -- those that tie with the first one come after it
-  first_tied : (x : X) (xs : List X) → Ascend (filter (tie x) (x ∷ xs)) → Below x (filter (tie x) xs)
-  first_tied x xs h = (rw (same_ties x x refl) at h).0
+  -- those that pass a test as the first one does come after it
+  first_kept : (t : X → Bool) (x : X) (xs : List X) → t x ≡ true → Ascend (filter t (x ∷ xs)) → Below x (filter t xs)
+  first_kept t x xs is h = (rw is at h).0
 
   module _ (path : Path) (text : List ℕ) where
     abbrev Placed : X → Type 0
@@ -78,28 +78,31 @@ module _ {X : Type 0} (last : X → ℕ) (id : X → List ℕ) where
     before_one x y a b h =
         record { place_a = last x; place_b = last y; at_a = a; at_b = b; before = h }
 
-    before_all : (x : X) (ys : List X) → Placed x → AllByRecursion Placed ys
-        → ((k : ℕ) (d : X) → k < length ys → last x ≤ last (get_or ys k d)) → Below x (filter (tie x) ys)
-        → AllByRecursion (IsBefore path text (id x)) (map id ys)
-    before_all x [] a b low tied = tt
-    before_all x (y ∷ ys) a b low tied =
-        let more = λ k d h. low (suc k) d (omega (arith, h)) in
+    before_all : (t : X → Bool) (x : X) (ys : List X) → ((y : X) → last x ≡ last y → t y ≡ true) → Placed x
+        → AllByRecursion Placed ys → ((k : ℕ) (d : X) → k < length ys → last x ≤ last (get_or ys k d))
+        → Below x (filter t ys) → AllByRecursion (IsBefore path text (id x)) (map id ys)
+    before_all t x [] same a b low tied = tt
+    before_all t x (y ∷ ys) same a b low tied =
+        let more : (k : ℕ) (d : X) → k < length ys → last x ≤ last (get_or ys k d) =
+        λ k d h. low (suc k) d (omega (arith, h)) in
+        let least : last x ≤ last y = low 0 x (omega arith) in
         elim (cases_lt (last x) (last y)) [
-          | inl less ↦ elim (cases_Bool (tie x y)) [
-            | inl kept ↦ (before_one x y a b.0 (inl less), before_all x ys a b.1 more (rw kept at tied).1)
-            | inr gone ↦ (before_one x y a b.0 (inl less), before_all x ys a b.1 more (rw gone at tied))
+          | inl less ↦ elim (cases_Bool (t y)) [
+            | inl kept ↦ (before_one x y a b.0 (inl less), before_all t x ys same a b.1 more (rw kept at tied).1)
+            | inr gone ↦ (before_one x y a b.0 (inl less), before_all t x ys same a b.1 more (rw gone at tied))
           ]
           | inr not_less ↦
-              let same : last x ≡ last y = omega (arith, not_less, low 0 x (omega arith)) in
-              let now = rw (same_ties x y same) at tied in
-              (before_one x y a b.0 (inr (same, now.0)), before_all x ys a b.1 more now.1)
+              let equal : last x ≡ last y = omega (arith, not_less, least) in
+              let now = rw (same y equal) at tied in
+              (before_one x y a b.0 (inr (equal, now.0)), before_all t x ys same a b.1 more now.1)
         ]
 
     all_before : (xs : List X) → AllByRecursion Placed xs → IsNonDecreasingBy last xs
         → ((t : X) → Ascend (filter (tie t) xs)) → AllBefore path text (map id xs)
     all_before [] a up tied = tt
     all_before (x ∷ xs) a up tied = (
-      before_all x xs a.0 a.1 (λ k d h. up 0 (suc k) d (omega arith) (omega (arith, h))) (first_tied x xs (tied x)),
+      before_all (tie x) x xs (same_ties x) a.0 a.1 (λ k d h. up 0 (suc k) d (omega arith) (omega (arith, h)))
+          (first_kept (tie x) x xs (same_ties x x refl) (tied x)),
       all_before xs a.1 (λ i j d le lt. up (suc i) (suc j) d (omega (arith, le)) (omega (arith, lt)))
           (λ t. ascend_rest (tie t) x xs (tied t)),
     )

@@ -150,8 +150,12 @@ impl<'a> Wanted<'a> {
 
     /// Takes note of an expression.
     pub(crate) fn see(&mut self, entry: &Entry) {
-        if let Wanted::Ids { table, left } = self {
-            match ids_brought(entry, table) {
+        let brought = match self {
+            Wanted::All => return,
+            Wanted::Ids { table, .. } => ids_brought(entry, table),
+        };
+        if let Wanted::Ids { left, .. } = self {
+            match brought {
                 Brought::Nothing => {}
                 Brought::OneId(id) => {
                     left.remove(id);

@@ -130,15 +130,15 @@ fn behind_entries(
 }
 
 /// The last line of the place of an id that no entry brings.
-fn last_line_behind(
+fn last_line_behind<'a>(
     alloc: Global,
     fronts: &[Front],
     rest: Lines,
-    table: &[Step],
-    id: &str,
+    table: &[Step<'a>],
+    id: &'a str,
 ) -> Result<usize, AllocError>
     ensures { IfOk result (λ last.
-        last ≡ (lines_behind fronts.now rest (table.now ++ steps.Key id ∷ [])).last) }
+        last ≡ (lines_behind fronts.now rest (table.now ++ steps.Key id.entry ∷ [])).last) }
 {
     let mut path = Vec::from_slice(alloc, table)?;
     path.push(Step::Key(id))?;
