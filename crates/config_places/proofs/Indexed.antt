@@ -85,12 +85,13 @@ module _ (path : List Step) (text : List ℕ) where
         | inr more ↦ more
       ]
 
-  in_rest : (o : Option Lines) (high : ℕ) (rest : Lines) → rest.first ≡ suc high → high ≤ rest.last
+  in_rest : (o : Option Lines) (high : ℕ) (rest : Lines) → (high < rest.last → rest.first ≡ suc high) → high ≤ rest.last
       → NoDocumentBetween text high rest.last → is_there_by path text rest.last ≡ true
       → MatchOption o (IsDocument text high × (is_there_by path text high ≡ false)) (IsPlaceOfPath path text)
       → IsPlaceOfPath path text (unwrap_or o rest)
   in_rest None high rest first within none there (document, missing) =
-      front_brings high rest first (some_left high rest.last within missing there) document missing there none
+      let less = some_left high rest.last within missing there in
+      front_brings high rest (first less) less document missing there none
   in_rest (Some lines) high rest first within none there place = place
 
   pub behind_entries : (low : ℕ) (fronts : List Front) (rest : Lines) → LeadToEnd text low fronts rest

@@ -40,12 +40,12 @@ LeadsTo text low (front ∷ fronts) high =
     × LeadsTo text front.lines.last fronts high
 
 -- The fronts are all documents behind `low` lines of a text but the text itself, and `rest` are the
--- lines behind them. These may be none: then the first one is the line after the last one.
+-- lines behind them, if there are some.
 pub record LeadToEnd (text : List ℕ) (low : ℕ) (fronts : List Front) (rest : Lines) : Type 0 where
   pub high : ℕ
   pub leads : LeadsTo text low fronts high
   pub none : NoDocumentBetween text high rest.last
-  pub first : rest.first ≡ suc high
+  pub first : high < rest.last → rest.first ≡ suc high
   pub within : high ≤ rest.last
   pub whole : rest.last ≡ line_count text
 

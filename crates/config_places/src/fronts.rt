@@ -117,7 +117,7 @@ pub(crate) struct Front {
 }
 
 /// The documents that the fronts of a text are which have more than `low` lines, without the text
-/// itself, and the lines behind them. These may be none.
+/// itself, and the lines behind them, if there are some.
 pub(crate) fn fronts_behind(
     alloc: Global,
     fronts: &Fronts,
@@ -128,6 +128,13 @@ pub(crate) fn fronts_behind(
 {
     let count = fronts.count();
     let mut found = Vec::new(alloc);
+    if low == count {
+        let none = Lines {
+            first: count,
+            last: count,
+        };
+        return Ok((found, none));
+    }
     let mut high = low;
     'up: for last in low + 1..count {
         if let Some(document) = document_of(alloc, fronts.front(last))? {
