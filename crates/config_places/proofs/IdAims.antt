@@ -116,11 +116,11 @@ module _ (entry : Entry) (path : List Step) where
 pub scan_over : (entries : List Entry) (o : Option Lines) (lines : Lines) (ms : List Mark)
     → scan entries (outcome_by (option_or o (Some lines)) ms) ≡ outcome_by (option_or o (Some lines)) ms
 scan_over entries None lines ms = scan_found entries lines
-scan_over entries (Some found) lines ms = scan_found entries found
+scan_over entries (Some old) lines ms = scan_found entries old
 
 some_stays : (o : Option Lines) (lines : Lines) → is_some o ≡ true → option_or o (Some lines) ≡ o
 some_stays None lines h = absurd (false≢true h)
-some_stays (Some found) lines h = refl
+some_stays (Some old) lines h = refl
 
 apart : (j k : List ℕ) → bytes_eq j k ≡ false → bytes_eq k j ≡ false
 apart j k other =

@@ -1,5 +1,6 @@
 -- Paths by keys, as steps.
-use Rattle.std.proofs.Common.{◌≡◌, ℕ, true, false, ◌==◌, List, [], ◌∷◌, ◌++◌, length, Bor, Option, Some, None, is_some, option_and_then, refl, sym, ap, ◌∙◌}
+use Rattle.std.proofs.Common.{◌≡◌, ℕ, true, false, ◌==◌, List, [], ◌∷◌, ◌++◌, length, arith, Bor, Option, Some, None, is_some, option_and_then, refl, sym, ap, ◌∙◌}
+use Rattle.std.proofs.lemmas.Bool.Decides.{nat_tests}
 use Rattle.std.specs.Option.{option_map_or}
 use Rattle.nextest_tree.specs.Node.{Node, table, array, text, int, bool, opaque, get}
 use Rattle.nextest_documents.specs.Shown.{Path, node_at}
@@ -45,7 +46,7 @@ steps_more (key ∷ path) (Position i ∷ steps) id h = absurd h
 
 pub not_root : (steps : List Step) (id : Bor (List ℕ)) → (length (steps ++ Key id ∷ []) == 0) ≡ false
 not_root [] id = refl
-not_root (step ∷ steps) id = refl
+not_root (step ∷ steps) id = grind (arith, nat_tests)
 
 inside : (path : Path) (steps : List Step) (o : Option Node)
     → ((n : Node) → is_some (node_at path n) ≡ has_path steps n)

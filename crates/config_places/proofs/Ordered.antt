@@ -135,7 +135,7 @@ module _ (path : Path) (text : List ℕ) (n : Node) (is : tree_of text ≡ Some 
       → IsNonDecreasingBy (λ p. p.last) ys → IsStableByKey (λ p. p.last) nat_cmp xs ys
       → IsOrder path text (map placed_id ys)
   sorted_order xs ys same ascends placed moved up stable =
-      let P = λ p. IsPlace path text (placed_id p) p.last in
+      let P : PlacedId → Type 0 = λ p. IsPlace path text (placed_id p) p.last in
       let moved_placed = recursion_from_All P ys (All-permutation P xs ys moved (All-from_recursion P xs placed)) in
       record {
         ordered = sorted_before (λ p. p.last) placed_id path text xs ys (rw same ascends) moved_placed up stable;
