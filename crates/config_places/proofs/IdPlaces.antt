@@ -1,6 +1,7 @@
 -- The places of the ids of a table.
 use Rattle.std.proofs.Common.{◌≡◌, ◌⊎◌, ℕ, true, false, List, [], ◌∷◌, ◌++◌, length, map, String, Global, string_bytes, Bor, Option, Some, None, IsSome, is_some, refl, sym, ap, ◌∙◌, inl, inr}
 use Rattle.std.proofs.lemmas.Bool.{true≢false}
+use Rattle.std.proofs.lemmas.List.{append_assoc, map-append}
 use Rattle.std.specs.List.{AllByRecursion}
 use Rattle.nextest_documents.specs.Shown.{Path}
 use Rattle.config_places.specs.declared.entry.Entry.{Entry}
@@ -42,6 +43,25 @@ pub placed_more : (path : Path) (text : List ℕ) (ps : List PlacedId) (p : Plac
     → AllByRecursion (λ p. IsPlace path text (placed_id p) p.last) (ps ++ p ∷ [])
 placed_more path text [] p all is = (is, tt)
 placed_more path text (q ∷ ps) p all is = (all.0, placed_more path text ps p all.1 is)
+
+-- one more id with its place
+pub placed_next : (path : Path) (text : List ℕ) (ids : List (List ℕ)) (low : ℕ) (found : IdLines) (fronts : List Front)
+    (rest : Lines) (ps : List PlacedId) (p : PlacedId) (left : List (String Global))
+    → map placed_id ps ++ map string_bytes (p.id ∷ left) ≡ ids
+    → AllByRecursion (λ p. IsPlace path text (placed_id p) p.last) ps
+    → AllByRecursion (λ id. stands_in path text id ≡ true) (map string_bytes (p.id ∷ left))
+    → AreKnown text low found fronts rest (p.id ∷ left) → IsPlace path text (placed_id p) p.last
+    → (map placed_id (ps ++ p ∷ []) ++ map string_bytes left ≡ ids)
+    × AllByRecursion (λ p. IsPlace path text (placed_id p) p.last) (ps ++ p ∷ [])
+    × AllByRecursion (λ id. stands_in path text id ≡ true) (map string_bytes left)
+    × AreKnown text low found fronts rest left
+placed_next path text ids low found fronts rest ps p left all placed stand known is = (
+  ap (λ l. l ++ map string_bytes left) (map-append placed_id ps (p ∷ []))
+      ∙ append_assoc (map placed_id ps) (placed_id p ∷ []) (map string_bytes left) ∙ all,
+  placed_more path text ps p placed is,
+  stand_rest path text p.id left stand,
+  known_rest text low found fronts rest p.id left known,
+)
 
 module _ (path : Path) (text : List ℕ) (table : List Step) (are : AreStepsOf path table) (entries : List Entry)
     (low : ℕ) (walked : IsWalked text entries low) (found : IdLines)

@@ -39,7 +39,7 @@ pieces-smaller-in_ok-push c =
     let entries = c.pieces.entries.items in
     let section = path_view c.pieces.section.items in
     let piece_is = rw c.in-Some.is at c.in_ok-piece.ensures in
-    let some : rest ≡ [] → ⊥ = not_empty rest (sym c.is_empty.ensures ∙ c.pieces-test.true) in
+    let some : rest ≡ [] → ⊥ = not_empty rest (sym c.is_empty.ensures ∙ c.if-not-is_empty.true) in
     let room = piece_room text rest low piece c.pieces.invariant.1 piece_is some c.pieces.invariant.2.within in
     let closed : IsClosed rest piece.rest.now = rw c.if-not-is_closed.false at c.is_closed.ensures in
     piece_shorter text rest low piece entries section c.pieces.invariant.1 piece_is some room closed
@@ -53,7 +53,7 @@ pieces-smaller c =
     let entries = c.pieces.entries.items in
     let section = path_view c.pieces.section.items in
     let piece_is = rw c.in-Some.is at c.in_ok-piece.ensures in
-    let some : rest ≡ [] → ⊥ = not_empty rest (sym c.is_empty.ensures ∙ c.pieces-test.true) in
+    let some : rest ≡ [] → ⊥ = not_empty rest (sym c.is_empty.ensures ∙ c.if-not-is_empty.true) in
     let room = piece_room text rest low piece c.pieces.invariant.1 piece_is some c.pieces.invariant.2.within in
     let closed : IsClosed rest piece.rest.now = rw c.if-not-is_closed.false at c.is_closed.ensures in
     piece_shorter text rest low piece entries section c.pieces.invariant.1 piece_is some room closed
@@ -67,17 +67,17 @@ pieces-preserved-in_ok-push c =
     let entries = c.pieces.entries.items in
     let section = path_view c.pieces.section.items in
     let piece_is = rw c.in-Some.is at c.in_ok-piece.ensures in
-    let some : rest ≡ [] → ⊥ = not_empty rest (sym c.is_empty.ensures ∙ c.pieces-test.true) in
+    let some : rest ≡ [] → ⊥ = not_empty rest (sym c.is_empty.ensures ∙ c.if-not-is_empty.true) in
     let room = piece_room text rest low piece c.pieces.invariant.1 piece_is some c.pieces.invariant.2.within in
     let closed : IsClosed rest piece.rest.now = rw c.if-not-is_closed.false at c.is_closed.ensures in
     let further = piece_rest text rest low piece entries section c.pieces.invariant.1 piece_is some room closed in
-    let made = c.in_ok-entry_of.ensures in
+    let made = c.in_ok-entry.ensures in
     let place = rw c.in-Some-checked_add.ensures.1 at made.lines in
     rw (c.in-Some-checked_add.ensures.1, c.in_ok-push.ensures.items, made.section) (
       subst IsUtf8 (sym further) (rest_utf8 text (low + piece.count) c.utf8.text),
       further,
       over_entry text rest low piece entries section c.pieces.invariant.1 piece_is some room closed c.pieces.invariant.2
-          c.in-Some-definition.definition c.in-Some-definition.is c.in_ok-entry_of.field-0
+          c.in-Some-definition.definition c.in-Some-definition.is c.in_ok-entry.entry
           (made.kind
           ∙ ap (kind_in c.in-Some-definition.definition.is_header) c.begins_element-is_element.ensures)
           made.parts place,
@@ -92,7 +92,7 @@ pieces-preserved c =
     let entries = c.pieces.entries.items in
     let section = path_view c.pieces.section.items in
     let piece_is = rw c.in-Some.is at c.in_ok-piece.ensures in
-    let some : rest ≡ [] → ⊥ = not_empty rest (sym c.is_empty.ensures ∙ c.pieces-test.true) in
+    let some : rest ≡ [] → ⊥ = not_empty rest (sym c.is_empty.ensures ∙ c.if-not-is_empty.true) in
     let room = piece_room text rest low piece c.pieces.invariant.1 piece_is some c.pieces.invariant.2.within in
     let closed : IsClosed rest piece.rest.now = rw c.if-not-is_closed.false at c.is_closed.ensures in
     let further = piece_rest text rest low piece entries section c.pieces.invariant.1 piece_is some room closed in
