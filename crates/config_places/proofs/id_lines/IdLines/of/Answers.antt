@@ -26,9 +26,9 @@ loop-entry-preserved c = λ id.
     elim c.match-ids_brought.branch [
       | in-Nothing w ↦
           rw w.own-is (
-            next_entry entries i entry here c.entry-item.is o o (fresh path)
-                (passes entry path o (w.in-Nothing.ensures c.requires id))
-            ∙ c.loop-entry.invariant id
+          next_entry entries i entry here c.entry-item.is o o (fresh path)
+          (passes entry path o (w.in-Nothing.ensures c.requires id))
+          ∙ c.loop-entry.invariant id
           )
       | in-OneId+then-not-contains_key+in_ok-insert-in-OneId w ↦
           let key = w.in-OneId.id.now in
@@ -40,18 +40,18 @@ loop-entry-preserved c = λ id.
           none_from o (w.if-not-contains_key.ensures
           ∙ ap (λ n. is_some (get_by (λ k. slice_cmp nat_cmp n k.now) old)) (sym same)) in
           rw w.own-is (
-            next_entry entries i entry here c.entry-item.is o new (fresh path)
-                (now_kept entry path id.now key o (w.in-OneId.ensures c.requires id) new none now)
-            ∙ c.loop-entry.invariant id
+          next_entry entries i entry here c.entry-item.is o new (fresh path)
+          (now_kept entry path id.now key o (w.in-OneId.ensures c.requires id) new none now)
+          ∙ c.loop-entry.invariant id
           )
       | in-OneId+else-not-contains_key w ↦
           let key = w.in-OneId.id.now in
           let some : id.now ≡ key → is_some o ≡ true = λ same.
           ap (λ n. is_some (get_by (λ k. slice_cmp nat_cmp n k.now) old)) same ∙ sym w.if-not-contains_key.ensures in
           rw w.own-is (
-            next_entry entries i entry here c.entry-item.is o o (fresh path)
-                (still_kept entry path id.now key o (w.in-OneId.ensures c.requires id) some)
-            ∙ c.loop-entry.invariant id
+          next_entry entries i entry here c.entry-item.is o o (fresh path)
+          (still_kept entry path id.now key o (w.in-OneId.ensures c.requires id) some)
+          ∙ c.loop-entry.invariant id
           )
     ]
 
