@@ -14,7 +14,7 @@ use Rattle.config_places.specs.declared.entry.Kind.TheVariants.{Pair, Table, Ele
 use Rattle.config_places.specs.declared.place.Lines.{Lines}
 use Rattle.config_places.specs.declared.step.Step.{Step}
 use Rattle.config_places.specs.declared.step.Step.TheVariants.{Key, Position}
-use Rattle.config_places.specs.Entries.{aim_along, aim_at_key, found, outcome_behind, outcome_of, scan, waits}
+use Rattle.config_places.specs.Entries.{aim_along, aim_at_key, outcome_behind, outcome_of, scan}
 use Rattle.config_places.specs.Ids.{AreKeys, outcome_by}
 use Rattle.config_places.specs.Marks.{Mark, fresh, missing, seen, turn}
 use Rattle.config_places.proofs.Aiming.{fresh_marks, scan_found, turned_brings, turned_elsewhere}

@@ -1,5 +1,5 @@
 -- A text has one order of the ids at a path.
-use Rattle.std.proofs.Common.{◌≡◌, ◌⊎◌, ℕ, ◌<◌, ◌≤◌, Bool, true, false, ◌||◌, List, [], ◌∷◌, nat_cmp, Less, Equal, Greater, refl, sym, ap, ◌∙◌, subst, inl, inr, arith}
+use Rattle.std.proofs.Common.{◌≡◌, ◌⊎◌, ℕ, ◌<◌, true, false, List, [], ◌∷◌, nat_cmp, Less, Greater, refl, sym, ap, ◌∙◌, subst, inl, inr, arith}
 use Rattle.std.proofs.lemmas.Bool.{cases_Bool, cases_lt, false≢true, true≢false}
 use Rattle.std.proofs.lemmas.Cmp.{nat_list_cmp_total}
 use Rattle.std.proofs.lemmas.Slice.Eq.{bytes_eq-Decides}
@@ -9,8 +9,8 @@ use Rattle.std.specs.Ordering.{ordering_reverse}
 use Rattle.std.specs.Str.{bytes_eq}
 use Rattle.nextest_documents.specs.Shown.{Path}
 use Rattle.config_places.specs.Law.{OrdersAreOne}
-use Rattle.config_places.specs.Order.{AllBefore, IsBefore, IsOrder, IsPlace, appears_at}
-use Rattle.config_places.specs.Standing.{is_among, stands_in}
+use Rattle.config_places.specs.Order.{AllBefore, IsBefore, IsPlace}
+use Rattle.config_places.specs.Standing.{is_among}
 
 -- bytes that are below others are not above them
 one_way : (a b : List ℕ) → slice_cmp nat_cmp a b ≡ Less → slice_cmp nat_cmp b a ≡ Less → ⊥

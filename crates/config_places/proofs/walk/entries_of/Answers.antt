@@ -1,4 +1,4 @@
-use Rattle.std.proofs.Common.{◌≡◌, ◌∙◌, ◌+◌, ◌≤◌, [], IsUtf8, ap, arith, refl, rules, subst, sym}
+use Rattle.std.proofs.Common.{◌≡◌, ◌∙◌, ◌+◌, [], IsUtf8, ap, refl, rules, subst, sym}
 use Rattle.toml_parser.specs.Reading.{path_view}
 use Rattle.config_places.proofs.Sections.{rest_utf8}
 use Rattle.config_places.specs.Entries.{kind_in}
