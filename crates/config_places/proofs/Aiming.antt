@@ -223,7 +223,7 @@ module _ (kind : Kind) (parts : List (List ℕ)) (entered count : ℕ) (path : L
       turned_counts steps i is ∙ rw (not_below count i enough, other) refl
 
 -- entries behind what is found
-scan_found : (entries : List Entry) (lines : Lines) → scan entries (found lines) ≡ found lines
+pub scan_found : (entries : List Entry) (lines : Lines) → scan entries (found lines) ≡ found lines
 scan_found [] lines = refl
 scan_found (e ∷ entries) lines = scan_found entries lines
 

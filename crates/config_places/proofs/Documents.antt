@@ -1,17 +1,21 @@
 -- A document, and a longer one that begins with its lines.
-use Rattle.std.proofs.Common.{◌≡◌, ℕ, zero, suc, ◌==◌, List, [], ◌∷◌, ◌++◌, length, Option, Some, None, option_and_then, refl, true, false, subst, inl, inr}
+use Rattle.std.proofs.Common.{◌≡◌, ℕ, zero, suc, true, false, ◌&&◌, ◌==◌, List, [], ◌∷◌, ◌++◌, length, Option, Some, None, option_map, option_and_then, refl, subst, inl, inr, arith}
 use Rattle.std.proofs.lemmas.Bool.{cases_Bool}
+use Rattle.std.proofs.lemmas.Bool.Decides.{nat_tests}
 use Rattle.std.proofs.lemmas.Option.{none-some, same_Some}
-use Rattle.toml_parser.specs.Lexical.{Read, skip_blank}
+use Rattle.toml_parser.specs.Lexical.{Read, first, skip_blank}
 use Rattle.toml.specs.Data.{Members, table}
-use Rattle.toml.specs.Tables.{no_nodes, Document, Expression, define}
-use Rattle.toml.specs.Parse.{line, lines, parse_document}
-use Rattle.nextest_script_order.proofs.GoesOn.{GoesOn, skip_grown}
-use Rattle.nextest_script_order.proofs.Kept.{Kept}
-use Rattle.nextest_script_order.proofs.Values.{line_kept}
-use Rattle.nextest_script_order.proofs.Documents.{after_line, not_over, not_over_long, grown_from, bom_grown, closed}
+use Rattle.toml.specs.Tables.{no_nodes, close, Document, Expression, define}
+use Rattle.toml.specs.Parse.{line, lines, skip_bom, parse_document}
+use Rattle.config_places.proofs.GoesOn.{GoesOn, here, next, first_same, after_first, skip_grown}
+use Rattle.config_places.proofs.Kept.{Kept}
+use Rattle.config_places.proofs.Values.{line_kept}
 use Rattle.config_places.proofs.Stands.{Grows}
 use Rattle.config_places.proofs.NodesGrow.{NodesGrow, table_grows, define_grows}
+
+-- the lines after an expression
+abbrev pub after_line : ℕ → Document → Read Expression → Option Document
+after_line n doc r = option_and_then (λ e. option_and_then (λ next. lines n next e.1) (define doc e.0)) r
 
 then_grows : (doc last : Document) (made : Option Document) (rest : Document → Option Document)
     → ((next : Document) → made ≡ Some next → NodesGrow doc.0 next.0)
@@ -54,6 +58,14 @@ after_keeps n m doc short long (Some e) s k keeps a b =
     then_keeps short long (define doc e.0) (λ next. lines n next e.1) (λ next. lines m next w)
     (λ next c d. keeps next e.1 w g c d) a (rw same at b)
 
+pub not_over : {behind : List ℕ} → (x y : List ℕ) → GoesOn behind x y → (length x == 0) ≡ false
+not_over x y here = refl
+not_over x y (next c xs ys g) = grind (arith, nat_tests)
+
+pub not_over_long : {behind : List ℕ} → (x y : List ℕ) → GoesOn behind x y → (length y == 0) ≡ false
+not_over_long x y here = grind (arith, nat_tests)
+not_over_long x y (next c xs ys g) = grind (arith, nat_tests)
+
 lines_keep : {behind : List ℕ} → (n m : ℕ) (doc short long : Document) (x y : List ℕ) → GoesOn behind x y
     → lines n doc x ≡ Some short → lines m doc y ≡ Some long → NodesGrow short.0 long.0
 unfolding lines
@@ -69,6 +81,30 @@ lines_keep (suc n) (suc m) doc short long x y g a b =
           after_keeps n m doc short long (line (skip_blank x)) (line (skip_blank y)) (line_kept _ _ rest)
           (λ next v w h c d. lines_keep n m next short long v w h c d) (rw some at a) (rw long_some at b)
     ]
+
+pub grown_from : (text more : List ℕ) → GoesOn more (text ++ 10 ∷ []) (text ++ 10 ∷ more)
+grown_from [] more = here
+grown_from (c ∷ text) more = next c _ _ (grown_from text more)
+
+no_bom : (c : ℕ) → (c == 0xEF && false) ≡ false
+no_bom c = grind (arith, nat_tests)
+
+pub bom_grown : {behind : List ℕ} → (x y : List ℕ) → GoesOn behind x y → GoesOn behind (skip_bom x) (skip_bom y)
+unfolding skip_bom
+bom_grown x y here = here
+bom_grown x y (next c xs ys here) = rw (no_bom c) (next c xs ys here)
+bom_grown x y (next c xs ys (next d us vs g)) =
+    rw (← first_same us vs g) (elim (cases_Bool ((c == 0xEF && d == 0xBB) && first us == 0xBF)) [
+      | inl bom ↦
+          let other : (first us == 10) ≡ false = grind (arith, nat_tests) in
+          rw bom (after_first us vs g other)
+      | inr none ↦ rw none (next c xs ys (next d us vs g))
+    ])
+
+pub closed : (o : Option Document) (ms : Members) → option_map (λ doc. close doc.0) o ≡ Some ms
+    → (doc : Document) × (o ≡ Some doc) × (close doc.0 ≡ ms)
+closed None ms h = absurd (none-some ms h)
+closed (Some doc) ms h = (doc, refl, same_Some _ ms h)
 
 pub documents_keep : (text more : List ℕ) (short long : Members)
     → parse_document (text ++ 10 ∷ []) ≡ Some short → parse_document (text ++ 10 ∷ more) ≡ Some long

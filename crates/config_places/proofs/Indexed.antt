@@ -3,15 +3,16 @@ use Rattle.std.proofs.Common.{◌≡◌, ℕ, zero, suc, ◌+◌, ◌<◌, ◌�
 use Rattle.std.proofs.lemmas.Bool.{cases_Bool, cases_lt, true≢false}
 use Rattle.nextest_tree.specs.View.{tree_view}
 use Rattle.nextest_documents.specs.Text.{tree_of}
-use Rattle.nextest_script_order.specs.Lines.{first_lines, line_count}
-use Rattle.nextest_script_order.specs.Search.{IsDocument, NoDocumentBetween}
-use Rattle.nextest_script_order.proofs.Keeping.{all_lines}
+use Rattle.config_places.specs.Lines.{first_lines, line_count}
+use Rattle.config_places.specs.Search.{IsDocument, NoDocumentBetween}
+use Rattle.config_places.proofs.Sections.{all_lines}
 use Rattle.config_places.specs.declared.fronts.Front.{Front}
 use Rattle.config_places.specs.declared.index.Index.{Index}
 use Rattle.config_places.specs.declared.place.Lines.{Lines}
+use Rattle.config_places.specs.declared.place.Longest.{Longest}
 use Rattle.config_places.specs.declared.step.Step.{Step}
-use Rattle.config_places.specs.Entries.{IsWaiting, Outcome, found, scan, waits}
-use Rattle.config_places.specs.Index.{IsIndexed, IsRight, LeadToEnd, LeadsTo, first_with}
+use Rattle.config_places.specs.Entries.{Outcome, found, scan, waits}
+use Rattle.config_places.specs.Index.{IsIndex, IsKnown, IsRight, LeadToEnd, LeadsTo, first_with, found_or, lines_behind, lines_in}
 use Rattle.config_places.specs.Marks.{fresh}
 use Rattle.config_places.specs.Path.{has_path}
 use Rattle.config_places.specs.Place.{IsPlaceOfPath, is_there_by, text_has}
@@ -73,23 +74,48 @@ module _ (path : List Step) (text : List ℕ) where
         | inr lacks ↦ rw lacks (by_fronts front.lines.last fronts high leads (rw is refl) (here ∙ lacks))
       ]
 
-  in_rest : (o : Option Lines) (high : ℕ) (rest : Lines) → rest.first ≡ suc high → high < rest.last
+  -- there are lines behind lines by which the path is not there
+  some_left : (high last : ℕ) → high ≤ last → is_there_by path text high ≡ false
+      → is_there_by path text last ≡ true → high < last
+  some_left high last within missing there =
+      elim (cases_le last high) [
+        | inl none ↦
+            let same : high ≡ last = omega (arith, none, within) in
+            absurd (true≢false (sym there ∙ ap (is_there_by path text) (sym same) ∙ missing))
+        | inr more ↦ more
+      ]
+
+  in_rest : (o : Option Lines) (high : ℕ) (rest : Lines) → (high < rest.last → rest.first ≡ suc high) → high ≤ rest.last
       → NoDocumentBetween text high rest.last → is_there_by path text rest.last ≡ true
       → MatchOption o (IsDocument text high × (is_there_by path text high ≡ false)) (IsPlaceOfPath path text)
       → IsPlaceOfPath path text (unwrap_or o rest)
-  in_rest None high rest first less none there (document, missing) =
-      front_brings high rest first less document missing there none
-  in_rest (Some lines) high rest first less none there place = place
+  in_rest None high rest first within none there (document, missing) =
+      let less = some_left high rest.last within missing there in
+      front_brings high rest (first less) less document missing there none
+  in_rest (Some lines) high rest first within none there place = place
 
-  behind_entries : (low : ℕ) (fronts : List Front) (rest : Lines) → LeadToEnd text low fronts rest
+  pub behind_entries : (low : ℕ) (fronts : List Front) (rest : Lines) → LeadToEnd text low fronts rest
       → IsDocument text low → is_there_by path text low ≡ false → text_has path text ≡ true
-      → IsPlaceOfPath path text (unwrap_or (first_with path fronts) rest)
+      → IsPlaceOfPath path text (lines_behind fronts rest path)
   behind_entries low fronts rest are document missing has =
       let whole : is_there_by path text rest.last ≡ true =
       ap (is_there_by path text) are.whole
       ∙ ap (text_has path) (all_lines text 0 (line_count text) (omega arith)) ∙ has in
-      in_rest (first_with path fronts) are.high rest are.first are.below are.none whole
+      in_rest (first_with path fronts) are.high rest are.first are.within are.none whole
       (by_fronts low fronts are.high are.leads document missing)
+
+  by_outcome : (low : ℕ) (fronts : List Front) (rest : Lines) (o : Outcome) → LeadToEnd text low fronts rest
+      → IsDocument text low → IsRight path text low o → text_has path text ≡ true
+      → IsPlaceOfPath path text (found_or o (lines_behind fronts rest path))
+  by_outcome low fronts rest (found lines) are document right has = right
+  by_outcome low fronts rest (waits ms) are document right has = behind_entries low fronts rest are document right has
+
+  -- the place of a path of a text that is a document
+  pub index_place : (length path == 0) ≡ false → (index : Index) → IsIndex text index → text_has path text ≡ true
+      → IsPlaceOfPath path text (lines_in index path)
+  index_place some index is has =
+      by_outcome is.low index.fronts.items index.rest (scan index.entries.items (waits (fresh path))) is.fronts
+      is.walked.front (is.walked.right path some has) has
 
 -- a place in a front of a text is one in the text
 whole_place : (path : List Step) (text : List ℕ) (n : ℕ) (place : Lines) → text_has path (first_lines n text) ≡ true
@@ -114,38 +140,11 @@ whole_place path text n place has is =
           }
     ]
 
-module _ (path : List Step) (some : (length path == 0) ≡ false) (text : List ℕ) (index : Index)
-    (is : IsIndexed text (Some index)) (has : has_path path (tree_view index.document) ≡ true) where
-  has_whole : text_has path (first_lines is.0 text) ≡ true
-  has_whole = rw is.2.document has
-
-  pub place_by_entries : (lines : Lines) → scan index.entries.items (waits (fresh path)) ≡ found lines
-      → IsPlaceOfPath path text lines
-  place_by_entries lines found_is =
-      whole_place path text is.0 lines has_whole
-      (rw found_is at (is.2.walked.right path some has_whole))
-
-  waiting : (o : Outcome) → IsWaiting o → IsRight path (first_lines is.0 text) is.2.low o
-      → is_there_by path (first_lines is.0 text) is.2.low ≡ false
-  waiting (found lines) none right = absurd none
-  waiting (waits ms) none right = right
-
-  not_there : IsWaiting (scan index.entries.items (waits (fresh path)))
-      → is_there_by path (first_lines is.0 text) is.2.low ≡ false
-  not_there none =
-      waiting (scan index.entries.items (waits (fresh path))) none (is.2.walked.right path some has_whole)
-
-  pub place_by_fronts : IsWaiting (scan index.entries.items (waits (fresh path))) → (rest : Lines)
-      → index.rest ≡ Some rest → IsPlaceOfPath path text (unwrap_or (first_with path index.fronts.items) rest)
-  place_by_fronts none rest left =
-      whole_place path text is.0 (unwrap_or (first_with path index.fronts.items) rest) has_whole
-      (behind_entries path (first_lines is.0 text) is.2.low index.fronts.items rest
-      (rw left at is.2.fronts) is.2.walked.front (not_there none) has_whole)
-
-  -- where no lines are left, an entry brings what stands at the path
-  pub none_left : IsWaiting (scan index.entries.items (waits (fresh path))) → index.rest ≡ None → ⊥
-  none_left none over =
-      let whole = first_lines is.0 text in
-      let low : is.2.low ≡ line_count whole = rw over at is.2.fronts in
-      let all : first_lines (line_count whole) whole ≡ whole = all_lines whole 0 (line_count whole) (omega arith) in
-      true≢false (sym (ap (is_there_by path whole) low ∙ ap (text_has path) all ∙ has_whole) ∙ not_there none)
+-- the place of a path of the longest front
+pub known_place : (path : List Step) → (length path == 0) ≡ false → (text : List ℕ) (longest : Longest)
+    → IsKnown text (Some longest) → has_path path (tree_view longest.document) ≡ true
+    → IsPlaceOfPath path text (lines_in longest.index path)
+known_place path some text longest is has =
+    let whole : text_has path (first_lines is.0 text) ≡ true = rw is.1.is has in
+    whole_place path text is.0 (lines_in longest.index path) whole
+    (index_place path (first_lines is.0 text) some longest.index is.2 whole)

@@ -5,7 +5,7 @@ use Rattle.std.specs.Option.{option_map_or}
 use Rattle.toml.proofs.OnLiterals.{toml_on_literals}
 use Rattle.nextest_tree.specs.Node.{Node, table, no_entries}
 use Rattle.nextest_documents.specs.Text.{tree_of}
-use Rattle.nextest_script_order.specs.Lines.{first_lines}
+use Rattle.config_places.specs.Lines.{first_lines}
 use Rattle.config_places.specs.declared.step.Step.{Step}
 use Rattle.config_places.specs.declared.step.Step.TheVariants.{Key, Position}
 use Rattle.config_places.specs.Path.{has_path}

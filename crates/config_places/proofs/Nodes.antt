@@ -1,16 +1,31 @@
 -- What stands in whole lines stands in a longer document, as nodes.
-use Rattle.std.proofs.Common.{◌≡◌, ℕ, zero, suc, true, List, [], ◌∷◌, ◌++◌, Option, Some, None, is_some, option_map, option_and_then, refl, sym, ap, ◌∙◌}
-use Rattle.toml.specs.Data.{Data, string, integer, float, boolean, datetime, array, table, Items, no_items, item, get_item}
+use Rattle.std.proofs.Common.{◌≡◌, ℕ, zero, suc, true, Ordering, Less, Equal, Greater, nat_cmp, List, [], ◌∷◌, ◌++◌, Option, Some, None, is_some, option_map, option_and_then, refl, sym, ap, ◌∙◌}
+use Rattle.std.proofs.lemmas.Option.{none-some, same_Some}
+use Rattle.std.specs.Cmp.Lexicographic.{slice_cmp}
+use Rattle.std.specs.Ordering.{match_ordering}
+use Rattle.toml.specs.Data.{Data, string, integer, float, boolean, datetime, array, table, Members, no_members, member, get_member, Items, no_items, item, get_item}
 use Rattle.toml.specs.Parse.{parse_document}
-use Rattle.nextest_tree.specs.Node.{Node}
+use Rattle.nextest_tree.specs.Node.{Node, get}
+use Rattle.nextest_tree.specs.Node as nodes
 use Rattle.nextest_documents.specs.Text.{tree_of}
-use Rattle.nextest_documents.specs.Value.{from_data, from_items}
-use Rattle.nextest_script_order.proofs.Longer.{document_is, get_member_is}
+use Rattle.nextest_documents.specs.Value.{from_data, from_items, from_members}
 use Rattle.config_places.specs.declared.step.Step.{Step}
 use Rattle.config_places.specs.declared.step.Step.TheVariants.{Key, Position}
 use Rattle.config_places.specs.Path.{has_path, item_at, stands_at, step_into}
 use Rattle.config_places.proofs.Stands.{step_in, value_at}
 use Rattle.config_places.proofs.Documents.{documents_keep}
+
+get_at : (o : Ordering) (d : Data) (found : Option Data) (seen : Option Node) → seen ≡ option_map from_data found
+    → match_ordering o seen (Some (from_data d)) seen ≡ option_map from_data (match_ordering o found (Some d) found)
+get_at Less d found seen e = e
+get_at Equal d found seen e = refl
+get_at Greater d found seen e = e
+
+-- the nodes of a table's members are at the same keys
+get_member_is : (k : List ℕ) (ms : Members) → get k (from_members ms) ≡ option_map from_data (get_member k ms)
+get_member_is k no_members = refl
+get_member_is k (member l d ms) =
+    get_at (slice_cmp nat_cmp k l) d (get_member k ms) (get k (from_members ms)) (get_member_is k ms)
 
 -- the nodes of an array's items are at the same positions
 get_item_is : (i : ℕ) (ds : Items) → item_at i (from_items ds) ≡ option_map from_data (get_item i ds)
@@ -43,6 +58,11 @@ inside path (Some d) same = same d
 pub at_path : (path : List Step) (d : Data) → has_path path (from_data d) ≡ is_some (value_at path d)
 at_path [] d = refl
 at_path (step ∷ path) d = rw (step_is step d) (inside path (step_in step d) (λ e. at_path path e))
+
+document_is : (o : Option Members) (n : Node) → option_map (λ ms. nodes.table (from_members ms)) o ≡ Some n
+    → (ms : Members) × (o ≡ Some ms) × (from_data (table ms) ≡ n)
+document_is None n h = absurd (none-some n h)
+document_is (Some ms) n h = (ms, refl, same_Some _ n h)
 
 pub longer_keep : (text more : List ℕ) (short long : Node) (path : List Step)
     → tree_of (text ++ 10 ∷ []) ≡ Some short → tree_of (text ++ 10 ∷ more) ≡ Some long

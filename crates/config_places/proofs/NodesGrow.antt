@@ -6,7 +6,7 @@ use Rattle.std.specs.Cmp.Lexicographic.{slice_cmp}
 use Rattle.std.specs.Ordering.{nat_cmp}
 use Rattle.toml.specs.Data.{Data, table, array, Items, no_items, item, no_members, get_item, push_item, same_key}
 use Rattle.toml.specs.Tables.{implicit, dotted, header, Node, value, open_table, open_array, Nodes, no_nodes, node, get_node, insert, replace, close, close_node, Edit, header_node, dot_node, by_header, by_dot, along_header, along_dots, Definition, key_value, std_table, array_table, new_node, redefine, at_found, at_key, put, Document, Expression, define_as, define}
-use Rattle.nextest_script_order.proofs.KeptNodes.{cases_ordering, map_some, get_close, same_bytes}
+use Rattle.config_places.proofs.Edits.{cases_ordering, map_some, get_close, same_bytes}
 use Rattle.config_places.specs.declared.step.Step.{Step}
 use Rattle.config_places.specs.declared.step.Step.TheVariants.{Key, Position}
 use Rattle.config_places.proofs.Stands.{value_at, Grows}

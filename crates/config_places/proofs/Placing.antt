@@ -4,15 +4,13 @@ use Rattle.std.proofs.lemmas.Bool.{cases_Bool, true≢false}
 use Rattle.std.specs.Option.{option_map_or}
 use Rattle.nextest_tree.specs.Node.{Node}
 use Rattle.nextest_documents.specs.Text.{tree_of}
-use Rattle.nextest_script_order.specs.Lines.{first_lines, line_count}
-use Rattle.nextest_script_order.specs.Search.{IsDocument, NoDocumentBetween}
-use Rattle.nextest_script_order.proofs.Keeping.{all_lines}
-use Rattle.nextest_script_order.proofs.Sections.{some_of}
+use Rattle.config_places.specs.Lines.{first_lines, line_count}
+use Rattle.config_places.specs.Search.{IsDocument, IsLongest, NoDocumentBetween}
+use Rattle.config_places.proofs.Sections.{all_lines, some_of}
 use Rattle.config_places.specs.declared.step.Step.{Step}
 use Rattle.config_places.specs.declared.step.Step.TheVariants.{Key, Position}
 use Rattle.config_places.specs.Path.{has_path}
 use Rattle.config_places.specs.Place.{HasNoPlace, IsPlaceOfPath, is_there_by}
-use Rattle.config_places.specs.Search.{IsLongest}
 use Rattle.config_places.proofs.Keeping.{in_empty, there_later}
 
 pub cases_le : (m n : ℕ) → (m ≤ n) ⊎ (n < m)

@@ -3,7 +3,7 @@ use Rattle.std.proofs.Common.{◌≡◌, ℕ, zero, suc, Bool, true, false, List
 use Rattle.std.specs.Option.{option_map_or}
 use Rattle.toml.specs.Data.{Data, table, Items, no_items, item, get_item, push_item}
 use Rattle.toml.specs.Tables.{header, Node, value, open_table, open_array, Nodes, get_node, close, close_node}
-use Rattle.nextest_script_order.proofs.KeptNodes.{get_close}
+use Rattle.config_places.proofs.Edits.{get_close}
 use Rattle.config_places.specs.declared.step.Step.{Step}
 use Rattle.config_places.specs.declared.step.Step.TheVariants.{Key, Position}
 use Rattle.config_places.specs.Marks.{Mark, State, by_key, into, seen, never, missing, under, fresh}

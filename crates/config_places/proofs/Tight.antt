@@ -8,16 +8,16 @@ use Rattle.toml.specs.Tables.{Document, Expression}
 use Rattle.toml.specs.Parse.{line, lines}
 use Rattle.nextest_tree.specs.Node.{Node}
 use Rattle.nextest_documents.specs.Text.{tree_of}
-use Rattle.nextest_script_order.specs.Lines.{after_lines, first_lines, line_count}
-use Rattle.nextest_script_order.specs.Search.{NoDocumentBetween}
-use Rattle.nextest_script_order.specs.Walking.{read_lines}
-use Rattle.nextest_script_order.proofs.Documents.{bom_grown, grown_from, not_over_long}
-use Rattle.nextest_script_order.proofs.GoesOn.{GoesOn, here, next, skip_grown}
-use Rattle.nextest_script_order.proofs.Joined.{split_runs}
-use Rattle.nextest_script_order.proofs.Kept.{Kept}
-use Rattle.nextest_script_order.proofs.Sections.{EndsLf, count_after, ends_lf, lines_join}
-use Rattle.nextest_script_order.proofs.Values.{line_kept}
-use Rattle.nextest_script_order.proofs.Walked.{after_both, document_run, long_turn, run, start, start_run}
+use Rattle.config_places.specs.Lines.{after_lines, first_lines, line_count}
+use Rattle.config_places.specs.Search.{NoDocumentBetween}
+use Rattle.config_places.specs.Pieces.{read_lines}
+use Rattle.config_places.proofs.Documents.{bom_grown, grown_from, not_over_long}
+use Rattle.config_places.proofs.GoesOn.{GoesOn, here, next, skip_grown}
+use Rattle.config_places.proofs.Joined.{split_runs}
+use Rattle.config_places.proofs.Kept.{Kept}
+use Rattle.config_places.proofs.Sections.{EndsLf, count_after, ends_lf, lines_join}
+use Rattle.config_places.proofs.Values.{line_kept}
+use Rattle.config_places.proofs.Walked.{after_both, document_run, long_turn, run, start, start_run}
 
 -- lines, and more lines behind them
 pub grown_read : (is_start : Bool) (x y behind : List ℕ) → GoesOn behind x y

@@ -9,9 +9,8 @@ use Rattle.toml.specs.Tables.{Origin, implicit, dotted, header, Node, value, ope
 use Rattle.toml.specs.Parse.{line, lines}
 use Rattle.toml_parser.specs.Lexical.{Read, skip_blank}
 use Rattle.toml_parser.specs.Strings.{Key as Written}
-use Rattle.nextest_script_order.proofs.Documents.{after_line}
-use Rattle.nextest_script_order.proofs.Gains.{get_insert, get_replace}
-use Rattle.nextest_script_order.proofs.KeptNodes.{map_some, same_bytes}
+use Rattle.config_places.proofs.Documents.{after_line}
+use Rattle.config_places.proofs.Edits.{get_insert, get_replace, map_some, same_bytes}
 use Rattle.config_places.specs.declared.entry.Kind.{Kind}
 use Rattle.config_places.specs.declared.entry.Kind.TheVariants.{Pair, Table, Element}
 use Rattle.config_places.specs.declared.step.Step.{Step}

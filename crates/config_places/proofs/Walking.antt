@@ -1,30 +1,28 @@
 -- The entries of a text, piece by piece.
 use Rattle.std.proofs.Common.{◌≡◌, ◌⊎◌, ℕ, zero, suc, ◌+◌, ◌-◌, ◌<◌, ◌≤◌, Bool, true, false, ◌==◌, List, [], ◌∷◌, ◌++◌, length, drop, Some, None, option_and_then, option_map, refl, sym, ap, ◌∙◌, subst, inl, inr, arith, cond, slice_index, append-nil, eqb-true}
-use Rattle.std.proofs.lemmas.Bool.{cases_Bool, false≢true, true≢false}
+use Rattle.std.proofs.lemmas.Bool.{cases_Bool, cases_lt, false≢true, true≢false}
 use Rattle.std.proofs.lemmas.Option.{none-some, same_Some}
 use Rattle.std.specs.Bool.{OnTrue}
-use Rattle.toml_parser.specs.Lexical.{Read, first, skip_blank, skip_ws}
+use Rattle.toml_parser.specs.Lexical.{Read, first, skip_blank, skip_from, skip_ws}
 use Rattle.toml_parser.specs.Reading.{path_view}
 use Rattle.toml_parser.specs.Strings.{Key as Written}
 use Rattle.toml.specs.Data.{Data, table}
 use Rattle.toml.specs.Tables.{Definition, key_value, std_table, array_table, Document, Expression, close, define, header, open_table}
 use Rattle.toml.specs.Parse.{after_byte, ends_line, expression, header_key, keyval, line, lines, skip_bom, val}
-use Rattle.nextest_script_order.specs.Contents.{HoldsOne, definition_view}
-use Rattle.nextest_script_order.specs.Expressions.{parts_under, section_after}
-use Rattle.nextest_script_order.specs.Lines.{after_lines, first_lines, line_count}
-use Rattle.nextest_script_order.specs.Search.{IsDocument, NoDocumentBetween}
-use Rattle.nextest_script_order.specs.Walking.{read_lines}
-use Rattle.nextest_script_order.proofs.Documents.{grown_from, not_over, not_over_long}
-use Rattle.nextest_script_order.proofs.Fronts.{more_left}
-use Rattle.nextest_script_order.proofs.Gains.{define_gains, section_after as next_section}
-use Rattle.nextest_script_order.proofs.GoesOn.{GoesOn, skip_grown}
-use Rattle.nextest_script_order.proofs.Keeping.{all_lines}
-use Rattle.nextest_script_order.proofs.KeptNodes.{map_some}
-use Rattle.nextest_script_order.proofs.Options.{bind_some}
-use Rattle.nextest_script_order.proofs.Sections.{EndsLf, empty_is}
-use Rattle.nextest_script_order.proofs.Told.{IsKind, key_of_end, line_told}
-use Rattle.nextest_script_order.proofs.Walked.{after_both, ahead, blank_goes, document_run, lines_rest, long_turn, one_turn, run, start, start_run, step_room, step_shorter, tree_run}
-use Rattle.nextest_script_order.specs.declared.expression.Definition.{Definition as Defined}
+use Rattle.config_places.specs.Contents.{HoldsOne, definition_view}
+use Rattle.config_places.specs.Expressions.{parts_under, section_after}
+use Rattle.config_places.specs.Lines.{after_lines, first_lines, line_count}
+use Rattle.config_places.specs.Search.{IsDocument, NoDocumentBetween}
+use Rattle.config_places.specs.Pieces.{is_double, IsClosed, IsPiece, read_lines}
+use Rattle.config_places.proofs.Documents.{grown_from, not_over, not_over_long}
+use Rattle.config_places.proofs.FirstLines.{more_left}
+use Rattle.config_places.proofs.Edits.{define_section, map_some, section_after as next_section}
+use Rattle.config_places.proofs.GoesOn.{GoesOn, skip_grown}
+use Rattle.config_places.proofs.Sections.{EndsLf, all_lines, count_after, empty_is}
+use Rattle.config_places.proofs.Options.{bind_some}
+use Rattle.config_places.proofs.Told.{IsKind, key_of_end, line_told}
+use Rattle.config_places.proofs.Walked.{after_both, ahead, blank_goes, document_run, lines_rest, long_turn, more_lines, one_turn, run, start, start_run, step_room, step_shorter, tree_run}
+use Rattle.config_places.specs.declared.expression.Definition.{Definition as Defined}
 use Rattle.config_places.specs.declared.entry.Entry.{Entry}
 use Rattle.config_places.specs.declared.piece.Piece.{Piece}
 use Rattle.config_places.specs.declared.step.Step.{Step}
@@ -32,7 +30,6 @@ use Rattle.config_places.specs.declared.step.Step.TheVariants.{Key, Position}
 use Rattle.config_places.specs.Entries.{Outcome, found, waits, outcome_behind, outcome_of, scan, kind_in}
 use Rattle.config_places.specs.Index.{IsRight, IsWalked}
 use Rattle.config_places.specs.Marks.{Mark, State, seen, never, missing, fresh, turn}
-use Rattle.config_places.specs.Pieces.{IsClosed, IsPiece, is_double}
 use Rattle.config_places.specs.Place.{IsPlaceOfPath, is_there_by, text_has}
 use Rattle.config_places.proofs.Nodes.{at_path}
 use Rattle.config_places.proofs.Placing.{place_is}
@@ -335,13 +332,12 @@ at_entry text low count entries section entry key double here some room goes kin
     let kinds : kind_of goes.what ≡ entry.kind = goes.kind ∙ sym kind in
     let all_parts : parts_by here.doc.1 key.0 goes.what ≡ path_view entry.parts.items =
     parts_are here.doc.1 key goes.what goes.is_kind ∙ ap (λ s. parts_under s key) here.is_section ∙ sym parts in
-    let gains = define_gains here.doc goes.next (key.0, goes.what) goes.defined in
     record {
       doc = goes.next;
       last = here.last;
       front = goes.read;
       all = here.all;
-      is_section = gains.section ∙ section_is here.doc.1 key goes.what goes.is_kind
+      is_section = define_section here.doc goes.next (key.0, goes.what) goes.defined ∙ section_is here.doc.1 key goes.what goes.is_kind
           ∙ ap (λ s. section_after s key) here.is_section;
       within = room;
       right = λ path more there.
@@ -397,6 +393,39 @@ closed_by text behind byte is some =
       | inl lf ↦ rw lf (λ none. ends_newline text (sym is ∙ eqb-true byte 10 lf) (not_empty text some))
       | inr other ↦ rw other tt
     ]
+
+-- there are as many lines as a piece takes
+none_behind : (n : ℕ) (text behind : List ℕ) → after_lines n text ≡ behind → line_count text ≤ n → behind ≡ []
+none_behind n text [] is few = refl
+none_behind n text (c ∷ cs) is few =
+    let some : after_lines n text ≡ [] → ⊥ = λ none. let same : c ∷ cs ≡ [] = sym is ∙ none in absurd (cc) in
+    absurd (omega (arith, few, more_lines n text 0 some))
+
+skip_none : skip_blank [] ≡ []
+unfolding skip_from
+skip_none = refl
+
+piece_lines : (is_start : Bool) (rest : List ℕ) (piece : Piece) → IsPiece is_start rest piece → (rest ≡ [] → ⊥)
+    → piece.count ≤ line_count rest
+piece_lines is_start rest piece is some =
+    elim (cases_lt 1 piece.count) [
+      | inr short ↦ omega (arith, short, more_lines 0 rest 0 some)
+      | inl long ↦ elim (cases_lt (line_count rest) piece.count) [
+        | inr room ↦ omega (arith, room)
+        | inl few ↦
+            let whole : first_lines piece.count rest ≡ rest = all_lines rest 0 piece.count (omega (arith, few)) in
+            let none : after_lines (piece.count - 1) rest ≡ [] =
+            none_behind (piece.count - 1) rest (after_lines (piece.count - 1) rest) refl (omega (arith, few, long)) in
+            absurd (is.ends long (ap skip_blank (ap (after_lines (piece.count - 1)) whole ∙ none) ∙ skip_none))
+      ]
+    ]
+
+pub piece_room : (text rest : List ℕ) (low : ℕ) (piece : Piece) → rest ≡ after_lines low text
+    → IsPiece (low == 0) rest piece → (rest ≡ [] → ⊥) → low ≤ line_count text → low + piece.count ≤ line_count text
+piece_room text rest low piece rest_is is some within =
+    let lines = piece_lines (low == 0) rest piece is some in
+    let all = count_after low text 0 0 within in
+    omega (arith, lines, all, ap line_count rest_is)
 
 -- a piece, as it is found behind some lines
 module _ (text rest : List ℕ) (low : ℕ) (piece : Piece) (entries : List Entry) (section : List (List ℕ))

@@ -1,8 +1,14 @@
+pub mod Contents
 pub mod Entries
+pub mod Expressions
+pub mod Ids
 pub mod Index
 pub mod Law
+pub mod Lines
 pub mod Marks
+pub mod Order
 pub mod Path
 pub mod Pieces
 pub mod Place
 pub mod Search
+pub mod Standing

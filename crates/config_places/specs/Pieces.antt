@@ -1,10 +1,14 @@
 -- A piece of a text, which is blank or holds one expression.
-use Rattle.std.specs.Prelude.{◌≡◌, ◌-◌, ◌<◌, ◌==◌, ◌&&◌, ℕ, Bool, List, [], ◌∷◌, ◌++◌, slice_index, MatchOption}
+use Rattle.std.specs.Prelude.{◌≡◌, ◌-◌, ◌<◌, ◌==◌, ◌&&◌, ℕ, Bool, if◌then◌else◌, List, [], ◌∷◌, ◌++◌, slice_index, MatchOption}
 use Rattle.toml_parser.specs.Lexical.{first, left_bracket, skip_blank}
-use Rattle.nextest_script_order.specs.Contents.{HoldsOne, definition_view}
-use Rattle.nextest_script_order.specs.Lines.{after_lines, first_lines}
-use Rattle.nextest_script_order.specs.Walking.{read_lines}
+use Rattle.toml.specs.Parse.{skip_bom}
+use Rattle.config_places.specs.Contents.{HoldsOne, definition_view}
+use Rattle.config_places.specs.Lines.{after_lines, first_lines}
 use Rattle.config_places.specs.declared.piece.Piece.{Piece}
+
+-- what is read of lines: at the start of a document a byte order mark is left out
+abbrev pub read_lines : Bool → List ℕ → List ℕ
+read_lines is_start lines = if is_start then skip_bom lines else lines
 
 -- The first lines of a text that a piece takes are blank or hold one expression. Where it takes
 -- several, neither the first nor the last one of them is blank.

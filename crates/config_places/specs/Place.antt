@@ -2,8 +2,8 @@
 use Rattle.std.specs.Prelude.{◌≡◌, ℕ, suc, ◌<◌, ◌⊎◌, Bool, true, false, List, []}
 use Rattle.std.specs.Option.{option_map_or}
 use Rattle.nextest_documents.specs.Text.{tree_of}
-use Rattle.nextest_script_order.specs.Lines.{first_lines}
-use Rattle.nextest_script_order.specs.Search.{IsDocument, NoDocumentBetween}
+use Rattle.config_places.specs.Lines.{first_lines}
+use Rattle.config_places.specs.Search.{IsDocument, NoDocumentBetween}
 use Rattle.config_places.specs.declared.place.Lines.{Lines}
 use Rattle.config_places.specs.declared.step.Step.{Step}
 use Rattle.config_places.specs.Path.{has_path}

@@ -39,7 +39,7 @@ pub(crate) struct Cursor {
 
 /// What an expression has to do with a path.
 #[derive(Clone, Copy)]
-enum Aim {
+pub(crate) enum Aim {
     /// It brings nothing on the way of the path that was not there.
     Elsewhere,
     /// It brings what stands at the path.
@@ -55,7 +55,7 @@ enum Aim {
 
 /// What an expression, by its kind and the parts of its key, has to do with a path of which so many
 /// steps are entered.
-fn aim_of(kind: Kind, parts: &[String], path: &[Step], entered: usize) -> Aim
+pub(crate) fn aim_of(kind: Kind, parts: &[String], path: &[Step], entered: usize) -> Aim
     ensures { result ≡ aim_along kind (path_view parts.now) entered 0 path.now }
 {
     let mut used = 0;

@@ -2,10 +2,9 @@
 ghost use Rattle.std.specs.Prelude.{◌≡◌, ◌<◌, ◌≤◌, List, ℕ, suc, IfOk, MatchOption, length, option_map};
 ghost use Rattle.nextest_tree.specs.View.{tree_view};
 ghost use Rattle.nextest_documents.specs.Text.{tree_of};
-ghost use Rattle.nextest_script_order.specs.Lines.{first_lines, line_count, line_ends};
-ghost use Rattle.nextest_script_order.specs.Search.{NoDocumentBetween};
-ghost use Rattle.config_places.specs.Index.{AreFronts};
-ghost use Rattle.config_places.specs.Search.{IsLongest};
+ghost use Rattle.config_places.specs.Lines.{first_lines, line_count, line_ends};
+ghost use Rattle.config_places.specs.Search.{IsLongest, NoDocumentBetween};
+ghost use Rattle.config_places.specs.Index.{LeadToEnd};
 
 use crate::place::Lines;
 use nextest_documents::{TextFault, tree_from_text};
@@ -123,14 +122,18 @@ pub(crate) fn fronts_behind(
     alloc: Global,
     fronts: &Fronts,
     low: usize,
-) -> Result<(Vec<Front>, Option<Lines>), AllocError>
+) -> Result<(Vec<Front>, Lines), AllocError>
     requires { low ≤ line_count fronts.now }
-    ensures { IfOk result (λ found. AreFronts fronts.now low found.0.items found.1) }
+    ensures { IfOk result (λ found. LeadToEnd fronts.now low found.0.items found.1) }
 {
     let count = fronts.count();
     let mut found = Vec::new(alloc);
     if low == count {
-        return Ok((found, None));
+        let none = Lines {
+            first: count,
+            last: count,
+        };
+        return Ok((found, none));
     }
     let mut high = low;
     'up: for last in low + 1..count {
@@ -147,5 +150,5 @@ pub(crate) fn fronts_behind(
         first: high + 1,
         last: count,
     };
-    Ok((found, Some(rest)))
+    Ok((found, rest))
 }

@@ -1,52 +1,58 @@
 //! An index of a document's text: which lines bring what stands at its paths.
-ghost use Rattle.std.specs.Prelude.{◌≡◌, ◌<◌, Some, true, IfOk, MatchOption};
-ghost use Rattle.nextest_tree.specs.View.{tree_view};
-ghost use Rattle.nextest_documents.specs.Text.{tree_of};
+ghost use Rattle.std.specs.Prelude.{◌≡◌, IfOk, MatchOption};
 ghost use Rattle.config_places.specs.Entries.{IsWaiting, found, scan, waits};
-ghost use Rattle.config_places.specs.Index.{IsIndex, first_with};
+ghost use Rattle.config_places.specs.Index.{IsIndex, first_with, lines_in};
+ghost use Rattle.config_places.specs.Lines.{line_count};
 ghost use Rattle.config_places.specs.Marks.{fresh};
+ghost use Rattle.config_places.specs.Search.{IsDocument};
 
 use crate::entry::{Cursor, Entry, turned};
 use crate::fronts::{Front, Fronts, fronts_behind};
+use crate::id_lines::Wanted;
 use crate::place::Lines;
 use crate::step::{Step, has_path};
 use crate::walk::entries_of;
-use nextest_tree::Tree;
 use std::alloc::{AllocError, Global};
 
 /// Which lines of a document's text bring what stands at its paths.
 #[derive(Drop)]
 pub(crate) struct Index {
-    /// The document.
-    pub(crate) document: Tree,
     /// Its expressions in order, as far as they were read one by one.
     pub(crate) entries: Vec<Entry>,
     /// The documents that end behind these, but the last one.
     pub(crate) fronts: Vec<Front>,
-    /// The lines behind them, if there are some.
-    pub(crate) rest: Option<Lines>,
+    /// The lines behind them, which may be none.
+    pub(crate) rest: Lines,
 }
 
 impl Index {
     /// The index of a text that is a document.
-    pub(crate) fn of(alloc: Global, text: &str, document: Tree) -> Result<Index, AllocError>
-        requires { tree_of text.now ≡ Some (tree_view document) }
+    pub(crate) fn of(alloc: Global, text: &str) -> Result<Index, AllocError>
+        requires { IsDocument text.now (line_count text.now) }
         ensures { IfOk result (IsIndex text.now) }
     {
-        let fronts = Fronts::of(alloc, text)?;
-        let (entries, low) = entries_of(alloc, text, fronts.count())?;
-        let (fronts, rest) = fronts_behind(alloc, &fronts, low)?;
+        let (entries, low) = entries_of(alloc, text, &mut Wanted::All)?;
+        let (fronts, rest) = fronts_behind(alloc, &Fronts::of(alloc, text)?, low)?;
         Ok(Index {
-            document,
             entries,
             fronts,
             rest,
         })
     }
+
+    /// The lines that bring what stands at a path of the document.
+    pub(crate) fn lines_of(&self, path: &[Step]) -> Lines
+        ensures { result ≡ lines_in self.now path.now }
+    {
+        match lines_by_entries(&self.entries, path) {
+            Some(lines) => lines,
+            None => lines_by_fronts(&self.fronts, path).unwrap_or(self.rest),
+        }
+    }
 }
 
 /// The lines of the entry that brings what stands at a path, if one does.
-pub(crate) fn lines_by_entries(entries: &[Entry], path: &[Step]) -> Option<Lines>
+fn lines_by_entries(entries: &[Entry], path: &[Step]) -> Option<Lines>
     ensures { let outcome = scan entries.now (waits (fresh path.now)) in
         MatchOption result (IsWaiting outcome) (λ lines. outcome ≡ found lines) }
 {

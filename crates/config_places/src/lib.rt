@@ -1,15 +1,25 @@
-//! Places of values in files: the lines of a text that bring what stands at a path.
+//! Places in files: the lines of a text that bring what stands at a path, and the order in which a
+//! text defines the ids of a table.
+//!
+//! The place of a path ends with the fewest first lines of the text that are a document with the
+//! path. It is found by one walk over the expressions of the text, each read on its own lines.
 #![tactic(auto)]
 
 mod entry;
+mod expression;
 mod fronts;
+mod id_lines;
+mod ids;
 mod index;
 mod law;
+mod lines;
+mod order;
 mod piece;
 mod place;
 mod step;
 mod walk;
 
-pub use law::law_longer_documents_keep_paths;
+pub use law::{law_longer_documents_keep, law_longer_documents_keep_paths, law_one_order};
+pub use order::ids_in_order;
 pub use place::{Lines, Places};
 pub use step::Step;

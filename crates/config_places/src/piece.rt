@@ -1,14 +1,12 @@
 //! Pieces of a text: blank lines, and those of one expression.
 ghost use Rattle.std.specs.Prelude.{◌≡◌, ◌==◌, [], length, IfOk, IfSome};
 ghost use Rattle.toml_parser.specs.Lexical as lexical;
-ghost use Rattle.nextest_script_order.specs.Walking.{read_lines};
-ghost use Rattle.nextest_script_order.specs.Lines.{first_lines};
+ghost use Rattle.config_places.specs.Lines.{first_lines};
 ghost use Rattle.std.specs.Bool.{OnTrue};
-ghost use Rattle.config_places.specs.Pieces.{IsClosed, IsPiece, is_double};
+ghost use Rattle.config_places.specs.Pieces.{IsClosed, IsPiece, is_double, read_lines};
 
-use nextest_script_order::{
-    Content, Definition, content_of, line_count_of, split_lines, without_mark,
-};
+use crate::expression::{Content, Definition, content_of, line_count_of};
+use crate::lines::split_lines;
 use std::alloc::{AllocError, Global};
 use toml_parser::text::{byte_at, first, skip_blank};
 
@@ -64,7 +62,7 @@ fn long_piece<'a>(
     requires { ¬ (lexical.skip_blank (read_lines is_start (first_lines 1 text.now)) ≡ []) }
     ensures { IfOk result (λ piece. IfSome piece (IsPiece is_start text.now)) }
 {
-    let count = line_count_of(alloc, text)?;
+    let count = line_count_of(alloc, without_mark(text, is_start))?;
     let (lines, rest) = split_lines(text, count);
     let (_, last) = split_lines(lines, count - 1);
     if is_blank(last) {
@@ -79,6 +77,17 @@ fn long_piece<'a>(
             rest,
         })),
         Content::Blank | Content::Other => Ok(None),
+    }
+}
+
+/// Lines without a byte order mark, which may stand at the start of a document.
+fn without_mark(lines: &str, is_start: bool) -> &str
+    ensures { result.now ≡ read_lines is_start lines.now }
+{
+    if is_start && first(lines) == 0xEF && byte_at(lines, 1) == 0xBB && byte_at(lines, 2) == 0xBF {
+        &lines[3..]
+    } else {
+        lines
     }
 }
 

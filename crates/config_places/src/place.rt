@@ -1,11 +1,12 @@
 //! The places of paths in a text.
 ghost use Rattle.std.specs.Prelude.{◌≡◌, List, ℕ, IfOk, MatchOption};
-ghost use Rattle.config_places.specs.Index.{IsIndexed};
+ghost use Rattle.config_places.specs.Index.{IsKnown};
 ghost use Rattle.config_places.specs.Place.{HasNoPlace, IsPlaceOfPath};
 
 use crate::fronts::{Fronts, longest_document};
-use crate::index::{Index, lines_by_entries, lines_by_fronts};
+use crate::index::Index;
 use crate::step::{Step, has_path};
+use nextest_tree::Tree;
 use std::alloc::{AllocError, Global};
 use std::marker::Model;
 
@@ -18,6 +19,13 @@ pub struct Lines {
     pub last: usize,
 }
 
+/// The longest front of a text that is a document.
+#[derive(Drop)]
+pub(crate) struct Longest {
+    pub(crate) document: Tree,
+    pub(crate) index: Index,
+}
+
 /// The places of the paths of a text: the lines that bring what stands at each.
 ///
 /// These are the last of the first lines that are the shortest document with the path, from the
@@ -26,7 +34,7 @@ pub struct Lines {
 #[derive(Drop)]
 pub struct Places<'a> {
     text: &'a str,
-    index: Option<Index>,
+    longest: Option<Longest>,
 }
 
 impl<'a> Model for Places<'a> {
@@ -34,7 +42,7 @@ impl<'a> Model for Places<'a> {
 
     ghost view = { λ places. places.text.now };
 
-    ghost invariant = { λ places. IsIndexed places.text.now places.index };
+    ghost invariant = { λ places. IsKnown places.text.now places.longest };
 }
 
 impl<'a> Places<'a> {
@@ -46,11 +54,14 @@ impl<'a> Places<'a> {
         ensures { IfOk result (λ places. places ≡ text.now) }
     {
         let fronts = Fronts::of(alloc, text)?;
-        let index = match longest_document(alloc, &fronts)? {
-            Some((count, document)) => Some(Index::of(alloc, fronts.front(count), document)?),
+        let longest = match longest_document(alloc, &fronts)? {
+            Some((count, document)) => {
+                let index = Index::of(alloc, fronts.front(count))?;
+                Some(Longest { document, index })
+            }
             None => None,
         };
-        Ok(Places { text, index })
+        Ok(Places { text, longest })
     }
 
     /// The lines that bring what stands at a path. Nothing is read for it.
@@ -61,14 +72,10 @@ impl<'a> Places<'a> {
         if path.is_empty() {
             return None;
         }
-        let index = self.index.as_ref()?;
-        if !has_path(&index.document, path) {
+        let longest = self.longest.as_ref()?;
+        if !has_path(&longest.document, path) {
             return None;
         }
-        if let Some(lines) = lines_by_entries(&index.entries, path) {
-            return Some(lines);
-        }
-        let rest = index.rest?;
-        Some(lines_by_fronts(&index.fronts, path).unwrap_or(rest))
+        Some(longest.index.lines_of(path))
     }
 }

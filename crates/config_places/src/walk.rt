@@ -2,39 +2,39 @@
 ghost use Rattle.std.specs.Prelude.{◌≡◌, ◌<◌, ◌++◌, ◌∷◌, [], IfOk, OnOk};
 ghost use Rattle.toml_parser.specs.Lexical.{skip_blank};
 ghost use Rattle.toml_parser.specs.Reading.{key_view, path_view};
-ghost use Rattle.nextest_script_order.specs.Contents.{definition_view};
-ghost use Rattle.nextest_script_order.specs.Expressions.{parts_under, section_after};
-ghost use Rattle.nextest_script_order.specs.Lines.{line_count};
-ghost use Rattle.nextest_script_order.specs.Search.{IsDocument};
+ghost use Rattle.config_places.specs.Contents.{definition_view};
+ghost use Rattle.config_places.specs.Expressions.{parts_under, section_after};
+ghost use Rattle.config_places.specs.Lines.{line_count};
+ghost use Rattle.config_places.specs.Search.{IsDocument};
 ghost use Rattle.config_places.specs.Index.{IsWalked};
 ghost use Rattle.config_places.specs.Pieces.{is_double};
 ghost use Rattle.config_places.specs.Entries.{kind_in};
 
 use crate::entry::{Entry, Kind};
+use crate::expression::Definition;
+use crate::id_lines::Wanted;
 use crate::piece::{Piece, begins_element, is_closed, next_piece};
 use crate::place::Lines;
-use nextest_script_order::Definition;
 use std::alloc::{AllocError, Global};
 
-/// The expressions of a document's text of so many lines, in order, as far as they are read one by
-/// one, and the number of lines that they take.
+/// The expressions of a document's text in order, as far as they are read one by one, and the number
+/// of lines that they take.
 ///
-/// These are all lines, unless the last one has no newline, or an expression is not found by
-/// itself.
+/// These are all lines, unless what is wanted is found before, the last line has no newline, or an
+/// expression is not found by itself.
 pub(crate) fn entries_of(
     alloc: Global,
     text: &str,
-    total: usize,
+    wanted: &mut Wanted,
 ) -> Result<(Vec<Entry>, usize), AllocError>
-    requires total { total ≡ line_count text.now }
-    requires whole { IsDocument text.now (line_count text.now) }
+    requires { IsDocument text.now (line_count text.now) }
     ensures { IfOk result (λ walked. IsWalked text.now walked.0.items walked.1) }
 {
     let mut entries = Vec::new(alloc);
     let mut section = Vec::new(alloc);
     let mut low = 0;
     let mut rest = text;
-    'pieces: while !rest.is_empty() {
+    'pieces: while wanted.is_open() && !rest.is_empty() {
         let Some(piece) = next_piece(alloc, rest, low == 0)? else {
             return Ok((entries, low));
         };
@@ -47,9 +47,6 @@ pub(crate) fn entries_of(
         let Some(high) = low.checked_add(count) else {
             return Ok((entries, low));
         };
-        if high > total {
-            return Ok((entries, low));
-        }
         if !is_closed(rest, behind) {
             return Ok((entries, low));
         }
@@ -59,7 +56,9 @@ pub(crate) fn entries_of(
                 first: low + 1,
                 last: high,
             };
-            entries.push(entry_of(alloc, &mut section, definition, is_element, lines)?)?;
+            let entry = entry_of(alloc, &mut section, definition, is_element, lines)?;
+            wanted.see(&entry);
+            entries.push(entry)?;
         }
         low = high;
         rest = behind;

@@ -1,5 +1,5 @@
 use Rattle.std.proofs.Common.{◌≡◌, ◌++◌, drop}
-use Rattle.nextest_script_order.specs.Lines.{line_ends}
+use Rattle.config_places.specs.Lines.{line_ends}
 use Rattle.config_places.proofs.fronts.ends_of.Given as goal
 
 abbrev pub invariant-loop-i : goal.invariant-loop-i

@@ -1,6 +1,6 @@
 use Rattle.std.proofs.Common.{◌∙◌}
 use Rattle.std.proofs.Math.Nat.{sub-zero}
-use Rattle.nextest_script_order.proofs.Fronts.{end_of, front_boundary, front_is}
+use Rattle.config_places.proofs.FirstLines.{end_of, front_boundary, front_is}
 use Rattle.config_places.proofs.fronts.front_of.Goals as goal
 
 pub range-requires-clause-end_boundary : goal.range-requires-clause-end_boundary

@@ -1,5 +1,5 @@
 use Rattle.std.proofs.Common.{◌<◌, ◌≤◌}
-use Rattle.nextest_script_order.specs.Search.{NoDocumentBetween}
+use Rattle.config_places.specs.Search.{NoDocumentBetween}
 use Rattle.config_places.specs.Index.{LeadsTo}
 use Rattle.config_places.proofs.fronts.fronts_behind.Given as goal
 

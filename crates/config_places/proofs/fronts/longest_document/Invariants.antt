@@ -1,6 +1,6 @@
 use Rattle.std.proofs.Common.{◌≡◌, ℕ, suc, ◌<◌, ◌-◌, None}
 use Rattle.nextest_documents.specs.Text.{tree_of}
-use Rattle.nextest_script_order.specs.Lines.{first_lines, line_count}
+use Rattle.config_places.specs.Lines.{first_lines, line_count}
 use Rattle.config_places.proofs.fronts.longest_document.Given as goal
 
 abbrev pub invariant-down : goal.invariant-down

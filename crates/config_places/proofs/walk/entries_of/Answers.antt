@@ -1,10 +1,9 @@
-use Rattle.std.proofs.Common.{◌≡◌, ◌∙◌, ◌+◌, ◌≤◌, [], IsUtf8, ap, arith, refl, rules, subst, sym}
+use Rattle.std.proofs.Common.{◌≡◌, ◌∙◌, ◌+◌, [], IsUtf8, ap, refl, rules, subst, sym}
 use Rattle.toml_parser.specs.Reading.{path_view}
-use Rattle.nextest_script_order.proofs.Steps.{rest_utf8}
-use Rattle.nextest_script_order.specs.Lines.{line_count}
+use Rattle.config_places.proofs.Sections.{rest_utf8}
 use Rattle.config_places.specs.Entries.{kind_in}
 use Rattle.config_places.specs.Pieces.{IsClosed}
-use Rattle.config_places.proofs.Walking.{at_start, not_empty, over_blank, over_entry, piece_rest, piece_shorter, walked}
+use Rattle.config_places.proofs.Walking.{at_start, not_empty, over_blank, over_entry, piece_rest, piece_room, piece_shorter, walked}
 use Rattle.config_places.proofs.walk.entries_of.Goals as goal
 
 pub pieces-init : goal.pieces-init
@@ -12,7 +11,7 @@ pieces-init c = (
   search rules,
   refl,
   rw (c.new-entries.ensures.items, c.new-section.ensures.items)
-      (at_start c.args.text.now c.requires.whole),
+      (at_start c.args.text.now c.requires),
 )
 
 pub returns-in_default : goal.returns-in_default
@@ -21,10 +20,6 @@ returns-in_default c =
 
 pub returns-in_default-checked_add : goal.returns-in_default-checked_add
 returns-in_default-checked_add c =
-    walked c.args.text.now c.pieces.low c.pieces.entries.items (path_view c.pieces.section.items) c.pieces.invariant.2
-
-pub returns-then-high-total : goal.returns-then-high-total
-returns-then-high-total c =
     walked c.args.text.now c.pieces.low c.pieces.entries.items (path_view c.pieces.section.items) c.pieces.invariant.2
 
 pub returns-then-not-is_closed : goal.returns-then-not-is_closed
@@ -44,9 +39,8 @@ pieces-smaller-in_ok-push c =
     let entries = c.pieces.entries.items in
     let section = path_view c.pieces.section.items in
     let piece_is = rw c.in-Some.is at c.in_ok-piece.ensures in
-    let some : rest ≡ [] → ⊥ = not_empty rest (sym c.is_empty.ensures ∙ c.pieces-test.true) in
-    let room : low + piece.count ≤ line_count text =
-    omega (arith, c.if-high-total.false, c.requires.total, c.in-Some-checked_add.ensures.1) in
+    let some : rest ≡ [] → ⊥ = not_empty rest (sym c.is_empty.ensures ∙ c.if-not-is_empty.true) in
+    let room = piece_room text rest low piece c.pieces.invariant.1 piece_is some c.pieces.invariant.2.within in
     let closed : IsClosed rest piece.rest.now = rw c.if-not-is_closed.false at c.is_closed.ensures in
     piece_shorter text rest low piece entries section c.pieces.invariant.1 piece_is some room closed
 
@@ -59,9 +53,8 @@ pieces-smaller c =
     let entries = c.pieces.entries.items in
     let section = path_view c.pieces.section.items in
     let piece_is = rw c.in-Some.is at c.in_ok-piece.ensures in
-    let some : rest ≡ [] → ⊥ = not_empty rest (sym c.is_empty.ensures ∙ c.pieces-test.true) in
-    let room : low + piece.count ≤ line_count text =
-    omega (arith, c.if-high-total.false, c.requires.total, c.in-Some-checked_add.ensures.1) in
+    let some : rest ≡ [] → ⊥ = not_empty rest (sym c.is_empty.ensures ∙ c.if-not-is_empty.true) in
+    let room = piece_room text rest low piece c.pieces.invariant.1 piece_is some c.pieces.invariant.2.within in
     let closed : IsClosed rest piece.rest.now = rw c.if-not-is_closed.false at c.is_closed.ensures in
     piece_shorter text rest low piece entries section c.pieces.invariant.1 piece_is some room closed
 
@@ -74,18 +67,17 @@ pieces-preserved-in_ok-push c =
     let entries = c.pieces.entries.items in
     let section = path_view c.pieces.section.items in
     let piece_is = rw c.in-Some.is at c.in_ok-piece.ensures in
-    let some : rest ≡ [] → ⊥ = not_empty rest (sym c.is_empty.ensures ∙ c.pieces-test.true) in
-    let room : low + piece.count ≤ line_count text =
-    omega (arith, c.if-high-total.false, c.requires.total, c.in-Some-checked_add.ensures.1) in
+    let some : rest ≡ [] → ⊥ = not_empty rest (sym c.is_empty.ensures ∙ c.if-not-is_empty.true) in
+    let room = piece_room text rest low piece c.pieces.invariant.1 piece_is some c.pieces.invariant.2.within in
     let closed : IsClosed rest piece.rest.now = rw c.if-not-is_closed.false at c.is_closed.ensures in
     let further = piece_rest text rest low piece entries section c.pieces.invariant.1 piece_is some room closed in
-    let made = c.in_ok-entry_of.ensures in
+    let made = c.in_ok-entry.ensures in
     let place = rw c.in-Some-checked_add.ensures.1 at made.lines in
     rw (c.in-Some-checked_add.ensures.1, c.in_ok-push.ensures.items, made.section) (
       subst IsUtf8 (sym further) (rest_utf8 text (low + piece.count) c.utf8.text),
       further,
       over_entry text rest low piece entries section c.pieces.invariant.1 piece_is some room closed c.pieces.invariant.2
-          c.in-Some-definition.definition c.in-Some-definition.is c.in_ok-entry_of.field-0
+          c.in-Some-definition.definition c.in-Some-definition.is c.in_ok-entry.entry
           (made.kind
           ∙ ap (kind_in c.in-Some-definition.definition.is_header) c.begins_element-is_element.ensures)
           made.parts place,
@@ -100,9 +92,8 @@ pieces-preserved c =
     let entries = c.pieces.entries.items in
     let section = path_view c.pieces.section.items in
     let piece_is = rw c.in-Some.is at c.in_ok-piece.ensures in
-    let some : rest ≡ [] → ⊥ = not_empty rest (sym c.is_empty.ensures ∙ c.pieces-test.true) in
-    let room : low + piece.count ≤ line_count text =
-    omega (arith, c.if-high-total.false, c.requires.total, c.in-Some-checked_add.ensures.1) in
+    let some : rest ≡ [] → ⊥ = not_empty rest (sym c.is_empty.ensures ∙ c.if-not-is_empty.true) in
+    let room = piece_room text rest low piece c.pieces.invariant.1 piece_is some c.pieces.invariant.2.within in
     let closed : IsClosed rest piece.rest.now = rw c.if-not-is_closed.false at c.is_closed.ensures in
     let further = piece_rest text rest low piece entries section c.pieces.invariant.1 piece_is some room closed in
     rw c.in-Some-checked_add.ensures.1 (

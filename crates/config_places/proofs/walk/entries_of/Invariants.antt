@@ -2,7 +2,7 @@ use Rattle.std.proofs.Common.{◌≡◌, length}
 use denote.Text.{Utf8}
 use denote.Shadow.{shadow}
 use Rattle.toml_parser.specs.Reading.{path_view}
-use Rattle.nextest_script_order.specs.Lines.{after_lines}
+use Rattle.config_places.specs.Lines.{after_lines}
 use Rattle.config_places.proofs.Walking.{IsAt}
 use Rattle.config_places.proofs.walk.entries_of.Given as goal
 
