@@ -75,7 +75,8 @@ impl RegexMatcher {
                 };
             }
         };
-        if is_too_large(regex_size(alloc, text.as_bytes())?) {
+        let size = regex_size(alloc, text.as_bytes())?;
+        if is_too_large(size) {
             return Err(RegexFault::TooLarge);
         }
         let Ok(groups) = u32::try_from(parsed.names.len()) else {

@@ -1,4 +1,6 @@
 //! What is wrong with the text of a glob.
+ghost use Rattle.std.specs.Prelude.{◌≡◌};
+
 use std::alloc::AllocError;
 
 /// Why no row, part or class is read.
