@@ -5,8 +5,9 @@ use Rattle.std.specs.Str.{trim, bytes_eq}
 use Rattle.nextest_engines.specs.declared.queries.BuildPlatform.{BuildPlatform}
 use Rattle.nextest_engines.specs.declared.queries.BuildPlatform.TheVariants.{Host, Target}
 use Rattle.filter_language.specs.declared.fault.FaultKind.{FaultKind}
-use Rattle.filter_language.specs.declared.fault.FaultKind.TheVariants.{InvalidPlatformArgument, InvalidString, InvalidGlob, InvalidRegex}
+use Rattle.filter_language.specs.declared.fault.FaultKind.TheVariants.{InvalidPlatformArgument, InvalidString, InvalidGlob, InvalidRegex, TooLarge}
 use Rattle.filter_language.specs.declared.matchers.PatternFault.{PatternFault}
+use Rattle.filter_language.specs.declared.matchers.PatternFault.TheVariants as pattern
 use Rattle.filter_language.specs.declared.words.Field.{Field}
 use Rattle.filter_language.specs.declared.words.Field.TheVariants.{TestName, Package, Deps, Rdeps, BinaryId, BinaryName, Kind, Group}
 use Rattle.filter_language.specs.declared.words.Sign.{Sign}
@@ -103,18 +104,23 @@ body_behind Equal start = text_in start
 body_behind Contains start = text_in start
 body_behind Glob start = text_in start
 
--- What is wrong with a pattern that has no meaning.
+-- What is wrong with a malformed pattern.
 abbrev pub malformed : Sign → FaultKind
 malformed Regex = InvalidRegex
 malformed Glob = InvalidGlob
 malformed Equal = InvalidString
 malformed Contains = InvalidString
 
+-- What is wrong with a pattern that has no meaning.
+abbrev pub meaningless : Sign → PatternFault → FaultKind
+meaningless sign pattern.Malformed = malformed sign
+meaningless sign pattern.TooLarge = TooLarge
+
 -- The meaning of a pattern, or what is wrong with it.
 abbrev pub meaning_of : {L : Type 0} → Sign → List ℕ → List ℕ → Result L PatternFault
     → Result L Misreading
 meaning_of sign start end (Ok meaning) = Ok meaning
-meaning_of sign start end (Err fault) = Err (wrong_between (malformed sign) start end)
+meaning_of sign start end (Err fault) = Err (wrong_between (meaningless sign fault) start end)
 
 -- What stands in a text before a rest with which it ends, else all of it.
 abbrev pub before_rest : List ℕ → List ℕ → List ℕ

@@ -40,6 +40,8 @@ pub enum FaultKind {
     InvalidGlob,
     /// A malformed regex.
     InvalidRegex,
+    /// A glob or a regex that is too large.
+    TooLarge,
     /// A regex without its closing `/`.
     ExpectedCloseRegex,
     /// A platform that is neither `host` nor `target`.
@@ -168,6 +170,7 @@ impl FaultKind {
             FaultKind::InvalidEscapeCharacter => "InvalidEscapeCharacter",
             FaultKind::InvalidGlob => "InvalidGlob",
             FaultKind::InvalidRegex => "InvalidRegex",
+            FaultKind::TooLarge => "TooLarge",
             FaultKind::ExpectedCloseRegex => "ExpectedCloseRegex",
             FaultKind::InvalidPlatformArgument => "InvalidPlatformArgument",
             FaultKind::InvalidOrOperator => "InvalidOrOperator",
@@ -194,6 +197,7 @@ impl FaultKind {
             FaultKind::InvalidEscapeCharacter => "invalid escape character",
             FaultKind::InvalidGlob => "invalid glob",
             FaultKind::InvalidRegex => "invalid regex",
+            FaultKind::TooLarge => "pattern too large",
             FaultKind::ExpectedCloseRegex => "expected close regex",
             FaultKind::InvalidPlatformArgument => "invalid argument for platform",
             FaultKind::InvalidOrOperator => "invalid OR operator",
@@ -220,6 +224,7 @@ impl FaultKind {
             FaultKind::InvalidEscapeCharacter => "invalid escape character",
             FaultKind::InvalidGlob => "invalid glob",
             FaultKind::InvalidRegex => "invalid regex",
+            FaultKind::TooLarge => "its automaton may have too many states",
             FaultKind::ExpectedCloseRegex => "missing `/`",
             FaultKind::InvalidPlatformArgument => "expected \"target\" or \"host\"",
             FaultKind::InvalidOrOperator => "expected `|`, `+`, or `or`",

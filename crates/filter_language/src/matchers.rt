@@ -10,6 +10,8 @@ use std::alloc::{AllocError, Global};
 pub enum PatternFault {
     /// It is malformed.
     Malformed,
+    /// It is too large.
+    TooLarge,
 }
 
 /// An engine of patterns.

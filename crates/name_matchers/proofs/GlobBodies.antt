@@ -4,8 +4,8 @@ use Rattle.regex_class.specs.Ranges.{Range, in_range, in_ranges}
 use Rattle.regex_class.proofs.RangesLemmas.{in_ranges-nil, in_ranges-push}
 use Rattle.regex_hir.specs.Re.{Re}
 use Rattle.name_matchers.specs.GlobClasses.{GlobClass, BeginsNegated, EndsClass, WritesItem, WritesItems, WritesBody, WritesNegation, WritesClass, start_behind, in_items, ClassTakes, ReadsRanges, TakesItem, WritesOneClass, NoBody, NoClass}
-use Rattle.name_matchers.specs.declared.glob.GlobFault.{GlobFault}
-use Rattle.name_matchers.specs.declared.glob.GlobFault.TheVariants.{Memory}
+use Rattle.name_matchers.specs.declared.glob.fault.RowFault.{RowFault}
+use Rattle.name_matchers.specs.declared.glob.fault.RowFault.TheVariants.{Memory}
 use Rattle.name_matchers.specs.Patterns.{MatchesKind, MeansRanges}
 use Rattle.name_matchers.specs.declared.glob.class.ClassItem.{ClassItem}
 use Rattle.name_matchers.specs.declared.glob.class.ClassItem.TheVariants.{Own, Reach}
@@ -273,7 +273,7 @@ no_class negated text body sign none class rest (other, also_sign, w) =
     none class.first class.items rest (subst (λ t. WritesBody t class.first class.items rest) same.1 w)
 
 -- Where the body is refused, so is the class.
-pub refused_body : (negated : Bool) (text body : List ℕ) (fault : GlobFault)
+pub refused_body : (negated : Bool) (text body : List ℕ) (fault : RowFault)
     → WritesNegation negated text body → NoBody body fault → NoClass text fault
 refused_body negated text body fault sign none =
     ⊎_elim

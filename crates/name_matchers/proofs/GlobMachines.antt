@@ -8,8 +8,8 @@ use Rattle.regex_hir.specs.declared.hir.Hir.{Hir}
 use Rattle.regex_hir.specs.declared.look.Look.TheVariants.{Start, End}
 use Rattle.regex_nfa.specs.declared.nfa.Nfa.{Nfa}
 use Rattle.name_matchers.specs.Runs.{finds}
-use Rattle.name_matchers.specs.declared.glob.GlobFault.{GlobFault}
-use Rattle.name_matchers.specs.declared.glob.GlobFault.TheVariants.{Memory}
+use Rattle.name_matchers.specs.declared.glob.fault.RowFault.{RowFault}
+use Rattle.name_matchers.specs.declared.glob.fault.RowFault.TheVariants.{Memory}
 use Rattle.name_matchers.specs.Globs.{ends_row, Row, WritesRow, RowTakes, IsGlob, GlobMatches, IsGlobMachine}
 use Rattle.name_matchers.specs.GlobReading.{ReadsRow, NoRow}
 use Rattle.name_matchers.specs.declared.glob.place.Place.TheVariants as place
@@ -49,7 +49,7 @@ unfolding IsGlob
 no_glob text none (row, w) = none row [] w
 
 -- Where the row of a text is refused, so is the glob.
-pub refused_glob : (text : List ℕ) (fault : GlobFault) → NoRow false 250 place.Start text fault
+pub refused_glob : (text : List ℕ) (fault : RowFault) → NoRow false 250 place.Start text fault
     → (fault ≡ Memory) ⊎ (IsGlob text → ⊥)
 refused_glob text fault none =
     ⊎_elim

@@ -5,8 +5,8 @@ use Rattle.std.proofs.lemmas.Bool.{and_parts}
 use Rattle.regex_hir.specs.Meaning.{meaning}
 use Rattle.regex_hir.specs.declared.hir.Hir.{Hir}
 use Rattle.name_matchers.specs.GlobClasses.{GlobClass, WritesClass, ClassTakes, WritesOneClass, NoClass}
-use Rattle.name_matchers.specs.declared.glob.GlobFault.{GlobFault}
-use Rattle.name_matchers.specs.declared.glob.GlobFault.TheVariants.{Memory}
+use Rattle.name_matchers.specs.declared.glob.fault.RowFault.{RowFault}
+use Rattle.name_matchers.specs.declared.glob.fault.RowFault.TheVariants.{Memory}
 use Rattle.name_matchers.specs.Globs.{ends_row, behind, Row, end, part, class, group, Branches, only, also, WritesPart, WritesRow, WritesBranches, PartTakes, RowTakes, SomeTakes, is_empty, are_empty}
 use Rattle.name_matchers.specs.GlobReading.{IsSkipped, IsMatched, ReadsPiece, WritesOneGroup, GroupPattern, ReadsGroup, NoRow, NoGroup, is_nil}
 use Rattle.name_matchers.specs.Patterns.{MatchesKind, Means}
@@ -279,7 +279,7 @@ module _ (inside : Bool) (levels : ℕ) (at : Place) where
   )
 
   -- Where a class is refused, so is the row that it begins.
-  pub refused_class : (text inner : List ℕ) (fault : GlobFault) → text ≡ 91 ∷ inner → NoClass inner fault
+  pub refused_class : (text inner : List ℕ) (fault : RowFault) → text ≡ 91 ∷ inner → NoClass inner fault
       → NoRow inside levels at text fault
   refused_class text inner fault e none =
       ⊎_elim
@@ -288,7 +288,7 @@ module _ (inside : Bool) (levels : ℕ) (at : Place) where
       none
 
   -- Where a group is refused, so is the row that it begins.
-  pub refused_group : (text inner : List ℕ) (below : ℕ) (fault : GlobFault) → text ≡ 123 ∷ inner
+  pub refused_group : (text inner : List ℕ) (below : ℕ) (fault : RowFault) → text ≡ 123 ∷ inner
       → levels ≡ below + 1 → NoGroup below inner fault
       → NoRow inside levels at text fault
   refused_group text inner below fault e deep none =

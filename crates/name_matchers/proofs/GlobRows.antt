@@ -6,8 +6,8 @@ use Rattle.regex_hir.specs.Re.{Re, byte_in}
 use Rattle.regex_hir.specs.Meaning.{meaning, cat_all, alt_all}
 use Rattle.regex_hir.specs.declared.hir.Hir.{Hir}
 use Rattle.name_matchers.specs.GlobClasses.{WritesClass}
-use Rattle.name_matchers.specs.declared.glob.GlobFault.{GlobFault}
-use Rattle.name_matchers.specs.declared.glob.GlobFault.TheVariants.{Memory}
+use Rattle.name_matchers.specs.declared.glob.fault.RowFault.{RowFault}
+use Rattle.name_matchers.specs.declared.glob.fault.RowFault.TheVariants.{Memory}
 use Rattle.name_matchers.specs.Globs.{ends_row, behind, Row, end, part, class, group, Branches, only, also, WritesPart, WritesRow, WritesBranches, RowTakes, SomeTakes, is_empty, are_empty}
 use Rattle.name_matchers.specs.GlobReading.{ReadsPiece, WritesOneRow, RowPatterns, ReadsRow, GroupPattern, ReadsGroup, AddsPattern, AddsBranch, MatchesAny, NoRow, NoGroup, is_nil}
 use Rattle.name_matchers.specs.Patterns.{MatchesKind}
@@ -133,7 +133,7 @@ module _ (inside : Bool) (levels : ℕ) where
       (writes row left).0 w in none found.0 left found.2
 
   -- Where a piece is refused, so is the row.
-  pub refused_row : (text : List ℕ) (at : Place) (rest : List ℕ) (hirs : List Hir) (fault : GlobFault)
+  pub refused_row : (text : List ℕ) (at : Place) (rest : List ℕ) (hirs : List Hir) (fault : RowFault)
       → ReadTo text at rest hirs
       → NoRow inside levels at rest fault → NoRow inside levels place.Start text fault
   refused_row text at rest hirs fault read none =
@@ -352,7 +352,7 @@ module _ (levels : ℕ) where
       none first.0 first.1 first.2
 
   -- Where a branch is refused, so is the group.
-  pub refused_branch : (text rest : List ℕ) (hirs : List Hir) (fault : GlobFault) → ReadBranches text rest hirs
+  pub refused_branch : (text rest : List ℕ) (hirs : List Hir) (fault : RowFault) → ReadBranches text rest hirs
       → NoRow true levels place.Start rest fault → NoGroup levels text fault
   refused_branch text rest hirs fault read none =
       ⊎_elim

@@ -12,6 +12,7 @@ pub mod Follows
 pub mod Turns
 pub mod Parts
 pub mod RegexTexts
+pub mod RegexSizes
 pub mod GlobParts
 pub mod GlobPatterns
 pub mod GlobBodies

@@ -1,8 +1,8 @@
 -- Classes of globs: the bytes that a text in brackets writes.
 use Rattle.std.specs.Prelude.{◌≡◌, ◌≢◌, ℕ, ◌<◌, ◌≤◌, ◌⊎◌, ◌↔◌, Bool, true, false, not, ◌||◌, if◌then◌else◌, List, [], ◌∷◌, ◌++◌, drop, MatchResult, Result}
 use Rattle.regex_class.specs.Ranges.{Range, in_range, in_ranges}
-use Rattle.name_matchers.specs.declared.glob.GlobFault.{GlobFault}
-use Rattle.name_matchers.specs.declared.glob.GlobFault.TheVariants.{Memory}
+use Rattle.name_matchers.specs.declared.glob.fault.RowFault.{RowFault}
+use Rattle.name_matchers.specs.declared.glob.fault.RowFault.TheVariants.{Memory}
 use Rattle.name_matchers.specs.declared.glob.class.ClassItem.{ClassItem}
 use Rattle.name_matchers.specs.declared.glob.class.ClassItem.TheVariants.{Own, Reach}
 
@@ -83,7 +83,7 @@ abbrev pub ClassTakes : GlobClass → List ℕ → Type 0
 ClassTakes class bytes = (byte : ℕ) × (bytes ≡ byte ∷ []) × (in_class class byte ≡ true)
 
 -- The item stands at the front of the text and has so many bytes, or no item does.
-abbrev pub ReadsItem : ℕ → List ℕ → Result (ClassItem × ℕ) GlobFault → Type 0
+abbrev pub ReadsItem : ℕ → List ℕ → Result (ClassItem × ℕ) RowFault → Type 0
 ReadsItem start text result =
     MatchResult result (λ read. WritesItem start text read.0 (drop read.1 text))
     (λ fault. (item : ClassItem) (rest : List ℕ) → WritesItem start text item rest → ⊥)
@@ -107,13 +107,13 @@ WritesOneClass text class rest =
     → WritesClass text other left ↔ ((other ≡ class) × (left ≡ rest))
 
 -- Memory ran out, or the text writes no class without its sign.
-abbrev pub NoBody : List ℕ → GlobFault → Type 0
+abbrev pub NoBody : List ℕ → RowFault → Type 0
 NoBody text fault =
     (fault ≡ Memory) ⊎ ((first : ℕ) (items : List ClassItem) (rest : List ℕ)
     → WritesBody text first items rest → ⊥)
 
 -- Memory ran out, or the text writes no class.
-abbrev pub NoClass : List ℕ → GlobFault → Type 0
+abbrev pub NoClass : List ℕ → RowFault → Type 0
 NoClass text fault =
     (fault ≡ Memory) ⊎ ((class : GlobClass) (rest : List ℕ) → WritesClass text class rest → ⊥)
 

@@ -5,8 +5,8 @@ use Rattle.regex_hir.specs.Meaning.{meaning, cat_all, alt_all}
 use Rattle.regex_hir.specs.declared.hir.Hir.{Hir}
 use Rattle.name_matchers.specs.Globs.{Row, Branches, opens, is_last, WritesPart, WritesRow, WritesBranches, RowTakes, SomeTakes, is_empty, are_empty}
 use Rattle.name_matchers.specs.Patterns.{MatchesKind}
-use Rattle.name_matchers.specs.declared.glob.GlobFault.{GlobFault}
-use Rattle.name_matchers.specs.declared.glob.GlobFault.TheVariants.{Memory}
+use Rattle.name_matchers.specs.declared.glob.fault.RowFault.{RowFault}
+use Rattle.name_matchers.specs.declared.glob.fault.RowFault.TheVariants.{Memory}
 use Rattle.name_matchers.specs.declared.glob.place.Place.{Place}
 use Rattle.name_matchers.specs.declared.glob.place.Place.TheVariants.{Start}
 use Rattle.name_matchers.specs.declared.glob.part.GlobPart.{GlobPart}
@@ -21,7 +21,7 @@ BeginsLast inside place text =
     (rest : List ℕ) × (text ≡ 42 ∷ 42 ∷ rest) × (is_last inside place rest ≡ true)
 
 -- The part stands at the front of the text and has so many bytes, or no part does.
-abbrev pub ReadsPart : Bool → Place → List ℕ → Result (GlobPart × ℕ) GlobFault → Type 0
+abbrev pub ReadsPart : Bool → Place → List ℕ → Result (GlobPart × ℕ) RowFault → Type 0
 ReadsPart inside place text result =
     MatchResult result (λ read. WritesPart inside place text read.0 (drop read.1 text))
     (λ fault. (part : GlobPart) (rest : List ℕ) → WritesPart inside place text part rest → ⊥)
@@ -51,7 +51,7 @@ module _ (inside : Bool) (levels : ℕ) where
       × MatchOption pattern (IsSkipped step) (λ hir. IsMatched step (meaning hir))
 
   -- Memory ran out, or the text writes no row from this place on.
-  abbrev pub NoRow : Place → List ℕ → GlobFault → Type 0
+  abbrev pub NoRow : Place → List ℕ → RowFault → Type 0
   NoRow place text fault =
       (fault ≡ Memory) ⊎ ((row : Row) (rest : List ℕ)
       → WritesRow inside levels place text row rest → ⊥)
@@ -95,7 +95,7 @@ ReadsGroup levels text pattern rest =
     (branches : Branches) × WritesOneGroup levels text branches rest × GroupPattern branches pattern
 
 -- Memory ran out, or the text writes no branches.
-abbrev pub NoGroup : ℕ → List ℕ → GlobFault → Type 0
+abbrev pub NoGroup : ℕ → List ℕ → RowFault → Type 0
 NoGroup levels text fault =
     (fault ≡ Memory)
     ⊎ ((branches : Branches) (rest : List ℕ) → WritesBranches levels text branches rest → ⊥)

@@ -3,6 +3,8 @@ pub mod Runs
 pub mod Classes
 pub mod Tables
 pub mod RegexTexts
+pub mod RegexSizes
+pub mod GlobSizes
 pub mod GlobClasses
 pub mod Globs
 pub mod GlobTexts

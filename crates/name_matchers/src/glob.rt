@@ -1,17 +1,24 @@
 //! Globs over whole names.
-ghost use Rattle.std.specs.Prelude.{◌≡◌, ◌↔◌, ℕ, List, string_bytes, IfOk, IfErr, OnOk, IsTrue, ◌⊎◌, MatchOption};
+ghost use Rattle.std.specs.Prelude.{◌≡◌, ◌<◌, ◌≤◌, ◌↔◌, ℕ, List, string_bytes, IfOk, OnOk, IsTrue, MatchOption, Err, nat_lt};
 ghost use Rattle.name_matchers.specs.Globs.{IsGlob, GlobMatches, IsGlobMachine, IsPlain};
+ghost use Rattle.name_matchers.specs.GlobSizes as sizes;
+ghost use Rattle.name_matchers.specs.RegexSizes.{most_states};
 
 mod class;
+mod fault;
 mod part;
 mod pattern;
 mod place;
 mod row;
+mod size;
 
 use crate::machine::Machine;
+use crate::regex_size::is_too_large;
+use fault::RowFault;
 use part::is_plain;
 use pattern::whole_pattern;
 use row::read_row;
+use size::glob_size;
 use std::alloc::{AllocError, Global};
 use std::marker::Model;
 use thiserror::Error;
@@ -24,7 +31,10 @@ pub enum GlobFault {
     /// 250 deep.
     #[error("invalid glob")]
     Malformed,
-    /// Memory ran out, or the automaton takes more than 10 MiB or 4096 states.
+    /// The automaton may take more than 16,384 states.
+    #[error("glob too large")]
+    TooLarge,
+    /// Memory ran out.
     #[error("out of memory")]
     Memory,
 }
@@ -65,15 +75,20 @@ impl GlobMatcher {
     ///
     /// # Errors
     ///
-    /// [`GlobFault::Malformed`] where the text writes none, and [`GlobFault::Memory`] where memory
-    /// ran out or the pattern is too large.
+    /// [`GlobFault::Malformed`] where the text writes none, [`GlobFault::TooLarge`] where the
+    /// automaton may take more than 16,384 states, and [`GlobFault::Memory`] where memory ran out.
     pub fn parse(alloc: Global, text: &str) -> Result<GlobMatcher, GlobFault>
         ensures text { IfOk result (λ glob. glob ≡ text.now) }
         ensures written { OnOk result (IsGlob text.now) }
-        ensures refused { IfErr result
-            (λ fault. (fault ≡ GlobFault.Memory) ⊎ (IsGlob text.now → ⊥)) }
+        ensures small { OnOk result (sizes.glob_size text.now ≤ most_states) }
+        ensures malformed { result ≡ Err GlobFault.Malformed → IsGlob text.now → ⊥ }
+        ensures large { result ≡ Err GlobFault.TooLarge
+            → IsGlob text.now × (most_states < sizes.glob_size text.now) }
     {
         if is_plain(text.as_bytes()) {
+            if is_large(text) {
+                return Err(GlobFault::TooLarge);
+            }
             let text = String::from_str(alloc, text)?;
             return Ok(GlobMatcher {
                 text,
@@ -121,14 +136,30 @@ fn is_taken(machine: &Machine, name: &str) -> bool
     machine.has_match(name.as_bytes())
 }
 
+// Whether the automaton for the glob of a text may take too many states.
+fn is_large(text: &str) -> bool
+    ensures { result ≡ nat_lt most_states (sizes.glob_size text.now) }
+{
+    is_too_large(glob_size(text.as_bytes()))
+}
+
 // The automaton for the glob of a text.
 fn compile(alloc: Global, text: &str) -> Result<Machine, GlobFault>
     ensures machine { IfOk result (λ machine. IsGlobMachine text.now machine.nfa) }
     ensures written { OnOk result (IsGlob text.now) }
-    ensures refused { IfErr result
-        (λ fault. (fault ≡ GlobFault.Memory) ⊎ (IsGlob text.now → ⊥)) }
+    ensures small { OnOk result (sizes.glob_size text.now ≤ most_states) }
+    ensures malformed { result ≡ Err GlobFault.Malformed → IsGlob text.now → ⊥ }
+    ensures large { result ≡ Err GlobFault.TooLarge
+        → IsGlob text.now × (most_states < sizes.glob_size text.now) }
 {
-    let (patterns, _len) = read_row(alloc, text.as_bytes(), false, MOST_LEVELS)?;
+    let (patterns, _len) = match read_row(alloc, text.as_bytes(), false, MOST_LEVELS) {
+        Ok(read) => read,
+        Err(RowFault::Malformed) => return Err(GlobFault::Malformed),
+        Err(RowFault::Memory) => return Err(GlobFault::Memory),
+    };
+    if is_large(text) {
+        return Err(GlobFault::TooLarge);
+    }
     let machine = Machine::compile(alloc, &whole_pattern(alloc, patterns)?, 1)?;
     Ok(machine)
 }

@@ -9,6 +9,7 @@ mod machine;
 mod name_matcher;
 mod part_matcher;
 mod regex_matcher;
+mod regex_size;
 
 pub use glob::{GlobFault, GlobMatcher};
 pub use name_matcher::{NameMatcher, law_decided_globs, law_plain_glob};

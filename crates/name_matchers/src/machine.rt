@@ -12,6 +12,7 @@ mod state_flags;
 mod state_list;
 mod table;
 
+use crate::regex_size::MOST_STATES;
 use fill::sees_edges;
 use regex_compile::compile;
 use regex_hir::Hir;
@@ -20,8 +21,8 @@ use search::Search;
 use std::alloc::{AllocError, Global};
 use table::{Cell, Table};
 
-// The most states of an automaton.
-const MOST_STATES: usize = 4096;
+// The most states of an automaton that is searched by with much of the room for the most states.
+const MORE_STATES: usize = 4096;
 
 // The most states of an automaton that is searched by with some of that room.
 const MANY_STATES: usize = 512;
@@ -32,13 +33,13 @@ const FEW_STATES: usize = 64;
 // The most bytes that the tables of an automaton may take.
 const TABLE_LIMIT: usize = 10 << 20;
 
-/// A compiled pattern: an automaton of at most 4096 states, and perhaps a table of the first steps of
+/// A compiled pattern: an automaton of at most 16,384 states, and perhaps a table of the first steps of
 /// its searches.
 #[derive(Drop)]
 pub struct Machine {
     nfa: Nfa,
     table: Option<Table>,
-    ghost few: { vec_len nfa.states ≤ 4096 },
+    ghost few: { vec_len nfa.states ≤ 16384 },
     ghost tabled: { ∥ IsTabled nfa table ∥₁ },
 }
 
@@ -47,7 +48,8 @@ impl Machine {
     ///
     /// # Errors
     ///
-    /// Where memory runs out, and where the automaton takes more than 10 MiB or 4096 states.
+    /// Where memory runs out, and where the automaton takes more than 10 MiB or 16,384 states, which
+    /// is not known of any pattern that is no larger by its text.
     pub fn compile(alloc: Global, pattern: &Hir, groups: u32) -> Result<Machine, AllocError>
         ensures { IfOk result (λ machine.
             (name : List ℕ) → finds machine.nfa name ≡ is_some (find (meaning pattern.now) name 0)) }
@@ -108,6 +110,8 @@ impl Machine {
             Search::<FEW_STATES> { nfa: &self.nfa }.has_match(name, from, states)
         } else if count <= MANY_STATES {
             Search::<MANY_STATES> { nfa: &self.nfa }.has_match(name, from, states)
+        } else if count <= MORE_STATES {
+            Search::<MORE_STATES> { nfa: &self.nfa }.has_match(name, from, states)
         } else {
             Search::<MOST_STATES> { nfa: &self.nfa }.has_match(name, from, states)
         }
@@ -116,7 +120,7 @@ impl Machine {
 
 // The table of an automaton, if all its assertions are on the start and the end of the name.
 fn table_of(alloc: Global, nfa: &Nfa) -> Result<Option<Table>, AllocError>
-    requires { vec_len nfa.now.states ≤ 4096 }
+    requires { vec_len nfa.now.states ≤ 16384 }
     ensures { IfOk result (λ table. IsTabled nfa.now table) }
 {
     if !sees_edges(nfa) {
@@ -127,6 +131,8 @@ fn table_of(alloc: Global, nfa: &Nfa) -> Result<Option<Table>, AllocError>
         Ok(Some(Search::<FEW_STATES> { nfa }.table(alloc)?))
     } else if count <= MANY_STATES {
         Ok(Some(Search::<MANY_STATES> { nfa }.table(alloc)?))
+    } else if count <= MORE_STATES {
+        Ok(Some(Search::<MORE_STATES> { nfa }.table(alloc)?))
     } else {
         Ok(Some(Search::<MOST_STATES> { nfa }.table(alloc)?))
     }

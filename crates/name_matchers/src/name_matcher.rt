@@ -1,8 +1,10 @@
 //! What is asked of a name, by equality, as a part or by a pattern.
-ghost use Rattle.std.specs.Prelude.{◌≡◌, ◌↔◌, ◌⊎◌, List, ℕ, IfOk, IfErr, OnOk, IsTrue};
+ghost use Rattle.std.specs.Prelude.{◌≡◌, ◌<◌, ◌≤◌, ◌↔◌, List, ℕ, IfOk, OnOk, IsTrue, Err};
 ghost use Rattle.name_matchers.specs.Globs.{IsGlob, IsPlain};
 ghost use Rattle.name_matchers.specs.GlobDecisions.{glob_takes, writes_glob};
+ghost use Rattle.name_matchers.specs.GlobSizes.{glob_size};
 ghost use Rattle.name_matchers.specs.RegexTexts.{IsRegex};
+ghost use Rattle.name_matchers.specs.RegexSizes.{most_states, regex_size};
 ghost use Rattle.name_matchers.specs.Matches as asked;
 ghost use Rattle.name_matchers.specs.Matches.{Matches, question_of};
 
@@ -43,13 +45,15 @@ impl NameMatcher {
     ///
     /// # Errors
     ///
-    /// [`GlobFault::Malformed`] where the text writes no glob, and [`GlobFault::Memory`] where
-    /// memory ran out or the pattern is too large.
+    /// [`GlobFault::Malformed`] where the text writes no glob, [`GlobFault::TooLarge`] where its
+    /// automaton may take more than 16,384 states, and [`GlobFault::Memory`] where memory ran out.
     pub fn glob(alloc: Global, text: &str) -> Result<NameMatcher, GlobFault>
         ensures asks { IfOk result (λ matcher. question_of matcher ≡ asked.glob text.now) }
         ensures written { OnOk result (IsGlob text.now) }
-        ensures refused { IfErr result
-            (λ fault. (fault ≡ GlobFault.Memory) ⊎ (IsGlob text.now → ⊥)) }
+        ensures small { OnOk result (glob_size text.now ≤ most_states) }
+        ensures malformed { result ≡ Err GlobFault.Malformed → IsGlob text.now → ⊥ }
+        ensures large { result ≡ Err GlobFault.TooLarge
+            → IsGlob text.now × (most_states < glob_size text.now) }
     {
         Ok(NameMatcher::Glob(GlobMatcher::parse(alloc, text)?))
     }
@@ -58,12 +62,16 @@ impl NameMatcher {
     ///
     /// # Errors
     ///
-    /// [`RegexFault::Malformed`] where the text writes no regular expression, and
-    /// [`RegexFault::Memory`] where memory ran out or the pattern is too large.
+    /// [`RegexFault::Malformed`] where the text writes no regular expression,
+    /// [`RegexFault::TooLarge`] where its automaton may take more than 16,384 states, and
+    /// [`RegexFault::Memory`] where memory ran out.
     pub fn regex(alloc: Global, text: &str) -> Result<NameMatcher, RegexFault>
         ensures asks { IfOk result (λ matcher. question_of matcher ≡ asked.regex text.now) }
         ensures written { OnOk result (IsRegex text.now) }
+        ensures small { OnOk result (regex_size text.now ≤ most_states) }
         ensures malformed { result ≡ Err RegexFault.Malformed → IsRegex text.now → ⊥ }
+        ensures large { result ≡ Err RegexFault.TooLarge
+            → IsRegex text.now × (most_states < regex_size text.now) }
     {
         Ok(NameMatcher::Regex(RegexMatcher::parse(alloc, text)?))
     }

@@ -1,8 +1,11 @@
 //! Regular expressions of which a match is sought in a name.
-ghost use Rattle.std.specs.Prelude.{◌≡◌, ℕ, List, string_bytes, IfOk, OnOk, IsTrue, ◌↔◌};
+ghost use Rattle.std.specs.Prelude.{◌≡◌, ◌<◌, ◌≤◌, ℕ, List, string_bytes, IfOk, OnOk, IsTrue, ◌↔◌, Err};
 ghost use Rattle.name_matchers.specs.RegexTexts.{IsRegex, RegexMatches, IsRegexMachine};
+ghost use Rattle.name_matchers.specs.RegexSizes as sizes;
+ghost use Rattle.name_matchers.specs.RegexSizes.{most_states};
 
 use crate::machine::Machine;
+use crate::regex_size::{is_too_large, regex_size};
 use regex_syntax::{Config, ErrorKind, parse};
 use std::alloc::{AllocError, Global};
 use std::marker::Model;
@@ -14,7 +17,10 @@ pub enum RegexFault {
     /// The text writes no regular expression, or one that nests more than 250 deep.
     #[error("invalid regex")]
     Malformed,
-    /// Memory ran out, or the automaton takes more than 10 MiB or 4096 states.
+    /// The automaton may take more than 16,384 states.
+    #[error("regex too large")]
+    TooLarge,
+    /// Memory ran out.
     #[error("out of memory")]
     Memory,
 }
@@ -50,12 +56,15 @@ impl RegexMatcher {
     ///
     /// # Errors
     ///
-    /// [`RegexFault::Malformed`] where the text writes none, and [`RegexFault::Memory`] where memory
-    /// ran out or the pattern is too large.
+    /// [`RegexFault::Malformed`] where the text writes none, [`RegexFault::TooLarge`] where the
+    /// automaton may take more than 16,384 states, and [`RegexFault::Memory`] where memory ran out.
     pub fn parse(alloc: Global, text: &str) -> Result<RegexMatcher, RegexFault>
         ensures text { IfOk result (λ regex. regex ≡ text.now) }
         ensures written { OnOk result (IsRegex text.now) }
+        ensures small { OnOk result (sizes.regex_size text.now ≤ most_states) }
         ensures malformed { result ≡ Err RegexFault.Malformed → IsRegex text.now → ⊥ }
+        ensures large { result ≡ Err RegexFault.TooLarge
+            → IsRegex text.now × (most_states < sizes.regex_size text.now) }
     {
         let parsed = match parse(alloc, text, &Config::default()) {
             Ok(parsed) => parsed,
@@ -66,6 +75,10 @@ impl RegexMatcher {
                 };
             }
         };
+        let size = regex_size(alloc, text.as_bytes())?;
+        if is_too_large(size) {
+            return Err(RegexFault::TooLarge);
+        }
         let Ok(groups) = u32::try_from(parsed.names.len()) else {
             return Err(RegexFault::Memory);
         };

@@ -1,6 +1,6 @@
 -- Which names have what is asked.
-use Rattle.std.proofs.Common.{◌≡◌, ◌≤◌, ◌↔◌, ◌||◌, ℕ, Bool, true, false, List, [], ◌∷◌, ◌++◌, Option, None, Some, Ok, Err, is_some, IsTrue, Decides, le-leb, leb-true, refl, ◌∙◌, ap}
-use Rattle.std.specs.Prelude.{chars, IsSomeAnd, IsSome}
+use Rattle.std.proofs.Common.{◌≡◌, ◌≤◌, ◌<◌, ◌↔◌, ◌||◌, ℕ, Bool, true, false, List, [], ◌∷◌, ◌++◌, Option, None, Some, Ok, Err, is_some, IsTrue, Decides, le-leb, leb-true, lt-ltb, ltb-true, arith, refl, ◌∙◌, ap}
+use Rattle.std.specs.Prelude.{chars, IsSomeAnd, IsSome, nat_lt}
 use Rattle.std.specs.Str.{bytes_eq}
 use Rattle.std.specs.Str.Iter.{HasSubslice}
 use Rattle.std.proofs.lemmas.Bool.Decides.{same_from_decides}
@@ -11,14 +11,16 @@ use Rattle.regex_syntax.specs.Brackets.{Nested}
 use Rattle.regex_syntax.specs.Grammar.{Names, read}
 use Rattle.regex_syntax.specs.Verdict.{default_config}
 use Rattle.name_matchers.specs.GlobDecisions.{writes_glob, glob_takes}
+use Rattle.name_matchers.specs.GlobSizes.{glob_size}
 use Rattle.name_matchers.specs.Globs.{IsGlob}
 use Rattle.name_matchers.specs.Matches.{NameQuestion, equal, contains, glob, regex, Matches}
+use Rattle.name_matchers.specs.RegexSizes.{most_states, regex_size}
 use Rattle.name_matchers.specs.RegexTexts.{IsRegex, RegexMatches}
 use Rattle.name_matchers.proofs.GlobDecisions.{writes_glob_decides, glob_takes_decides}
 use Rattle.filter_language.proofs.PartsOfTexts.{after_is, after_own}
 use Rattle.filter_language.specs.Texts.{after_prefix}
-use Rattle.filter_language.specs.declared.matchers.PatternFault.TheVariants.{Malformed}
-use Rattle.nextest_filters.specs.Names.{nests_within, regex_question, glob_question, has_part, found_in, asks}
+use Rattle.filter_language.specs.declared.matchers.PatternFault.TheVariants.{Malformed, TooLarge}
+use Rattle.nextest_filters.specs.Names.{nests_within, if_small, regex_question, glob_question, has_part, found_in, asks}
 
 -- A regex nests within the bound, and what does is a regex.
 nests : (o : Option (Nested Re × Names)) → IsSomeAnd o (λ (written, names). written.depth ≤ 250) → nests_within o ≡ true
@@ -38,8 +40,25 @@ is_regex : (text : List ℕ) → nests_within (read default_config (chars text))
 unfolding IsRegex
 is_regex text e = nested (read default_config (chars text)) e
 
-pub regex_asked : (text : List ℕ) → IsRegex text → regex_question text ≡ Ok (regex text)
-regex_asked text is = rw (is_nested text is) refl
+-- A question of a small pattern is asked, and one of a large pattern is not.
+small_asked : (states : ℕ) (question : NameQuestion) → states ≤ most_states → if_small states question ≡ Ok question
+small_asked states question small = by_test (nat_lt most_states states) refl
+  where
+    by_test : (b : Bool) → nat_lt most_states states ≡ b → if_small states question ≡ Ok question
+    by_test true e = absurd (let it = ltb-true most_states states e in omega (arith, it))
+    by_test false e = rw e refl
+
+large_refused : (states : ℕ) (question : NameQuestion) → most_states < states
+    → if_small states question ≡ Err TooLarge
+large_refused states question large = rw (lt-ltb most_states states large) refl
+
+pub regex_asked : (text : List ℕ) → IsRegex text → regex_size text ≤ most_states
+    → regex_question text ≡ Ok (regex text)
+regex_asked text is small = rw (is_nested text is) (small_asked (regex_size text) (regex text) small)
+
+pub regex_large : (text : List ℕ) → IsRegex text → most_states < regex_size text
+    → regex_question text ≡ Err TooLarge
+regex_large text is large = rw (is_nested text is) (large_refused (regex_size text) (regex text) large)
 
 pub regex_none : (text : List ℕ) → (IsRegex text → ⊥) → regex_question text ≡ Err Malformed
 regex_none text none = by_test (nests_within (read default_config (chars text))) refl
@@ -49,8 +68,15 @@ regex_none text none = by_test (nests_within (read default_config (chars text)))
     by_test false e = rw e refl
 
 -- What a glob asks.
-pub glob_asked : (text : List ℕ) → IsGlob text → glob_question text ≡ Ok (glob text)
-glob_asked text is = let e : writes_glob text ≡ true = (writes_glob_decides text).1 is in rw e refl
+pub glob_asked : (text : List ℕ) → IsGlob text → glob_size text ≤ most_states
+    → glob_question text ≡ Ok (glob text)
+glob_asked text is small = let e : writes_glob text ≡ true = (writes_glob_decides text).1 is in
+    rw e (small_asked (glob_size text) (glob text) small)
+
+pub glob_large : (text : List ℕ) → IsGlob text → most_states < glob_size text
+    → glob_question text ≡ Err TooLarge
+glob_large text is large = let e : writes_glob text ≡ true = (writes_glob_decides text).1 is in
+    rw e (large_refused (glob_size text) (glob text) large)
 
 pub glob_none : (text : List ℕ) → (IsGlob text → ⊥) → glob_question text ≡ Err Malformed
 glob_none text none = by_test (writes_glob text) refl

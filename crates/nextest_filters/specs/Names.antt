@@ -1,5 +1,5 @@
 -- What is asked of names, and which names have it.
-use Rattle.std.specs.Prelude.{ℕ, nat_le, Bool, false, ◌||◌, List, [], ◌∷◌, Option, None, Some, Result, Ok, Err, is_some, chars, if◌then◌else◌}
+use Rattle.std.specs.Prelude.{ℕ, nat_le, nat_lt, Bool, false, ◌||◌, List, [], ◌∷◌, Option, None, Some, Result, Ok, Err, is_some, chars, if◌then◌else◌}
 use Rattle.std.specs.Str.{bytes_eq}
 use Rattle.regex_hir.specs.Find.{find}
 use Rattle.regex_hir.specs.Re.{Re}
@@ -7,9 +7,11 @@ use Rattle.regex_syntax.specs.Brackets.{Nested}
 use Rattle.regex_syntax.specs.Grammar.{Names, read}
 use Rattle.regex_syntax.specs.Verdict.{default_config}
 use Rattle.name_matchers.specs.GlobDecisions.{writes_glob, glob_takes}
+use Rattle.name_matchers.specs.GlobSizes.{glob_size}
+use Rattle.name_matchers.specs.RegexSizes.{most_states, regex_size}
 use Rattle.name_matchers.specs.Matches.{NameQuestion, equal, contains, glob, regex}
 use Rattle.filter_language.specs.declared.matchers.PatternFault.{PatternFault}
-use Rattle.filter_language.specs.declared.matchers.PatternFault.TheVariants.{Malformed}
+use Rattle.filter_language.specs.declared.matchers.PatternFault.TheVariants.{Malformed, TooLarge}
 use Rattle.filter_language.specs.declared.words.Sign.{Sign}
 use Rattle.filter_language.specs.declared.words.Sign.TheVariants.{Equal, Contains, Glob, Regex}
 use Rattle.filter_language.specs.Texts.{after_prefix}
@@ -19,14 +21,20 @@ abbrev pub nests_within : Option (Nested Re × Names) → Bool
 nests_within None = false
 nests_within (Some p) = nat_le p.0.depth 250
 
+-- A question, unless its pattern takes too many states.
+abbrev pub if_small : ℕ → NameQuestion → Result NameQuestion PatternFault
+if_small states question = if nat_lt most_states states then Err TooLarge else Ok question
+
 -- What a regex asks.
 abbrev pub regex_question : List ℕ → Result NameQuestion PatternFault
 regex_question text =
-    if nests_within (read default_config (chars text)) then Ok (regex text) else Err Malformed
+    if nests_within (read default_config (chars text)) then if_small (regex_size text) (regex text)
+    else Err Malformed
 
 -- What a glob asks.
 abbrev pub glob_question : List ℕ → Result NameQuestion PatternFault
-glob_question text = if writes_glob text then Ok (glob text) else Err Malformed
+glob_question text =
+    if writes_glob text then if_small (glob_size text) (glob text) else Err Malformed
 
 -- What a text asks behind a sign.
 abbrev pub question_in : Sign → List ℕ → Result NameQuestion PatternFault

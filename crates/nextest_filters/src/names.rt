@@ -33,7 +33,7 @@ fn contains(alloc: Global, text: &str) -> Result<NamePattern, AllocError>
 }
 
 /// Asks for a name that the glob of this text takes.
-#[tactic(auto, using(crate::proofs::Asks::glob_asked, crate::proofs::Asks::glob_none))]
+#[tactic(auto, using(crate::proofs::Asks::glob_asked, crate::proofs::Asks::glob_none, crate::proofs::Asks::glob_large))]
 fn glob(alloc: Global, text: &str) -> Result<Result<NamePattern, PatternFault>, AllocError>
     ensures { IfOk result (λ found. result_map_both (λ p. question_of p.matcher) (λ f. f) found
         ≡ glob_question text.now) }
@@ -41,12 +41,13 @@ fn glob(alloc: Global, text: &str) -> Result<Result<NamePattern, PatternFault>, 
     match NameMatcher::glob(alloc, text) {
         Ok(matcher) => Ok(Ok(NamePattern { matcher })),
         Err(GlobFault::Malformed) => Ok(Err(PatternFault::Malformed)),
+        Err(GlobFault::TooLarge) => Ok(Err(PatternFault::TooLarge)),
         Err(GlobFault::Memory) => Err(AllocError),
     }
 }
 
 /// Asks for a name in which the regular expression of this text has a match.
-#[tactic(auto, using(crate::proofs::Asks::regex_asked, crate::proofs::Asks::regex_none))]
+#[tactic(auto, using(crate::proofs::Asks::regex_asked, crate::proofs::Asks::regex_none, crate::proofs::Asks::regex_large))]
 fn regex(alloc: Global, text: &str) -> Result<Result<NamePattern, PatternFault>, AllocError>
     ensures { IfOk result (λ found. result_map_both (λ p. question_of p.matcher) (λ f. f) found
         ≡ regex_question text.now) }
@@ -54,6 +55,7 @@ fn regex(alloc: Global, text: &str) -> Result<Result<NamePattern, PatternFault>,
     match NameMatcher::regex(alloc, text) {
         Ok(matcher) => Ok(Ok(NamePattern { matcher })),
         Err(RegexFault::Malformed) => Ok(Err(PatternFault::Malformed)),
+        Err(RegexFault::TooLarge) => Ok(Err(PatternFault::TooLarge)),
         Err(RegexFault::Memory) => Err(AllocError),
     }
 }

@@ -22,6 +22,7 @@ pub fn fault_words(kind: FaultKind) -> &'static str {
         FaultKind::InvalidEscapeCharacter => "invalid escape",
         FaultKind::InvalidGlob => "invalid glob",
         FaultKind::InvalidRegex => "invalid regex",
+        FaultKind::TooLarge => "the pattern is too large",
         FaultKind::ExpectedCloseRegex => "expected `/`",
         FaultKind::InvalidPlatformArgument => "expected `host` or `target`",
         FaultKind::InvalidOrOperator => "expected `|`, `+` or `or`",

@@ -214,6 +214,16 @@ fn malformed(sign: Sign) -> FaultKind
     }
 }
 
+/// What is wrong with a pattern that has no meaning.
+fn meaningless(sign: Sign, fault: PatternFault) -> FaultKind
+    ensures { result ≡ predicates.meaningless sign fault }
+{
+    match fault {
+        PatternFault::Malformed => malformed(sign),
+        PatternFault::TooLarge => FaultKind::TooLarge,
+    }
+}
+
 /// The set of what a pattern matches, of a text that begins with its word, behind its `(`.
 fn matching<'a, E: Matchers>(
     engine: &E,
@@ -235,7 +245,7 @@ fn matching<'a, E: Matchers>(
     let Body { text, end, behind } = read_body(alloc, sign, pattern)?;
     let matcher = match engine.compile(alloc, field, sign, text.as_str())? {
         Ok(matcher) => matcher,
-        Err(PatternFault::Malformed) => return Err(Stop::between(malformed(sign), pattern, end)),
+        Err(fault) => return Err(Stop::between(meaningless(sign, fault), pattern, end)),
     };
     let (close, rest) = closed(behind)?;
     let written = String::from_str(alloc, front(start, rest))?;

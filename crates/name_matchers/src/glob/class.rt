@@ -5,7 +5,7 @@ ghost use Rattle.name_matchers.specs.Patterns.{MatchesKind, MeansRanges};
 ghost use Rattle.name_matchers.specs.GlobClasses as classes;
 ghost use Rattle.name_matchers.specs.GlobClasses.{BeginsWith, BeginsNegated, ClassTakes, EndsClass, NoBody, NoClass, ReadsItem, ReadsRanges, TakesItem, WritesNegation, WritesOneClass};
 
-use crate::glob::GlobFault;
+use crate::glob::fault::RowFault;
 use regex_class::Class;
 use regex_hir::Hir;
 use std::alloc::{AllocError, Global};
@@ -24,9 +24,9 @@ pub enum ClassItem {
 ///
 /// # Errors
 ///
-/// [`GlobFault::Malformed`] where no class stands there, and [`GlobFault::Memory`] where memory
+/// [`RowFault::Malformed`] where no class stands there, and [`RowFault::Memory`] where memory
 /// ran out.
-pub fn read_class(alloc: Global, text: &[u8]) -> Result<(Hir, usize), GlobFault>
+pub fn read_class(alloc: Global, text: &[u8]) -> Result<(Hir, usize), RowFault>
     ensures class { IfOk result (λ read. (class : classes.GlobClass)
         × WritesOneClass text.now class (drop read.1 text.now)
         × MatchesKind (ClassTakes class) (meaning read.0)) }
@@ -69,13 +69,13 @@ fn is_negated(text: &[u8]) -> bool
 }
 
 // The ranges of the class, its sign left out, at the front of a text, and how many bytes write it.
-fn read_ranges(alloc: Global, text: &[u8]) -> Result<(Vec<(u32, u32)>, usize), GlobFault>
+fn read_ranges(alloc: Global, text: &[u8]) -> Result<(Vec<(u32, u32)>, usize), RowFault>
     ensures ranges { IfOk result (λ read. ReadsRanges text.now read.0.items (drop read.1 text.now)) }
     ensures len { IfOk result (λ read. read.1 ≤ length text.now) }
     ensures refused { IfErr result (NoBody text.now) }
 {
     if text.len() == 0 || text[0] >= 128 {
-        return Err(GlobFault::Malformed);
+        return Err(RowFault::Malformed);
     }
     let mut range = (text[0], text[0]);
     let mut ranges = Vec::new(alloc);
@@ -121,19 +121,19 @@ fn begins_with(text: &[u8], byte: u8) -> bool
 
 // The item at the front of a text that begins with no closing bracket, and how many bytes write it,
 // behind a range with this start.
-fn read_item(text: &[u8], start: u8) -> Result<(ClassItem, usize), GlobFault>
+fn read_item(text: &[u8], start: u8) -> Result<(ClassItem, usize), RowFault>
     requires { EndsClass text.now → ⊥ }
     ensures item { ReadsItem start text.now result }
     ensures len { IfOk result (λ read. (0 < read.1) × (read.1 ≤ length text.now)) }
 {
     if text.len() == 0 || text[0] >= 128 {
-        return Err(GlobFault::Malformed);
+        return Err(RowFault::Malformed);
     }
     if text[0] != b'-' || begins_with(&text[1..], b']') {
         return Ok((ClassItem::Own(text[0]), 1));
     }
     if text.len() < 2 || text[1] >= 128 || text[1] < start {
-        return Err(GlobFault::Malformed);
+        return Err(RowFault::Malformed);
     }
     Ok((ClassItem::Reach(text[1]), 2))
 }

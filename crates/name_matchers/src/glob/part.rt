@@ -4,7 +4,7 @@ ghost use Rattle.name_matchers.specs.Globs as globs;
 ghost use Rattle.name_matchers.specs.GlobReading.{BeginsFolders, BeginsLast, ReadsPart};
 ghost use Rattle.name_matchers.specs.declared.glob.place.Place as places;
 
-use crate::glob::GlobFault;
+use crate::glob::fault::RowFault;
 use crate::glob::place::Place;
 
 /// A part of a glob.
@@ -55,9 +55,9 @@ pub fn ends_row(inside: bool, text: &[u8]) -> bool
 ///
 /// # Errors
 ///
-/// [`GlobFault::Malformed`] where no part stands there: a backslash at the end, and the bytes of
+/// [`RowFault::Malformed`] where no part stands there: a backslash at the end, and the bytes of
 /// classes and groups.
-pub fn read_part(text: &[u8], inside: bool, place: Place) -> Result<(GlobPart, usize), GlobFault>
+pub fn read_part(text: &[u8], inside: bool, place: Place) -> Result<(GlobPart, usize), RowFault>
     requires { 0 < length text.now }
     ensures part { ReadsPart inside place text.now result }
     ensures len { IfOk result (λ read. (0 < read.1) × (read.1 ≤ length text.now)) }
@@ -75,7 +75,7 @@ pub fn read_part(text: &[u8], inside: bool, place: Place) -> Result<(GlobPart, u
     if first == b'\\' {
         return read_escaped(text);
     }
-    Err(GlobFault::Malformed)
+    Err(RowFault::Malformed)
 }
 
 fn read_star(text: &[u8], inside: bool, place: Place) -> (GlobPart, usize)
@@ -127,14 +127,14 @@ fn is_last(inside: bool, place: Place, rest: &[u8]) -> bool
     }
 }
 
-fn read_escaped(text: &[u8]) -> Result<(GlobPart, usize), GlobFault>
+fn read_escaped(text: &[u8]) -> Result<(GlobPart, usize), RowFault>
     requires some { 0 < length text.now }
     requires backslash { slice_index text.now 0 ≡ 92 }
     ensures part { (inside : Bool) (at : places.Place) → ReadsPart inside at text.now result }
     ensures len { IfOk result (λ read. (0 < read.1) × (read.1 ≤ length text.now)) }
 {
     if text.len() < 2 {
-        return Err(GlobFault::Malformed);
+        return Err(RowFault::Malformed);
     }
     Ok((GlobPart::Byte(text[1]), 2))
 }

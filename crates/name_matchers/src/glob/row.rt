@@ -4,8 +4,8 @@ ghost use Rattle.name_matchers.specs.Globs as globs;
 ghost use Rattle.name_matchers.specs.GlobReading.{AddsBranch, AddsPattern, MatchesAny, NoGroup, NoRow, ReadsGroup, ReadsPiece, ReadsRow};
 ghost use Rattle.name_matchers.specs.declared.glob.place.Place.TheVariants as places;
 
-use crate::glob::GlobFault;
 use crate::glob::class::read_class;
+use crate::glob::fault::RowFault;
 use crate::glob::part::{ends_row, read_part};
 use crate::glob::pattern::part_pattern;
 use crate::glob::place::Place;
@@ -26,7 +26,7 @@ struct Piece {
 ///
 /// # Errors
 ///
-/// [`GlobFault::Malformed`] where no row stands there, and [`GlobFault::Memory`] where memory ran
+/// [`RowFault::Malformed`] where no row stands there, and [`RowFault::Memory`] where memory ran
 /// out.
 #[cycle(rows)]
 pub fn read_row(
@@ -34,7 +34,7 @@ pub fn read_row(
     text: &[u8],
     inside: bool,
     levels: u8,
-) -> Result<(Vec<Hir>, usize), GlobFault>
+) -> Result<(Vec<Hir>, usize), RowFault>
     ensures row { IfOk result
         (λ read. ReadsRow inside levels text.now read.0.items (drop read.1 text.now)) }
     ensures ends { IfOk result (λ read. (read.1 ≤ length text.now)
@@ -61,7 +61,7 @@ fn read_piece(
     inside: bool,
     place: Place,
     levels: u8,
-) -> Result<Piece, GlobFault>
+) -> Result<Piece, RowFault>
     requires { globs.ends_row inside text.now ≡ false }
     ensures piece { IfOk result (λ piece.
         ReadsPiece inside levels place text.now piece.pattern piece.place (drop piece.len text.now)) }
@@ -69,7 +69,7 @@ fn read_piece(
     ensures refused { IfErr result (NoRow inside levels place text.now) }
 {
     if text.len() == 0 {
-        return Err(GlobFault::Malformed);
+        return Err(RowFault::Malformed);
     }
     if text[0] == b'{' && levels > 0 {
         let (group, len) = read_group(alloc, &text[1..], levels - 1)?;
@@ -99,7 +99,7 @@ fn read_piece(
 // The pattern of the group behind an opening brace, if one of its branches is not empty, and how
 // many bytes write it, the closing brace among them.
 #[cycle(rows)]
-fn read_group(alloc: Global, text: &[u8], levels: u8) -> Result<(Option<Hir>, usize), GlobFault>
+fn read_group(alloc: Global, text: &[u8], levels: u8) -> Result<(Option<Hir>, usize), RowFault>
     ensures group { IfOk result (λ read. ReadsGroup levels text.now read.0 (drop read.1 text.now)) }
     ensures len { IfOk result (λ read. read.1 ≤ length text.now) }
     ensures refused { IfErr result (NoGroup levels text.now) }

@@ -14,7 +14,7 @@ use regex_nfa::{Nfa, State, StateId, holds};
 #[derive(Drop)]
 pub struct Search<'a, const ROOM: usize> {
     pub nfa: &'a Nfa,
-    ghost few: { (vec_len nfa.now.states ≤ ROOM) × (ROOM ≤ 4096) },
+    ghost few: { (vec_len nfa.now.states ≤ ROOM) × (ROOM ≤ 16384) },
 }
 
 impl<const ROOM: usize> Search<'_, ROOM> {
