@@ -1,5 +1,5 @@
 -- Rules, and which of them have held for a test.
-use Rattle.std.specs.Prelude.{◌≡◌, ◌||◌, List, map, Bool, false, Option, option_map, find}
+use Rattle.std.specs.Prelude.{◌≡◌, ◌||◌, List, map, Bool, false, Option}
 use Rattle.nextest_engines.specs.declared.queries.BuildPlatforms.{BuildPlatforms}
 use Rattle.nextest_rules.specs.Rules.{Compiled}
 use Rattle.nextest_settings.specs.Deciding.{QueryContext, rule_holds}
@@ -43,10 +43,6 @@ abbrev pub AreMarked : {E M W : Type 0} → (E → M) → List (QueryContext M) 
     → Type 0
 AreMarked meaning tests ms =
     map (λ m. m.is_used) ms ≡ map (λ m. is_used tests (meant meaning m.rule)) ms
-
--- what the first rule is told by that holds for a test
-abbrev pub first_tag : {M W : Type 0} → QueryContext M → List (EvaluatedRule M W) → Option W
-first_tag test rules = option_map (λ rule. rule.writes) (find (rule_holds test) rules)
 
 -- a rule that was read, on the platforms of a build, by what its filter means
 abbrev pub meant_on : {E M N W P : Type 0} → (E → M) → (N → P → Option Bool) → BuildPlatforms P

@@ -23,15 +23,13 @@ use std::alloc::{AllocError, Global};
 
 /// What a list is told by.
 #[derive_where(Clone, Copy)]
-pub struct Asking<'l, 'c, F: Filters, S: Specs, T> {
+pub struct Asking<'l, 'c, F: Filters, S: Specs> {
     /// The profile on the platforms of the build.
     pub profile: &'l EvaluatableProfile<'c, F, S>,
     /// For what tests are run.
     pub mode: NextestRunMode,
     /// Which settings are told.
     pub asked: &'l AskedSettings,
-    /// The script rules that name run wrappers, in their order.
-    pub wrappers: &'l RuleUse<'c, F, T>,
 }
 
 /// What is told of the tests of a list.
@@ -51,9 +49,9 @@ fn reported_platform(platform: BuildPlatform) -> Platform {
     }
 }
 
-impl<'l, 'c, F: Filters, S: Specs, T: Copy> Asking<'l, 'c, F, S, T> {
+impl<'l, 'c, F: Filters, S: Specs> Asking<'l, 'c, F, S> {
     /// The settings of a test that are told. It takes as much memory as they do, and loads nothing.
-    pub fn rows_of<O: OriginTeller<T>>(
+    pub fn rows_of<O: OriginTeller<'c>>(
         &self,
         alloc: Global,
         query: &TestQuery<'_>,
@@ -67,19 +65,18 @@ impl<'l, 'c, F: Filters, S: Specs, T: Copy> Asking<'l, 'c, F, S, T> {
         let settings = self
             .profile
             .settings_with_source_for(self.mode, query, tally);
-        let wrapper = self.wrappers.first(query, tally);
         Ok(TestRows {
             binary: String::from_str(alloc, query.binary_query.binary_id)?,
             name: String::from_str(alloc, query.test_name)?,
             platform: reported_platform(query.binary_query.platform),
-            settings: rows_of(alloc, &settings, self.asked, self.mode, wrapper, teller)?,
+            settings: rows_of(alloc, &settings, self.asked, self.mode, teller)?,
         })
     }
 
     /// The settings of tests that are told, one test after another, and which of some rules on the
     /// platforms of the build hold for none of them. Beside the rows it takes a flag for each rule.
     /// After each test it is told how far the list is.
-    pub fn list<O: OriginTeller<T>, P: Progress>(
+    pub fn list<T: Copy, O: OriginTeller<'c>, P: Progress>(
         &self,
         alloc: Global,
         queries: &[TestQuery<'_>],

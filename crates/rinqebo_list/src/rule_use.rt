@@ -5,7 +5,7 @@ ghost use Rattle.nextest_settings.specs.Engines.{meets_by, test_query_by};
 ghost use Rattle.nextest_settings.specs.Platforms.{rule_on};
 ghost use Rattle.rinqebo_list.specs.RuleViews.{list_rule_view, marked_view};
 ghost use Rattle.rinqebo_list.specs.Unused.{unused_among};
-ghost use Rattle.rinqebo_list.specs.Uses.{AreMarked, after_test, first_tag, meant_rules, rules_in, unmarked};
+ghost use Rattle.rinqebo_list.specs.Uses.{AreMarked, after_test, meant_rules, rules_in, unmarked};
 
 use crate::judged::{JudgedRule, ListRule, judged_rule};
 use nextest_engines::{BuildPlatforms, EvalContext, Filters, Specs, TestQuery};
@@ -115,25 +115,6 @@ fn unmarked_tags<'c, F: Filters, T: Copy>(
     Ok(tags)
 }
 
-/// What the first rule is told by that holds for a test.
-fn first_of<'c, F: Filters, T: Copy>(
-    rules: &[MarkedRule<'c, F, T>],
-    query: &TestQuery<'_>,
-    cx: &EvalContext<'_, F::Expr>,
-    tally: &mut F::Tally,
-) -> Option<T>
-    ensures { result ≡ first_tag
-        (test_query_by F.Filters cx.now.default_filter.now query.now)
-        (meant_rules F.meaning (map marked_view rules.now)) }
-{
-    for (number, marked) in rules.iter().enumerate() {
-        if marked.rule.holds(number, query, cx, tally) {
-            return Some(marked.rule.tag);
-        }
-    }
-    None
-}
-
 impl<'c, F: Filters, T: Copy> RuleUse<'c, F, T> {
     /// Rules on the platforms of a build, of which none has held for a test yet. In their filters
     /// `default()` stands for the default filter.
@@ -178,17 +159,5 @@ impl<'c, F: Filters, T: Copy> RuleUse<'c, F, T> {
             ≡ map (λ rule. rule.writes) (unused_among seen rules)) }
     {
         unmarked_tags(alloc, &self.rules)
-    }
-
-    /// What the first rule is told by that holds for a test.
-    pub fn first(&self, query: &TestQuery<'_>, tally: &mut F::Tally) -> Option<T>
-        ensures { result ≡ first_tag
-            (test_query_by F.Filters self.now.default_filter query.now)
-            (meant_rules F.meaning self.now.rules) }
-    {
-        let cx = EvalContext {
-            default_filter: self.default_filter,
-        };
-        first_of(&self.rules, query, &cx, tally)
     }
 }

@@ -18,12 +18,12 @@ ghost use Rattle.rinqebo_rules.specs.RulePlaces.{place_view};
 
 use crate::asked::asked_of;
 use crate::list_origins::{Origins, origins_of_rules};
-use crate::list_rules::{all_rules, wrapper_rules};
+use crate::list_rules::all_rules;
 use crate::list_scripts::scripts_of_list;
 use nextest_config::{DefaultConfigWarnings, EarlyProfile, EvaluatableProfile, NextestRunMode};
 use nextest_filters::{NextestFilters, NextestTally};
 use rinqebo_findings::{config_with, report_of, warning_findings};
-use rinqebo_list::{Asking, ListedRows, Progress, RuleUse};
+use rinqebo_list::{Asking, ListedRows, Progress};
 use rinqebo_load::{Config, Failure, Session, chain_of_profile};
 use rinqebo_report::{Content, Report};
 use rinqebo_request::AskedSettings;
@@ -76,14 +76,10 @@ fn listed_rows<'c, P: Progress>(
         (all_tests (list_view session.now.tests)) (map place_view rows.unused.items)) }
 {
     let platforms = &session.engines.platforms;
-    let default_filter = profile.filterset_ecx().default_filter;
-    let wrappers = wrapper_rules(alloc, config, chain)?;
-    let wrappers = RuleUse::new(alloc, &wrappers, platforms, default_filter)?;
     let asking = Asking {
         profile,
         mode,
         asked,
-        wrappers: &wrappers,
     };
     let rules = all_rules(alloc, config, chain)?;
     let queries = session.tests.queries(alloc)?;

@@ -4,56 +4,34 @@ ghost use Rattle.std.specs.List.{AllZip};
 ghost use Rattle.rinqebo_rules.specs.Origins.{IsOriginOf};
 ghost use Rattle.rinqebo_rules.specs.RulePlaces.{place_view};
 
-use nextest_config::ConfigSource;
 use rinqebo_files::Layer;
 use rinqebo_list::{Decider, OriginTeller};
 use rinqebo_report::{Origin, Written};
 use rinqebo_request::SettingKey;
-use rinqebo_rules::{RuleKind, RulePlace, built_in, profile_grounds};
+use rinqebo_rules::{RulePlace, built_in, profile_grounds};
 use std::alloc::{AllocError, Global};
 
-/// A rule that is known.
-#[derive(Drop)]
-struct KnownRule {
-    source: ConfigSource,
-    profile: String,
-    kind: RuleKind,
-    index: usize,
-}
-
-impl KnownRule {
-    /// The rule at a place.
-    fn at(alloc: Global, place: &RulePlace<'_>) -> Result<KnownRule, AllocError> {
-        Ok(KnownRule {
-            source: place.source.clone()?,
-            profile: String::from_str(alloc, place.profile)?,
-            kind: place.kind,
-            index: place.index,
-        })
-    }
-
-    /// Whether it stands at a place.
-    fn stands_at(&self, place: &RulePlace<'_>) -> bool {
-        self.kind == place.kind
-            && self.index == place.index
-            && self.profile.as_str() == place.profile
-            && self.source == *place.source
-    }
+/// Whether two places are of one rule.
+fn is_same_rule(rule: &RulePlace<'_>, other: &RulePlace<'_>) -> bool {
+    rule.kind == other.kind
+        && rule.index == other.index
+        && rule.profile == other.profile
+        && *rule.source == *other.source
 }
 
 /// Where the value at a key comes from: from a rule, or from the profile.
 #[derive(Drop)]
-struct KnownOrigins {
-    rule: Option<KnownRule>,
+struct KnownOrigins<'c> {
+    rule: Option<RulePlace<'c>>,
     key: SettingKey,
     origins: Vec<Origin>,
 }
 
-impl KnownOrigins {
+impl KnownOrigins<'_> {
     /// Whether they are those of a rule, or without one those of the profile, at a key.
     fn are_of(&self, rule: Option<&RulePlace<'_>>, key: SettingKey) -> bool {
         let is_ground = match (&self.rule, rule) {
-            (Some(known), Some(place)) => known.stands_at(place),
+            (Some(known), Some(place)) => is_same_rule(known, place),
             (None, None) => true,
             (Some(_), None) | (None, Some(_)) => false,
         };
@@ -86,15 +64,19 @@ fn all_copied(alloc: Global, origins: &[Origin]) -> Result<Vec<Origin>, AllocErr
 
 /// What is known so far of where settings come from.
 #[derive(Drop)]
-pub struct Origins<'l, 't> {
+pub struct Origins<'l, 't, 'c> {
     layers: &'l [Layer<'t>],
     chain: &'l [&'l str],
-    known: Vec<KnownOrigins>,
+    known: Vec<KnownOrigins<'c>>,
 }
 
-impl<'l, 't> Origins<'l, 't> {
+impl<'l, 't, 'c> Origins<'l, 't, 'c> {
     /// Nothing is known yet of the settings of a chain of profiles.
-    pub fn new(alloc: Global, layers: &'l [Layer<'t>], chain: &'l [&'l str]) -> Origins<'l, 't> {
+    pub fn new(
+        alloc: Global,
+        layers: &'l [Layer<'t>],
+        chain: &'l [&'l str],
+    ) -> Origins<'l, 't, 'c> {
         Origins {
             layers,
             chain,
@@ -119,38 +101,33 @@ impl<'l, 't> Origins<'l, 't> {
     fn of(
         &mut self,
         alloc: Global,
-        rule: Option<&RulePlace<'_>>,
+        rule: Option<RulePlace<'c>>,
         key: SettingKey,
     ) -> Result<Vec<Origin>, AllocError> {
         for known in &self.known {
-            if known.are_of(rule, key) {
+            if known.are_of(rule.as_ref(), key) {
                 return all_copied(alloc, &known.origins);
             }
         }
-        let origins = self.found(alloc, rule, key)?;
+        let origins = self.found(alloc, rule.as_ref(), key)?;
         let copies = all_copied(alloc, &origins)?;
-        let rule = match rule {
-            Some(place) => Some(KnownRule::at(alloc, place)?),
-            None => None,
-        };
         self.known.push(KnownOrigins { rule, key, origins })?;
         Ok(copies)
     }
 }
 
-impl<'c> OriginTeller<RulePlace<'c>> for Origins<'_, '_> {
+impl<'c> OriginTeller<'c> for Origins<'_, '_, 'c> {
     fn origins(
         &mut self,
         alloc: Global,
-        decider: &Decider<'_, RulePlace<'c>>,
+        decider: &Decider<'c>,
         key: SettingKey,
     ) -> Result<Vec<Origin>, AllocError> {
         match decider {
             Decider::BuiltIn => built_in(alloc),
             Decider::Profile => self.of(alloc, None, key),
-            Decider::Override(id) => self.of(alloc, Some(&RulePlace::of_override(*id)), key),
-            Decider::Script(Some(place)) => self.of(alloc, Some(place), key),
-            Decider::Script(None) => Ok(Vec::new(alloc)),
+            Decider::Override(id) => self.of(alloc, Some(RulePlace::of_override(*id)), key),
+            Decider::Script(id) => self.of(alloc, Some(RulePlace::of_script(*id)), key),
         }
     }
 }

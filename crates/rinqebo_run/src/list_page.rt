@@ -31,7 +31,7 @@ use crate::asked::asked_of;
 use crate::list::{Profile, Rows, profile_on};
 use crate::list_fault::ListFault;
 use crate::list_origins::{Origins, origins_of_rules};
-use crate::list_rules::{Rule, all_rules, wrapper_rules};
+use crate::list_rules::{Rule, all_rules};
 use crate::list_scripts::scripts_of_list;
 use nextest_config::{NextestRunMode, TestQuery};
 use nextest_filters::{NextestFilters, NextestTally};
@@ -45,7 +45,7 @@ use std::io::Write;
 use target_language::TargetSpecs;
 
 /// How the tests of a list are asked.
-type TestAsking<'l, 'c> = Asking<'l, 'c, NextestFilters, TargetSpecs, RulePlace<'c>>;
+type TestAsking<'l, 'c> = Asking<'l, 'c, NextestFilters, TargetSpecs>;
 
 /// What is asked of a list.
 #[derive(Clone, Copy)]
@@ -101,7 +101,7 @@ impl<'c> ListPage<'c, '_> {
         asking: &TestAsking<'_, 'c>,
         query: &TestQuery<'_>,
         tally: &mut NextestTally,
-        origins: &mut Origins<'_, '_>,
+        origins: &mut Origins<'_, '_, 'c>,
         tests: &mut Vec<TestRows>,
     ) -> Result<String, AllocError>
         ensures ok { let profile = profile_meaning (marks_view names_of) asking.now.profile.now in
@@ -124,7 +124,7 @@ impl<'c> ListPage<'c, '_> {
         asking: &TestAsking<'_, 'c>,
         queries: &[TestQuery<'_>],
         rules: &[Rule<'c>],
-        origins: &mut Origins<'_, '_>,
+        origins: &mut Origins<'_, '_, 'c>,
         progress: &mut P,
         out: &mut O,
     ) -> Result<Rows<'c>, ListFault>
@@ -186,15 +186,10 @@ impl<'c> ListPage<'c, '_> {
             (O.contents out.old) (O.contents out.new))
             (O.contents out.old) (O.contents out.new)) }
     {
-        let platforms = &self.session.engines.platforms;
-        let default_filter = on.filterset_ecx().default_filter;
-        let wrappers = wrapper_rules(alloc, self.config, chain)?;
-        let wrappers = RuleUse::new(alloc, &wrappers, platforms, default_filter)?;
         let asking = Asking {
             profile: on,
             mode: self.list.mode,
             asked: self.list.settings,
-            wrappers: &wrappers,
         };
         let rules = all_rules(alloc, self.config, chain)?;
         let queries = self.session.tests.queries(alloc)?;

@@ -77,22 +77,6 @@ fn with_script_rules<'c>(
     Ok(found)
 }
 
-/// The script rules of a chain that name a run wrapper, in order.
-pub fn wrapper_rules<'c>(
-    alloc: Global,
-    config: &'c Config,
-    chain: &[&'c str],
-) -> Result<Vec<Rule<'c>>, AllocError> {
-    let found = rules_of(alloc, config.layers(), chain)?;
-    let mut rules = Vec::new(alloc);
-    for rule in &found.script_rules {
-        if rule.run_wrapper().is_some() {
-            rules.push(script_rule(*rule))?;
-        }
-    }
-    Ok(rules)
-}
-
 /// All rules of a chain: the overrides in order, and then the script rules in order.
 pub fn all_rules<'c>(
     alloc: Global,
