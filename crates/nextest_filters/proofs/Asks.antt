@@ -56,9 +56,9 @@ pub regex_asked : (text : List ℕ) → IsRegex text → regex_size text ≤ mos
     → regex_question text ≡ Ok (regex text)
 regex_asked text is small = rw (is_nested text is) (small_asked (regex_size text) (regex text) small)
 
-pub regex_large : (text : List ℕ) → IsRegex text → most_states < regex_size text
+pub regex_large : (text : List ℕ) → IsRegex text × (most_states < regex_size text)
     → regex_question text ≡ Err TooLarge
-regex_large text is large = rw (is_nested text is) (large_refused (regex_size text) (regex text) large)
+regex_large text (is, large) = rw (is_nested text is) (large_refused (regex_size text) (regex text) large)
 
 pub regex_none : (text : List ℕ) → (IsRegex text → ⊥) → regex_question text ≡ Err Malformed
 regex_none text none = by_test (nests_within (read default_config (chars text))) refl
@@ -73,9 +73,9 @@ pub glob_asked : (text : List ℕ) → IsGlob text → glob_size text ≤ most_s
 glob_asked text is small = let e : writes_glob text ≡ true = (writes_glob_decides text).1 is in
     rw e (small_asked (glob_size text) (glob text) small)
 
-pub glob_large : (text : List ℕ) → IsGlob text → most_states < glob_size text
+pub glob_large : (text : List ℕ) → IsGlob text × (most_states < glob_size text)
     → glob_question text ≡ Err TooLarge
-glob_large text is large = let e : writes_glob text ≡ true = (writes_glob_decides text).1 is in
+glob_large text (is, large) = let e : writes_glob text ≡ true = (writes_glob_decides text).1 is in
     rw e (large_refused (glob_size text) (glob text) large)
 
 pub glob_none : (text : List ℕ) → (IsGlob text → ⊥) → glob_question text ≡ Err Malformed
