@@ -142,7 +142,8 @@ fn map_members(
     required: Value,
 ) -> Result<Map<String, Value>, AllocError>
     ensures { IfOk result (λ members. members_view members.entries
-        ≡ map_members (view names) (view others) (members_view properties.entries) (view required)) }
+        ≡ map_members (view names) (view others) (members_view properties.entries)
+        (view required)) }
 {
     let mut members = typed(alloc, "object")?;
     put(&mut members, alloc, "required", required)?;

@@ -10,7 +10,8 @@ use std::alloc::{AllocError, Global};
 
 /// A field that a file may leave out.
 pub(crate) fn optional(key: Key, shape: Shape) -> Field<Shape>
-    ensures { field_view result ≡ record { key = key; is_required = false; shape = shape_view shape } }
+    ensures { field_view result
+        ≡ record { key = key; is_required = false; shape = shape_view shape } }
 {
     Field {
         key,
@@ -21,7 +22,8 @@ pub(crate) fn optional(key: Key, shape: Shape) -> Field<Shape>
 
 /// A field that a file has to write.
 pub(crate) fn required(key: Key, shape: Shape) -> Field<Shape>
-    ensures { field_view result ≡ record { key = key; is_required = true; shape = shape_view shape } }
+    ensures { field_view result
+        ≡ record { key = key; is_required = true; shape = shape_view shape } }
 {
     Field {
         key,

@@ -116,14 +116,16 @@ impl From<AllocError> for Stop<'_> {
 impl<'a> Stop<'a> {
     /// What is wrong from one place until another.
     pub fn between(kind: FaultKind, from: &'a str, until: &'a str) -> Stop<'a>
-        ensures { result ≡ Stop.Misread (record { kind = kind; from = from.entry; until = until.entry }) }
+        ensures { result
+            ≡ Stop.Misread (record { kind = kind; from = from.entry; until = until.entry }) }
     {
         Stop::Misread(Misread { kind, from, until })
     }
 
     /// What is wrong at a place.
     pub fn at(kind: FaultKind, place: &'a str) -> Stop<'a>
-        ensures { result ≡ Stop.Misread (record { kind = kind; from = place.entry; until = place.entry }) }
+        ensures { result
+            ≡ Stop.Misread (record { kind = kind; from = place.entry; until = place.entry }) }
     {
         Stop::between(kind, place, place)
     }

@@ -11,7 +11,8 @@ flag flags k = slice_index_or flags k false
 
 -- There is a cut below the first byte of the transition, and one above the last.
 abbrev pub IsCut : List Bool → Transition → Type 0
-IsCut cuts transition = (flag cuts transition.start ≡ true) × (flag cuts (transition.end + 1) ≡ true)
+IsCut cuts transition = (flag cuts transition.start ≡ true)
+    × (flag cuts (transition.end + 1) ≡ true)
 
 -- Each old cut is a new one.
 abbrev pub KeepsCuts : List Bool → List Bool → Type 0
@@ -20,7 +21,8 @@ KeepsCuts old new = (k : ℕ) → flag old k ≡ true → flag new k ≡ true
 -- Each state leads on both bytes to the same state, or to none.
 abbrev pub AreAlike : Nfa → ℕ → ℕ → Type 0
 AreAlike nfa a b =
-    (q : ℕ) → next_on nfa.transitions.items (state_of nfa q) a ≡ next_on nfa.transitions.items (state_of nfa q) b
+    (q : ℕ) → next_on nfa.transitions.items (state_of nfa q) a
+    ≡ next_on nfa.transitions.items (state_of nfa q) b
 
 -- A byte above which there is no cut is like the next.
 abbrev pub SeparatesBytes : Nfa → List Bool → Type 0

@@ -253,7 +253,8 @@ abbrev pub acted : Act → Mode → Reading → Level → List Level → State
 acted Nothing mode reading inner outer = with_inner mode reading inner outer
 acted (Adds item) mode reading inner outer = with_inner mode reading (added inner item) outer
 acted (Joins more) mode reading inner outer = with_inner mode reading (joined inner more) outer
-acted (Repeats most) mode reading inner outer = with_inner mode reading (with_repeated inner most) outer
+acted (Repeats most) mode reading inner outer =
+    with_inner mode reading (with_repeated inner most) outer
 acted Opens mode reading inner outer = with_inner mode reading empty (inner ∷ outer)
 acted Closes mode reading inner outer = closed mode reading inner outer
 

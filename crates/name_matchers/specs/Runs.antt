@@ -32,7 +32,8 @@ Extends old new = (added : List ℕ) × (new ≡ old ++ added)
 -- The state is one of these, or edges that read no byte lead there from one of them.
 pub data Reached (nfa : Nfa) (name : List ℕ) (at : ℕ) (states : List ℕ) : ℕ → Type 0 where
   among : (q : ℕ) → Contains states q → Reached nfa name at states q
-  behind : (q r : ℕ) → Reached nfa name at states q → EmptyEdge nfa name at q r → Reached nfa name at states r
+  behind : (q r : ℕ) → Reached nfa name at states q → EmptyEdge nfa name at q r
+      → Reached nfa name at states r
 
 module _ (nfa : Nfa) (name : List ℕ) where
   -- Some path leads from the state at this position of the name to the end of a match.
@@ -82,7 +83,8 @@ module _ (nfa : Nfa) (name : List ℕ) where
   -- A state that ends a match is reached from an old state, or the new ones are the old ones closed.
   abbrev pub Closes : ℕ → List ℕ → List ℕ → Bool → Type 0
   Closes at old new matched =
-      MatchBool matched ((q : ℕ) × Reached nfa name at old q × (state_of nfa q ≡ Match)) (IsClosing at old new)
+      MatchBool matched ((q : ℕ) × Reached nfa name at old q × (state_of nfa q ≡ Match))
+      (IsClosing at old new)
 
 -- The new states are the old ones and that to which the state leads on the byte, if there is one.
 abbrev pub ReadsState : Nfa → ℕ → ℕ → List ℕ → List ℕ → Type 0

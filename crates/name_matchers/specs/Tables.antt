@@ -15,7 +15,8 @@ use Rattle.name_matchers.specs.declared.machine.table.Table.{Table}
 
 -- All assertions of the automaton are on the start and the end of the name.
 abbrev pub SeesEdges : Nfa → Type 0
-SeesEdges nfa = (q next : ℕ) (look : Look) → state_of nfa q ≡ state.Look look next → (look ≡ Start) ⊎ (look ≡ End)
+SeesEdges nfa = (q next : ℕ) (look : Look) → state_of nfa q ≡ state.Look look next
+    → (look ≡ Start) ⊎ (look ≡ End)
 
 -- A match begins at the start of a name or nowhere.
 abbrev pub StartsFirst : Nfa → Type 0
@@ -74,7 +75,8 @@ module _ (nfa : Nfa) (classes : List ℕ) (width : ℕ) (rows : List (List ℕ))
   -- What the cell says of the row is so wherever a search may be in the row, and a byte of the class
   -- comes, or the end of the name, for which the last class stands.
   pub record IsCell (row class : ℕ) (cell : Cell) : Type 0 where
-    pub byte : (name : List ℕ) (at byte : ℕ) → byte < 128 → slice_index classes byte ≡ class → IsAt row name at
+    pub byte : (name : List ℕ) (at byte : ℕ) → byte < 128 → slice_index classes byte ≡ class
+        → IsAt row name at
         → slice_get name at ≡ Some byte → Means nfa rows name at row cell
     pub end : (name : List ℕ) (at : ℕ) → class + 1 ≡ width → IsAt row name at → at ≡ length name
         → Means nfa rows name at row cell
@@ -94,7 +96,9 @@ row_states table row = states_of (lists_of table.rows.items) row
 -- the cell of a row of the table and a byte
 abbrev pub byte_cell : Table → ℕ → ℕ → Cell
 byte_cell table row byte =
-    if nat_lt byte 128 then cell_of table.cells.items table.width row (slice_index table.classes byte) else Unknown
+    if nat_lt byte 128
+    then cell_of table.cells.items table.width row (slice_index table.classes byte)
+    else Unknown
 
 -- the cell of a row of the table and the end of the name
 abbrev pub end_cell : Table → ℕ → Cell
@@ -102,11 +106,13 @@ end_cell table row = cell_of table.cells.items table.width row (table.width - 1)
 
 -- What the cell would say in the table is so.
 abbrev pub IsCellOf : Nfa → Table → ℕ → ℕ → Cell → Type 0
-IsCellOf nfa table row class cell = IsCell nfa table.classes table.width (lists_of table.rows.items) row class cell
+IsCellOf nfa table row class cell = IsCell nfa table.classes table.width (lists_of table.rows.items)
+    row class cell
 
 -- What the table says of the automaton's searches is so.
 abbrev pub IsTableOf : Nfa → Table → Type 0
-IsTableOf nfa table = IsTable nfa table.classes table.width (lists_of table.rows.items) table.cells.items
+IsTableOf nfa table = IsTable nfa table.classes table.width (lists_of table.rows.items)
+    table.cells.items
 
 -- What the table says, if there is one, is so.
 abbrev pub IsTabled : Nfa → Option Table → Type 0
@@ -117,7 +123,8 @@ pub record Grows (old new : Table) : Type 0 where
   pub classes : new.classes ≡ old.classes
   pub width : new.width ≡ old.width
   pub longer : length (lists_of old.rows.items) ≤ length (lists_of new.rows.items)
-  pub same : (row : ℕ) → row < length (lists_of old.rows.items) → row_states new row ≡ row_states old row
+  pub same : (row : ℕ) → row < length (lists_of old.rows.items)
+      → row_states new row ≡ row_states old row
 
 -- The same of a table.
 abbrev pub LeadsIn : Nfa → Table → List ℕ → Cell → Type 0
@@ -125,7 +132,8 @@ LeadsIn nfa table next cell = Leads nfa (lists_of table.rows.items) next cell
 
 -- The cell says where a search comes from closed states on the byte.
 abbrev pub ByByte : Nfa → Table → List ℕ → ℕ → Cell → Type 0
-ByByte nfa table states byte cell = (next : List ℕ) × Reads nfa byte states [] next × LeadsIn nfa table next cell
+ByByte nfa table states byte cell = (next : List ℕ) × Reads nfa byte states [] next
+    × LeadsIn nfa table next cell
 
 -- The cell says what a search finds from these states at the end of the name.
 abbrev pub IsEndCell : Nfa → ℕ → List ℕ → Cell → Type 0
@@ -133,5 +141,6 @@ IsEndCell nfa row states (Next to) = ⊥
 IsEndCell nfa row states Found =
     (name : List ℕ) (at : ℕ) → IsAt row name at → at ≡ length name → Begins nfa name at states
 IsEndCell nfa row states NotFound =
-    (name : List ℕ) (at : ℕ) → IsAt row name at → at ≡ length name → Steps nfa name at states [] false
+    (name : List ℕ) (at : ℕ) → IsAt row name at → at ≡ length name
+    → Steps nfa name at states [] false
 IsEndCell nfa row states Unknown = ⊥

@@ -52,7 +52,8 @@ impl Machine {
     /// is not known of any pattern that is no larger by its text.
     pub fn compile(alloc: Global, pattern: &Hir, groups: u32) -> Result<Machine, AllocError>
         ensures { IfOk result (λ machine.
-            (name : List ℕ) → finds machine.nfa name ≡ is_some (find (meaning pattern.now) name 0)) }
+            (name : List ℕ) → finds machine.nfa name
+            ≡ is_some (find (meaning pattern.now) name 0)) }
     {
         let Ok(nfa) = compile(alloc, pattern, groups, TABLE_LIMIT) else {
             return Err(AllocError);

@@ -4,7 +4,6 @@ use Rattle.std.proofs.lemmas.List.{flat_map_more, map-append}
 use Rattle.std.proofs.lemmas.List.Elements.{All-push}
 use Rattle.std.specs.List.{flat_map, list_any, starts_with}
 use Rattle.std.specs.declared.alloc.Global.{Global}
-use Rattle.nextest_rules.specs.KnownView.{features_view}
 use Rattle.nextest_explain.specs.Taking.{GrowBy, IsLineOf, ReadsItem, TakesItem, TakesOption}
 use Rattle.nextest_explain.specs.Words.{Item, words_of, IsItem, config_files, organisation_config_files, tool_config_files, names_feature, hosts, targets, host_binaries, places_asked, argument, arguments, AreOptionsOf}
 use Rattle.nextest_explain.proofs.Taken.{gives_nothing}

@@ -1,6 +1,6 @@
 -- How a line is taken, one item behind another.
 use Rattle.std.specs.List.{flat_map}
-use Rattle.std.specs.Prelude.{◌≡◌, ℕ, List, [], ◌∷◌, ◌++◌, ◌||◌, Bool, All, map, codes}
+use Rattle.std.specs.Prelude.{◌≡◌, ℕ, List, [], ◌∷◌, ◌++◌, ◌||◌, All, map, codes}
 use Rattle.nextest_rules.specs.KnownView.{features_view}
 use Rattle.nextest_explain.specs.Words.{Item, words_of, IsItem, config_files, organisation_config_files, tool_config_files, names_feature, hosts, targets, host_binaries, places_asked, arguments, given, given_platform, given_places, named_tool_file, AreOptionsOf}
 use Rattle.nextest_elements.specs.declared.experimental.ConfigExperimental.{ConfigExperimental}

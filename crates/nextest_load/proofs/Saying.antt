@@ -1,26 +1,25 @@
 -- What a tree without faults says: what stands at each key that the defaults have is a value, so its
 -- profile `default` is complete.
-use Rattle.std.proofs.Common.{◌≡◌, ◌∙◌, ℕ, List, [], ◌∷◌, ◌++◌, ◌+◌, ◌&&◌, ap, append_assoc, map, Bool, true, false, IsTrue, Option, Some, None, option_map, option_and_then, Result, Ok, Err, IsSome, if◌then◌else◌, refl, sym, unwrap_or}
+use Rattle.std.proofs.Common.{◌≡◌, ◌∙◌, ℕ, List, [], ◌∷◌, ◌++◌, ◌+◌, ◌&&◌, ap, append_assoc, map, Bool, true, false, Option, Some, None, option_map, option_and_then, Result, Ok, Err, IsSome, if◌then◌else◌, refl, sym, unwrap_or}
 use Rattle.std.specs.Fmt.{decimal}
 use Rattle.std.specs.List.{AllByRecursion}
 use Rattle.std.specs.Option.{IsSomeAnd}
 use Rattle.std.specs.Result.{result_ok}
 use Rattle.nextest_engines.specs.Readings.{Readings}
 use Rattle.nextest_tree.specs.Key.{key_text}
-use Rattle.nextest_tree.specs.Leaf.{cause_of, value, leaf_at, text_at, a_text, bool_at, a_bool, any_key}
+use Rattle.nextest_tree.specs.Leaf.{cause_of, value, leaf_at, a_text, bool_at, a_bool, any_key}
 use Rattle.nextest_tree.specs.Node.{Node, table, array, text, int, bool, opaque, Nodes, no_nodes, node, Entries, no_entries, get, as_text, as_table}
-use Rattle.nextest_tree.specs.Schema.{FaultCause, missing, out_of_range, Schema, at, each_item, below, faults, fields_faults, field_faults, map_of, list_of}
+use Rattle.nextest_tree.specs.Schema.{FaultCause, out_of_range, Schema, at, each_item, below, faults, fields_faults, field_faults, map_of, list_of}
 use Rattle.nextest_tree.specs.declared.key.Key.{Key}
 use Rattle.nextest_tree.specs.declared.key.Key.TheVariants as keys
 use Rattle.nextest_texts.specs.Nanoseconds.{duration_at, a_duration}
 use Rattle.nextest_elements.specs.Bench.{bench, bench_fields}
 use Rattle.nextest_elements.specs.FlakyResult.{flaky_result_at, a_flaky_result}
 use Rattle.nextest_elements.specs.Junit.{a_junit, junit_fields, report_skip_policy_at, a_report_skip_policy, junit_flaky_fail_status_at, a_junit_flaky_fail_status}
-use Rattle.nextest_elements.specs.LeakTimeout.{leak_timeout, leak_fields, leak_table, leak_of}
+use Rattle.nextest_elements.specs.LeakTimeout.{leak_timeout, leak_fields, leak_of}
 use Rattle.nextest_elements.specs.MaxFail.{a_max_fail, max_fail_fields, limit_at, a_limit}
-use Rattle.nextest_elements.specs.RetryFunction.{retry_table, policy_of}
 use Rattle.nextest_elements.specs.RetryPolicy.{retry, retry_fields, retry_across, count_at, a_count, backoff_at, a_backoff, grows, grows_in, is_below, is_exponential}
-use Rattle.nextest_elements.specs.SlowTimeout.{slow_timeout, slow_fields, slow_table, slow_of}
+use Rattle.nextest_elements.specs.SlowTimeout.{slow_timeout, slow_fields, slow_of}
 use Rattle.nextest_elements.specs.StatusLevel.{status_level_at, a_status_level, final_status_level_at, a_final_status_level}
 use Rattle.nextest_elements.specs.TestOutputDisplay.{test_output_display_at, a_test_output_display}
 use Rattle.nextest_elements.specs.TestThreads.{test_threads_at, a_test_threads}

@@ -1,5 +1,5 @@
 -- What a profile gives to a test.
-use Rattle.std.specs.Prelude.{◌≡◌, Option, Some, option_map}
+use Rattle.std.specs.Prelude.{◌≡◌, Some, option_map}
 use Rattle.nextest_elements.specs.declared.run_mode.NextestRunMode.{NextestRunMode}
 use Rattle.nextest_rules.specs.Rules.{at_name}
 use Rattle.nextest_settings.specs.Deciding.{QueryContext}

@@ -119,7 +119,8 @@ use_faults known profile uses = record {
 abbrev pub rule_script_faults : {M K : Type 0} → (M → List (List ℕ)) → KnownSets → Name
     → List (Compiled M K ScriptRuleUse) → ScriptFaults
 rule_script_faults leaves known profile rules = record {
-  unknown_scripts = flat_map (λ r. unknown_scripts_of known profile (uses_of r.writes.scripts)) rules;
+  unknown_scripts = flat_map (λ r. unknown_scripts_of known profile
+      (uses_of r.writes.scripts)) rules;
   wrong_scripts = flat_map (λ r. wrong_scripts_of known profile (uses_of r.writes.scripts)) rules;
   list_filters = flat_map (list_filters_of leaves known profile) rules;
 }

@@ -92,7 +92,8 @@ enum IllNamed {
 
 /// The refusal of names that a source of this owner may not define.
 fn ill_named_kind(owner: IdentifierOwner<'_>, names: IllNamed) -> ConfigParseErrorKind
-    ensures { cause_view result ≡ Some (ill_named_cause (owner_class (owner_view owner.entry)) names) }
+    ensures { cause_view result
+        ≡ Some (ill_named_cause (owner_class (owner_view owner.entry)) names) }
 {
     match (names, owner) {
         (IllNamed::Groups(groups), IdentifierOwner::Nobody) => {

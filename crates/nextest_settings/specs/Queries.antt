@@ -114,7 +114,8 @@ abbrev pub evaluated_by : {M : Type 0} → QueryContext M → NextestRunMode
     → List (EvaluatedRule M (OverrideUse M)) → List (EvaluatedRule M ScriptRuleUse) → List ℕ
 evaluated_by query mode overrides script_rules =
     asked_from (map (λ s w. is_set w.settings mode s) settings) 0 query [] overrides
-    ++ asked_from ((λ w. is_some w.scripts.run_wrapper) ∷ []) (length overrides) query [] script_rules
+    ++ asked_from ((λ w. is_some w.scripts.run_wrapper) ∷ []) (length overrides)
+    query [] script_rules
 
 -- The rules whose filters are evaluated for the settings of a test, by number: overrides, and then
 -- script rules, which are counted on from them.
@@ -182,7 +183,8 @@ is_enabled_for query rules id =
     list_any (λ r. rule_holds query r && is_one_of r.writes.scripts.setup id) rules
 
 -- the setup scripts that queries enable by these rules
-abbrev pub enabled_by : {M X : Type 0} → List (QueryContext M) → List (EvaluatedRule M ScriptRuleUse)
+abbrev pub enabled_by : {M X : Type 0} → List (QueryContext M)
+    → List (EvaluatedRule M ScriptRuleUse)
     → List (Name × X) → List (Name × X)
 enabled_by queries rules scripts =
     filter (λ e. list_any (λ query. is_enabled_for query rules e.0) queries) scripts

@@ -159,7 +159,8 @@ pub(crate) fn run_wrapper_rule<'cfg, F: Filters, S: Specs>(
         ++ asked_from ((λ w. is_some w.scripts.run_wrapper) ∷ []) first query []
         (map (meant_script_rule F.meaning) rules.now) }
     ensures member { IfSome result (λ r. (n : ℕ) × (slice_get rules.now n ≡ Some r)) }
-    ensures named { IfSome result (λ r. IsSome (script_rule_ref_view r.rule).writes.scripts.run_wrapper) }
+    ensures named { IfSome result
+        (λ r. IsSome (script_rule_ref_view r.rule).writes.scripts.run_wrapper) }
 {
     let asked: RunWrapperQuery<'_, F> = RunWrapperQuery {
         query: *query,
@@ -193,7 +194,8 @@ pub(crate) fn list_wrapper_rule<'cfg, F: Filters, S: Specs>(
         ++ asked_from ((λ w. is_some w.scripts.list_wrapper) ∷ []) first query []
         (map (meant_script_rule F.meaning) rules.now) }
     ensures member { IfSome result (λ r. (n : ℕ) × (slice_get rules.now n ≡ Some r)) }
-    ensures named { IfSome result (λ r. IsSome (script_rule_ref_view r.rule).writes.scripts.list_wrapper) }
+    ensures named { IfSome result
+        (λ r. IsSome (script_rule_ref_view r.rule).writes.scripts.list_wrapper) }
 {
     let asked: ListWrapperQuery<'_, F> = ListWrapperQuery {
         query: *query,

@@ -119,7 +119,8 @@ pub record AreItems (text : List ℕ) (items : List Item) : Type 0 where
 abbrev pub IsTurn : ℕ → Option Sort → Turn → Type 0
 IsTurn index sort Nothing = sort ≡ None
 IsTurn index sort (Closes i) = sort ≡ None
-IsTurn index sort (Begins parent role) = IfSome parent (λ i. i < index) × (sort ≡ Some (role_sort role))
+IsTurn index sort (Begins parent role) =
+    IfSome parent (λ i. i < index) × (sort ≡ Some (role_sort role))
 
 -- the items begin where they began, and are right if they were
 pub record KeepsItems (text : List ℕ) (old new : List Item) : Type 0 where

@@ -21,7 +21,8 @@ element_of position (Some node) = at position node
 abbrev pub enter : Role → Data → Option Data
 enter (role.Key None kind element) node = None
 enter (role.Key (Some name) kind None) node = get (string_bytes name) node
-enter (role.Key (Some name) kind (Some position)) node = element_of position (get (string_bytes name) node)
+enter (role.Key (Some name) kind (Some position)) node =
+    element_of position (get (string_bytes name) node)
 enter (role.Value None container) node = Some node
 enter (role.Value (Some position) container) node = at position node
 

@@ -47,7 +47,8 @@ closing container.Table = right_brace
 
 -- the bytes begin a value that is neither a string nor a list nor a table
 abbrev pub begins_word : List ℕ → Bool
-begins_word bytes = (not (starts_string bytes) && not (first bytes == left_bracket)) && not (first bytes == left_brace)
+begins_word bytes = (not (starts_string bytes) && not (first bytes == left_bracket))
+    && not (first bytes == left_brace)
 
 -- the bytes are those of a token of this kind; a part of a key reads as the name that it has
 abbrev pub IsRightKind : List ℕ → TokenKind → Type 0
@@ -88,7 +89,8 @@ pub record IsToken (text : List ℕ) (token : Token) : Type 0 where
 abbrev pub AreTokens : List ℕ → ℕ → List Token → ℕ → Type 0
 AreTokens text low [] high = AreGaps text low high
 AreTokens text low (token ∷ tokens) high =
-    AreGaps text low token.span.start × IsToken text token × AreTokens text token.span.end tokens high
+    AreGaps text low token.span.start × IsToken text token
+    × AreTokens text token.span.end tokens high
 
 -- the byte at which a rest of the text begins
 abbrev pub at : List ℕ → List ℕ → ℕ
@@ -102,7 +104,8 @@ pub record IsRest (text rest : List ℕ) : Type 0 where
 -- the token takes the text from one rest of it up to another; with none there is a gap
 abbrev pub IsFound : List ℕ → ℕ → ℕ → Option Token → Type 0
 IsFound text low high None = is_gap (between low high text) ≡ true
-IsFound text low high (Some token) = IsToken text token × (token.span.start ≡ low) × (token.span.end ≡ high)
+IsFound text low high (Some token) = IsToken text token × (token.span.start ≡ low)
+    × (token.span.end ≡ high)
 
 -- from a rest of a text, a turn leads to a shorter one, with what it found in the bytes between
 pub record IsTaken (text rest : List ℕ) (token : Option Token) (behind : List ℕ) : Type 0 where

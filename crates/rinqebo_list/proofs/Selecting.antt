@@ -1,6 +1,5 @@
 -- The rules that hold for none of some tests.
-use Rattle.std.proofs.Common.{◌≡◌, ℕ, zero, suc, List, [], ◌∷◌, Bool, true, false, ◌||◌, not, cond, Some, slice_get, refl, sym, ap, ◌∙◌, true≢false}
-use Rattle.std.specs.List.{list_any}
+use Rattle.std.proofs.Common.{◌≡◌, zero, suc, List, [], ◌∷◌, Bool, true, false, ◌||◌, not, cond, refl, sym, ap, ◌∙◌, true≢false}
 use Rattle.nextest_settings.specs.Deciding.{QueryContext, rule_holds}
 use Rattle.nextest_settings.specs.Platforms.{EvaluatedRule}
 use Rattle.rinqebo_list.specs.Selections.{IsSelection, nothing, taken, left_out}

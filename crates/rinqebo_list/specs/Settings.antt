@@ -1,5 +1,5 @@
 -- Which settings are told of a test, and how.
-use Rattle.std.specs.Prelude.{◌≡◌, List, filter, Bool, true, false, Option, None, Some, is_some, option_map, string_bytes}
+use Rattle.std.specs.Prelude.{◌≡◌, List, filter, Bool, true, false, Option, None, Some, option_map, string_bytes}
 use Rattle.nextest_elements.specs.declared.run_mode.NextestRunMode.{NextestRunMode}
 use Rattle.nextest_settings.specs.Queries.{Origin, unwritten, by_profile, by_override, by_script}
 use Rattle.nextest_settings.specs.Settings.{ValueOf, settings}

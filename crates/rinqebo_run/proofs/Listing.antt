@@ -20,7 +20,7 @@ use Rattle.nextest_rules.specs.Rules.{Compiled, Layer, OverrideUse, ScriptRuleUs
 use Rattle.nextest_settings.specs.Chains.{overrides_of, script_rules_of}
 use Rattle.nextest_settings.specs.Deciding.{QueryContext}
 use Rattle.nextest_settings.specs.Platforms.{EvaluatedRule, rule_on}
-use Rattle.nextest_settings.specs.Profile.{Configured, EvaluatableModel, profile_of, profile_on}
+use Rattle.nextest_settings.specs.Profile.{Configured, EvaluatableModel}
 use Rattle.nextest_settings.specs.View.{evaluated_override_meaning, evaluated_script_rule_meaning}
 use Rattle.nextest_tables.specs.FileTexts.{names_in, IsIn}
 use Rattle.nextest_tables.specs.Written.{Name}

@@ -8,7 +8,6 @@ use Rattle.nextest_inheritance.specs.Parents.{parents_in, IsChain}
 use Rattle.nextest_load.specs.Closed.{BinaryMatch}
 use Rattle.nextest_load.specs.Config.{ScriptTables, config_parents}
 use Rattle.nextest_load.specs.Scripts.{AreScriptsOf}
-use Rattle.nextest_rules.specs.Rules.{OverrideUse, ScriptRuleUse}
 use Rattle.nextest_settings.specs.Deciding.{QueryContext}
 use Rattle.nextest_settings.specs.Platforms.{EvaluatedRule}
 use Rattle.nextest_settings.specs.Profile.{Configured, EvaluatableModel, profile_of, profile_on}
@@ -75,7 +74,8 @@ pub record AreTestsOf {M K P : Type 0} (meets : K → P → Option Bool) (matche
   pub profile : EvaluatableModel M
   pub is_profile : IsProfileOn meets platforms configured name profile
   pub tests_told : AreTestsTold matches mode profile asked (all_tests list) tests
-  pub unused_told : AreUnused layers (map (query_in matches profile) (all_tests list)) profile unused
+  pub unused_told : AreUnused layers (map (query_in matches profile) (all_tests list))
+      profile unused
   pub scripts_told : AreScriptsTold matches matches_binary profile (all_tests list)
       (all_binaries list) scripts
 

@@ -104,7 +104,8 @@ impl<'c> ListPage<'c, '_> {
         origins: &mut Origins<'_, '_>,
         tests: &mut Vec<TestRows>,
     ) -> Result<String, AllocError>
-        ensures ok { let profile = profile_meaning (marks_view names_of) asking.now.profile.now in
+        ensures ok { let profile = profile_meaning (marks_view names_of)
+            asking.now.profile.now in
             IfOk result (λ text. AddsTest (query_in filter_holds profile (test_view query.now))
             asking.now.mode profile asking.now.asked.now (test_view query.now) self.now.head.now
             self.now.colour tests.old.items tests.new.items (string_bytes text)) }
@@ -128,10 +129,12 @@ impl<'c> ListPage<'c, '_> {
         progress: &mut P,
         out: &mut O,
     ) -> Result<Rows<'c>, ListFault>
-        ensures tests { let profile = profile_meaning (marks_view names_of) asking.now.profile.now in
+        ensures tests { let profile = profile_meaning (marks_view names_of)
+            asking.now.profile.now in
             IfOk result (λ rows. AreTestsTold filter_holds asking.now.mode profile
             asking.now.asked.now (map test_view queries.now) rows.tests.items) }
-        ensures unused { let profile = profile_meaning (marks_view names_of) asking.now.profile.now in
+        ensures unused { let profile = profile_meaning (marks_view names_of)
+            asking.now.profile.now in
             IfOk result (λ rows. rows.unused.items ≡ map (λ rule. rule.writes)
             (unused_among (map (query_in filter_holds profile) (map test_view queries.now))
             (map (meant_on (marks_view names_of) is_met_by self.now.session.now.engines.platforms)

@@ -1,7 +1,6 @@
 -- What is asked of a profile, and what it answers.
-use Rattle.std.specs.Prelude.{◌≡◌, ◌≢◌, ◌⊎◌, ℕ, List, Bool, Option, None, Some, option_map, length, map, position, unwrap_or, string_bytes, Result, Ok, Err, ◌==◌, if◌then◌else◌}
-use Rattle.std.specs.Str.{IsUtf8, bytes_eq}
-use Rattle.nextest_elements.specs.TestGroup.{custom_group_text}
+use Rattle.std.specs.Prelude.{◌≡◌, ◌≢◌, ◌⊎◌, ℕ, List, Option, None, Some, ◌==◌, if◌then◌else◌}
+use Rattle.std.specs.Str.{IsUtf8}
 use Rattle.nextest_elements.specs.declared.run_mode.NextestRunMode.{NextestRunMode}
 use Rattle.nextest_elements.specs.declared.run_mode.NextestRunMode.TheVariants.{Test as in_test, Benchmark as in_benchmark}
 use Rattle.nextest_elements.specs.declared.test_group.TestGroup.{TestGroup}

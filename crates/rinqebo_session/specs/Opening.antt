@@ -1,5 +1,5 @@
 -- Profiles of a session.
-use Rattle.std.specs.Prelude.{◌≡◌, ℕ, List, Option, Some, map, Result, Ok, Err, MatchResult}
+use Rattle.std.specs.Prelude.{◌≡◌, List, Option, Some, map, Result, Ok, Err, MatchResult}
 use Rattle.std.specs.Str.{IsUtf8}
 use Rattle.nextest_config.specs.ConfigView.{configured_in}
 use Rattle.nextest_config.specs.ProfileError.{TellsMissing}

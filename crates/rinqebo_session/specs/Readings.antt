@@ -8,7 +8,7 @@ use Rattle.nextest_filters.specs.Engine.{Filter, read_filter, everything, filter
 use Rattle.nextest_filters.specs.declared.engine.NextestFilters.{NextestFilters}
 use Rattle.nextest_filters.specs.Compiling.{names_of}
 use Rattle.nextest_filters.specs.declared.compiling.FieldMatcher.{FieldMatcher}
-use Rattle.target_language.specs.Expressions.{Spec, spec_view}
+use Rattle.target_language.specs.Expressions.{Spec}
 use Rattle.target_language.specs.Messages.{spec_read}
 use Rattle.target_language.specs.Values.{spec_value}
 use Rattle.target_platforms.specs.Platforms.{platform_view}

@@ -63,7 +63,8 @@ kind_at key value = option_and_then kind_of (text_at key value)
 -- of a failure, or else `null`
 abbrev pub outcome_of : OutcomeKind → Data → Option Outcome
 outcome_of outcomes.Text value = option_map text (text_at (codes "text") value)
-outcome_of outcomes.NotFound value = option_map (λ nothing. not_found) (null_at (codes "text") value)
+outcome_of outcomes.NotFound value =
+    option_map (λ nothing. not_found) (null_at (codes "text") value)
 outcome_of outcomes.NotADirectory value =
     option_map (λ nothing. not_a_directory) (null_at (codes "text") value)
 outcome_of outcomes.Failed value = option_map failed (text_at (codes "text") value)

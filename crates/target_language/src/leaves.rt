@@ -138,7 +138,8 @@ pub fn leaf_alone(alloc: Global, key: Piece<'_>) -> Result<Leaf, Stop>
 /// The leaf that a key with a value writes.
 pub fn leaf_with(alloc: Global, key: Piece<'_>, value: Piece<'_>) -> Result<Leaf, Stop>
     ensures ok { IfOk result
-        (λ leaf. leaf_with_of (piece_view key.entry) (piece_view value.entry) ≡ Ok (leaf_view leaf)) }
+        (λ leaf. leaf_with_of (piece_view key.entry) (piece_view value.entry)
+        ≡ Ok (leaf_view leaf)) }
     ensures err { IfErr result
         (λ stop. IfFault stop
         (λ fault. leaf_with_of (piece_view key.entry) (piece_view value.entry) ≡ Err fault)) }

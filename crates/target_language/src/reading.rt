@@ -295,7 +295,8 @@ fn close(alloc: Global, reader: Reader<'_>, place: Place) -> Result<Reader<'_>, 
 
 /// The same parts and functions behind another mark.
 fn behind<'t>(reader: Reader<'t>, before: Before<'t>) -> Reader<'t>
-    ensures { reading_view result ≡ behind_of (before_view before.entry) (reading_view reader.entry) }
+    ensures { reading_view result
+        ≡ behind_of (before_view before.entry) (reading_view reader.entry) }
 {
     let Reader {
         before: _,
@@ -371,7 +372,8 @@ fn advance<'t>(
     text: &'t str,
 ) -> Result<(Reader<'t>, &'t str), Stop>
     ensures ok { IfOk result
-        (λ next. advanced (reading_view reader.entry) text.now ≡ Ok (reading_view next.0, next.1.now)) }
+        (λ next. advanced (reading_view reader.entry) text.now
+        ≡ Ok (reading_view next.0, next.1.now)) }
     ensures err { IfErr result
         (λ stop. IfFault stop
         (λ fault. advanced (reading_view reader.entry) text.now ≡ Err fault)) }

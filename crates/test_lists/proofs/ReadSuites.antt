@@ -7,7 +7,7 @@ use Rattle.std.specs.List.{AllZip, flat_map}
 use Rattle.serde_json.specs.Data.{Data}
 use Rattle.serde_json.specs.View.{members_view}
 use Rattle.serde_json.specs.declared.value.Value.{Value}
-use Rattle.test_lists.specs.Demands.{Demand, Fault, listed, suite_demands, first_fault}
+use Rattle.test_lists.specs.Demands.{Fault, listed, suite_demands, first_fault}
 use Rattle.test_lists.specs.Lists.{Listed, IsSuiteOf}
 use Rattle.test_lists.proofs.FirstFaults.{fault_behind, fault_before}
 

@@ -1,5 +1,5 @@
 -- What contracts see of lists.
-use Rattle.std.specs.Prelude.{List, map, Option, option_map, string_bytes}
+use Rattle.std.specs.Prelude.{map, option_map, string_bytes}
 use Rattle.nextest_engines.specs.Engines.{Binary}
 use Rattle.test_lists.specs.Lists.{Listed, Triples, TestList}
 use Rattle.test_lists.specs.declared.list.ListedBinary.{ListedBinary}

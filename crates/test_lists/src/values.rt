@@ -14,7 +14,8 @@ use std::alloc::Global;
 /// That a value of a kind does not stand at a place.
 fn fault_at(alloc: Global, place: Place<'_>, expected: Kind, found: Option<&Value>) -> ListFault
     ensures { IfSome (fault_view result) (λ fault. fault
-        ≡ misfit (place_text place.entry) expected (option_map (λ value. view value.now) found.entry)) }
+        ≡ misfit (place_text place.entry) expected
+        (option_map (λ value. view value.now) found.entry)) }
 {
     let Ok(place) = place.text(alloc) else {
         return ListFault::Memory;

@@ -19,7 +19,10 @@ is_line_feed c = c == 10
 -- the position behind some characters: the line feeds among them, and the units since the last one
 unfoldable pub position_behind : ColumnUnit → List ℕ → Position
 position_behind unit cs =
-    record { line = count_by is_line_feed cs; column = sum_by (width unit) (after_last is_line_feed cs) }
+    record {
+      line = count_by is_line_feed cs;
+      column = sum_by (width unit) (after_last is_line_feed cs);
+    }
 
 -- the position of a byte of a text
 abbrev pub position_of : ColumnUnit → List ℕ → ℕ → Position
@@ -47,7 +50,8 @@ pub record IsPlace (text : List ℕ) (byte : ℕ) : Type 0 where
   pub whole : ¬ IsInLineEnd text byte
 
 -- the last place that does not stand behind the position
-pub record IsByteAt (unit : ColumnUnit) (text : List ℕ) (position : Position) (byte : ℕ) : Type 0 where
+pub record IsByteAt (unit : ColumnUnit) (text : List ℕ) (position : Position) (byte : ℕ)
+    : Type 0 where
   pub place : IsPlace text byte
   pub reached : ¬ IsBefore position (position_of unit text byte)
   pub last : (b : ℕ) → IsPlace text b → byte < b → IsBefore position (position_of unit text b)

@@ -192,7 +192,8 @@ fn signed(field: Field, argument: &str) -> (Sign, bool, &str)
 /// The text or regex behind a sign.
 fn read_body<'a>(alloc: Global, sign: Sign, start: &'a str) -> Result<Body<'a>, Stop<'a>>
     ensures value { IfOk result (λ body. body_behind sign start.now ≡ Ok (body_view body)) }
-    ensures wrong { IfErr result (λ stop. IfMisread stop (λ m. body_behind sign start.now ≡ Err m)) }
+    ensures wrong { IfErr result
+        (λ stop. IfMisread stop (λ m. body_behind sign start.now ≡ Err m)) }
     ensures ok { IfOk result
         (λ body. IsBehind body.behind.now body.end.now × IsBehind body.end.now start.now) }
     ensures err { IfErr result (λ stop. IfMisread stop (StandsIn start.now)) }

@@ -70,7 +70,8 @@ fn is_negated(text: &[u8]) -> bool
 
 // The ranges of the class, its sign left out, at the front of a text, and how many bytes write it.
 fn read_ranges(alloc: Global, text: &[u8]) -> Result<(Vec<(u32, u32)>, usize), RowFault>
-    ensures ranges { IfOk result (λ read. ReadsRanges text.now read.0.items (drop read.1 text.now)) }
+    ensures ranges { IfOk result
+        (λ read. ReadsRanges text.now read.0.items (drop read.1 text.now)) }
     ensures len { IfOk result (λ read. read.1 ≤ length text.now) }
     ensures refused { IfErr result (NoBody text.now) }
 {

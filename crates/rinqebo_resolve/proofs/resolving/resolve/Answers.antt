@@ -1,4 +1,3 @@
-use Rattle.rinqebo_resolve.specs.Endings.{IsResolved}
 use Rattle.rinqebo_resolve.proofs.Telling.{told_answer, told_kept}
 use Rattle.rinqebo_resolve.proofs.resolving.resolve.Goals as goal
 

@@ -1,4 +1,4 @@
-use Rattle.rinqebo_run.proofs.Writing.{stop_quiet, stop_silent, stop_status, stop_told, zero_answers}
+use Rattle.rinqebo_run.proofs.Writing.{stop_quiet, stop_silent, stop_status, stop_told}
 use Rattle.rinqebo_run.proofs.run.answer_list.Goals as goal
 
 pub returns-in-Err-clause-status : goal.returns-in-Err-clause-status
