@@ -33,8 +33,8 @@ use rinqebo_rules::{RuleKind, RulePlace, built_in, profile_grounds, query_of};
 use rinqebo_values::reported_if_set;
 use std::alloc::{AllocError, Global};
 
-/// What a row's settings are told with: the layers, the chain of the profile, and the id of the script
-/// rule that wraps the run of the test.
+/// What a row's settings are told with: the layers, the chain of the profile, and the id of the
+/// script rule that wraps the run of the test.
 #[derive(Drop)]
 struct Grounds<'g, 't> {
     layers: &'g [Layer<'t>],
