@@ -72,5 +72,5 @@ repository_layer gathered =
 -- is the highest, the organisation's file, if there is one, and the repository's.
 abbrev pub layers_read : Gathered → List LayerRead
 layers_read gathered =
-    default_layer ∷ (map tool_layer (reverse gathered.tools.items)
-    ++ (organisation_layers gathered.organisation_file ++ repository_layer gathered ∷ []))
+    default_layer ∷ ((map tool_layer (reverse gathered.tools.items)
+    ++ organisation_layers gathered.organisation_file) ++ repository_layer gathered ∷ [])

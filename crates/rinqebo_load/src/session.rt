@@ -89,9 +89,10 @@ impl<'g> Session<'g> {
         ensures organisation { option_map (λ file. file_view file.now) result.organisation_file
             ≡ option_map file_view self.now.gathered.now.organisation_file }
     {
-        ConfigFileSelection {
-            config_file: self.gathered.config_file.as_ref(),
-            organisation_file: self.gathered.organisation_file.as_ref(),
+        let selection = ConfigFileSelection::new(self.gathered.config_file.as_ref());
+        match &self.gathered.organisation_file {
+            Some(file) => selection.with_organisation(file),
+            None => selection,
         }
     }
 
@@ -158,10 +159,13 @@ impl<'g> Session<'g> {
     /// The file of a tool at a place among the layers: the last tool's lies upon the defaults.
     fn tool_at(&self, place: usize) -> &[ToolConfigFile] {
         let tools = self.gathered.tools.as_slice();
-        match tools.len().checked_sub(place) {
-            Some(index) if index < tools.len() => &tools[index..index + 1],
-            _ => &[],
+        let Some(index) = tools.len().checked_sub(place) else {
+            return &[];
+        };
+        if index >= tools.len() {
+            return &[];
         }
+        &tools[index..index + 1]
     }
 
     /// Why the file at a place among the layers is refused without the other files, if it is.

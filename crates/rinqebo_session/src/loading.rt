@@ -36,9 +36,10 @@ fn selection_of(asked: &LoadRequest) -> ConfigFileSelection<'_>
     ensures organisation { option_map (λ file. file_view file.now) result.organisation_file
         ≡ option_map file_view asked.now.organisation_file }
 {
-    ConfigFileSelection {
-        config_file: asked.config_file.as_ref(),
-        organisation_file: asked.organisation_file.as_ref(),
+    let selection = ConfigFileSelection::new(asked.config_file.as_ref());
+    match &asked.organisation_file {
+        Some(file) => selection.with_organisation(file),
+        None => selection,
     }
 }
 
