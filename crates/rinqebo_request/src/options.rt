@@ -145,13 +145,13 @@ fn with_files<'a>(alloc: Global, command: Command<'a>) -> Result<Command<'a>, Al
         alloc,
         "tool-config-file",
         "TOOL:PATH",
-        "Tool's configuration file; repeatable,\nthe first has the highest precedence",
+        "Configuration file of a tool; repeatable,\nthe first has the highest precedence",
     );
     let features = option(
         alloc,
         "experimental",
         "NAME",
-        "Enable setup-scripts or wrapper-scripts\nin addition to the repository file",
+        "Enable setup-scripts or wrapper-scripts,\nin addition to the repository file",
     );
     command
         .arg(option(
@@ -169,8 +169,8 @@ fn with_files<'a>(alloc: Global, command: Command<'a>) -> Result<Command<'a>, Al
         .arg(option(
             alloc,
             "organisation-config-file",
-            "FILE",
-            "Configuration file of the organisation:\nabove tools, below the repository file",
+            "P",
+            "Configuration file of the organisation:\nabove those of tools, below the repository",
         ))?
         .arg(tools.action(ArgAction::Append))?
         .arg(features.action(ArgAction::Append))?
@@ -197,7 +197,7 @@ fn with_output<'a>(
             "color",
             "WHEN",
             COLOURS,
-            "Colour: auto, always or never\n[default: CARGO_TERM_COLOR, else auto]",
+            "When to use colour: auto, always or never\n[default: CARGO_TERM_COLOR, else auto]",
         ))
 }
 
@@ -215,13 +215,13 @@ fn with_platforms<'a>(
             alloc,
             "host-cfg",
             "FILE",
-            "`rustc --print cfg` output for the host\n[default: built-in table of targets]",
+            "Output of `rustc --print cfg` for the host\n[default: built-in table of targets]",
         ))?
         .arg(option(
             alloc,
             "target-cfg",
             "FILE",
-            "`rustc --print cfg --target T` output\n[default: built-in table of targets]",
+            "Output of `rustc --print cfg --target T`\n[default: built-in table of targets]",
         ))
 }
 
@@ -240,7 +240,7 @@ fn profile<'a>(alloc: Global) -> Arg<'a> {
         alloc,
         "profile",
         "PROFILE",
-        "Profile [default: NEXTEST_PROFILE,\nelse default]",
+        "Profile\n[default: NEXTEST_PROFILE, else default]",
     )
     .short('P')
 }
@@ -274,12 +274,12 @@ fn explain_command<'a>(alloc: Global) -> Result<Command<'a>, AllocError> {
         alloc,
         command,
         "Host triple\n[default: x86_64-unknown-linux-gnu]",
-        "Target triple [default:\nCARGO_BUILD_TARGET, else host]",
+        "Target triple\n[default: CARGO_BUILD_TARGET, else host]",
     )?
     .arg(flag(
         alloc,
         "host-binary",
-        "The binary is built for the host, as\nthose of proc-macros are",
+        "The binary is built for the host, as those\nof proc-macros are",
     ))?;
     with_output(alloc, command, ANSWER_FORMATS, ANSWER_FORMATS_HELP)
 }
@@ -303,8 +303,8 @@ fn list_command<'a>(alloc: Global) -> Result<Command<'a>, AllocError> {
     let command = with_platforms(
         alloc,
         command,
-        "Host triple [default: that of LIST,\nelse x86_64-unknown-linux-gnu]",
-        "Target triple [default: that of LIST,\nelse CARGO_BUILD_TARGET, else host]",
+        "Host triple [default: that of LIST, else\nx86_64-unknown-linux-gnu]",
+        "Target triple [default: that of LIST, else\nCARGO_BUILD_TARGET, else host]",
     )?;
     with_output(alloc, command, ANSWER_FORMATS, ANSWER_FORMATS_HELP)
 }
