@@ -22,6 +22,7 @@ pub record RequestText : Type 0 where
   pub root : List ℕ
   pub shared : InputFile
   pub config_file : Option InputFile
+  pub organisation_file : Option InputFile
   pub tools : List ToolFile
   pub features : Switches
   pub metadata : Option (List ℕ)
@@ -38,6 +39,7 @@ request_view r = record {
   root = string_bytes r.paths.workspace_root;
   shared = file_view r.paths.shared;
   config_file = option_map file_view r.config_file;
+  organisation_file = option_map file_view r.organisation_file;
   tools = map tool_file_view r.tools.items;
   features = r.features;
   metadata = option_map string_bytes r.metadata;
@@ -90,6 +92,12 @@ file_if (Some value) = option_map Some (file_in value)
 abbrev pub config_file_in : Data → Option (Option InputFile)
 config_file_in value = option_and_then file_if (optional_object_at (codes "config-file") value)
 
+-- the organisation's file: the object under `organisation-config-file`, or none where `null` stands
+-- there
+abbrev pub organisation_file_in : Data → Option (Option InputFile)
+organisation_file_in value =
+    option_and_then file_if (optional_object_at (codes "organisation-config-file") value)
+
 -- the name of a tool that an object says
 abbrev pub tool_name_in : Data → Option (List ℕ)
 tool_name_in value =
@@ -136,13 +144,14 @@ switches_in value =
 
 -- ---- the request
 
--- what a value says: its `root`, `file`, `config-file`, `tools`, `features`, `metadata`, `host` and
--- `target`
+-- what a value says: its `root`, `file`, `config-file`, `organisation-config-file`, `tools`,
+-- `features`, `metadata`, `host` and `target`
 unfoldable pub request_in : Data → Option RequestText
 request_in value =
     option_and_then (λ root.
     option_and_then (λ shared.
     option_and_then (λ config_file.
+    option_and_then (λ organisation_file.
     option_and_then (λ tools.
     option_and_then (λ features.
     option_and_then (λ metadata.
@@ -151,6 +160,7 @@ request_in value =
       root = root;
       shared = shared;
       config_file = config_file;
+      organisation_file = organisation_file;
       tools = tools;
       features = features;
       metadata = metadata;
@@ -161,6 +171,7 @@ request_in value =
     (optional_text_at (codes "metadata") value))
     (option_and_then switches_in (object_at (codes "features") value)))
     (option_and_then tools_in (list_at (codes "tools") value)))
+    (organisation_file_in value))
     (config_file_in value))
     (option_and_then file_in (object_at (codes "file") value)))
     (text_at (codes "root") value)

@@ -12,6 +12,8 @@ pub enum Holder {
     File,
     /// The file that a user named in its place.
     ConfigFile,
+    /// The organisation's file.
+    OrganisationConfigFile,
     /// The file of a tool, by its place.
     Tool(usize),
     /// The experimental features.
@@ -28,6 +30,7 @@ impl fmt::Display for Holder {
             Holder::Request => Ok(()),
             Holder::File => f.write_str("file."),
             Holder::ConfigFile => f.write_str("config-file."),
+            Holder::OrganisationConfigFile => f.write_str("organisation-config-file."),
             Holder::Tool(place) => write!(f, "tools[{place}]."),
             Holder::Features => f.write_str("features."),
             Holder::Host => f.write_str("host."),

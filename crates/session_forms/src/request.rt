@@ -3,7 +3,7 @@ ghost use Rattle.std.specs.Prelude.{◌≡◌, IfOk, MatchResult, map, option_ma
 ghost use Rattle.serde_json.specs.View.{view};
 ghost use Rattle.nextest_sources.specs.Sources.{file_view, tool_file_view};
 ghost use Rattle.session_forms.specs.Parts.{Reads};
-ghost use Rattle.session_forms.specs.Requests.{config_file_in, file_in, tool_in, tools_in, machine_in, machine_view, switches_in, target_in, request_in, request_view, request_of, tool_name_in};
+ghost use Rattle.session_forms.specs.Requests.{config_file_in, file_in, tool_in, tools_in, machine_in, machine_view, switches_in, target_in, request_in, request_view, request_of, organisation_file_in, tool_name_in};
 ghost use Rattle.nextest_texts.specs.IdentifierText.{tool_name_text};
 
 use crate::fault::{Holder, Place, RequestFault, Wanted};
@@ -41,6 +41,8 @@ pub struct LoadRequest {
     pub paths: ConfigPaths,
     /// The repository's file that a user named, which counts in place of its own.
     pub config_file: Option<FileInput>,
+    /// The organisation's file, if a user named one.
+    pub organisation_file: Option<FileInput>,
     /// The files of tools: the first is the highest.
     pub tools: Vec<ToolConfigFile>,
     /// The experimental features that are switched on.
@@ -79,6 +81,17 @@ fn config_file_in(alloc: Global, value: &Value) -> Result<Option<FileInput>, Req
         },
     )? {
         Some(file) => Ok(Some(file_in(alloc, file, Holder::ConfigFile)?)),
+        None => Ok(None),
+    }
+}
+
+/// The organisation's file, if the object says one.
+fn organisation_file_in(alloc: Global, value: &Value) -> Result<Option<FileInput>, RequestFault>
+    ensures { Reads (λ file. option_map file_view file) result
+        (organisation_file_in (view value.now)) }
+{
+    match optional_object_at(value, at("organisation-config-file"))? {
+        Some(file) => Ok(Some(file_in(alloc, file, Holder::OrganisationConfigFile)?)),
         None => Ok(None),
     }
 }
@@ -179,6 +192,7 @@ impl LoadRequest {
         let workspace_root = string_at(alloc, value, at("root"))?;
         let shared = file_in(alloc, object_at(value, at("file"))?, Holder::File)?;
         let config_file = config_file_in(alloc, value)?;
+        let organisation_file = organisation_file_in(alloc, value)?;
         let tools = tools_in(alloc, list_at(value, at("tools"))?)?;
         let features = switches_in(object_at(value, at("features"))?)?;
         let metadata = optional_string_at(alloc, value, at("metadata"))?;
@@ -191,6 +205,7 @@ impl LoadRequest {
         Ok(LoadRequest {
             paths,
             config_file,
+            organisation_file,
             tools,
             features,
             metadata,
