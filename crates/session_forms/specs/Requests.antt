@@ -1,7 +1,7 @@
 -- What a request in JSON says.
 use Rattle.std.specs.Prelude.{ℕ, List, [], ◌∷◌, Option, None, Some, codes, option_and_then, option_map, map, string_bytes, if◌then◌else◌}
 use Rattle.std.specs.Str.{bytes_eq}
-use Rattle.serde_json.specs.Data.{Data}
+use Rattle.serde_json.specs.Data.{Data, Items}
 use Rattle.serde_json.specs.Read.{read}
 use Rattle.nextest_sources.specs.Sources.{Outcome, text, not_found, not_a_directory, failed, InputFile, file_view, ToolFile, tool_file_view}
 use Rattle.nextest_texts.specs.Identifier.{is_part}
@@ -110,8 +110,8 @@ all_said f [] = Some []
 all_said f (x ∷ xs) = option_and_then (λ y. option_map (λ ys. y ∷ ys) (all_said f xs)) (f x)
 
 -- the files of tools that a list says
-abbrev pub tools_in : List Data → Option (List ToolFile)
-tools_in = all_said tool_in
+abbrev pub tools_in : Items → Option (List ToolFile)
+tools_in items = all_said tool_in (listed items)
 
 -- the machine that an object says, by `triple` and `cfg`
 abbrev pub machine_in : Data → Option MachineText
@@ -162,7 +162,7 @@ request_in value =
     (option_and_then machine_in (under an_object (codes "host") value)))
     (under optional_text (codes "metadata") value))
     (option_and_then switches_in (under an_object (codes "features") value)))
-    (option_and_then (λ tools. tools_in (listed tools)) (under as_array (codes "tools") value)))
+    (option_and_then tools_in (under as_array (codes "tools") value)))
     (config_file_in value))
     (option_and_then file_in (under an_object (codes "file") value)))
     (under as_str (codes "root") value)

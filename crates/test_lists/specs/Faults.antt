@@ -1,7 +1,10 @@
 -- What faults tell.
 use Rattle.std.specs.Prelude.{◌≡◌, List, Option, None, Some, IfSome, Result, Ok, Err, MatchResult, string_bytes}
+use Rattle.json_fields.specs.Fields.{found_at}
+use Rattle.json_fields.specs.declared.field.Field.{Field}
 use Rattle.json_fields.specs.declared.field.Misfit.{Misfit}
-use Rattle.test_lists.specs.Demands.{Demand, Fault, not_json, misfit, unknown_platform, fault_of, first_fault, place_text}
+use Rattle.json_fields.specs.declared.kind.Wanted.{Wanted}
+use Rattle.test_lists.specs.Demands.{Demand, of_kind, Fault, not_json, misfit, unknown_platform, fault_of, first_fault, place_text}
 use Rattle.test_lists.specs.declared.fault.ListFault.{ListFault}
 use Rattle.test_lists.specs.declared.fault.ListFault.TheVariants as faults
 use Rattle.test_lists.specs.declared.place.Place.{Place}
@@ -21,6 +24,14 @@ Tells demand fault = IfSome (fault_view fault) (λ f. fault_of demand ≡ Some f
 -- a fault tells of the first demand that is not met, unless it is want of memory
 abbrev pub TellsFirst : List Demand → ListFault → Type 0
 TellsFirst demands fault = IfSome (fault_view fault) (λ f. first_fault demands ≡ Some f)
+
+-- a value of a kind is demanded at the place of a field
+abbrev pub demand_at : Field Place → Wanted → Demand
+demand_at field kind = record {
+  place = place_text field.place;
+  found = found_at field;
+  expected = of_kind kind;
+}
 
 -- the fault of a misfit
 abbrev pub misfit_fault : Misfit Place → Fault

@@ -10,7 +10,7 @@ ghost use Rattle.test_lists.specs.ListView.{triples_view};
 
 use crate::fault::ListFault;
 use crate::place::Place;
-use crate::values::or_fault;
+use crate::values::{or_fault, text_at};
 use json_fields::Field;
 use serde_json::Value;
 use std::alloc::Global;
@@ -52,14 +52,16 @@ fn target_in(alloc: Global, targets: &[Value]) -> Result<Option<&str>, ListFault
     ensures err { IfErr result
         (TellsFirst (first_target_demands (get_item 0 (items_view targets.now)))) }
 {
-    let Some(target) = targets.first() else {
-        return Ok(None);
-    };
-    let triple = Field {
-        found: triple_in(Some(target)),
-        place: Place::Platforms("targets.0.platform.triple"),
-    };
-    Ok(Some(or_fault(alloc, triple.text())?))
+    match targets.first() {
+        None => Ok(None),
+        Some(target) => {
+            let triple = Field {
+                found: triple_in(Some(target)),
+                place: Place::Platforms("targets.0.platform.triple"),
+            };
+            Ok(Some(text_at(alloc, triple)?))
+        }
+    }
 }
 
 /// The triples of platforms.
@@ -73,7 +75,7 @@ fn triples_in<'v>(alloc: Global, platforms: &'v Value) -> Result<Triples<'v>, Li
         found: triple_in(platforms.get("host")),
         place: Place::Platforms("host.platform.triple"),
     };
-    let host = or_fault(alloc, host.text())?;
+    let host = text_at(alloc, host)?;
     let targets = Field::under(platforms, "targets", Place::Platforms("targets"));
     let targets = or_fault(alloc, targets.list())?;
     Ok(Triples {

@@ -14,7 +14,7 @@ ghost use Rattle.json_fields.specs.declared.kind.Wanted.TheVariants.{Text};
 use crate::fault::ListFault;
 use crate::list::ListedBinary;
 use crate::place::Place;
-use crate::values::or_fault;
+use crate::values::{members_at, text_at};
 use json_fields::Field;
 use nextest_engines::BuildPlatform;
 use serde_json::{Map, Value};
@@ -67,8 +67,7 @@ fn member_text<'v>(
     ensures err { IfErr result (Tells (member_demand id.now (view suite.now) key.now
         (of_kind Text))) }
 {
-    let member = Field::under(suite, key, Place::Member(id, key));
-    or_fault(alloc, member.text())
+    text_at(alloc, Field::under(suite, key, Place::Member(id, key)))
 }
 
 /// The platform of a suite.
@@ -96,7 +95,7 @@ fn suite_of<'v>(alloc: Global, id: &str, suite: &'v Value) -> Result<Suite<'v>, 
         found: Some(suite),
         place: Place::Suite(id),
     };
-    or_fault(alloc, whole.members())?;
+    members_at(alloc, whole)?;
     Ok(Suite {
         package_name: member_text(alloc, id, suite, "package-name")?,
         package_id: member_text(alloc, id, suite, "package-id")?,
@@ -104,9 +103,9 @@ fn suite_of<'v>(alloc: Global, id: &str, suite: &'v Value) -> Result<Suite<'v>, 
         binary_name: member_text(alloc, id, suite, "binary-name")?,
         kind: member_text(alloc, id, suite, "kind")?,
         platform: platform_in(alloc, id, suite)?,
-        cases: or_fault(
+        cases: members_at(
             alloc,
-            Field::under(suite, "testcases", Place::Member(id, "testcases")).members(),
+            Field::under(suite, "testcases", Place::Member(id, "testcases")),
         )?,
     })
 }
@@ -166,5 +165,5 @@ pub fn binaries_of(alloc: Global, document: &Value) -> Result<Vec<ListedBinary>,
         (TellsFirst (suites_demands (get (codes "rust-suites") (view document.now)))) }
 {
     let suites = Field::under(document, "rust-suites", Place::Suites);
-    binaries_in(alloc, or_fault(alloc, suites.members())?)
+    binaries_in(alloc, members_at(alloc, suites)?)
 }
