@@ -25,4 +25,5 @@ abbrev pub Reads : {A B P : Type 0} → (A → B) → (Data → Option B) → Wa
     → Result A (Misfit P) → Type 0
 Reads seen reading wanted field result = MatchResult result
     (λ a. option_and_then reading (found_at field) ≡ Some (seen a))
-    (λ misfit. (option_and_then reading (found_at field) ≡ None) × (misfit ≡ misfit_of wanted field))
+    (λ misfit. (option_and_then reading (found_at field) ≡ None)
+    × (misfit ≡ misfit_of wanted field))

@@ -142,7 +142,8 @@ switches_in value =
     option_and_then (λ setup. option_map (λ wrapper. record {
       setup_scripts = setup;
       wrapper_scripts = wrapper;
-    }) (under as_bool (codes "wrapper-scripts") value)) (under as_bool (codes "setup-scripts") value)
+    }) (under as_bool (codes "wrapper-scripts") value))
+    (under as_bool (codes "setup-scripts") value)
 
 -- ---- the request
 
