@@ -70,7 +70,11 @@ fn config_file_in(alloc: Global, value: &Value) -> Result<Option<FileInput>, Req
     ensures { Reads (λ file. option_map file_view file) result
         (config_file_in (view value.now)) }
 {
-    match at("config-file").of(value).optional_object()? {
+    let place = Place {
+        holder: Holder::Request,
+        key: "config-file",
+    };
+    match place.of(value).optional_object()? {
         Some(file) => Ok(Some(file_in(alloc, file, Holder::ConfigFile)?)),
         None => Ok(None),
     }
@@ -147,9 +151,17 @@ fn switches_in(value: &Value) -> Result<Switches, RequestFault>
     ensures { Reads (λ switches. switches) result (switches_in (view value.now)) }
 {
     let holder = Holder::Features;
+    let setup_scripts = Place {
+        holder,
+        key: "setup-scripts",
+    };
+    let wrapper_scripts = Place {
+        holder,
+        key: "wrapper-scripts",
+    };
     Ok(Switches {
-        setup_scripts: holder.at("setup-scripts").of(value).flag()?,
-        wrapper_scripts: holder.at("wrapper-scripts").of(value).flag()?,
+        setup_scripts: setup_scripts.of(value).flag()?,
+        wrapper_scripts: wrapper_scripts.of(value).flag()?,
     })
 }
 
