@@ -85,7 +85,11 @@ fn organisation_file_in(alloc: Global, value: &Value) -> Result<Option<FileInput
     ensures { Reads (λ file. option_map file_view file) result
         (organisation_file_in (view value.now)) }
 {
-    match at("organisation-config-file").of(value).optional_object()? {
+    let place = Place {
+        holder: Holder::Request,
+        key: "organisation-config-file",
+    };
+    match place.of(value).optional_object()? {
         Some(file) => Ok(Some(file_in(alloc, file, Holder::OrganisationConfigFile)?)),
         None => Ok(None),
     }
