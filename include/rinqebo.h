@@ -64,14 +64,16 @@ struct rinqebo_session;
 size_t rinqebo_session_size(void);
 
 // Fills the room, always: rinqebo_session_status says how it went. The request is JSON:
-//   {"root": TEXT, "file": FILE, "config-file": FILE or null, "tools": [FILE with "tool": TEXT, ..],
+//   {"root": TEXT, "file": FILE, "config-file": FILE or null, "organisation-config-file": FILE or null,
+//    "tools": [FILE with "tool": TEXT, ..],
 //    "features": {"setup-scripts": BOOL, "wrapper-scripts": BOOL}, "metadata": TEXT or null,
 //    "host": {"triple": TEXT, "cfg": TEXT or null}, "target": the same or null}
 // where a FILE is {"path": TEXT, "outcome": WORD, "text": TEXT or null}: what came of reading it, with the word
 //   "text"                           its text
 //   "not-found", "not-a-directory"   null: there is none, or a part of its path is no directory
 //   "failed"                         a message: anything else, as bytes that are no UTF-8
-// The repository's file is "config-file", which a user named, and else "file", which alone may be missing.
+// The repository's file is "config-file", which a user named, and else "file", which alone may be missing. The file
+// of an organisation, "organisation-config-file", lies between those of tools and the repository's.
 // Its status is DONE, REFUSED, NOT_TEXT, MEMORY, NOT_UNDERSTOOD or NO_ENGINES.
 void rinqebo_session_load(const uint8_t *request, size_t request_len, struct rinqebo_session *room);
 void rinqebo_session_free(struct rinqebo_session *session);

@@ -57,7 +57,8 @@ static const char *REQUEST =
     "{\"root\": \"/w\", \"file\": {\"path\": \"/w/.config/nextest.toml\", \"outcome\": \"text\", \"text\":"
     " \"[profile.ci]\\nretries = 1\\n[test-groups.db]\\nmax-threads = 2\\n[[profile.ci.overrides]]\\n"
     "filter = 'test(/^db::/)'\\ntest-group = 'db'\\nthreads-required = 4\\nslow-timeout = '20s'\\npriority = 50\\n\"},"
-    " \"config-file\": null, \"tools\": [], \"features\": {\"setup-scripts\": false, \"wrapper-scripts\": false}, \"metadata\": null,"
+    " \"config-file\": null, \"organisation-config-file\": null, \"tools\": [],"
+    " \"features\": {\"setup-scripts\": false, \"wrapper-scripts\": false}, \"metadata\": null,"
     " \"host\": {\"triple\": \"x86_64-unknown-linux-gnu\", \"cfg\": null}, \"target\": null}";
 
 // Settings of one profile. 0, or the number of the first check that fails.
@@ -130,7 +131,8 @@ static uint8_t *run(const char *request, size_t length, uint32_t *status, size_t
 
 // A request for a run over files, each as READ has it, where PROFILE is asked of the tests of LIST.
 #define RUN_OVER(FILE, CONFIG_FILE, PROFILE, LIST) \
-    "{\"root\": \"/w\", \"file\": " FILE ", \"config-file\": " CONFIG_FILE ", \"tools\": []," \
+    "{\"root\": \"/w\", \"file\": " FILE ", \"config-file\": " CONFIG_FILE "," \
+    " \"organisation-config-file\": null, \"tools\": []," \
     " \"features\": {\"setup-scripts\": false, \"wrapper-scripts\": false}, \"metadata\": null," \
     " \"host\": {\"triple\": \"x86_64-unknown-linux-gnu\", \"cfg\": null}, \"target\": null," \
     " \"profile\": \"" PROFILE "\", \"mode\": \"test\", \"list\": \"" LIST "\"}"

@@ -57,6 +57,8 @@ pub enum SourceKind {
     /// The built-in defaults.
     Default,
     Tool,
+    /// The file of an organisation.
+    Organisation,
     /// The repository's file that a user named.
     Explicit,
     /// The repository's file in its own place.

@@ -13,6 +13,8 @@ pub struct Sources {
     pub file: File,
     /// The file that a user named, which counts in place of the repository's own.
     pub config_file: Option<File>,
+    /// The file of an organisation, above those of tools and below the repository's.
+    pub organisation_config_file: Option<File>,
     /// The files of tools: the first is the highest.
     pub tools: Vec<ToolFile>,
     /// The experimental features that are switched on.
@@ -126,6 +128,7 @@ impl Sources {
             root: root.to_owned(),
             file: File::of(&format!("{root}/.config/nextest.toml"), text),
             config_file: None,
+            organisation_config_file: None,
             tools: Vec::new(),
             features: Features::default(),
             metadata: None,

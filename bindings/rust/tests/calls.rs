@@ -156,6 +156,7 @@ fn refusals_tell_why() {
 fn request() -> serde_json::Value {
     let mut sources = Sources::of_file("/w", "", TRIPLE);
     sources.config_file = Some(File::of("/c.toml", ""));
+    sources.organisation_config_file = Some(File::of("/o.toml", ""));
     sources.tools.push(ToolFile { tool: "tool".to_owned(), file: File::of("/t.toml", "") });
     sources.target = Some(Machine { triple: TRIPLE.to_owned(), cfg: None });
     serde_json::to_value(&sources).unwrap()
@@ -211,6 +212,10 @@ fn each_member_left_out_or_of_another_kind_is_told() {
         ("/config-file/path", "config-file.path"),
         ("/config-file/outcome", "config-file.outcome"),
         ("/config-file/text", "config-file.text"),
+        ("/organisation-config-file", "organisation-config-file"),
+        ("/organisation-config-file/path", "organisation-config-file.path"),
+        ("/organisation-config-file/outcome", "organisation-config-file.outcome"),
+        ("/organisation-config-file/text", "organisation-config-file.text"),
         ("/tools", "tools"),
         ("/tools/0/tool", "tools[0].tool"),
         ("/tools/0/path", "tools[0].path"),
@@ -261,7 +266,13 @@ fn reason_of(request: &serde_json::Value) -> String {
 
 #[test]
 fn an_outcome_goes_with_its_text() {
-    for (holder, place) in [("/file", "file"), ("/config-file", "config-file"), ("/tools/0", "tools[0]")] {
+    let holders = [
+        ("/file", "file"),
+        ("/config-file", "config-file"),
+        ("/organisation-config-file", "organisation-config-file"),
+        ("/tools/0", "tools[0]"),
+    ];
+    for (holder, place) in holders {
         let told = |outcome: &str, text: serde_json::Value| {
             let mut request = run_request();
             let file = request.pointer_mut(holder).unwrap();
@@ -321,6 +332,32 @@ fn a_file_that_a_user_named_counts_in_place_of_the_own_one() {
 }
 
 #[test]
+fn the_file_of_an_organisation_lies_between_those_of_tools_and_the_own_one() {
+    let mut sources = Sources::of_file("/w", "[profile.ci]\nfail-fast = false\n", TRIPLE);
+    let named = "[test-groups.\"@org:db\"]\nmax-threads = 2\n[profile.ci]\nretries = 2\n\
+        [[profile.ci.overrides]]\nfilter = 'all()'\ntest-group = \"@org:db\"\nthreads-required = 2\n";
+    sources.organisation_config_file = Some(File::of("/org.toml", named));
+    let tool = "[profile.ci]\nretries = 1\n\
+        [[profile.ci.overrides]]\nfilter = 'all()'\nthreads-required = 1\npriority = 1\n";
+    sources.tools.push(ToolFile { tool: "tool".to_owned(), file: File::of("/t.toml", tool) });
+    let list = example("list.json");
+    let run = RunRequest { sources: &sources, profile: "ci", mode: Mode::Test, list: &list };
+    let document = resolve(&run).unwrap();
+    let kinds = document.sources.iter().map(|source| source.kind).collect::<Vec<_>>();
+    let expected = [SourceKind::Default, SourceKind::Tool, SourceKind::Organisation, SourceKind::Discovered];
+    assert_eq!(kinds, expected);
+    assert_eq!(document.sources[2].path.as_deref(), Some("/org.toml"));
+    for test in &document.tests {
+        let value = |key: &str| test.settings[key].value.clone();
+        assert_eq!((value("retries"), value("priority")), (json!(2), json!(1)));
+        assert_eq!((value("threads-required"), value("test-group")), (json!(2), json!("@org:db")));
+    }
+    let config = Config::load(&sources).unwrap();
+    let settings = config.profile("ci").unwrap().settings(&Test::of("a", "b")).unwrap();
+    assert_eq!((settings.priority, settings.retries.count), (1, 2));
+}
+
+#[test]
 fn a_file_may_be_missing_only_in_its_own_place() {
     let missing = [(ReadOutcome::NotFound, "no such file"), (ReadOutcome::NotADirectory, "no directory")];
     for (outcome, message) in missing {
@@ -330,8 +367,10 @@ fn a_file_may_be_missing_only_in_its_own_place() {
         let file = File { path: "/named.toml".to_owned(), outcome };
         let mut tool = own.clone();
         tool.tools.push(ToolFile { tool: "tool".to_owned(), file: file.clone() });
+        let mut organisation = own.clone();
+        organisation.organisation_config_file = Some(file.clone());
         own.config_file = Some(file);
-        for sources in [own, tool] {
+        for sources in [own, organisation, tool] {
             let (reason, refusal) = refusal_of(&sources);
             assert!(reason.contains("/named.toml") && reason.contains(message), "{reason}");
             assert!(refusal.findings[0].message.contains(message), "{}", refusal.reason);

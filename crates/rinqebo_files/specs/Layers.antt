@@ -1,7 +1,7 @@
 -- The sources of a run: which files they are, their texts and their trees.
 use Rattle.std.specs.Prelude.{ℕ, List, ◌∷◌, ◌++◌, [], Option, Some, None, map, option_map, reverse, string_bytes}
 use Rattle.std.specs.Option.{option_map_or}
-use Rattle.nextest_sources.specs.Sources.{Source, SourceKind, path_view, tool_file, explicit_file, discovered_file}
+use Rattle.nextest_sources.specs.Sources.{Source, SourceKind, path_view, tool_file, organisation_file, explicit_file, discovered_file}
 use Rattle.nextest_sources.specs.declared.sources.FileInput.{FileInput}
 use Rattle.nextest_sources.specs.declared.sources.ReadOutcome.{ReadOutcome}
 use Rattle.nextest_sources.specs.declared.sources.ReadOutcome.TheVariants as outcomes
@@ -57,6 +57,11 @@ file_layer kind file = record {
 abbrev pub tool_layer : ToolConfigFile → LayerRead
 tool_layer tool = file_layer (Some (tool_file (tool_name_text tool.tool))) tool.config_file
 
+-- the organisation's file, if there is one
+abbrev pub organisation_layers : Option FileInput → List LayerRead
+organisation_layers (Some file) = file_layer (Some organisation_file) file ∷ []
+organisation_layers None = []
+
 -- the repository's file: a user named it, or it was looked for
 abbrev pub repository_layer : Gathered → LayerRead
 repository_layer gathered =
@@ -64,8 +69,8 @@ repository_layer gathered =
     (file_layer (Some discovered_file) gathered.paths.shared)
 
 -- The sources of a run, the lowest first: the default table, the files of tools, of which the first
--- is the highest, and the repository's file.
+-- is the highest, the organisation's file, if there is one, and the repository's.
 abbrev pub layers_read : Gathered → List LayerRead
 layers_read gathered =
-    default_layer ∷ (map tool_layer (reverse gathered.tools.items)
-    ++ repository_layer gathered ∷ [])
+    default_layer ∷ ((map tool_layer (reverse gathered.tools.items)
+    ++ organisation_layers gathered.organisation_file) ++ repository_layer gathered ∷ [])

@@ -5,7 +5,7 @@ use Rattle.std.specs.Option.{option_and_then}
 use Rattle.config_places.specs.Place.{HasNoPlace, IsPlaceOfPath}
 use Rattle.config_places.specs.declared.place.Lines.{Lines}
 use Rattle.config_places.specs.declared.step.Step.{Step}
-use Rattle.nextest_sources.specs.Sources.{Source, SourceKind, tool_file, explicit_file, discovered_file}
+use Rattle.nextest_sources.specs.Sources.{Source, SourceKind, tool_file, organisation_file, explicit_file, discovered_file}
 use Rattle.rinqebo_report.specs.declared.origin.Lines.{Lines as ToldLines}
 use Rattle.rinqebo_report.specs.declared.origin.Place.{Place}
 use Rattle.rinqebo_report.specs.declared.origin.Source.{Source as ToldSource}
@@ -17,6 +17,7 @@ use Rattle.rinqebo_files.specs.declared.layers.Layer.{Layer}
 abbrev pub told_kind : ToldKind → Option SourceKind
 told_kind told.Default = None
 told_kind (told.Tool name) = Some (tool_file (string_bytes name))
+told_kind told.Organisation = Some organisation_file
 told_kind told.Explicit = Some explicit_file
 told_kind told.Discovered = Some discovered_file
 

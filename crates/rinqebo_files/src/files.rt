@@ -20,6 +20,8 @@ pub struct Gathered {
     pub paths: ConfigPaths,
     /// The repository's file that a user named, which counts in place of the workspace's own.
     pub config_file: Option<FileInput>,
+    /// The organisation's file, if a user named one.
+    pub organisation_file: Option<FileInput>,
     /// The files of tools, in the order of the words: the first is the highest.
     pub tools: Vec<ToolConfigFile>,
     /// What the compiler prints for the host, if it is given.
@@ -146,6 +148,18 @@ fn named_file<R: FileReader>(
     }
 }
 
+/// The organisation's file, if a user named one.
+fn organisation_file<R: FileReader>(
+    alloc: Global,
+    path: Option<&str>,
+    files: &R,
+) -> Result<Option<FileInput>, AllocError> {
+    match path {
+        Some(path) => Ok(Some(read_at(alloc, path, files)?)),
+        None => Ok(None),
+    }
+}
+
 /// The files of tools, in the order of their options.
 fn tool_files<R: FileReader>(
     alloc: Global,
@@ -233,6 +247,7 @@ pub fn gather<R: FileReader>(
             shared,
         },
         config_file: named_file(alloc, options.config_file, input, files)?,
+        organisation_file: organisation_file(alloc, options.organisation_config_file, files)?,
         tools: tool_files(alloc, &options.tools, files)?,
         host_cfg: text_at(alloc, engines.host_cfg, FileOption::HostCfg, files)?,
         target_cfg: text_at(alloc, engines.target_cfg, FileOption::TargetCfg, files)?,

@@ -3,15 +3,15 @@ ghost use Rattle.std.specs.Prelude.{◌≡◌, ◌++◌, ◌↔◌, Some, IfOk, 
 ghost use Rattle.nextest_sources.specs.Sources.{source_kind_view, source_view};
 ghost use Rattle.nextest_tree.specs.View.{tree_view};
 ghost use Rattle.rinqebo_files.specs.Features.{tree_read};
-ghost use Rattle.rinqebo_files.specs.Layers.{default_layer, file_layer, layer_view, layers_read, repository_layer, text_read, tool_layer};
+ghost use Rattle.rinqebo_files.specs.Layers.{default_layer, file_layer, layer_view, layers_read, organisation_layers, repository_layer, text_read, tool_layer};
 ghost use Rattle.rinqebo_files.specs.Origins.{HasNoFile, IsFileAt, told_file, told_kind};
 
 use crate::document::{NoDocument, read_document};
 use crate::files::Gathered;
 use config_places::Places;
 use nextest_config::{
-    ConfigPath, ConfigSource, ConfigSourceKind, FileInput, ReadOutcome, ToolConfigFile, ToolName,
-    Tree,
+    ConfigPath, ConfigSource, ConfigSourceKind, FileInput, IdentifierOwner, ReadOutcome,
+    ToolConfigFile, Tree,
 };
 use nextest_tables::default_tree;
 use rinqebo_report::{Source, SourceKind};
@@ -111,7 +111,24 @@ fn add_tools<'t>(
     Ok(())
 }
 
-/// The layers of a run, the lowest first: the defaults, the files of tools, and the repository's.
+/// Adds the layer of the organisation's file, if there is one.
+fn add_organisation<'t>(
+    alloc: Global,
+    file: &'t Option<FileInput>,
+    layers: &mut Vec<Layer<'t>>,
+) -> Result<(), AllocError>
+    ensures { OnOk result (map layer_view layers.new.items
+        ≡ map layer_view layers.old.items ++ organisation_layers file.entry.now) }
+{
+    let Some(file) = file else {
+        return Ok(());
+    };
+    layers.push(layer_of(alloc, SourceKind::Organisation, file)?)?;
+    Ok(())
+}
+
+/// The layers of a run, the lowest first: the defaults, the files of tools, the organisation's, and the
+/// repository's.
 pub fn layers_of<'t>(alloc: Global, gathered: &'t Gathered) -> Result<Vec<Layer<'t>>, AllocError>
     ensures { IfOk result (λ layers.
         map layer_view layers.items ≡ layers_read gathered.entry.now) }
@@ -119,6 +136,7 @@ pub fn layers_of<'t>(alloc: Global, gathered: &'t Gathered) -> Result<Vec<Layer<
     let mut layers = Vec::new(alloc);
     layers.push(defaults_layer(alloc)?)?;
     add_tools(alloc, &gathered.tools, &mut layers)?;
+    add_organisation(alloc, &gathered.organisation_file, &mut layers)?;
     layers.push(layer_of_repository(alloc, gathered)?)?;
     Ok(layers)
 }
@@ -130,6 +148,7 @@ fn copied_kind(kind: &SourceKind) -> Result<SourceKind, AllocError>
     match kind {
         SourceKind::Default => Ok(SourceKind::Default),
         SourceKind::Tool(name) => Ok(SourceKind::Tool(name.clone()?)),
+        SourceKind::Organisation => Ok(SourceKind::Organisation),
         SourceKind::Explicit => Ok(SourceKind::Explicit),
         SourceKind::Discovered => Ok(SourceKind::Discovered),
     }
@@ -174,6 +193,7 @@ fn is_kind(told: &SourceKind, kind: &ConfigSourceKind) -> bool
 {
     match (told, kind) {
         (SourceKind::Tool(name), ConfigSourceKind::Tool(tool)) => name.as_str() == tool.as_str(),
+        (SourceKind::Organisation, ConfigSourceKind::Organisation) => true,
         (SourceKind::Explicit, ConfigSourceKind::ExplicitRepository) => true,
         (SourceKind::Discovered, ConfigSourceKind::DiscoveredRepository) => true,
         _ => false,
@@ -203,25 +223,27 @@ pub fn place_of(layers: &[Layer], source: &ConfigSource) -> Option<usize>
     None
 }
 
-/// Whether a file that is reported is the one that a tool provides, or with no tool the
-/// repository's, and lies at a path.
-fn lies_at(reported: &Source, tool: Option<&ToolName>, path: &ConfigPath) -> bool {
-    let is_kind = match (&reported.kind, tool) {
-        (SourceKind::Tool(name), Some(tool)) => name.as_str() == tool.as_str(),
-        (SourceKind::Explicit | SourceKind::Discovered, None) => true,
+/// Whether a file that is reported is the one of an owner, a tool or the organisation, or with no
+/// owner the repository's, and lies at a path.
+fn lies_at(reported: &Source, owner: IdentifierOwner<'_>, path: &ConfigPath) -> bool {
+    let is_owned = match (&reported.kind, owner) {
+        (SourceKind::Tool(name), IdentifierOwner::Tool(tool)) => name.as_str() == tool,
+        (SourceKind::Organisation, IdentifierOwner::Organisation) => true,
+        (SourceKind::Explicit | SourceKind::Discovered, IdentifierOwner::Nobody) => true,
         _ => false,
     };
     match &reported.path {
-        Some(reported) => is_kind && reported.as_str() == path.absolute_path(),
+        Some(reported) => is_owned && reported.as_str() == path.absolute_path(),
         None => false,
     }
 }
 
-/// The place among layers of the file that a tool provides, or with no tool of the repository's.
-pub fn place_at(layers: &[Layer], tool: Option<&ToolName>, path: &ConfigPath) -> Option<usize> {
+/// The place among layers of the file of an owner, a tool or the organisation, or with no owner of
+/// the repository's.
+pub fn place_at(layers: &[Layer], owner: IdentifierOwner<'_>, path: &ConfigPath) -> Option<usize> {
     layers
         .iter()
-        .position(|layer| lies_at(&layer.source, tool, path))
+        .position(|layer| lies_at(&layer.source, owner, path))
 }
 
 /// The table of a profile in a tree.

@@ -12,7 +12,8 @@ use config_places::Step;
 use nextest_config::{
     ConfigCompileError, ConfigCompileErrorKind, ConfigCompileSection, ConfigExperimental,
     ConfigParseError, ConfigParseErrorKind, ConfigPath, CustomTestGroup, ElementCause,
-    ElementFault, InheritsError, ReadOutcome, ScriptId, ToolName, Tree, UnknownTestGroupError,
+    ElementFault, IdentifierOwner, InheritsError, ReadOutcome, ScriptId, ToolName, Tree,
+    UnknownTestGroupError,
 };
 use rinqebo_files::{Layer, place_at};
 use rinqebo_load::Session;
@@ -421,9 +422,18 @@ fn add_kind(refused: &mut Refused<'_, '_>, kind: &ConfigParseErrorKind) -> Resul
     }
 }
 
+/// Who owns the file that is refused.
+fn refused_owner(error: &ConfigParseError) -> IdentifierOwner<'_> {
+    match error.tool() {
+        Some(tool) => IdentifierOwner::Tool(tool.as_str()),
+        None if error.is_organisation() => IdentifierOwner::Organisation,
+        None => IdentifierOwner::Nobody,
+    }
+}
+
 /// The place among the layers of the file that is refused.
 pub fn refused_place(layers: &[Layer], error: &ConfigParseError) -> Option<usize> {
-    place_at(layers, error.tool(), error.config_file()?)
+    place_at(layers, refused_owner(error), error.config_file()?)
 }
 
 /// Adds the findings of a refusal.

@@ -23,7 +23,7 @@ fn is_of_element(kind: &ConfigParseErrorKind) -> bool {
 }
 
 /// Whether all files together are refused, and none by itself: for an element or a cycle that the
-/// repository's file does not have without the files of tools.
+/// repository's file does not have without the files below it.
 fn is_of_all_files(
     alloc: Global,
     session: &Session<'_>,

@@ -1,5 +1,5 @@
 -- What a run knows: the files that were read, and what the engines make of texts.
-use Rattle.std.specs.Prelude.{◌≡◌, ◌⊎◌, None, option_map, map, Result, MatchResult}
+use Rattle.std.specs.Prelude.{◌≡◌, ◌⊎◌, option_map, map, Result, MatchResult}
 use Rattle.filter_language.specs.Filtersets.{marks_view}
 use Rattle.filter_language.specs.Leaves.{leaves}
 use Rattle.filter_language.specs.declared.filterset.Filterset.{Filterset}
@@ -26,12 +26,12 @@ use Rattle.target_platforms.specs.Platforms.{platform_view}
 use Rattle.target_platforms.specs.declared.Platform.{Platform}
 use Rattle.rinqebo_files.specs.declared.files.Gathered.{Gathered}
 
--- the files of a load, as they were read: none is the organisation's
+-- the files of a load, as they were read
 abbrev pub files_view : Gathered → LoadInputs
 files_view gathered = record {
   shared = file_view gathered.paths.shared;
   explicit = option_map file_view gathered.config_file;
-  organisation = None;
+  organisation = option_map file_view gathered.organisation_file;
   tools = map tool_file_view gathered.tools.items;
 }
 

@@ -1,5 +1,5 @@
 //! What all commands begin with: a list of tests, engines, features, and the layers of the files.
-ghost use Rattle.std.specs.Prelude.{◌≡◌, IfOk, IfErr, None, option_map};
+ghost use Rattle.std.specs.Prelude.{◌≡◌, IfOk, IfErr, option_map};
 ghost use Rattle.nextest_rules.specs.KnownView.{features_view};
 ghost use Rattle.nextest_sources.specs.Inputs.{load_inputs_view};
 ghost use Rattle.nextest_sources.specs.Sources.{file_view};
@@ -18,6 +18,7 @@ use nextest_config::{
 use nextest_filters::NextestFilters;
 use nextest_sources::ConfigInputs;
 use rinqebo_files::{Gathered, Layer, features_of, layers_of};
+use rinqebo_report::SourceKind;
 use rinqebo_request::{ListFile, ProfileSource, Request};
 use std::alloc::{AllocError, Global};
 use std::collections::BTreeSet;
@@ -81,13 +82,18 @@ impl<'g> Session<'g> {
         }
     }
 
-    /// The repository's file that a user named.
+    /// The files that a user named beside those of tools: the repository's, and the organisation's.
     fn selection(&self) -> ConfigFileSelection<'_>
         ensures config_file { option_map (λ file. file_view file.now) result.config_file
             ≡ option_map file_view self.now.gathered.now.config_file }
-        ensures organisation { result.organisation_file ≡ None }
+        ensures organisation { option_map (λ file. file_view file.now) result.organisation_file
+            ≡ option_map file_view self.now.gathered.now.organisation_file }
     {
-        ConfigFileSelection::new(self.gathered.config_file.as_ref())
+        let selection = ConfigFileSelection::new(self.gathered.config_file.as_ref());
+        match &self.gathered.organisation_file {
+            Some(file) => selection.with_organisation(file),
+            None => selection,
+        }
     }
 
     /// The files of a run, and its features.
@@ -129,7 +135,7 @@ impl<'g> Session<'g> {
         }
     }
 
-    /// Why files are refused, if they are: the repository's, and those of tools.
+    /// Why files are refused, if they are.
     fn refusal_of(
         &self,
         alloc: Global,
@@ -150,6 +156,18 @@ impl<'g> Session<'g> {
         }
     }
 
+    /// The file of a tool at a place among the layers: the last tool's lies upon the defaults.
+    fn tool_at(&self, place: usize) -> &[ToolConfigFile] {
+        let tools = self.gathered.tools.as_slice();
+        let Some(index) = tools.len().checked_sub(place) else {
+            return &[];
+        };
+        if index >= tools.len() {
+            return &[];
+        }
+        &tools[index..index + 1]
+    }
+
     /// Why the file at a place among the layers is refused without the other files, if it is.
     /// Warnings are told as they are met.
     pub fn refusal_alone(
@@ -158,20 +176,31 @@ impl<'g> Session<'g> {
         place: usize,
         warnings: &mut DefaultConfigWarnings,
     ) -> Result<Option<ConfigParseError>, AllocError> {
-        let shared = &self.gathered.paths.shared;
-        let tools = self.gathered.tools.as_slice();
-        let Some(index) = tools.len().checked_sub(place) else {
-            return Ok(self.refusal_of(alloc, shared, self.selection(), &[], warnings));
-        };
-        if index >= tools.len() {
+        let Some(layer) = self.layers.get(place) else {
             return Ok(None);
-        }
+        };
+        let shared = &self.gathered.paths.shared;
         let absent = FileInput {
             path: ConfigPath::new(alloc, shared.path.absolute_path())?,
             outcome: ReadOutcome::NotFound,
         };
-        let tool = &tools[index..index + 1];
-        let selection = ConfigFileSelection::new(None);
-        Ok(self.refusal_of(alloc, &absent, selection, tool, warnings))
+        let nothing = ConfigFileSelection::new(None);
+        Ok(match &layer.source.kind {
+            SourceKind::Default => None,
+            SourceKind::Tool(_) => {
+                self.refusal_of(alloc, &absent, nothing, self.tool_at(place), warnings)
+            }
+            SourceKind::Organisation => {
+                let selection = ConfigFileSelection {
+                    organisation_file: self.gathered.organisation_file.as_ref(),
+                    ..nothing
+                };
+                self.refusal_of(alloc, &absent, selection, &[], warnings)
+            }
+            SourceKind::Explicit | SourceKind::Discovered => {
+                let selection = ConfigFileSelection::new(self.gathered.config_file.as_ref());
+                self.refusal_of(alloc, shared, selection, &[], warnings)
+            }
+        })
     }
 }

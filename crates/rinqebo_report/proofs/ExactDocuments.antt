@@ -146,6 +146,7 @@ rule r =
 tool : (n : ℕ) (k : SourceKind) → IsExact n (tool_data k)
 tool n kinds.Default = exact_null n
 tool n (kinds.Tool name) = text n name
+tool n kinds.Organisation = exact_null n
 tool n kinds.Explicit = exact_null n
 tool n kinds.Discovered = exact_null n
 

@@ -178,6 +178,7 @@ rule_data rule =
 abbrev pub kind_word : SourceKind → List ℕ
 kind_word kinds.Default = codes "default"
 kind_word (kinds.Tool name) = codes "tool"
+kind_word kinds.Organisation = codes "organisation"
 kind_word kinds.Explicit = codes "explicit"
 kind_word kinds.Discovered = codes "discovered"
 
@@ -185,6 +186,7 @@ kind_word kinds.Discovered = codes "discovered"
 abbrev pub tool_data : SourceKind → Data
 tool_data kinds.Default = null
 tool_data (kinds.Tool name) = text_data name
+tool_data kinds.Organisation = null
 tool_data kinds.Explicit = null
 tool_data kinds.Discovered = null
 

@@ -56,6 +56,7 @@ lines_text (Some lines) =
 abbrev pub tool_of : SourceKind → Option (List ℕ)
 tool_of kinds.Default = None
 tool_of (kinds.Tool name) = Some (string_bytes name)
+tool_of kinds.Organisation = None
 tool_of kinds.Explicit = None
 tool_of kinds.Discovered = None
 

@@ -343,6 +343,7 @@ impl SourceKind {
         match self {
             SourceKind::Default => "default",
             SourceKind::Tool(_) => "tool",
+            SourceKind::Organisation => "organisation",
             SourceKind::Explicit => "explicit",
             SourceKind::Discovered => "discovered",
         }
@@ -355,7 +356,10 @@ fn tool_json(alloc: Global, kind: &SourceKind) -> Result<Value, AllocError>
 {
     match kind {
         SourceKind::Tool(name) => Value::try_from_str(alloc, name.as_str()),
-        SourceKind::Default | SourceKind::Explicit | SourceKind::Discovered => Ok(Value::Null),
+        SourceKind::Default
+        | SourceKind::Organisation
+        | SourceKind::Explicit
+        | SourceKind::Discovered => Ok(Value::Null),
     }
 }
 

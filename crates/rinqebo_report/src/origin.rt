@@ -7,6 +7,8 @@ pub enum SourceKind {
     Default,
     /// The tool of this name.
     Tool(String),
+    /// The organisation.
+    Organisation,
     /// A user, who named it.
     Explicit,
     /// The workspace, below whose root it was looked for.

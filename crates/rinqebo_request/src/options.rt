@@ -166,6 +166,12 @@ fn with_files<'a>(alloc: Global, command: Command<'a>) -> Result<Command<'a>, Al
             "FILE",
             "Repository file\n[default: .config/nextest.toml]",
         ))?
+        .arg(option(
+            alloc,
+            "organisation-config-file",
+            "P",
+            "Configuration file of the organisation:\nabove those of tools, below the repository",
+        ))?
         .arg(tools.action(ArgAction::Append))?
         .arg(features.action(ArgAction::Append))?
         .arg(option(

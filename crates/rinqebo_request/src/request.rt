@@ -120,6 +120,8 @@ pub struct FileOptions<'a> {
     pub root: Option<&'a str>,
     /// The repository's file.
     pub config_file: ConfigFile<'a>,
+    /// The path of the organisation's file, if there is one.
+    pub organisation_config_file: Option<&'a str>,
     /// The files of tools, in the order of the words: the first is the highest.
     pub tools: Vec<ToolFile<'a>>,
 }

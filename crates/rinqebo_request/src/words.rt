@@ -123,6 +123,7 @@ fn files<'a>(
     Ok(FileOptions {
         root: matches.get_str("root"),
         config_file,
+        organisation_config_file: matches.get_str("organisation-config-file"),
         tools: tool_files(alloc, matches)?,
     })
 }

@@ -92,6 +92,7 @@ impl Asked {
             files: FileOptions {
                 root: None,
                 config_file: ConfigFile::Discovered,
+                organisation_config_file: None,
                 tools: Vec::new(alloc),
             },
             engines: self.engines(),
@@ -130,6 +131,7 @@ pub fn parted(run: RunRequest) -> (Asked, Gathered)
     let LoadRequest {
         paths,
         config_file,
+        organisation_file,
         tools,
         features,
         metadata,
@@ -148,6 +150,7 @@ pub fn parted(run: RunRequest) -> (Asked, Gathered)
     let gathered = Gathered {
         paths,
         config_file,
+        organisation_file,
         tools,
         host_cfg: cfg,
         target_cfg,

@@ -166,6 +166,7 @@ impl Builder {
         let kind = match line.word(1)? {
             "default" => SourceKind::Default,
             "tool" => SourceKind::Tool(line.text(self.alloc, 2)?),
+            "organisation" => SourceKind::Organisation,
             "explicit" => SourceKind::Explicit,
             "discovered" => SourceKind::Discovered,
             _ => return Err(RowError::NoRow),

@@ -7,7 +7,7 @@
 //! | Line | What it says |
 //! |---|---|
 //! | `case NAME ROOT` | a report begins, of a workspace with this root |
-//! | `source KIND TOOL PATH` | a source: `default`, `tool`, `explicit` or `discovered` |
+//! | `source KIND TOOL PATH` | a source: `default`, `tool`, `organisation`, `explicit` or `discovered` |
 //! | `asked PROFILE CHAIN MODE HOST TARGET` | what is asked for; the chain has spaces in it |
 //! | `explain`, `why KEY`, `list` or `show-config` | the command; without one it is `check` |
 //! | `test BINARY NAME PLATFORM` | a test |

@@ -41,6 +41,22 @@ fn shown_path<'a>(root: &str, file: &'a FileInput) -> &'a str {
     }
 }
 
+/// Adds a file to the list of files, with a comma before it unless it is the first.
+fn add_shown(shown: &str, files: &mut String) -> Result<(), AllocError> {
+    if !files.is_empty() {
+        files.push_str(", ")?;
+    }
+    files.push_str(shown)
+}
+
+/// Adds the organisation's file to the list of files that were read.
+fn add_organisation(root: &str, file: &FileInput, files: &mut String) -> Result<(), AllocError> {
+    if !was_read(file) {
+        return Ok(());
+    }
+    add_shown(below(root, file.path.absolute_path()), files)
+}
+
 /// Adds the file of a tool to the list of files that were read.
 fn add_tool(
     alloc: Global,
@@ -51,13 +67,10 @@ fn add_tool(
     if !was_read(&tool.config_file) {
         return Ok(());
     }
-    if !files.is_empty() {
-        files.push_str(", ")?;
-    }
     let path = below(root, tool.config_file.path.absolute_path());
     let name = tool.tool.as_str();
     let shown = format!(in alloc; "{path} (tool {name})")?;
-    files.push_str(shown.as_str())
+    add_shown(shown.as_str(), files)
 }
 
 /// The files that were read, the one of the highest precedence first, with commas between them.
@@ -67,6 +80,9 @@ fn files_read(alloc: Global, gathered: &Gathered) -> Result<String, AllocError> 
     let own = repository_file(gathered);
     if was_read(own) {
         files.push_str(shown_path(root, own))?;
+    }
+    if let Some(file) = &gathered.organisation_file {
+        add_organisation(root, file, &mut files)?;
     }
     for tool in &gathered.tools {
         add_tool(alloc, root, tool, &mut files)?;

@@ -32,12 +32,12 @@ abbrev pub is_on : Switches → ConfigExperimental → Bool
 is_on switches SetupScripts = switches.setup_scripts
 is_on switches WrapperScripts = switches.wrapper_scripts
 
--- the files of a request: none is the organisation's
+-- the files of a request
 abbrev pub files_of : RequestText → LoadInputs
 files_of asked = record {
   shared = asked.shared;
   explicit = asked.config_file;
-  organisation = None;
+  organisation = asked.organisation_file;
   tools = asked.tools;
 }
 

@@ -1,5 +1,6 @@
 //! What a request's files denote.
-ghost use Rattle.std.specs.Prelude.{◌≡◌, IfErr, IfOk};
+ghost use Rattle.std.specs.Prelude.{◌≡◌, IfErr, IfOk, option_map};
+ghost use Rattle.nextest_sources.specs.Sources.{file_view};
 ghost use Rattle.nextest_rules.specs.KnownView.{features_view};
 ghost use Rattle.session_forms.specs.Requests.{request_view};
 ghost use Rattle.rinqebo_session.specs.Loading.{LoadsBy, IsLoadedBy, IsFailureBy, IsLoadedFrom, IsFailureOf};
@@ -8,7 +9,8 @@ ghost use Rattle.rinqebo_session.specs.Readings.{readings};
 use crate::failure::Failure;
 use crate::features::features_of;
 use nextest_config::{
-    BuildPlatforms, ConfigExperimental, ConfigParseError, NextestConfig, ParseContext,
+    BuildPlatforms, ConfigExperimental, ConfigFileSelection, ConfigParseError,
+    DefaultConfigWarnings, NextestConfig, ParseContext,
 };
 use nextest_filters::NextestFilters;
 use session_forms::{LoadRequest, filters_of, platforms_of};
@@ -27,6 +29,20 @@ pub struct Loaded {
     pub platforms: BuildPlatforms<Platform>,
 }
 
+/// The files that a request names beside those of tools.
+fn selection_of(asked: &LoadRequest) -> ConfigFileSelection<'_>
+    ensures config_file { option_map (λ file. file_view file.now) result.config_file
+        ≡ option_map file_view asked.now.config_file }
+    ensures organisation { option_map (λ file. file_view file.now) result.organisation_file
+        ≡ option_map file_view asked.now.organisation_file }
+{
+    let selection = ConfigFileSelection::new(asked.config_file.as_ref());
+    match &asked.organisation_file {
+        Some(file) => selection.with_organisation(file),
+        None => selection,
+    }
+}
+
 /// The configuration of a request's files.
 fn config_of(
     alloc: Global,
@@ -41,14 +57,15 @@ fn config_of(
         filters,
         specs: &TargetSpecs,
     };
-    NextestConfig::from_sources(
+    let mut warnings = DefaultConfigWarnings::new(alloc);
+    NextestConfig::from_sources_with_paths(
         alloc,
-        asked.paths.workspace_root.as_str(),
-        &asked.paths.shared,
+        &asked.paths,
         &engines,
-        asked.config_file.as_ref(),
+        selection_of(asked),
         &asked.tools,
         features,
+        &mut warnings,
     )
 }
 

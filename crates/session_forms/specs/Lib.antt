@@ -1,4 +1,4 @@
-pub mod Parts
+pub mod Reading
 pub mod Requests
 pub mod Numbers
 pub mod Machines

@@ -1,11 +1,13 @@
 -- What a request in JSON says.
 use Rattle.std.specs.Prelude.{ℕ, List, [], ◌∷◌, Option, None, Some, codes, option_and_then, option_map, map, string_bytes, if◌then◌else◌}
 use Rattle.std.specs.Str.{bytes_eq}
-use Rattle.serde_json.specs.Data.{Data}
+use Rattle.serde_json.specs.Data.{Data, Items}
 use Rattle.serde_json.specs.Read.{read}
 use Rattle.nextest_sources.specs.Sources.{Outcome, text, not_found, not_a_directory, failed, InputFile, file_view, ToolFile, tool_file_view}
 use Rattle.nextest_texts.specs.Identifier.{is_part}
-use Rattle.session_forms.specs.Parts.{text_at, optional_text_at, null_at, flag_at, list_at, object_at, optional_object_at}
+use Rattle.serde_json.specs.Find.{as_array, as_bool, as_null, as_str}
+use Rattle.package_graph.specs.Metadata.{listed}
+use Rattle.json_fields.specs.Parts.{an_object, optional_object, optional_text, under}
 use Rattle.session_forms.specs.declared.outcome.OutcomeKind.{OutcomeKind}
 use Rattle.session_forms.specs.declared.outcome.OutcomeKind.TheVariants as outcomes
 use Rattle.session_forms.specs.declared.request.Machine.{Machine}
@@ -22,6 +24,7 @@ pub record RequestText : Type 0 where
   pub root : List ℕ
   pub shared : InputFile
   pub config_file : Option InputFile
+  pub organisation_file : Option InputFile
   pub tools : List ToolFile
   pub features : Switches
   pub metadata : Option (List ℕ)
@@ -38,6 +41,7 @@ request_view r = record {
   root = string_bytes r.paths.workspace_root;
   shared = file_view r.paths.shared;
   config_file = option_map file_view r.config_file;
+  organisation_file = option_map file_view r.organisation_file;
   tools = map tool_file_view r.tools.items;
   features = r.features;
   metadata = option_map string_bytes r.metadata;
@@ -57,17 +61,17 @@ kind_of word =
 
 -- the same of the word under a key
 abbrev pub kind_at : List ℕ → Data → Option OutcomeKind
-kind_at key value = option_and_then kind_of (text_at key value)
+kind_at key value = option_and_then kind_of (under as_str key value)
 
 -- what came of reading a file, where its `text` is what such an outcome has: its text, or the message
 -- of a failure, or else `null`
 abbrev pub outcome_of : OutcomeKind → Data → Option Outcome
-outcome_of outcomes.Text value = option_map text (text_at (codes "text") value)
+outcome_of outcomes.Text value = option_map text (under as_str (codes "text") value)
 outcome_of outcomes.NotFound value =
-    option_map (λ nothing. not_found) (null_at (codes "text") value)
+    option_map (λ nothing. not_found) (under as_null (codes "text") value)
 outcome_of outcomes.NotADirectory value =
-    option_map (λ nothing. not_a_directory) (null_at (codes "text") value)
-outcome_of outcomes.Failed value = option_map failed (text_at (codes "text") value)
+    option_map (λ nothing. not_a_directory) (under as_null (codes "text") value)
+outcome_of outcomes.Failed value = option_map failed (under as_str (codes "text") value)
 
 -- what came of reading the file that an object says, by `outcome` and `text`
 abbrev pub outcome_in : Data → Option Outcome
@@ -78,7 +82,7 @@ outcome_in value =
 abbrev pub file_in : Data → Option InputFile
 file_in value =
     option_and_then (λ path. option_map (λ outcome. record { path = path; outcome = outcome })
-    (outcome_in value)) (text_at (codes "path") value)
+    (outcome_in value)) (under as_str (codes "path") value)
 
 -- the file of an object, or none where there is no object
 abbrev pub file_if : Option Data → Option (Option InputFile)
@@ -88,13 +92,19 @@ file_if (Some value) = option_map Some (file_in value)
 -- the file that a user named in place of the repository's own: the object under `config-file`, or none
 -- where `null` stands there
 abbrev pub config_file_in : Data → Option (Option InputFile)
-config_file_in value = option_and_then file_if (optional_object_at (codes "config-file") value)
+config_file_in value = option_and_then file_if (under optional_object (codes "config-file") value)
+
+-- the organisation's file: the object under `organisation-config-file`, or none where `null` stands
+-- there
+abbrev pub organisation_file_in : Data → Option (Option InputFile)
+organisation_file_in value =
+    option_and_then file_if (under optional_object (codes "organisation-config-file") value)
 
 -- the name of a tool that an object says
 abbrev pub tool_name_in : Data → Option (List ℕ)
 tool_name_in value =
     option_and_then (λ name. if is_part name then Some name else None)
-    (text_at (codes "tool") value)
+    (under as_str (codes "tool") value)
 
 -- the file of a tool that an object says
 abbrev pub tool_in : Data → Option ToolFile
@@ -108,14 +118,14 @@ all_said f [] = Some []
 all_said f (x ∷ xs) = option_and_then (λ y. option_map (λ ys. y ∷ ys) (all_said f xs)) (f x)
 
 -- the files of tools that a list says
-abbrev pub tools_in : List Data → Option (List ToolFile)
-tools_in = all_said tool_in
+abbrev pub tools_in : Items → Option (List ToolFile)
+tools_in items = all_said tool_in (listed items)
 
 -- the machine that an object says, by `triple` and `cfg`
 abbrev pub machine_in : Data → Option MachineText
 machine_in value =
     option_and_then (λ triple. option_map (λ cfg. record { triple = triple; cfg = cfg })
-    (optional_text_at (codes "cfg") value)) (text_at (codes "triple") value)
+    (under optional_text (codes "cfg") value)) (under as_str (codes "triple") value)
 
 -- the machine of an object, or none where there is no object
 abbrev pub machine_if : Option Data → Option (Option MachineText)
@@ -124,7 +134,7 @@ machine_if (Some value) = option_map Some (machine_in value)
 
 -- the machine that is built for: the object under `target`, or none where `null` stands there
 abbrev pub target_in : Data → Option (Option MachineText)
-target_in value = option_and_then machine_if (optional_object_at (codes "target") value)
+target_in value = option_and_then machine_if (under optional_object (codes "target") value)
 
 -- the features that an object switches on
 abbrev pub switches_in : Data → Option Switches
@@ -132,17 +142,19 @@ switches_in value =
     option_and_then (λ setup. option_map (λ wrapper. record {
       setup_scripts = setup;
       wrapper_scripts = wrapper;
-    }) (flag_at (codes "wrapper-scripts") value)) (flag_at (codes "setup-scripts") value)
+    }) (under as_bool (codes "wrapper-scripts") value))
+    (under as_bool (codes "setup-scripts") value)
 
 -- ---- the request
 
--- what a value says: its `root`, `file`, `config-file`, `tools`, `features`, `metadata`, `host` and
--- `target`
+-- what a value says: its `root`, `file`, `config-file`, `organisation-config-file`, `tools`,
+-- `features`, `metadata`, `host` and `target`
 unfoldable pub request_in : Data → Option RequestText
 request_in value =
     option_and_then (λ root.
     option_and_then (λ shared.
     option_and_then (λ config_file.
+    option_and_then (λ organisation_file.
     option_and_then (λ tools.
     option_and_then (λ features.
     option_and_then (λ metadata.
@@ -151,19 +163,21 @@ request_in value =
       root = root;
       shared = shared;
       config_file = config_file;
+      organisation_file = organisation_file;
       tools = tools;
       features = features;
       metadata = metadata;
       host = host;
       target = target;
     }) (target_in value))
-    (option_and_then machine_in (object_at (codes "host") value)))
-    (optional_text_at (codes "metadata") value))
-    (option_and_then switches_in (object_at (codes "features") value)))
-    (option_and_then tools_in (list_at (codes "tools") value)))
+    (option_and_then machine_in (under an_object (codes "host") value)))
+    (under optional_text (codes "metadata") value))
+    (option_and_then switches_in (under an_object (codes "features") value)))
+    (option_and_then tools_in (under as_array (codes "tools") value)))
+    (organisation_file_in value))
     (config_file_in value))
-    (option_and_then file_in (object_at (codes "file") value)))
-    (text_at (codes "root") value)
+    (option_and_then file_in (under an_object (codes "file") value)))
+    (under as_str (codes "root") value)
 
 -- what a text says in JSON
 abbrev pub request_of : List ℕ → Option RequestText

@@ -5,7 +5,8 @@ use Rattle.serde_json.specs.Data.{Data}
 use Rattle.serde_json.specs.Read.{read}
 use Rattle.nextest_elements.specs.declared.run_mode.NextestRunMode.{NextestRunMode}
 use Rattle.nextest_elements.specs.declared.run_mode.NextestRunMode.TheVariants.{Test, Benchmark}
-use Rattle.session_forms.specs.Parts.{text_at}
+use Rattle.serde_json.specs.Find.{as_str}
+use Rattle.json_fields.specs.Parts.{under}
 use Rattle.session_forms.specs.Requests.{RequestText, request_in, request_view}
 use Rattle.session_forms.specs.declared.run_request.RunRequest.{RunRequest}
 
@@ -33,7 +34,7 @@ mode_of word =
 
 -- the mode whose word stands under a key
 abbrev pub mode_at : List ℕ → Data → Option NextestRunMode
-mode_at key value = option_and_then mode_of (text_at key value)
+mode_at key value = option_and_then mode_of (under as_str key value)
 
 -- what a value says: its `profile`, `mode` and `list`, and what a session would be loaded from
 unfoldable pub run_in : Data → Option RunText
@@ -47,9 +48,9 @@ run_in value =
       mode = mode;
       list = list;
     }) (request_in value))
-    (text_at (codes "list") value))
+    (under as_str (codes "list") value))
     (mode_at (codes "mode") value))
-    (text_at (codes "profile") value)
+    (under as_str (codes "profile") value)
 
 -- what a text says of a run in JSON
 abbrev pub run_of : List ℕ → Option RunText

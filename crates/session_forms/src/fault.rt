@@ -1,4 +1,6 @@
 //! Why a request is not understood.
+use json_fields::{Field, Misfit};
+use serde_json::Value;
 use std::alloc::{AllocError, AllocFailed};
 use std::fmt;
 use thiserror::Error;
@@ -12,6 +14,8 @@ pub enum Holder {
     File,
     /// The file that a user named in its place.
     ConfigFile,
+    /// The organisation's file.
+    OrganisationConfigFile,
     /// The file of a tool, by its place.
     Tool(usize),
     /// The experimental features.
@@ -28,6 +32,7 @@ impl fmt::Display for Holder {
             Holder::Request => Ok(()),
             Holder::File => f.write_str("file."),
             Holder::ConfigFile => f.write_str("config-file."),
+            Holder::OrganisationConfigFile => f.write_str("organisation-config-file."),
             Holder::Tool(place) => write!(f, "tools[{place}]."),
             Holder::Features => f.write_str("features."),
             Holder::Host => f.write_str("host."),
@@ -62,23 +67,25 @@ impl fmt::Display for Place {
     }
 }
 
+impl Place {
+    ghost use Rattle.std.specs.Prelude.{◌≡◌};
+    ghost use Rattle.serde_json.specs.Find.{get};
+    ghost use Rattle.serde_json.specs.View.{view};
+    ghost use Rattle.json_fields.specs.Fields.{found_at};
+
+    /// What stands at the place, by the value of its holder.
+    pub(crate) fn of(self, value: &Value) -> Field<'_, Place>
+        ensures { found_at result ≡ get self.key.now (view value.now) }
+    {
+        Field::under(value, self.key, self)
+    }
+}
+
 /// What is to stand at a place.
 #[derive(Clone, Copy, Debug, PartialEq, Eq, Drop)]
 pub enum Wanted {
-    /// A text.
-    Text,
-    /// A text or `null`.
-    TextOrNull,
-    /// `null`.
-    Null,
-    /// `true` or `false`.
-    Flag,
-    /// A list.
-    List,
-    /// An object.
-    Object,
-    /// An object or `null`.
-    ObjectOrNull,
+    /// A JSON value of a kind.
+    Value(json_fields::Wanted),
     /// The name of a tool.
     ToolName,
     /// What came of reading a file.
@@ -89,18 +96,12 @@ pub enum Wanted {
 
 impl fmt::Display for Wanted {
     fn fmt<W: fmt::Write>(&self, f: &mut fmt::Formatter<W>) -> fmt::Result {
-        f.write_str(match self {
-            Wanted::Text => "a text",
-            Wanted::TextOrNull => "a text or null",
-            Wanted::Null => "null",
-            Wanted::Flag => "true or false",
-            Wanted::List => "a list",
-            Wanted::Object => "an object",
-            Wanted::ObjectOrNull => "an object or null",
-            Wanted::ToolName => "the name of a tool",
-            Wanted::Outcome => "text, not-found, not-a-directory or failed",
-            Wanted::Mode => "test or benchmark",
-        })
+        match self {
+            Wanted::Value(wanted) => write!(f, "{wanted}"),
+            Wanted::ToolName => f.write_str("the name of a tool"),
+            Wanted::Outcome => f.write_str("text, not-found, not-a-directory or failed"),
+            Wanted::Mode => f.write_str("test or benchmark"),
+        }
     }
 }
 
@@ -116,6 +117,18 @@ pub enum RequestFault {
     /// Want of memory.
     #[error("out of memory")]
     Memory,
+}
+
+impl From<Misfit<Place>> for RequestFault {
+    ghost use Rattle.std.specs.Prelude.{◌≡◌};
+    ghost use Rattle.session_forms.specs.declared.fault.RequestFault.TheVariants.{Expected};
+    ghost use Rattle.session_forms.specs.declared.fault.Wanted.TheVariants.{Value};
+
+    ghost from_gives = { λ misfit fault. fault ≡ Expected (Value misfit.wanted) misfit.place };
+
+    fn from(misfit: Misfit<Place>) -> Self {
+        RequestFault::Expected(Wanted::Value(misfit.wanted), misfit.place)
+    }
 }
 
 impl From<AllocError> for RequestFault {

@@ -2,11 +2,11 @@
 ghost use Rattle.std.specs.Prelude.{◌≡◌};
 ghost use Rattle.serde_json.specs.View.{view};
 ghost use Rattle.nextest_sources.specs.Sources.{outcome_view};
-ghost use Rattle.session_forms.specs.Parts.{Reads};
+ghost use Rattle.session_forms.specs.Reading.{Reads};
 ghost use Rattle.session_forms.specs.Requests.{kind_at, kind_of, outcome_in, outcome_of};
 
 use crate::fault::{Holder, Place, RequestFault, Wanted};
-use crate::values::{null_at, string_at, text_at};
+use crate::values::string_at;
 use nextest_sources::ReadOutcome;
 use serde_json::Value;
 use std::alloc::Global;
@@ -45,7 +45,7 @@ fn kind_of(word: &str) -> Option<OutcomeKind>
 fn kind_at(value: &Value, place: Place) -> Result<OutcomeKind, RequestFault>
     ensures { Reads (λ kind. kind) result (kind_at place.key.now (view value.now)) }
 {
-    match kind_of(text_at(value, place)?) {
+    match kind_of(place.of(value).text()?) {
         Some(kind) => Ok(kind),
         None => Err(RequestFault::Expected(Wanted::Outcome, place)),
     }
@@ -64,11 +64,11 @@ fn outcome_of(
     match kind {
         OutcomeKind::Text => Ok(ReadOutcome::Text(string_at(alloc, value, place)?)),
         OutcomeKind::NotFound => {
-            null_at(value, place)?;
+            place.of(value).null()?;
             Ok(ReadOutcome::NotFound)
         }
         OutcomeKind::NotADirectory => {
-            null_at(value, place)?;
+            place.of(value).null()?;
             Ok(ReadOutcome::NotADirectory)
         }
         OutcomeKind::Failed => Ok(ReadOutcome::Failed(string_at(alloc, value, place)?)),

@@ -1,16 +1,14 @@
 //! A request for a session, read from JSON.
 ghost use Rattle.std.specs.Prelude.{◌≡◌, IfOk, MatchResult, map, option_map, string_bytes};
-ghost use Rattle.serde_json.specs.View.{view};
+ghost use Rattle.serde_json.specs.View.{items_view, view};
 ghost use Rattle.nextest_sources.specs.Sources.{file_view, tool_file_view};
-ghost use Rattle.session_forms.specs.Parts.{Reads};
-ghost use Rattle.session_forms.specs.Requests.{config_file_in, file_in, tool_in, tools_in, machine_in, machine_view, switches_in, target_in, request_in, request_view, request_of, tool_name_in};
+ghost use Rattle.session_forms.specs.Reading.{Reads};
+ghost use Rattle.session_forms.specs.Requests.{config_file_in, file_in, tool_in, tools_in, machine_in, machine_view, switches_in, target_in, request_in, request_view, request_of, organisation_file_in, tool_name_in};
 ghost use Rattle.nextest_texts.specs.IdentifierText.{tool_name_text};
 
 use crate::fault::{Holder, Place, RequestFault, Wanted};
 use crate::outcome::outcome_in;
-use crate::values::{
-    flag_at, list_at, object_at, optional_object_at, optional_string_at, string_at, text_at,
-};
+use crate::values::{optional_string_at, string_at};
 use nextest_sources::{ConfigPath, ConfigPaths, FileInput, ToolConfigFile};
 use nextest_texts::{InvalidIdentifier, ToolName};
 use serde_json::Value;
@@ -41,6 +39,8 @@ pub struct LoadRequest {
     pub paths: ConfigPaths,
     /// The repository's file that a user named, which counts in place of its own.
     pub config_file: Option<FileInput>,
+    /// The organisation's file, if a user named one.
+    pub organisation_file: Option<FileInput>,
     /// The files of tools: the first is the highest.
     pub tools: Vec<ToolConfigFile>,
     /// The experimental features that are switched on.
@@ -57,7 +57,7 @@ pub struct LoadRequest {
 fn file_in(alloc: Global, value: &Value, holder: Holder) -> Result<FileInput, RequestFault>
     ensures { Reads file_view result (file_in (view value.now)) }
 {
-    let path = text_at(value, holder.at("path"))?;
+    let path = holder.at("path").of(value).text()?;
     let outcome = outcome_in(alloc, value, holder)?;
     Ok(FileInput {
         path: ConfigPath::new(alloc, path)?,
@@ -70,15 +70,27 @@ fn config_file_in(alloc: Global, value: &Value) -> Result<Option<FileInput>, Req
     ensures { Reads (λ file. option_map file_view file) result
         (config_file_in (view value.now)) }
 {
-    let holder = Holder::Request;
-    match optional_object_at(
-        value,
-        Place {
-            holder,
-            key: "config-file",
-        },
-    )? {
+    let place = Place {
+        holder: Holder::Request,
+        key: "config-file",
+    };
+    match place.of(value).optional_object()? {
         Some(file) => Ok(Some(file_in(alloc, file, Holder::ConfigFile)?)),
+        None => Ok(None),
+    }
+}
+
+/// The organisation's file, if the object says one.
+fn organisation_file_in(alloc: Global, value: &Value) -> Result<Option<FileInput>, RequestFault>
+    ensures { Reads (λ file. option_map file_view file) result
+        (organisation_file_in (view value.now)) }
+{
+    let place = Place {
+        holder: Holder::Request,
+        key: "organisation-config-file",
+    };
+    match place.of(value).optional_object()? {
+        Some(file) => Ok(Some(file_in(alloc, file, Holder::OrganisationConfigFile)?)),
         None => Ok(None),
     }
 }
@@ -88,7 +100,7 @@ fn tool_name_in(alloc: Global, value: &Value, holder: Holder) -> Result<ToolName
     ensures { Reads tool_name_text result (tool_name_in (view value.now)) }
 {
     let place = holder.at("tool");
-    match ToolName::new(alloc, text_at(value, place)?) {
+    match ToolName::new(alloc, place.of(value).text()?) {
         Ok(name) => Ok(name),
         Err(InvalidIdentifier::Memory) => Err(RequestFault::Memory),
         Err(_) => Err(RequestFault::Expected(Wanted::ToolName, place)),
@@ -108,7 +120,7 @@ fn tool_in(alloc: Global, value: &Value, place: usize) -> Result<ToolConfigFile,
 /// The files of tools that a list says.
 fn tools_in(alloc: Global, values: &[Value]) -> Result<Vec<ToolConfigFile>, RequestFault>
     ensures { Reads (λ tools. map tool_file_view tools.items) result
-        (tools_in (map view values.now)) }
+        (tools_in (items_view values.now)) }
 {
     let mut tools = Vec::new(alloc);
     for (place, value) in values.iter().enumerate() {
@@ -132,7 +144,7 @@ fn target_in(alloc: Global, value: &Value) -> Result<Option<Machine>, RequestFau
     ensures { Reads (λ target. option_map machine_view target) result
         (target_in (view value.now)) }
 {
-    match optional_object_at(value, at("target"))? {
+    match at("target").of(value).optional_object()? {
         Some(target) => Ok(Some(machine_in(alloc, target, Holder::Target)?)),
         None => Ok(None),
     }
@@ -143,23 +155,17 @@ fn switches_in(value: &Value) -> Result<Switches, RequestFault>
     ensures { Reads (λ switches. switches) result (switches_in (view value.now)) }
 {
     let holder = Holder::Features;
-    let setup_scripts = flag_at(
-        value,
-        Place {
-            holder,
-            key: "setup-scripts",
-        },
-    )?;
-    let wrapper_scripts = flag_at(
-        value,
-        Place {
-            holder,
-            key: "wrapper-scripts",
-        },
-    )?;
+    let setup_scripts = Place {
+        holder,
+        key: "setup-scripts",
+    };
+    let wrapper_scripts = Place {
+        holder,
+        key: "wrapper-scripts",
+    };
     Ok(Switches {
-        setup_scripts,
-        wrapper_scripts,
+        setup_scripts: setup_scripts.of(value).flag()?,
+        wrapper_scripts: wrapper_scripts.of(value).flag()?,
     })
 }
 
@@ -177,12 +183,13 @@ impl LoadRequest {
         ensures { Reads request_view result (request_in (view value.now)) }
     {
         let workspace_root = string_at(alloc, value, at("root"))?;
-        let shared = file_in(alloc, object_at(value, at("file"))?, Holder::File)?;
+        let shared = file_in(alloc, at("file").of(value).object()?, Holder::File)?;
         let config_file = config_file_in(alloc, value)?;
-        let tools = tools_in(alloc, list_at(value, at("tools"))?)?;
-        let features = switches_in(object_at(value, at("features"))?)?;
+        let organisation_file = organisation_file_in(alloc, value)?;
+        let tools = tools_in(alloc, at("tools").of(value).list()?)?;
+        let features = switches_in(at("features").of(value).object()?)?;
         let metadata = optional_string_at(alloc, value, at("metadata"))?;
-        let host = machine_in(alloc, object_at(value, at("host"))?, Holder::Host)?;
+        let host = machine_in(alloc, at("host").of(value).object()?, Holder::Host)?;
         let target = target_in(alloc, value)?;
         let paths = ConfigPaths {
             workspace_root,
@@ -191,6 +198,7 @@ impl LoadRequest {
         Ok(LoadRequest {
             paths,
             config_file,
+            organisation_file,
             tools,
             features,
             metadata,

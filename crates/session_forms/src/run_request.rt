@@ -1,12 +1,12 @@
 //! A request for a whole run, read from JSON.
 ghost use Rattle.std.specs.Prelude.{◌≡◌};
 ghost use Rattle.serde_json.specs.View.{view};
-ghost use Rattle.session_forms.specs.Parts.{Reads};
+ghost use Rattle.session_forms.specs.Reading.{Reads};
 ghost use Rattle.session_forms.specs.Runs.{mode_at, mode_of, run_in, run_of, run_view};
 
 use crate::fault::{Place, RequestFault, Wanted};
 use crate::request::{LoadRequest, at};
-use crate::values::{string_at, text_at};
+use crate::values::string_at;
 use nextest_elements::NextestRunMode;
 use serde_json::Value;
 use std::alloc::Global;
@@ -41,7 +41,7 @@ fn mode_of(word: &str) -> Option<NextestRunMode>
 fn mode_at(value: &Value, place: Place) -> Result<NextestRunMode, RequestFault>
     ensures { Reads (λ mode. mode) result (mode_at place.key.now (view value.now)) }
 {
-    match mode_of(text_at(value, place)?) {
+    match mode_of(place.of(value).text()?) {
         Some(mode) => Ok(mode),
         None => Err(RequestFault::Expected(Wanted::Mode, place)),
     }

@@ -1,20 +1,21 @@
 -- What has to stand where in a list of tests, and what is wrong where it does not.
-use Rattle.std.specs.Prelude.{ℕ, List, [], ◌∷◌, ◌++◌, Bool, false, Option, None, Some, is_some, option_map, option_and_then, unwrap_or, codes, flat_map, if◌then◌else◌}
+use Rattle.std.specs.Prelude.{ℕ, List, [], ◌∷◌, ◌++◌, Option, None, Some, is_some, option_map, option_and_then, unwrap_or, codes, flat_map, if◌then◌else◌}
 use Rattle.std.specs.Option.{option_or}
 use Rattle.std.specs.Str.{bytes_eq}
 use Rattle.nextest_engines.specs.declared.queries.BuildPlatform.{BuildPlatform}
 use Rattle.nextest_engines.specs.declared.queries.BuildPlatform.TheVariants.{Host, Target}
 use Rattle.serde_json.specs.Data.{Data, null, string, object, Members, no_members, member}
 use Rattle.serde_json.specs.Find.{get, at, as_object}
-use Rattle.test_lists.specs.Kinds.{kind_of, has_kind}
-use Rattle.test_lists.specs.declared.fault.Kind.{Kind}
-use Rattle.test_lists.specs.declared.fault.Kind.TheVariants as kinds
+use Rattle.json_fields.specs.Parts.{fits, kind_of}
+use Rattle.json_fields.specs.declared.kind.Kind.{Kind}
+use Rattle.json_fields.specs.declared.kind.Wanted.{Wanted}
+use Rattle.json_fields.specs.declared.kind.Wanted.TheVariants as kinds
 use Rattle.test_lists.specs.declared.place.Place.{Place}
 use Rattle.test_lists.specs.declared.place.Place.TheVariants as places
 
 -- what a place has to hold: a value of a kind, or the name of a platform
 pub data Expected : Type 0 where
-  of_kind : Kind → Expected
+  of_kind : Wanted → Expected
   a_platform : Expected
 
 -- A demand: a place, by the keys that lead to it, what stands there, and what has to.
@@ -23,12 +24,11 @@ pub record Demand : Type 0 where
   pub found : Option Data
   pub expected : Expected
 
--- What is wrong with a text: it is no JSON, or at a place something is missing, is of another kind
--- than it has to be, or names no platform.
+-- What is wrong with a text: it is no JSON, or at a place something is missing or is of another kind
+-- than is wanted, or names no platform.
 pub data Fault : Type 0 where
   not_json : Fault
-  missing : (place : List ℕ) → (expected : Kind) → Fault
-  wrong_kind : (place : List ℕ) → (expected given : Kind) → Fault
+  misfit : (place : List ℕ) → (expected : Wanted) → (given : Option Kind) → Fault
   unknown_platform : (place given : List ℕ) → Fault
 
 -- the platform of a name
@@ -37,19 +37,10 @@ platform_of name =
     if bytes_eq name (codes "host") then Some Host
     else (if bytes_eq name (codes "target") then Some Target else None)
 
--- whether what stands at a place is of a kind
-abbrev pub fits : Kind → Option Data → Bool
-fits kind None = false
-fits kind (Some d) = has_kind kind d
-
--- that what stands at a place is not of a kind
-abbrev pub misfit : List ℕ → Kind → Option Data → Fault
-misfit place kind None = missing place kind
-misfit place kind (Some d) = wrong_kind place kind (kind_of d)
-
 -- what is wrong with a value that has to be of a kind
-abbrev pub kind_fault : List ℕ → Kind → Option Data → Option Fault
-kind_fault place kind found = if fits kind found then None else Some (misfit place kind found)
+abbrev pub kind_fault : List ℕ → Wanted → Option Data → Option Fault
+kind_fault place kind found =
+    if fits kind found then None else Some (misfit place kind (option_map kind_of found))
 
 -- what is wrong with a text that has to name a platform
 abbrev pub name_fault : List ℕ → List ℕ → Option Fault
@@ -90,11 +81,6 @@ place_text places.Suites = codes "rust-suites"
 place_text (places.Suite id) = suite_place id.now
 place_text (places.Member id key) = member_place id.now key.now
 
--- a value of a kind is demanded at a place
-abbrev pub demand_at : Place → Option Data → Kind → Demand
-demand_at place found kind =
-    record { place = place_text place; found = found; expected = of_kind kind }
-
 -- ---- the platforms of the build
 
 -- a value that is there and is not null
@@ -114,7 +100,7 @@ triple_in found = option_and_then (get (codes "triple"))
     (option_and_then (get (codes "platform")) found)
 
 -- a value is demanded below the platforms of the build
-abbrev pub platforms_demand : List ℕ → Option Data → Kind → Demand
+abbrev pub platforms_demand : List ℕ → Option Data → Wanted → Demand
 platforms_demand keys found kind = record {
   place = codes "rust-build-meta.platforms." ++ keys;
   found = found;

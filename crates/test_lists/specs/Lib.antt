@@ -1,4 +1,3 @@
-pub mod Kinds
 pub mod Demands
 pub mod Faults
 pub mod Lists

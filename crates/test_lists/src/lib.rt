@@ -9,6 +9,6 @@ mod suites;
 mod text;
 mod values;
 
-pub use fault::{Kind, ListFault};
+pub use fault::ListFault;
 pub use list::{ListedBinary, ListedTests};
 pub use text::tests_of;

@@ -10,7 +10,8 @@ ghost use Rattle.test_lists.specs.ListView.{triples_view};
 
 use crate::fault::ListFault;
 use crate::place::Place;
-use crate::values::{list_at, text_at};
+use crate::values::{or_fault, text_at};
+use json_fields::Field;
 use serde_json::Value;
 use std::alloc::Global;
 
@@ -53,11 +54,13 @@ fn target_in(alloc: Global, targets: &[Value]) -> Result<Option<&str>, ListFault
 {
     match targets.first() {
         None => Ok(None),
-        Some(target) => Ok(Some(text_at(
-            alloc,
-            Place::Platforms("targets.0.platform.triple"),
-            triple_in(Some(target)),
-        )?)),
+        Some(target) => {
+            let triple = Field {
+                found: triple_in(Some(target)),
+                place: Place::Platforms("targets.0.platform.triple"),
+            };
+            Ok(Some(text_at(alloc, triple)?))
+        }
     }
 }
 
@@ -68,12 +71,13 @@ fn triples_in<'v>(alloc: Global, platforms: &'v Value) -> Result<Triples<'v>, Li
     ensures met { IfOk result (λ _. first_fault (platforms_demands (view platforms.now)) ≡ None) }
     ensures err { IfErr result (TellsFirst (platforms_demands (view platforms.now))) }
 {
-    let host = text_at(
-        alloc,
-        Place::Platforms("host.platform.triple"),
-        triple_in(platforms.get("host")),
-    )?;
-    let targets = list_at(alloc, Place::Platforms("targets"), platforms.get("targets"))?;
+    let host = Field {
+        found: triple_in(platforms.get("host")),
+        place: Place::Platforms("host.platform.triple"),
+    };
+    let host = text_at(alloc, host)?;
+    let targets = Field::under(platforms, "targets", Place::Platforms("targets"));
+    let targets = or_fault(alloc, targets.list())?;
     Ok(Triples {
         host: Some(host),
         target: target_in(alloc, targets)?,

@@ -9,12 +9,13 @@ ghost use Rattle.test_lists.specs.Faults.{fault_view, Tells, TellsFirst};
 ghost use Rattle.test_lists.specs.Lists.{IsSuiteOf, keys, values};
 ghost use Rattle.test_lists.specs.ListView.{listed_view};
 ghost use Rattle.test_lists.specs.SuiteView.{suite_view};
-ghost use Rattle.test_lists.specs.declared.fault.Kind.TheVariants.{Text};
+ghost use Rattle.json_fields.specs.declared.kind.Wanted.TheVariants.{Text};
 
 use crate::fault::ListFault;
 use crate::list::ListedBinary;
 use crate::place::Place;
-use crate::values::{object_at, text_at};
+use crate::values::{members_at, text_at};
+use json_fields::Field;
 use nextest_engines::BuildPlatform;
 use serde_json::{Map, Value};
 use std::alloc::{AllocError, Global};
@@ -66,7 +67,7 @@ fn member_text<'v>(
     ensures err { IfErr result (Tells (member_demand id.now (view suite.now) key.now
         (of_kind Text))) }
 {
-    text_at(alloc, Place::Member(id, key), suite.get(key))
+    text_at(alloc, Field::under(suite, key, Place::Member(id, key)))
 }
 
 /// The platform of a suite.
@@ -90,7 +91,11 @@ fn suite_of<'v>(alloc: Global, id: &str, suite: &'v Value) -> Result<Suite<'v>, 
     ensures met { IfOk result (λ _. first_fault (suite_demands (id.now, view suite.now)) ≡ None) }
     ensures err { IfErr result (TellsFirst (suite_demands (id.now, view suite.now))) }
 {
-    object_at(alloc, Place::Suite(id), Some(suite))?;
+    let whole = Field {
+        found: Some(suite),
+        place: Place::Suite(id),
+    };
+    members_at(alloc, whole)?;
     Ok(Suite {
         package_name: member_text(alloc, id, suite, "package-name")?,
         package_id: member_text(alloc, id, suite, "package-id")?,
@@ -98,10 +103,9 @@ fn suite_of<'v>(alloc: Global, id: &str, suite: &'v Value) -> Result<Suite<'v>, 
         binary_name: member_text(alloc, id, suite, "binary-name")?,
         kind: member_text(alloc, id, suite, "kind")?,
         platform: platform_in(alloc, id, suite)?,
-        cases: object_at(
+        cases: members_at(
             alloc,
-            Place::Member(id, "testcases"),
-            suite.get("testcases"),
+            Field::under(suite, "testcases", Place::Member(id, "testcases")),
         )?,
     })
 }
@@ -160,6 +164,6 @@ pub fn binaries_of(alloc: Global, document: &Value) -> Result<Vec<ListedBinary>,
     ensures err { IfErr result
         (TellsFirst (suites_demands (get (codes "rust-suites") (view document.now)))) }
 {
-    let suites = object_at(alloc, Place::Suites, document.get("rust-suites"))?;
-    binaries_in(alloc, suites)
+    let suites = Field::under(document, "rust-suites", Place::Suites);
+    binaries_in(alloc, members_at(alloc, suites)?)
 }

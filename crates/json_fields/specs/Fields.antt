@@ -1,0 +1,29 @@
+-- What it is to read a field.
+use Rattle.std.specs.Prelude.{◌≡◌, Option, None, Some, option_and_then, option_map, Result, MatchResult}
+use Rattle.serde_json.specs.Data.{Data}
+use Rattle.serde_json.specs.View.{view}
+use Rattle.json_fields.specs.Parts.{kind_of}
+use Rattle.json_fields.specs.declared.field.Field.{Field}
+use Rattle.json_fields.specs.declared.field.Misfit.{Misfit}
+use Rattle.json_fields.specs.declared.kind.Wanted.{Wanted}
+
+-- what stands at the place of a field
+abbrev pub found_at : {P : Type 0} → Field P → Option Data
+found_at field = option_map (λ value. view value.now) field.found
+
+-- that something else is wanted at the place of a field
+abbrev pub misfit_of : {P : Type 0} → Wanted → Field P → Misfit P
+misfit_of wanted field = record {
+  place = field.place;
+  wanted = wanted;
+  given = option_map kind_of (found_at field);
+}
+
+-- What was read, seen in this way, is what the reading gives of what stands at the place; and only
+-- where it gives nothing, the error says what is wanted there, and the kind of what is there.
+abbrev pub Reads : {A B P : Type 0} → (A → B) → (Data → Option B) → Wanted → Field P
+    → Result A (Misfit P) → Type 0
+Reads seen reading wanted field result = MatchResult result
+    (λ a. option_and_then reading (found_at field) ≡ Some (seen a))
+    (λ misfit. (option_and_then reading (found_at field) ≡ None)
+    × (misfit ≡ misfit_of wanted field))

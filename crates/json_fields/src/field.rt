@@ -1,0 +1,145 @@
+//! Fields of JSON objects, each with its place.
+ghost use Rattle.std.specs.Prelude.{◌≡◌, option_map};
+ghost use Rattle.std.specs.Option.{ok_or};
+ghost use Rattle.serde_json.specs.Find.{get, as_array, as_bool, as_null, as_object, as_str};
+ghost use Rattle.serde_json.specs.View.{items_view, members_view, view};
+ghost use Rattle.json_fields.specs.Fields.{Reads, found_at, misfit_of};
+ghost use Rattle.json_fields.specs.Parts.{an_object, optional_object, optional_text};
+ghost use Rattle.json_fields.specs.declared.kind.Wanted.TheVariants as wants;
+
+use crate::kind::{Kind, Wanted};
+use serde_json::{Map, Value};
+use std::fmt;
+
+/// What a document has at a place, if anything.
+#[derive(Clone, Copy)]
+pub struct Field<'v, P> {
+    /// What is there.
+    pub found: Option<&'v Value>,
+    /// The place.
+    pub place: P,
+}
+
+/// Something other than what is wanted at a place, or nothing.
+#[derive(Clone, Copy, Debug, PartialEq, Eq, Drop)]
+pub struct Misfit<P> {
+    /// The place.
+    pub place: P,
+    /// What has to stand there.
+    pub wanted: Wanted,
+    /// The kind of what is there, if anything is.
+    pub given: Option<Kind>,
+}
+
+impl<P: fmt::Display> fmt::Display for Misfit<P> {
+    fn fmt<W: fmt::Write>(&self, f: &mut fmt::Formatter<W>) -> fmt::Result {
+        match self.given {
+            Some(given) => write!(f, "`{}` is {given}: expected {}", self.place, self.wanted),
+            None => write!(f, "`{}` is missing: expected {}", self.place, self.wanted),
+        }
+    }
+}
+
+impl<'v, P: Copy> Field<'v, P> {
+    /// What a value has under a key, if it is an object that has the key.
+    pub fn under(value: &'v Value, key: &str, place: P) -> Field<'v, P>
+        ensures found { found_at result ≡ get key.now (view value.now) }
+        ensures place { result.place ≡ place }
+    {
+        Field {
+            found: value.get(key),
+            place,
+        }
+    }
+
+    /// What was read, or that something else is wanted.
+    fn wanted<T>(self, wanted: Wanted, read: Option<T>) -> Result<T, Misfit<P>>
+        ensures { result ≡ ok_or read (misfit_of wanted self.entry) }
+    {
+        match read {
+            Some(value) => Ok(value),
+            None => Err(Misfit {
+                place: self.place,
+                wanted,
+                given: self.found.map(Kind::of),
+            }),
+        }
+    }
+
+    /// The text that is there.
+    pub fn text(self) -> Result<&'v str, Misfit<P>>
+        ensures { Reads (λ text. text.now) as_str wants.Text self.entry result }
+    {
+        let read = self.found.and_then(Value::as_str);
+        self.wanted(Wanted::Text, read)
+    }
+
+    /// The text that is there, or `None` for `null`.
+    pub fn optional_text(self) -> Result<Option<&'v str>, Misfit<P>>
+        ensures { Reads (option_map (λ text. text.now)) optional_text wants.TextOrNull self.entry
+            result }
+    {
+        let read = match self.found {
+            Some(value) if value.is_null() => Some(None),
+            found => found.and_then(Value::as_str).map(Some),
+        };
+        self.wanted(Wanted::TextOrNull, read)
+    }
+
+    /// Nothing, where `null` is there.
+    pub fn null(self) -> Result<(), Misfit<P>>
+        ensures { Reads (λ nothing. nothing) as_null wants.Null self.entry result }
+    {
+        let read = self.found.and_then(Value::as_null);
+        self.wanted(Wanted::Null, read)
+    }
+
+    /// The boolean that is there.
+    pub fn flag(self) -> Result<bool, Misfit<P>>
+        ensures { Reads (λ flag. flag) as_bool wants.Flag self.entry result }
+    {
+        let read = self.found.and_then(Value::as_bool);
+        self.wanted(Wanted::Flag, read)
+    }
+
+    /// The values of the list that is there.
+    pub fn list(self) -> Result<&'v [Value], Misfit<P>>
+        ensures { Reads (λ values. items_view values.now) as_array wants.List self.entry result }
+    {
+        let read = match self.found.and_then(Value::as_array) {
+            Some(values) => Some(values.as_slice()),
+            None => None,
+        };
+        self.wanted(Wanted::List, read)
+    }
+
+    /// The members of the object that is there.
+    pub fn members(self) -> Result<&'v Map<String, Value>, Misfit<P>>
+        ensures { Reads (λ found. members_view found.now.entries) as_object wants.Object self.entry
+            result }
+    {
+        let read = self.found.and_then(Value::as_object);
+        self.wanted(Wanted::Object, read)
+    }
+
+    /// The object that is there, as a value.
+    pub fn object(self) -> Result<&'v Value, Misfit<P>>
+        ensures { Reads (λ found. view found.now) an_object wants.Object self.entry result }
+    {
+        let read = self.found.filter(|value| value.is_object());
+        self.wanted(Wanted::Object, read)
+    }
+
+    /// The object that is there, as a value, or `None` for `null`.
+    pub fn optional_object(self) -> Result<Option<&'v Value>, Misfit<P>>
+        ensures { Reads (option_map (λ found. view found.now)) optional_object wants.ObjectOrNull
+            self.entry result }
+    {
+        let read = match self.found {
+            Some(value) if value.is_null() => Some(None),
+            Some(value) if value.is_object() => Some(Some(value)),
+            _ => None,
+        };
+        self.wanted(Wanted::ObjectOrNull, read)
+    }
+}

@@ -1,0 +1,91 @@
+//! Kinds of JSON values, and what is wanted of a value.
+ghost use Rattle.std.specs.Prelude.{◌≡◌};
+ghost use Rattle.serde_json.specs.View.{view};
+ghost use Rattle.json_fields.specs.Parts.{kind_of};
+
+use serde_json::Value;
+use std::fmt;
+
+/// The kinds of JSON values.
+#[derive(Clone, Copy, Debug, PartialEq, Eq, Drop)]
+pub enum Kind {
+    /// `null`.
+    Null,
+    /// `true` or `false`.
+    Boolean,
+    /// A number.
+    Number,
+    /// A text.
+    Text,
+    /// A list of values.
+    List,
+    /// An object, which has values under keys.
+    Object,
+}
+
+impl Kind {
+    /// The kind of a value.
+    pub fn of(value: &Value) -> Kind
+        ensures { result ≡ kind_of (view value.now) }
+    {
+        if value.is_object() {
+            Kind::Object
+        } else if value.is_array() {
+            Kind::List
+        } else if value.is_string() {
+            Kind::Text
+        } else if value.is_number() {
+            Kind::Number
+        } else if value.is_boolean() {
+            Kind::Boolean
+        } else {
+            Kind::Null
+        }
+    }
+}
+
+impl fmt::Display for Kind {
+    fn fmt<W: fmt::Write>(&self, f: &mut fmt::Formatter<W>) -> fmt::Result {
+        f.write_str(match self {
+            Kind::Null => "`null`",
+            Kind::Boolean => "a boolean",
+            Kind::Number => "a number",
+            Kind::Text => "a text",
+            Kind::List => "a list",
+            Kind::Object => "an object",
+        })
+    }
+}
+
+/// What has to stand at a place.
+#[derive(Clone, Copy, Debug, PartialEq, Eq, Drop)]
+pub enum Wanted {
+    /// `null`.
+    Null,
+    /// `true` or `false`.
+    Flag,
+    /// A text.
+    Text,
+    /// A text or `null`.
+    TextOrNull,
+    /// A list.
+    List,
+    /// An object.
+    Object,
+    /// An object or `null`.
+    ObjectOrNull,
+}
+
+impl fmt::Display for Wanted {
+    fn fmt<W: fmt::Write>(&self, f: &mut fmt::Formatter<W>) -> fmt::Result {
+        f.write_str(match self {
+            Wanted::Null => "null",
+            Wanted::Flag => "true or false",
+            Wanted::Text => "a text",
+            Wanted::TextOrNull => "a text or null",
+            Wanted::List => "a list",
+            Wanted::Object => "an object",
+            Wanted::ObjectOrNull => "an object or null",
+        })
+    }
+}
