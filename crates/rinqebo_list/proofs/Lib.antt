@@ -1,5 +1,5 @@
 pub mod Listing
-pub mod Marks
+pub mod NoneHold
 pub mod RowsMore
 pub mod ScriptRules
 pub mod Selecting

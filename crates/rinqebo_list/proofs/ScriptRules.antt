@@ -1,43 +1,47 @@
 -- The script rules of a profile, by what they mean.
-use Rattle.std.proofs.Common.{◌≡◌, ◌∙◌, ◌++◌, [], ◌∷◌, ℕ, Bool, Bor, List, map, None, Option, Some, ap, ap₂, append-nil, option_map, string_bytes, sym}
+use Rattle.std.proofs.Common.{◌≡◌, ◌∙◌, ◌++◌, [], ◌∷◌, ℕ, Bor, List, map, None, Option, Some, ap, ap₂, append-nil, option_map, string_bytes, sym}
 use Rattle.std.proofs.lemmas.List.{map-append}
 use Rattle.std.specs.List.{cons_option}
 use Rattle.nextest_engines.specs.Engines.{Binary}
-use Rattle.nextest_engines.specs.declared.queries.BuildPlatforms.{BuildPlatforms}
 use Rattle.nextest_load.specs.Closed.{BinaryMatch}
 use Rattle.nextest_profiles.specs.Meaning.{profile_meaning}
-use Rattle.nextest_rules.specs.Rules.{Compiled, ScriptRuleUse}
+use Rattle.nextest_rules.specs.declared.overrides.CompiledProfileScripts.{CompiledProfileScripts}
 use Rattle.nextest_scripts.specs.ScriptId.{script_text}
 use Rattle.nextest_scripts.specs.declared.script_id.ScriptId.{ScriptId}
-use Rattle.nextest_settings.specs.Platforms.{rule_on}
 use Rattle.nextest_settings.specs.Profile.{EvaluatableModel}
-use Rattle.nextest_settings.specs.Queries.{list_wrapper_by}
-use Rattle.nextest_settings.specs.View.{evaluated_script_rule_meaning}
+use Rattle.nextest_settings.specs.Queries.{binary_query, list_wrapper_by, list_wrapper_of}
+use Rattle.nextest_settings.specs.View.{evaluated_script_rule_meaning, evaluated_script_rule_view, meant_script_rule}
+use Rattle.nextest_settings.specs.declared.platforms.EvaluatedRule.{EvaluatedRule as EvaluatedRule'}
 use Rattle.nextest_tables.specs.Written.{Name}
 use Rattle.rinqebo_list.proofs.Listing.{made_twice}
-use Rattle.rinqebo_list.specs.Scripts.{binary_in, script_rule_on, wrapper_at, wrapper_view}
+use Rattle.rinqebo_list.specs.Scripts.{binary_in, wrapper_at, wrapper_view}
 use Rattle.rinqebo_report.specs.declared.report.ListWrapper.{ListWrapper}
 
--- script rules that are those of a profile mean what those of the profile mean
-pub meant_scripts : {E M N P : Type 0} (f : E → M) (meets : N → P → Option Bool) (platforms : BuildPlatforms P)
-    (rules : List (Compiled E N ScriptRuleUse)) (profile : EvaluatableModel E)
-    → map (rule_on meets platforms) rules ≡ profile.script_rules
-    → map (script_rule_on f meets platforms) rules ≡ (profile_meaning f profile).script_rules
-meant_scripts f meets platforms rules profile same =
-    sym (made_twice (evaluated_script_rule_meaning f) (rule_on meets platforms) rules)
+-- the script rules of a profile, by what their filters mean
+pub meant_scripts : {F S E T N P M : Type 0} (f : E → M) (profile : EvaluatableModel E)
+    (rules : List (EvaluatedRule' (CompiledProfileScripts F S E T N P)))
+    → map evaluated_script_rule_view rules ≡ profile.script_rules
+    → map (meant_script_rule f) rules ≡ (profile_meaning f profile).script_rules
+meant_scripts f profile rules same =
+    sym (made_twice (evaluated_script_rule_meaning f) evaluated_script_rule_view rules)
     ∙ ap (map (evaluated_script_rule_meaning f)) same
 
--- the list wrapper that a profile gives a binary is the one by script rules that are those of the profile
-pub wrapper_given : {E M N P : Type 0} (f : E → M) (meets : N → P → Option Bool) (platforms : BuildPlatforms P)
-    (rules : List (Compiled E N ScriptRuleUse)) (profile : EvaluatableModel E) (matches : BinaryMatch M) (binary : Binary)
-    (id : Option Name) → map (rule_on meets platforms) rules ≡ profile.script_rules
-    → id ≡ list_wrapper_by (binary_in matches (profile_meaning f profile) binary)
-    (map (script_rule_on f meets platforms) rules)
-    → wrapper_at matches (profile_meaning f profile) binary ≡ option_map (λ id. (binary.binary_id, id)) id
-wrapper_given f meets platforms rules profile matches binary id same is =
-    ap (option_map (λ id. (binary.binary_id, id)))
-    (sym (is ∙ ap (list_wrapper_by (binary_in matches (profile_meaning f profile) binary))
-    (meant_scripts f meets platforms rules profile same)))
+-- the list wrapper by the script rules of a profile is the one that it gives
+pub wrapper_here : {F S E T N P M : Type 0} (f : E → M) (matches : BinaryMatch M) (binary : Binary)
+    (profile : EvaluatableModel E) (default : E) (rules : List (EvaluatedRule' (CompiledProfileScripts F S E T N P)))
+    (id : Option Name) → default ≡ profile.default_filter.filter
+    → map evaluated_script_rule_view rules ≡ profile.script_rules
+    → id ≡ list_wrapper_by (binary_query matches (f default) binary) (map (meant_script_rule f) rules)
+    → id ≡ list_wrapper_of (binary_in matches (profile_meaning f profile) binary) (profile_meaning f profile)
+wrapper_here f matches binary profile default rules id beside are is =
+    is ∙ ap (λ d. list_wrapper_by (binary_query matches (f d) binary) (map (meant_script_rule f) rules)) beside
+    ∙ ap (list_wrapper_by (binary_in matches (profile_meaning f profile) binary)) (meant_scripts f profile rules are)
+
+-- the list wrapper that a profile gives a binary, with the binary's id
+pub wrapper_given : {M : Type 0} (matches : BinaryMatch M) (profile : EvaluatableModel M) (binary : Binary)
+    (id : Option Name) → id ≡ list_wrapper_of (binary_in matches profile binary) profile
+    → wrapper_at matches profile binary ≡ option_map (λ id. (binary.binary_id, id)) id
+wrapper_given matches profile binary id is = ap (option_map (λ id. (binary.binary_id, id))) (sym is)
 
 -- the wrapper that is found for a binary is told
 pub wrapper_more : (binary : List ℕ) (old new : List ListWrapper) (gives : Option (List ℕ × Name))

@@ -1,23 +1,13 @@
 -- What is told of the scripts of a list.
 use Rattle.std.specs.Prelude.{◌≡◌, ℕ, Bool, List, filter_map, map, Option, option_map, string_bytes}
 use Rattle.nextest_engines.specs.Engines.{Binary, Test}
-use Rattle.nextest_engines.specs.declared.queries.BuildPlatforms.{BuildPlatforms}
 use Rattle.nextest_load.specs.Closed.{BinaryMatch}
-use Rattle.nextest_rules.specs.Rules.{Compiled, ScriptRuleUse}
 use Rattle.nextest_settings.specs.Deciding.{QueryContext}
-use Rattle.nextest_settings.specs.Platforms.{EvaluatedRule, rule_on}
 use Rattle.nextest_settings.specs.Profile.{EvaluatableModel}
 use Rattle.nextest_settings.specs.Queries.{binary_query, enabled_scripts, list_wrapper_of, query_in}
-use Rattle.nextest_settings.specs.View.{evaluated_script_rule_meaning}
 use Rattle.nextest_tables.specs.Written.{Name}
 use Rattle.rinqebo_report.specs.declared.report.ListScripts.{ListScripts}
 use Rattle.rinqebo_report.specs.declared.report.ListWrapper.{ListWrapper}
-
--- a script rule that was read, on the platforms of a build, by what its filter means
-abbrev pub script_rule_on : {M K E P : Type 0} → (E → M) → (K → P → Option Bool)
-    → BuildPlatforms P → Compiled E K ScriptRuleUse → EvaluatedRule M ScriptRuleUse
-script_rule_on meaning meets platforms rule =
-    evaluated_script_rule_meaning meaning (rule_on meets platforms rule)
 
 -- a binary in a profile, judged by what filters match
 abbrev pub binary_in : {M : Type 0} → BinaryMatch M → EvaluatableModel M → Binary → QueryContext M

@@ -2,23 +2,21 @@
 //! for no test; and to the list as a whole: setup scripts, and what wraps its binaries.
 //!
 //! A configuration is loaded once, by the caller. Its profile on the platforms of the build answers
-//! the settings of one test after another, and beside them only one flag is kept for each rule.
+//! the settings of one test after another, and whether each of its rules holds for some of them.
 #![tactic(auto)]
 
-mod judged;
 mod laws;
 mod lister;
 mod origins;
 mod progress;
 mod rows;
-mod rule_use;
 mod scripts;
+mod unused;
 mod values;
 
-pub use judged::ListRule;
 pub use laws::law_unused;
 pub use lister::{Asking, ListedRows};
 pub use origins::{Decider, OriginTeller};
 pub use progress::{Progress, Untold};
-pub use rule_use::RuleUse;
-pub use scripts::AskingScripts;
+pub use scripts::scripts_of;
+pub use unused::{UnusedRules, unused_rules};

@@ -2,20 +2,16 @@
 ghost use Rattle.std.specs.Prelude.{◌≡◌, IfOk, map};
 ghost use Rattle.nextest_engines.specs.Engines.{test_view};
 ghost use Rattle.nextest_profiles.specs.Meaning.{profile_meaning};
-ghost use Rattle.nextest_settings.specs.Engines.{meets_by};
 ghost use Rattle.nextest_settings.specs.Queries.{query_in};
 ghost use Rattle.rinqebo_list.specs.Rows.{AreTestsTold, IsTestTold};
-ghost use Rattle.rinqebo_list.specs.RuleViews.{list_rule_view};
-ghost use Rattle.rinqebo_list.specs.Unused.{unused_among};
-ghost use Rattle.rinqebo_list.specs.Uses.{meant_on};
+ghost use Rattle.rinqebo_list.specs.Unused.{AreUnusedIn};
 
-use crate::judged::ListRule;
 use crate::origins::OriginTeller;
 use crate::progress::Progress;
 use crate::rows::rows_of;
-use crate::rule_use::RuleUse;
+use crate::unused::{UnusedRules, unused_rules};
 use nextest_elements::NextestRunMode;
-use nextest_engines::{BuildPlatform, BuildPlatforms, Filters, Specs, TestQuery};
+use nextest_engines::{BuildPlatform, Filters, Specs, TestQuery};
 use nextest_profiles::EvaluatableProfile;
 use rinqebo_report::{Platform, TestRows};
 use rinqebo_request::AskedSettings;
@@ -23,24 +19,22 @@ use std::alloc::{AllocError, Global};
 
 /// What a list is told by.
 #[derive_where(Clone, Copy)]
-pub struct Asking<'l, 'c, F: Filters, S: Specs, T> {
+pub struct Asking<'l, 'c, F: Filters, S: Specs> {
     /// The profile on the platforms of the build.
     pub profile: &'l EvaluatableProfile<'c, F, S>,
     /// For what tests are run.
     pub mode: NextestRunMode,
     /// Which settings are told.
     pub asked: &'l AskedSettings,
-    /// The script rules that name run wrappers, in their order.
-    pub wrappers: &'l RuleUse<'c, F, T>,
 }
 
 /// What is told of the tests of a list.
 #[derive(Drop)]
-pub struct ListedRows<T> {
+pub struct ListedRows<'c> {
     /// The settings of each test, in order.
     pub tests: Vec<TestRows>,
-    /// What the rules are told by that hold for no test, in their order.
-    pub unused: Vec<T>,
+    /// The rules of the profile that hold for no test.
+    pub unused: UnusedRules<'c>,
 }
 
 /// For what a binary is built, as it is reported.
@@ -51,9 +45,9 @@ fn reported_platform(platform: BuildPlatform) -> Platform {
     }
 }
 
-impl<'l, 'c, F: Filters, S: Specs, T: Copy> Asking<'l, 'c, F, S, T> {
+impl<'l, 'c, F: Filters, S: Specs> Asking<'l, 'c, F, S> {
     /// The settings of a test that are told. It takes as much memory as they do, and loads nothing.
-    pub fn rows_of<O: OriginTeller<T>>(
+    pub fn rows_of<O: OriginTeller<'c>>(
         &self,
         alloc: Global,
         query: &TestQuery<'_>,
@@ -67,48 +61,37 @@ impl<'l, 'c, F: Filters, S: Specs, T: Copy> Asking<'l, 'c, F, S, T> {
         let settings = self
             .profile
             .settings_with_source_for(self.mode, query, tally);
-        let wrapper = self.wrappers.first(query, tally);
         Ok(TestRows {
             binary: String::from_str(alloc, query.binary_query.binary_id)?,
             name: String::from_str(alloc, query.test_name)?,
             platform: reported_platform(query.binary_query.platform),
-            settings: rows_of(alloc, &settings, self.asked, self.mode, wrapper, teller)?,
+            settings: rows_of(alloc, &settings, self.asked, self.mode, teller)?,
         })
     }
 
-    /// The settings of tests that are told, one test after another, and which of some rules on the
-    /// platforms of the build hold for none of them. Beside the rows it takes a flag for each rule.
+    /// The rows of tests, one test after another, and the rules of the profile that hold for none.
     /// After each test it is told how far the list is.
-    pub fn list<O: OriginTeller<T>, P: Progress>(
+    pub fn list<O: OriginTeller<'c>, P: Progress>(
         &self,
         alloc: Global,
         queries: &[TestQuery<'_>],
-        rules: &[ListRule<'c, F, S, T>],
-        platforms: &BuildPlatforms<S::Platform>,
         tally: &mut F::Tally,
         teller: &mut O,
         progress: &mut P,
-    ) -> Result<ListedRows<T>, AllocError>
+    ) -> Result<ListedRows<'c>, AllocError>
         ensures tests { let profile = profile_meaning F.meaning self.now.profile.now in
             IfOk result (λ listed. AreTestsTold F.holds self.now.mode profile self.now.asked.now
             (map test_view queries.now) listed.tests.items) }
         ensures unused { let profile = profile_meaning F.meaning self.now.profile.now in
-            IfOk result (λ listed. listed.unused.items ≡ map (λ rule. rule.writes)
-            (unused_among (map (query_in F.holds profile) (map test_view queries.now))
-            (map (meant_on F.meaning (meets_by S.Specs) platforms.now)
-            (map list_rule_view rules.now)))) }
+            IfOk result (λ listed. AreUnusedIn
+            (map (query_in F.holds profile) (map test_view queries.now)) profile listed.unused) }
     {
-        let default_filter = self.profile.filterset_ecx().default_filter;
-        let mut uses = RuleUse::new(alloc, rules, platforms, default_filter)?;
         let mut tests = Vec::new(alloc);
         for query in queries {
-            uses.see(query, tally);
             tests.push(self.rows_of(alloc, query, tally, teller)?)?;
             progress.asked(tests.len(), queries.len());
         }
-        Ok(ListedRows {
-            tests,
-            unused: uses.unused(alloc)?,
-        })
+        let unused = unused_rules(alloc, self.profile, queries, tally)?;
+        Ok(ListedRows { tests, unused })
     }
 }

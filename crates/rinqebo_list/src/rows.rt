@@ -45,35 +45,32 @@ fn decided_settings<'c, F: Filters, S: Specs>(
     Ok(decided)
 }
 
-/// What decides a setting of a test, if it has a value. Of script rules it is the one that is told
-/// by a tag.
-fn decider_of<'c, F: Filters, S: Specs, T: Copy>(
+/// What decides a setting of a test, if it has a value.
+fn decider_of<'c, F: Filters, S: Specs>(
     settings: &SourcedSettings<'c, F, S>,
     setting: Setting,
-    script_rule: Option<T>,
-) -> Option<Decider<'c, T>> {
+) -> Option<Decider<'c>> {
     match settings.source_of(setting)? {
         SettingSource::Default => Some(Decider::BuiltIn),
         SettingSource::Profile => Some(Decider::Profile),
         SettingSource::Override(rule) => Some(Decider::Override(rule.id())),
-        SettingSource::Script(_) => Some(Decider::Script(script_rule)),
+        SettingSource::Script(rule) => Some(Decider::Script(rule.id())),
     }
 }
 
 /// The row of a setting.
 #[tactic(auto, using(rinqebo_values::proofs::ToldOf::told_by_kind))]
-fn setting_row<'c, F: Filters, S: Specs, T: Copy, O: OriginTeller<T>>(
+fn setting_row<'c, F: Filters, S: Specs, O: OriginTeller<'c>>(
     alloc: Global,
     settings: &SourcedSettings<'c, F, S>,
     setting: Setting,
     mode: NextestRunMode,
-    script_rule: Option<T>,
     teller: &mut O,
 ) -> Result<SettingRow, AllocError>
     ensures { IfOk result (IsSettingTold (value_at settings.now) mode setting) }
 {
     let key = SettingKey::of(setting, mode);
-    let origins = match decider_of(settings, setting, script_rule) {
+    let origins = match decider_of(settings, setting) {
         Some(decider) => teller.origins(alloc, &decider, key)?,
         None => Vec::new(alloc),
     };
@@ -85,12 +82,11 @@ fn setting_row<'c, F: Filters, S: Specs, T: Copy, O: OriginTeller<T>>(
 }
 
 /// The rows of settings, in their order.
-fn these_rows<'c, F: Filters, S: Specs, T: Copy, O: OriginTeller<T>>(
+fn these_rows<'c, F: Filters, S: Specs, O: OriginTeller<'c>>(
     alloc: Global,
     settings: &SourcedSettings<'c, F, S>,
     told: &[Setting],
     mode: NextestRunMode,
-    script_rule: Option<T>,
     teller: &mut O,
 ) -> Result<Vec<SettingRow>, AllocError>
     ensures { IfOk result (λ rows.
@@ -98,18 +94,17 @@ fn these_rows<'c, F: Filters, S: Specs, T: Copy, O: OriginTeller<T>>(
 {
     let mut rows = Vec::new(alloc);
     for setting in told {
-        rows.push(setting_row(alloc, settings, *setting, mode, script_rule, teller)?)?;
+        rows.push(setting_row(alloc, settings, *setting, mode, teller)?)?;
     }
     Ok(rows)
 }
 
 /// The rows of a test.
-pub fn rows_of<'c, F: Filters, S: Specs, T: Copy, O: OriginTeller<T>>(
+pub fn rows_of<'c, F: Filters, S: Specs, O: OriginTeller<'c>>(
     alloc: Global,
     settings: &SourcedSettings<'c, F, S>,
     asked: &AskedSettings,
     mode: NextestRunMode,
-    script_rule: Option<T>,
     teller: &mut O,
 ) -> Result<Vec<SettingRow>, AllocError>
     ensures { IfOk result (λ rows. AllZip (IsSettingTold (value_at settings.now) mode)
@@ -118,10 +113,8 @@ pub fn rows_of<'c, F: Filters, S: Specs, T: Copy, O: OriginTeller<T>>(
     match asked {
         AskedSettings::Decided => {
             let decided = decided_settings(alloc, settings)?;
-            these_rows(alloc, settings, &decided, mode, script_rule, teller)
+            these_rows(alloc, settings, &decided, mode, teller)
         }
-        AskedSettings::These(these) => {
-            these_rows(alloc, settings, these, mode, script_rule, teller)
-        }
+        AskedSettings::These(these) => { these_rows(alloc, settings, these, mode, teller) }
     }
 }

@@ -10,7 +10,6 @@ mod fallback;
 mod grounds;
 mod rule_places;
 mod trees;
-mod wrappers;
 
 pub use binary::query_of;
 pub use chain_rules::{SettingRule, rules_for};
@@ -20,4 +19,3 @@ pub use fallback::fallback_of_chain;
 pub use grounds::{built_in, idle_grounds, profile_grounds};
 pub use rule_places::{RuleKind, RulePlace};
 pub use trees::trees_of;
-pub use wrappers::wrapping_place;

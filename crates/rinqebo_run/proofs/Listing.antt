@@ -1,6 +1,5 @@
 -- What is told of the tests of a list and of the rules that hold for none.
-use Rattle.std.proofs.Common.{◌≡◌, ◌∙◌, List, [], ◌∷◌, ◌++◌, Bool, true, false, cond, not, map, Option, ap, refl, string_bytes, subst, sym}
-use Rattle.std.proofs.lemmas.List.{map-append}
+use Rattle.std.proofs.Common.{◌≡◌, ◌∙◌, List, [], ◌∷◌, ◌++◌, Bool, Bor, map, Option, ap, refl, string_bytes, subst, sym}
 use Rattle.std.specs.List.{AllZip}
 use Rattle.filter_language.specs.Filtersets.{marks_view}
 use Rattle.filter_language.specs.declared.filterset.Filterset.{Filterset}
@@ -9,25 +8,24 @@ use Rattle.nextest_engines.specs.declared.queries.BuildPlatforms.{BuildPlatforms
 use Rattle.nextest_filters.specs.Compiling.{names_of}
 use Rattle.nextest_filters.specs.Engine.{Filter}
 use Rattle.nextest_filters.specs.declared.compiling.FieldMatcher.{FieldMatcher}
-use Rattle.nextest_inheritance.proofs.Chains.{lead_default_one}
-use Rattle.nextest_inheritance.specs.Parents.{parents_in, with_default}
-use Rattle.nextest_load.specs.Config.{ConfigModel, config_parents}
+use Rattle.nextest_load.specs.Config.{ConfigModel}
 use Rattle.nextest_load.specs.Load.{Loaded}
 use Rattle.nextest_profiles.proofs.MeaningOfTexts.{profile_means}
 use Rattle.nextest_profiles.specs.Meaning.{configured_meaning, profile_meaning}
-use Rattle.nextest_profiles.specs.Profiles.{IsChainAndDefault}
-use Rattle.nextest_rules.specs.Rules.{Compiled, Layer, OverrideUse, ScriptRuleUse}
-use Rattle.nextest_settings.specs.Chains.{overrides_of, script_rules_of}
+use Rattle.nextest_rules.specs.Rules.{OverrideUse, RuleId, ScriptRuleUse}
+use Rattle.nextest_rules.specs.View.{id_view, script_rule_id_view}
+use Rattle.nextest_rules.specs.declared.overrides.OverrideId.{OverrideId}
+use Rattle.nextest_rules.specs.declared.overrides.ScriptRuleId.{ScriptRuleId}
 use Rattle.nextest_settings.specs.Deciding.{QueryContext}
-use Rattle.nextest_settings.specs.Platforms.{EvaluatedRule, rule_on}
+use Rattle.nextest_settings.specs.Platforms.{EvaluatedRule}
 use Rattle.nextest_settings.specs.Profile.{Configured, EvaluatableModel}
-use Rattle.nextest_settings.specs.View.{evaluated_override_meaning, evaluated_script_rule_meaning}
+use Rattle.nextest_settings.specs.Queries.{query_in}
 use Rattle.nextest_tables.specs.FileTexts.{names_in, IsIn}
 use Rattle.nextest_tables.specs.Written.{Name}
 use Rattle.rinqebo_list.specs.Rows.{AreTestsTold}
 use Rattle.rinqebo_list.specs.Scripts.{AreScriptsTold}
-use Rattle.rinqebo_list.specs.Unused.{is_used, unused_among}
-use Rattle.rinqebo_list.specs.Uses.{meant_on}
+use Rattle.rinqebo_list.specs.Unused.{unused_among, AreUnusedIn}
+use Rattle.rinqebo_list.specs.declared.unused.UnusedRules.{UnusedRules}
 use Rattle.rinqebo_report.specs.declared.origin.Origin.{Origin}
 use Rattle.rinqebo_report.specs.declared.report.Content.{Content}
 use Rattle.rinqebo_report.specs.declared.report.ListScripts.{ListScripts}
@@ -40,14 +38,12 @@ use Rattle.test_lists.specs.ListView.{list_view}
 use Rattle.test_lists.specs.Lists.{all_binaries, all_tests}
 use Rattle.rinqebo_load.specs.Accepted.{AreAccepted}
 use Rattle.rinqebo_rules.specs.Conditions.{is_met_by}
-use Rattle.rinqebo_run.specs.ListRules.{placed_view, placed_override, placed_script, placed_rules}
-use Rattle.rinqebo_run.specs.Listed.{IsProfileOn, placed_on, places_in, AreUnused, AreTestsOf, IfListed, TellsTests}
-use Rattle.rinqebo_run.specs.ListedBy.{read_by, listed_by, AreUnusedPlaces}
+use Rattle.rinqebo_run.specs.Listed.{IsProfileOn, unused_places, AreTestsOf, IfListed, TellsTests}
+use Rattle.rinqebo_run.specs.ListedBy.{read_by, listed_by, places_of}
 use Rattle.rinqebo_files.specs.declared.layers.Layer.{Layer as FileLayer}
 use Rattle.rinqebo_rules.specs.Origins.{IsOriginOf}
-use Rattle.rinqebo_rules.specs.RulePlaces.{Place, id_place, place_view, script_place}
+use Rattle.rinqebo_rules.specs.RulePlaces.{Place, id_place, script_place}
 use Rattle.rinqebo_load.specs.Sessions.{files_view, readings, IsLoadedFrom}
-use Rattle.rinqebo_rules.specs.declared.rule_places.RulePlace.{RulePlace}
 use Rattle.rinqebo_load.specs.declared.session.Session.{Session}
 
 -- what holds of each and what is told of it holds of what is made of each
@@ -58,23 +54,30 @@ zip_mapped f R [] (y ∷ ys) all = absurd all
 zip_mapped f R (x ∷ xs) [] all = absurd all
 zip_mapped f R (x ∷ xs) (y ∷ ys) all = (all.0, zip_mapped f R xs ys all.1)
 
--- origins tell the same rules, in the same layers, by other names
-pub told_of : (files layers : List FileLayer) (rules others : List RulePlace) (origins : List Origin) → files ≡ layers
-    → rules ≡ others → AllZip (λ place. IsOriginOf files place []) (map place_view rules) origins
-    → AllZip (λ place. IsOriginOf layers place []) (map place_view others) origins
-told_of files layers rules others origins same_files same told =
-    subst (λ fs. AllZip (λ place. IsOriginOf fs place []) (map place_view others) origins) same_files
-    (subst (λ rs. AllZip (λ place. IsOriginOf files place []) (map place_view rs) origins) same told)
+-- origins are told in the same layers by another name
+pub told_in : (files layers : List FileLayer) (places : List Place) (origins : List Origin) → files ≡ layers
+    → AllZip (λ place. IsOriginOf files place []) places origins
+    → AllZip (λ place. IsOriginOf layers place []) places origins
+told_in files layers places origins same told =
+    subst (λ fs. AllZip (λ place. IsOriginOf fs place []) places origins) same told
 
 both : {A B X : Type 0} (g : B → X) (f : A → B) (xs : List A) → map g (map f xs) ≡ map (λ a. g (f a)) xs
 both g f [] = refl
 both g f (x ∷ xs) = ap (λ rest. g (f x) ∷ rest) (both g f xs)
 
-kept_alike : {A B X : Type 0} (f : A → X) (g : B → X) (used : Bool) (x : A) (y : B) (xs : List A) (ys : List B)
-    → f x ≡ g y → map f xs ≡ map g ys
-    → map f (cond (not used) (x ∷ xs) xs) ≡ map g (cond (not used) (y ∷ ys) ys)
-kept_alike f g true x y xs ys same rest = rest
-kept_alike f g false x y xs ys same rest = λ i. same i ∷ rest i
+-- the rules of a profile stand at the places of their ids
+pub unused_stand : {M : Type 0} (tests : List (QueryContext M)) (profile : EvaluatableModel M) (ids : UnusedRules)
+    → AreUnusedIn tests profile ids → places_of ids ≡ unused_places tests profile
+unused_stand {M} tests profile ids are =
+    let override_id : Bor OverrideId → RuleId = λ id. id_view id.now in
+    let script_id : Bor ScriptRuleId → RuleId = λ id. script_rule_id_view id.now in
+    let of_override : EvaluatedRule M (OverrideUse M) → RuleId = λ rule. rule.writes.id in
+    let of_script : EvaluatedRule M ScriptRuleUse → RuleId = λ rule. rule.writes.id in
+    let overrides = sym (both id_place override_id ids.overrides.items) ∙ ap (map id_place) are.overrides
+    ∙ both id_place of_override (unused_among tests profile.overrides) in
+    let scripts = sym (both script_place script_id ids.script_rules.items) ∙ ap (map script_place) are.script_rules
+    ∙ both script_place of_script (unused_among tests profile.script_rules) in
+    λ i. overrides i ++ scripts i
 
 module _ {E N M K P : Type 0} (f : E → M) (g : N → K) (meets : K → P → Option Bool)
     (platforms : BuildPlatforms P) where
@@ -82,128 +85,43 @@ module _ {E N M K P : Type 0} (f : E → M) (g : N → K) (meets : K → P → O
   abbrev pub read_meets : N → P → Option Bool
   read_meets spec platform = meets (g spec) platform
 
-  -- a rule that was read, by what it means on the platforms
-  abbrev pub meant_here : {W : Type 0} → Compiled E N W → EvaluatedRule M W
-  meant_here rule = meant_on f read_meets platforms rule
-
-  -- where the rules stand that hold for no test
-  pub places_unused : (tests : List (QueryContext M)) (rules : List (Compiled E N RulePlace))
-      → map place_view (map (λ rule. rule.writes) (unused_among tests (map meant_here rules)))
-      ≡ map (λ rule. rule.writes) (unused_among tests (map meant_here (map placed_view rules)))
-  places_unused tests [] = refl
-  places_unused tests (rule ∷ rules) =
-      let here = meant_here rule in
-      let there = meant_here (placed_view rule) in
-      let rest = unused_among tests (map meant_here rules) in
-      let others = unused_among tests (map meant_here (map placed_view rules)) in
-      let written : EvaluatedRule M RulePlace → RulePlace = λ r. r.writes in
-      both place_view written (unused_among tests (here ∷ map meant_here rules))
-      ∙ kept_alike (λ r. place_view r.writes) (λ r. r.writes) (is_used tests here) here there rest others refl
-      (sym (both place_view written rest) ∙ places_unused tests rules)
-
-  overrides_placed : (rules : List (Compiled E N (OverrideUse E)))
-      → map meant_here (map placed_override rules)
-      ≡ map (placed_on (λ w. id_place w.id))
-      (map (evaluated_override_meaning f) (map (rule_on read_meets platforms) rules))
-  overrides_placed [] = refl
-  overrides_placed (rule ∷ rules) = ap (λ rest. meant_here (placed_override rule) ∷ rest) (overrides_placed rules)
-
-  scripts_placed : (rules : List (Compiled E N ScriptRuleUse))
-      → map meant_here (map placed_script rules)
-      ≡ map (placed_on (λ w. script_place w.id))
-      (map (evaluated_script_rule_meaning f) (map (rule_on read_meets platforms) rules))
-  scripts_placed [] = refl
-  scripts_placed (rule ∷ rules) = ap (λ rest. meant_here (placed_script rule) ∷ rest) (scripts_placed rules)
-
-  module _ (c : Configured E N) (name : Name) (on : EvaluatableModel E)
-      (is : IsProfileOn read_meets platforms c name on) where
-    -- what the profile of a name means
-    pub given_means : IsProfileOn meets platforms (configured_meaning f g c) name (profile_meaning f on)
-    given_means = record {
-      chain = is.chain;
-      is_chain = is.is_chain;
-      is_profile = ap (profile_meaning f) is.is_profile ∙ profile_means f g meets platforms c name is.chain;
-    }
-
-    -- the names of a chain are those of the profile
-    pub same_names : (names : List Name)
-        → IsChainAndDefault (parents_in (config_parents c.config)) name names → names ≡ with_default is.chain
-    same_names names chain =
-        chain.is
-        ∙ ap with_default (lead_default_one (parents_in (config_parents c.config)) name chain.chain is.chain
-        chain.is_chain.leads is.is_chain.leads)
-
-    -- the script rules of a chain are those of the profile
-    pub rules_here : (names : List Name) → names ≡ with_default is.chain
-        → map (rule_on read_meets platforms) (script_rules_of c.config.layers names) ≡ on.script_rules
-    rules_here names same =
-        ap (λ ns. map (rule_on read_meets platforms) (script_rules_of c.config.layers ns)) same
-        ∙ ap (λ p. p.script_rules) (sym is.is_profile)
-
-    -- the rules of a chain, with their places, are those of the profile
-    placed_here : (names : List Name) → names ≡ with_default is.chain
-        → map meant_here (placed_rules c.config.layers names) ≡ places_in (profile_meaning f on)
-    placed_here names same =
-        let layers = c.config.layers in
-        ap (λ ns. map meant_here (placed_rules layers ns)) same
-        ∙ map-append meant_here (map placed_override (overrides_of layers (with_default is.chain)))
-        (map placed_script (script_rules_of layers (with_default is.chain)))
-        ∙ (λ i. overrides_placed (overrides_of layers (with_default is.chain)) i
-        ++ scripts_placed (script_rules_of layers (with_default is.chain)) i)
-        ∙ ap (λ p. places_in (profile_meaning f p)) (sym is.is_profile)
-
-    -- the rules that hold for no test are told
-    pub unused_told : (files : List FileLayer) (names : List Name) (tests : List (QueryContext M))
-        (unused : List Origin) → names ≡ with_default is.chain
-        → AllZip (λ place. IsOriginOf files place [])
-        (map (λ rule. rule.writes) (unused_among tests (map meant_here (placed_rules c.config.layers names)))) unused
-        → AreUnused files tests (profile_meaning f on) unused
-    unused_told files names tests unused same told =
-        subst (λ rs. AllZip (λ place. IsOriginOf files place [])
-        (map (λ rule. rule.writes) (unused_among tests rs)) unused) (placed_here names same) told
-
--- the script rules of a chain that was loaded are those of the profile
-pub scripts_here : (session : Session) (loaded : Loaded (Filterset FieldMatcher) TargetSpec) (name : Name)
-    (on : EvaluatableModel (Filterset FieldMatcher)) (names : List Name)
-    → IsProfileOn is_met_by session.engines.platforms (read_by session loaded) name on
-    → IsChainAndDefault (parents_in (config_parents loaded.config)) name names
-    → map (rule_on is_met_by session.engines.platforms) (script_rules_of loaded.config.layers names)
-    ≡ on.script_rules
-scripts_here session loaded name on names is chain =
-    let engines = readings session.engines.filters in
-    let platforms = session.engines.platforms in
-    let f = marks_view names_of in
-    let c = read_by session loaded in
-    rules_here f spec_view engines.meets platforms c name on is names
-    (same_names f spec_view engines.meets platforms c name on is names chain)
+  -- what the profile of a name means
+  pub given_means : (c : Configured E N) (name : Name) (on : EvaluatableModel E)
+      → IsProfileOn read_meets platforms c name on
+      → IsProfileOn meets platforms (configured_meaning f g c) name (profile_meaning f on)
+  given_means c name on is = record {
+    chain = is.chain;
+    is_chain = is.is_chain;
+    is_profile = ap (profile_meaning f) is.is_profile ∙ profile_means f g meets platforms c name is.chain;
+  }
 
 -- tests, rules and scripts are told by a configuration that was loaded
 pub listed_here : (session : Session) (loaded : Loaded (Filterset FieldMatcher) TargetSpec) (name : Name)
     (mode : NextestRunMode) (asked : AskedSettings) (on : EvaluatableModel (Filterset FieldMatcher))
-    (names : List Name) (places : List Place) (tests : List TestRows) (unused : List Origin) (scripts : ListScripts)
+    (ids : UnusedRules) (tests : List TestRows) (unused : List Origin) (scripts : ListScripts)
     → IsProfileOn is_met_by session.engines.platforms (read_by session loaded) name on
-    → IsChainAndDefault (parents_in (config_parents loaded.config)) name names
     → AreTestsTold (readings session.engines.filters).matches_test mode (profile_meaning (marks_view names_of) on)
     asked (all_tests (list_view session.tests)) tests
-    → AreUnusedPlaces session.engines.platforms loaded.config.layers names (profile_meaning (marks_view names_of) on)
-    (all_tests (list_view session.tests)) places
-    → AllZip (λ place. IsOriginOf session.layers.items place []) places unused
+    → AreUnusedIn (map (query_in (readings session.engines.filters).matches_test
+    (profile_meaning (marks_view names_of) on)) (all_tests (list_view session.tests)))
+    (profile_meaning (marks_view names_of) on) ids
+    → AllZip (λ place. IsOriginOf session.layers.items place []) (places_of ids) unused
     → AreScriptsTold (readings session.engines.filters).matches_test (readings session.engines.filters).matches_binary
     (profile_meaning (marks_view names_of) on) (all_tests (list_view session.tests))
     (all_binaries (list_view session.tests)) scripts
     → listed_by session loaded name mode asked tests unused scripts
-listed_here session loaded name mode asked on names places tests unused scripts is chain told are origins scripted =
+listed_here session loaded name mode asked on ids tests unused scripts is told are origins scripted =
     let engines = readings session.engines.filters in
-    let platforms = session.engines.platforms in
-    let f = marks_view names_of in
-    let c = read_by session loaded in
+    let profile = profile_meaning (marks_view names_of) on in
     record {
-      profile = profile_meaning f on;
-      is_profile = given_means f spec_view engines.meets platforms c name on is;
+      profile = profile;
+      is_profile = given_means (marks_view names_of) spec_view engines.meets session.engines.platforms
+          (read_by session loaded) name on is;
       tests_told = told;
-      unused_told = unused_told f spec_view engines.meets platforms c name on is session.layers.items names _
-          unused (same_names f spec_view engines.meets platforms c name on is names chain)
-          (subst (λ ps. AllZip (λ place. IsOriginOf session.layers.items place []) ps unused) are origins);
+      unused_told = subst (λ places. AllZip (λ place. IsOriginOf session.layers.items place []) places unused)
+          (unused_stand (map (query_in engines.matches_test profile) (all_tests (list_view session.tests))) profile ids
+          are)
+          origins;
       scripts_told = scripted;
     }
 

@@ -6,6 +6,7 @@ use Rattle.nextest_config.specs.Headline.{Request, Resolves}
 use Rattle.nextest_config.specs.RunView.{refusal_view, run_view}
 use Rattle.nextest_config.specs.declared.run.fault.ResolveFault.{ResolveFault}
 use Rattle.nextest_config.specs.declared.run.fault.ResolveFault.TheVariants as faults
+use Rattle.nextest_engines.specs.Engines.{Test}
 use Rattle.nextest_filters.specs.declared.compiling.FieldMatcher.{FieldMatcher}
 use Rattle.nextest_filters.specs.declared.engine.NextestFilters.{NextestFilters}
 use Rattle.nextest_load.specs.Accepted.{IsAccepted}
@@ -68,9 +69,9 @@ lacks session profile loaded accepted from none = record {
 }
 
 -- what holds of the files that are asked for holds of those of a session
-of_session : (P : NextestFilters → Features → LoadInputs → Type 0) (session : Session) (profile : List ℕ)
+of_session : {asked : Test} (P : NextestFilters → Features → LoadInputs → Type 0) (session : Session) (profile : List ℕ)
     (test : TestName) (filters : NextestFilters) (request : Request Platform) → filters ≡ session.engines.filters
-    → Asks session profile test request → P filters request.features request.files
+    → Asks session profile test asked request → P filters request.features request.files
     → P session.engines.filters (features_view session.features) (files_view session.gathered.now)
 of_session P session profile test filters request same asks holds =
     subst (λ f. P f (features_view session.features) (files_view session.gathered.now)) same
@@ -78,9 +79,9 @@ of_session P session profile test filters request same asks holds =
     (subst (λ files. P filters request.features files) asks.files_read holds))
 
 -- the failure of a run without rows
-pub run_failure : (session : Session) (profile : List ℕ) (test : TestName) (filters : NextestFilters)
+pub run_failure : {asked : Test} (session : Session) (profile : List ℕ) (test : TestName) (filters : NextestFilters)
     (request : Request Platform) (fault : ResolveFault) (failure : Failure) (old new : List Warning)
-    (before after : List ℕ) → filters ≡ session.engines.filters → Asks session profile test request
+    (before after : List ℕ) → filters ≡ session.engines.filters → Asks session profile test asked request
     → Resolves (readings filters) request (run_view (Err (refusal_view fault)) old new before after)
     → IsRunFailure fault failure → IsFailureAbout session profile failure
 run_failure session profile test filters request (faults.Config error) failure old new before after same asks

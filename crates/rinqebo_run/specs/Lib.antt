@@ -3,7 +3,6 @@ pub mod Explained
 pub mod Checked
 pub mod Answered
 pub mod Refused
-pub mod ListRules
 pub mod Reasons
 pub mod TellsReasons
 pub mod Listed

@@ -9,7 +9,6 @@ use Rattle.nextest_load.specs.Closed.{BinaryMatch}
 use Rattle.nextest_load.specs.Config.{ScriptTables, config_parents}
 use Rattle.nextest_load.specs.Scripts.{AreScriptsOf}
 use Rattle.nextest_settings.specs.Deciding.{QueryContext}
-use Rattle.nextest_settings.specs.Platforms.{EvaluatedRule}
 use Rattle.nextest_settings.specs.Profile.{Configured, EvaluatableModel, profile_of, profile_on}
 use Rattle.nextest_settings.specs.Queries.{query_in}
 use Rattle.nextest_sources.specs.Inputs.{sources_in}
@@ -42,27 +41,19 @@ pub record IsProfileOn {M K P : Type 0} (meets : K → P → Option Bool) (platf
   pub is_chain : IsChain (parents_in (config_parents configured.config)) name chain
   pub is_profile : profile ≡ profile_on meets platforms (profile_of configured name chain)
 
--- a rule on the platforms of a build, with its place instead of what it writes
-abbrev pub placed_on : {M W : Type 0} → (W → Place) → EvaluatedRule M W → EvaluatedRule M Place
-placed_on place rule = record {
-  filter = rule.filter;
-  for_host = rule.for_host;
-  for_target = rule.for_target;
-  writes = place rule.writes;
-}
-
--- The rules of a profile on the platforms of a build, each with its place: the overrides in order,
--- and then the script rules in order.
-abbrev pub places_in : {M : Type 0} → EvaluatableModel M → List (EvaluatedRule M Place)
-places_in profile = map (placed_on (λ w. id_place w.id)) profile.overrides
-    ++ map (placed_on (λ w. script_place w.id)) profile.script_rules
+-- Where the rules of a profile stand that hold for none of the tests: the overrides in order, and
+-- then the script rules in order.
+abbrev pub unused_places : {M : Type 0} → List (QueryContext M) → EvaluatableModel M → List Place
+unused_places tests profile =
+    map (λ rule. id_place rule.writes.id) (unused_among tests profile.overrides)
+    ++ map (λ rule. script_place rule.writes.id) (unused_among tests profile.script_rules)
 
 -- The origins are those of the rules of a profile that hold for none of the tests, and of no others,
 -- in the order of the rules.
 abbrev pub AreUnused : {M : Type 0} → List Layer → List (QueryContext M) → EvaluatableModel M
     → List Origin → Type 0
-AreUnused layers tests profile unused = AllZip (λ place. IsOriginOf layers place [])
-    (map (λ rule. rule.writes) (unused_among tests (places_in profile))) unused
+AreUnused layers tests profile unused =
+    AllZip (λ place. IsOriginOf layers place []) (unused_places tests profile) unused
 
 -- Tests are told as the profile of a name gives them settings on the platforms of a build, of its
 -- rules those that hold for none, and the scripts that it gives to the list.

@@ -1,34 +1,62 @@
 //! The settings of a test.
 ghost use Rattle.std.specs.Prelude.{◌≡◌, IfErr, IfOk, Some, map, option_map, slice_get};
 ghost use Rattle.std.specs.List.{AllZip};
+ghost use Rattle.filter_language.specs.Filtersets.{marks_view};
 ghost use Rattle.nextest_config.specs.Headline.{Row};
 ghost use Rattle.nextest_config.specs.RowView.{origin_view, row_view};
+ghost use Rattle.nextest_engines.specs.Engines.{test_view};
+ghost use Rattle.nextest_filters.specs.Compiling.{names_of};
+ghost use Rattle.nextest_filters.specs.Engine.{filter_holds};
 ghost use Rattle.nextest_inheritance.specs.View.{borrowed_view};
-ghost use Rattle.rinqebo_run.specs.Explained.{AreOriginsBy, AreRowsOf, AreSettingsTold, IsTold, IsTestTold, Explains};
+ghost use Rattle.nextest_profiles.specs.Meaning.{profile_meaning};
+ghost use Rattle.nextest_settings.specs.Queries.{query_in};
+ghost use Rattle.rinqebo_rules.specs.Origins.{IsOriginOf, key_steps};
+ghost use Rattle.rinqebo_run.specs.Explained.{AreOriginsBy, AreRowsOf, AreSettingsTold, IsTold, IsTestTold, Explains, wrapping_id, wrapping_places, wrapping_view};
 ghost use Rattle.rinqebo_findings.specs.Failures.{IsFailureAbout};
 ghost use Rattle.rinqebo_findings.specs.Reports.{IsReportOf};
 
 use crate::asked::asked_of;
 use crate::idle::findings_on;
+use crate::list::{Profile, profile_on};
 use nextest_config::run::{PlainSource, TestRow, resolve};
-use nextest_config::{BuildPlatform, DefaultConfigWarnings, NextestRunMode, Setting};
+use nextest_config::{
+    BuildPlatform, DefaultConfigWarnings, NextestRunMode, ScriptRuleId, Setting, SettingSource,
+    TestQuery,
+};
 use nextest_filters::NextestTally;
 use rinqebo_files::Layer;
 use rinqebo_findings::{config_with, failure_of_run, report_of};
 use rinqebo_load::{Failure, Session, chain_of_profile};
 use rinqebo_report::{Content, Origin, Platform, Report, SettingRow, TestRows};
 use rinqebo_request::{SettingKey, TestName};
-use rinqebo_rules::{RuleKind, RulePlace, built_in, profile_grounds, query_of, wrapping_place};
+use rinqebo_rules::{RuleKind, RulePlace, built_in, profile_grounds, query_of};
 use rinqebo_values::reported_if_set;
 use std::alloc::{AllocError, Global};
 
-/// What a row's settings are told with: the layers, the chain of the profile, and where the script
-/// rule stands that wraps the run of the test.
+/// What a row's settings are told with: the layers, the chain of the profile, and the id of the
+/// script rule that wraps the run of the test.
 #[derive(Drop)]
 struct Grounds<'g, 't> {
     layers: &'g [Layer<'t>],
     chain: &'g [&'g str],
-    wrapping: Option<RulePlace<'g>>,
+    wrapping: Option<&'g ScriptRuleId>,
+}
+
+/// The id of the script rule that wraps the run of a test in a profile, if one does.
+fn wrapping_id<'c>(
+    profile: &Profile<'c>,
+    mode: NextestRunMode,
+    query: &TestQuery<'_>,
+) -> Option<&'c ScriptRuleId>
+    ensures { let profile = profile_meaning (marks_view names_of) profile.now in
+        wrapping_view result
+        ≡ wrapping_id (query_in filter_holds profile (test_view query.now)) profile }
+{
+    let settings = profile.settings_with_source_for(mode, query, &mut NextestTally::new());
+    match settings.source_of(Setting::RunWrapper) {
+        Some(SettingSource::Script(rule)) => Some(rule.id()),
+        _ => None,
+    }
 }
 
 /// Where the run wrapper comes from.
@@ -36,9 +64,13 @@ fn wrapping_origins(
     alloc: Global,
     grounds: &Grounds<'_, '_>,
     key: SettingKey,
-) -> Result<Vec<Origin>, AllocError> {
+) -> Result<Vec<Origin>, AllocError>
+    ensures { IfOk result (λ origins. AllZip (λ place. IsOriginOf grounds.now.layers.now place
+        (key_steps (option_map (λ table. table.now) key.table) key.key.now))
+        (wrapping_places (wrapping_view grounds.now.wrapping)) origins.items) }
+{
     match grounds.wrapping {
-        Some(rule) => rule.origins_at_key(alloc, grounds.layers, key),
+        Some(id) => RulePlace::of_script(id).origins_at_key(alloc, grounds.layers, key),
         None => Ok(Vec::new(alloc)),
     }
 }
@@ -51,7 +83,8 @@ fn origins_of(
     key: SettingKey,
 ) -> Result<Vec<Origin>, AllocError>
     ensures { IfOk result (λ origins. AreOriginsBy grounds.now.layers.now
-        (borrowed_view grounds.now.chain.now) (option_map (λ table. table.now) key.table)
+        (borrowed_view grounds.now.chain.now) (wrapping_view grounds.now.wrapping)
+        (option_map (λ table. table.now) key.table)
         key.key.now (option_map (λ source. origin_view source.now) source.entry) origins.items) }
 {
     match source {
@@ -87,7 +120,7 @@ fn setting_row(
     mode: NextestRunMode,
 ) -> Result<SettingRow, AllocError>
     ensures { IfOk result (IsTold grounds.now.layers.now (borrowed_view grounds.now.chain.now)
-        (row_view row.now) mode setting) }
+        (wrapping_view grounds.now.wrapping) (row_view row.now) mode setting) }
 {
     let key = SettingKey::of(setting, mode);
     Ok(SettingRow {
@@ -106,7 +139,8 @@ fn setting_rows(
     mode: NextestRunMode,
 ) -> Result<Vec<SettingRow>, AllocError>
     ensures { IfOk result (λ rows. AllZip (IsTold grounds.now.layers.now
-        (borrowed_view grounds.now.chain.now) (row_view row.now) mode) settings.now rows.items) }
+        (borrowed_view grounds.now.chain.now) (wrapping_view grounds.now.wrapping)
+        (row_view row.now) mode) settings.now rows.items) }
 {
     let mut rows = Vec::new(alloc);
     for setting in settings {
@@ -125,7 +159,8 @@ fn first_settings(
 ) -> Result<Vec<SettingRow>, AllocError>
     ensures { IfOk result (λ told. (row : Row)
         → slice_get (map row_view rows.now) 0 ≡ Some row
-        → AllZip (IsTold grounds.now.layers.now (borrowed_view grounds.now.chain.now) row mode)
+        → AllZip (IsTold grounds.now.layers.now (borrowed_view grounds.now.chain.now)
+        (wrapping_view grounds.now.wrapping) row mode)
         settings.now told.items) }
 {
     match rows.first() {
@@ -148,10 +183,14 @@ fn row_of_test(
     session: &Session<'_>,
     profile: &str,
     test: &TestName<'_>,
+    query: &TestQuery<'_>,
     warnings: &mut DefaultConfigWarnings,
 ) -> Result<Vec<TestRow>, Failure>
+    requires name { query.now.test_name.now ≡ test.now.name.now }
+    requires binary { query.now.binary_query.binary_id.now ≡ test.now.binary.now }
+    requires platform { query.now.binary_query.platform ≡ test.now.platform }
     ensures ok { IfOk result (λ rows.
-        AreRowsOf session.now profile.now test.now (map row_view rows.items)) }
+        AreRowsOf session.now profile.now test.now (test_view query.now) (map row_view rows.items)) }
     ensures err { IfErr result (IsFailureAbout session.now profile.now) }
 {
     let rows = resolve(
@@ -161,7 +200,7 @@ fn row_of_test(
         profile,
         &session.engines.platforms,
         test.mode,
-        &[query_of(test)],
+        &[*query],
         warnings,
         &mut NextestTally::new(),
     );
@@ -181,8 +220,8 @@ fn test_rows(
 ) -> Result<TestRows, AllocError>
     ensures { IfOk result (λ told. (row : Row)
         → slice_get (map row_view rows.now) 0 ≡ Some row
-        → IsTestTold grounds.now.layers.now (borrowed_view grounds.now.chain.now) row test.now
-        settings.now told) }
+        → IsTestTold grounds.now.layers.now (borrowed_view grounds.now.chain.now)
+        (wrapping_view grounds.now.wrapping) row test.now settings.now told) }
 {
     Ok(TestRows {
         binary: String::from_str(alloc, test.binary)?,
@@ -198,11 +237,12 @@ fn explained(
     session: &Session<'_>,
     profile: &str,
     test: &TestName<'_>,
+    query: &TestQuery<'_>,
     settings: &[Setting],
     rows: &[TestRow],
 ) -> Result<Content, Failure>
-    ensures ok { IfOk result (AreSettingsTold session.now profile.now test.now settings.now
-        (map row_view rows.now)) }
+    ensures ok { IfOk result (AreSettingsTold session.now profile.now test.now (test_view query.now)
+        settings.now (map row_view rows.now)) }
     ensures err { IfErr result (IsFailureAbout session.now profile.now) }
 {
     let config = config_with(
@@ -212,10 +252,11 @@ fn explained(
         &mut DefaultConfigWarnings::new(alloc),
     )?;
     let chain = chain_of_profile(alloc, &config, profile)?;
+    let on = profile_on(alloc, session, &config, profile)?;
     let grounds = Grounds {
         layers: &session.layers,
         chain: &chain,
-        wrapping: wrapping_place(alloc, &session.engines.platforms, &config, &chain, test)?,
+        wrapping: wrapping_id(&on, test.mode, query),
     };
     Ok(Content::Explain {
         asked: asked_of(alloc, session, profile, &chain, test.mode)?,
@@ -236,8 +277,9 @@ pub fn explain(
     ensures err { IfErr result (IsFailureAbout session.now profile.now) }
 {
     let mut warnings = DefaultConfigWarnings::new(alloc);
-    let rows = row_of_test(alloc, session, profile, test, &mut warnings)?;
-    let content = explained(alloc, session, profile, test, settings, &rows)?;
+    let query = query_of(test);
+    let rows = row_of_test(alloc, session, profile, test, &query, &mut warnings)?;
+    let content = explained(alloc, session, profile, test, &query, settings, &rows)?;
     let findings = findings_on(alloc, session, &warnings, &content)?;
     let report = report_of(alloc, session, findings, Vec::new(alloc), content)?;
     Ok(report)

@@ -14,7 +14,6 @@ mod list;
 mod list_fault;
 mod list_origins;
 mod list_page;
-mod list_rules;
 mod list_scripts;
 mod list_text;
 mod progress;

@@ -3,39 +3,34 @@ ghost use Rattle.std.specs.Prelude.{IfErr, IfOk, map};
 ghost use Rattle.filter_language.specs.Filtersets.{marks_view};
 ghost use Rattle.nextest_filters.specs.Compiling.{names_of};
 ghost use Rattle.nextest_filters.specs.Engine.{filter_holds};
-ghost use Rattle.nextest_inheritance.specs.View.{borrowed_view};
 ghost use Rattle.nextest_profiles.specs.Meaning.{profile_meaning};
+ghost use Rattle.nextest_settings.specs.Queries.{query_in};
 ghost use Rattle.nextest_tables.specs.FileTexts.{names_in, IsIn};
 ghost use Rattle.test_lists.specs.ListView.{list_view};
 ghost use Rattle.test_lists.specs.Lists.{all_tests};
 ghost use Rattle.rinqebo_list.specs.Rows.{AreTestsTold};
+ghost use Rattle.rinqebo_list.specs.Unused.{AreUnusedIn};
 ghost use Rattle.rinqebo_rules.specs.Conditions.{is_met_by};
 ghost use Rattle.rinqebo_run.specs.Listed.{IfListed, IsProfileOn, TellsTests};
-ghost use Rattle.rinqebo_run.specs.ListedBy.{read_by, listed_by, AreUnusedPlaces};
+ghost use Rattle.rinqebo_run.specs.ListedBy.{read_by, listed_by};
 ghost use Rattle.rinqebo_findings.specs.Failures.{IsFailureAbout};
 ghost use Rattle.rinqebo_findings.specs.Reports.{IsReportOf};
-ghost use Rattle.rinqebo_rules.specs.RulePlaces.{place_view};
 
 use crate::asked::asked_of;
-use crate::list_origins::{Origins, origins_of_rules};
-use crate::list_rules::{all_rules, wrapper_rules};
+use crate::list_origins::{Origins, unused_origins};
 use crate::list_scripts::scripts_of_list;
 use nextest_config::{DefaultConfigWarnings, EarlyProfile, EvaluatableProfile, NextestRunMode};
 use nextest_filters::{NextestFilters, NextestTally};
 use rinqebo_findings::{config_with, report_of, warning_findings};
-use rinqebo_list::{Asking, ListedRows, Progress, RuleUse};
+use rinqebo_list::{Asking, ListedRows, Progress};
 use rinqebo_load::{Config, Failure, Session, chain_of_profile};
 use rinqebo_report::{Content, Report};
 use rinqebo_request::AskedSettings;
-use rinqebo_rules::RulePlace;
 use std::alloc::{AllocError, Global};
 use target_language::TargetSpecs;
 
 /// A profile on the platforms of a build.
 pub type Profile<'c> = EvaluatableProfile<'c, NextestFilters, TargetSpecs>;
-
-/// The rows of tests, with the places of the rules that hold for none.
-pub type Rows<'c> = ListedRows<RulePlace<'c>>;
 
 /// The profile of a name on the platforms of a session.
 pub fn profile_on<'c>(
@@ -56,48 +51,33 @@ pub fn profile_on<'c>(
     }
 }
 
-/// What is told of the tests of a session, and which rules of a chain hold for none of them.
+/// The rows of the tests of a session, and the rules of a profile that hold for none of them.
 fn listed_rows<'c, P: Progress>(
     alloc: Global,
-    session: &'c Session<'_>,
-    config: &'c Config,
-    chain: &[&'c str],
+    session: &Session<'_>,
+    chain: &[&str],
     profile: &Profile<'c>,
     mode: NextestRunMode,
     asked: &AskedSettings,
     progress: &mut P,
-) -> Result<Rows<'c>, AllocError>
+) -> Result<ListedRows<'c>, AllocError>
     ensures tests { IfOk result (λ rows. AreTestsTold filter_holds mode
         (profile_meaning (marks_view names_of) profile.now) asked.now
         (all_tests (list_view session.now.tests)) rows.tests.items) }
-    ensures unused { IfOk result (λ rows. AreUnusedPlaces session.now.engines.platforms
-        config.now.config.layers (borrowed_view chain.now)
-        (profile_meaning (marks_view names_of) profile.now)
-        (all_tests (list_view session.now.tests)) (map place_view rows.unused.items)) }
+    ensures unused { let profile = profile_meaning (marks_view names_of) profile.now in
+        IfOk result (λ rows. AreUnusedIn
+        (map (query_in filter_holds profile) (all_tests (list_view session.now.tests))) profile
+        rows.unused) }
 {
-    let platforms = &session.engines.platforms;
-    let default_filter = profile.filterset_ecx().default_filter;
-    let wrappers = wrapper_rules(alloc, config, chain)?;
-    let wrappers = RuleUse::new(alloc, &wrappers, platforms, default_filter)?;
     let asking = Asking {
         profile,
         mode,
         asked,
-        wrappers: &wrappers,
     };
-    let rules = all_rules(alloc, config, chain)?;
     let queries = session.tests.queries(alloc)?;
     let mut origins = Origins::new(alloc, &session.layers, chain);
     let mut tally = NextestTally::new();
-    asking.list(
-        alloc,
-        &queries,
-        &rules,
-        platforms,
-        &mut tally,
-        &mut origins,
-        progress,
-    )
+    asking.list(alloc, &queries, &mut tally, &mut origins, progress)
 }
 
 /// What is told of the tests and of the binaries of a session, by a configuration.
@@ -116,11 +96,11 @@ fn listed<'c, P: Progress>(
 {
     let chain = chain_of_profile(alloc, config, profile)?;
     let on = profile_on(alloc, session, config, profile)?;
-    let rows = listed_rows(alloc, session, config, &chain, &on, mode, asked, progress)?;
+    let rows = listed_rows(alloc, session, &chain, &on, mode, asked, progress)?;
     Ok(Content::List {
         asked: asked_of(alloc, session, profile, &chain, mode)?,
-        unused: origins_of_rules(alloc, &session.layers, &rows.unused)?,
-        scripts: scripts_of_list(alloc, session, config, &chain, &on)?,
+        unused: unused_origins(alloc, &session.layers, &rows.unused)?,
+        scripts: scripts_of_list(alloc, session, &on)?,
         tests: rows.tests,
     })
 }

@@ -6,46 +6,39 @@ ghost use Rattle.filter_language.specs.Filtersets.{marks_view};
 ghost use Rattle.nextest_engines.specs.Engines.{test_view};
 ghost use Rattle.nextest_filters.specs.Compiling.{names_of};
 ghost use Rattle.nextest_filters.specs.Engine.{filter_holds};
-ghost use Rattle.nextest_inheritance.specs.View.{borrowed_view};
 ghost use Rattle.nextest_profiles.specs.Meaning.{profile_meaning};
 ghost use Rattle.nextest_settings.specs.Queries.{query_in};
 ghost use Rattle.nextest_tables.specs.FileTexts.{names_in, IsIn};
 ghost use Rattle.test_lists.specs.ListView.{list_view};
 ghost use Rattle.test_lists.specs.Lists.{all_tests};
-ghost use Rattle.rinqebo_list.specs.RuleViews.{list_rule_view};
 ghost use Rattle.rinqebo_list.specs.Rows.{AreTestsTold};
-ghost use Rattle.rinqebo_list.specs.Unused.{unused_among};
-ghost use Rattle.rinqebo_list.specs.Uses.{meant_on};
+ghost use Rattle.rinqebo_list.specs.Unused.{AreUnusedIn};
 ghost use Rattle.rinqebo_report.specs.Pages.{content_runs, count_runs, unused_runs};
 ghost use Rattle.rinqebo_report.specs.Pieces.{page_text};
-ghost use Rattle.rinqebo_rules.specs.Conditions.{is_met_by};
 ghost use Rattle.rinqebo_run.specs.Listed.{IfListed};
-ghost use Rattle.rinqebo_run.specs.ListedBy.{listed_by, AreUnusedPlaces};
+ghost use Rattle.rinqebo_run.specs.ListedBy.{listed_by, places_of};
 ghost use Rattle.rinqebo_rules.specs.Origins.{IsOriginOf};
-ghost use Rattle.rinqebo_rules.specs.RulePlaces.{place_view};
 ghost use Rattle.rinqebo_run.specs.Begun.{tests_text, AreFirstWritten};
 ghost use Rattle.rinqebo_run.specs.Written.{AddsTest, AreFirstBy, StopsList};
 ghost use Rattle.rinqebo_run.specs.declared.list_fault.ListFault.TheVariants as faults;
 
 use crate::asked::asked_of;
-use crate::list::{Profile, Rows, profile_on};
+use crate::list::{Profile, profile_on};
 use crate::list_fault::ListFault;
-use crate::list_origins::{Origins, origins_of_rules};
-use crate::list_rules::{Rule, all_rules, wrapper_rules};
+use crate::list_origins::{Origins, unused_origins};
 use crate::list_scripts::scripts_of_list;
 use nextest_config::{NextestRunMode, TestQuery};
 use nextest_filters::{NextestFilters, NextestTally};
-use rinqebo_list::{Asking, ListedRows, Progress, RuleUse};
+use rinqebo_list::{Asking, ListedRows, Progress, UnusedRules, unused_rules};
 use rinqebo_load::{Config, Session, chain_of_profile};
 use rinqebo_report::{Colour, Content, Origin, Report, TestRows, render_list_end, render_listed};
 use rinqebo_request::AskedSettings;
-use rinqebo_rules::RulePlace;
 use std::alloc::{AllocError, Global};
 use std::io::Write;
 use target_language::TargetSpecs;
 
 /// How the tests of a list are asked.
-type TestAsking<'l, 'c> = Asking<'l, 'c, NextestFilters, TargetSpecs, RulePlace<'c>>;
+type TestAsking<'l, 'c> = Asking<'l, 'c, NextestFilters, TargetSpecs>;
 
 /// What is asked of a list.
 #[derive(Clone, Copy)]
@@ -101,7 +94,7 @@ impl<'c> ListPage<'c, '_> {
         asking: &TestAsking<'_, 'c>,
         query: &TestQuery<'_>,
         tally: &mut NextestTally,
-        origins: &mut Origins<'_, '_>,
+        origins: &mut Origins<'_, '_, 'c>,
         tests: &mut Vec<TestRows>,
     ) -> Result<String, AllocError>
         ensures ok { let profile = profile_meaning (marks_view names_of)
@@ -117,28 +110,25 @@ impl<'c> ListPage<'c, '_> {
         Ok(text)
     }
 
-    /// Writes the tests as they are asked, and answers what is told of them, and which of some rules
-    /// hold for none.
+    /// Writes the tests one after another, and returns their rows and the rules of the profile that
+    /// hold for none of them.
     fn write_tests<O: Write, P: Progress>(
         &self,
         alloc: Global,
         asking: &TestAsking<'_, 'c>,
         queries: &[TestQuery<'_>],
-        rules: &[Rule<'c>],
-        origins: &mut Origins<'_, '_>,
+        origins: &mut Origins<'_, '_, 'c>,
         progress: &mut P,
         out: &mut O,
-    ) -> Result<Rows<'c>, ListFault>
+    ) -> Result<ListedRows<'c>, ListFault>
         ensures tests { let profile = profile_meaning (marks_view names_of)
             asking.now.profile.now in
             IfOk result (λ rows. AreTestsTold filter_holds asking.now.mode profile
             asking.now.asked.now (map test_view queries.now) rows.tests.items) }
         ensures unused { let profile = profile_meaning (marks_view names_of)
             asking.now.profile.now in
-            IfOk result (λ rows. rows.unused.items ≡ map (λ rule. rule.writes)
-            (unused_among (map (query_in filter_holds profile) (map test_view queries.now))
-            (map (meant_on (marks_view names_of) is_met_by self.now.session.now.engines.platforms)
-            (map list_rule_view rules.now)))) }
+            IfOk result (λ rows. AreUnusedIn
+            (map (query_in filter_holds profile) (map test_view queries.now)) profile rows.unused) }
         ensures page { IfOk result (λ rows. Appends (O.contents out.old) (O.contents out.new)
             (tests_text self.now.head.now self.now.colour rows.tests.items)) }
         ensures err { IfErr result (StopsList (λ _. ⊥) (AreFirstWritten filter_holds
@@ -147,70 +137,50 @@ impl<'c> ListPage<'c, '_> {
             (O.contents out.old) (O.contents out.new))
             (O.contents out.old) (O.contents out.new)) }
     {
-        let platforms = &self.session.engines.platforms;
-        let default_filter = asking.profile.filterset_ecx().default_filter;
-        let mut uses = RuleUse::new(alloc, rules, platforms, default_filter)?;
         let mut tests = Vec::new(alloc);
         let mut tally = NextestTally::new();
         for query in queries {
-            uses.see(query, &mut tally);
             let text = self.take_test(alloc, asking, query, &mut tally, origins, &mut tests)?;
             write_text(text.as_str(), out)?;
             progress.asked(tests.len(), queries.len());
         }
-        Ok(ListedRows {
-            tests,
-            unused: uses.unused(alloc)?,
-        })
+        let unused = unused_rules(alloc, asking.profile, queries, &mut tally)?;
+        Ok(ListedRows { tests, unused })
     }
 
-    /// Writes the tests by a profile on the platforms of the build, and answers what is told of them,
-    /// and which rules of a chain hold for none.
+    /// Writes the tests by a profile on the platforms of the build, and returns their rows and the
+    /// rules of the profile that hold for none of them.
     fn write_rows<O: Write, P: Progress>(
         &self,
         alloc: Global,
-        chain: &[&'c str],
+        chain: &[&str],
         on: &Profile<'c>,
         progress: &mut P,
         out: &mut O,
-    ) -> Result<Rows<'c>, ListFault>
+    ) -> Result<ListedRows<'c>, ListFault>
         ensures tests { IfOk result (λ rows. AreTestsTold filter_holds self.now.list.mode
             (profile_meaning (marks_view names_of) on.now) self.now.list.settings.now
             (all_tests (list_view self.now.session.now.tests)) rows.tests.items) }
-        ensures unused { IfOk result (λ rows. AreUnusedPlaces
-            self.now.session.now.engines.platforms self.now.config.now.config.layers
-            (borrowed_view chain.now) (profile_meaning (marks_view names_of) on.now)
-            (all_tests (list_view self.now.session.now.tests)) (map place_view rows.unused.items)) }
+        ensures unused { let profile = profile_meaning (marks_view names_of) on.now in
+            IfOk result (λ rows. AreUnusedIn (map (query_in filter_holds profile)
+            (all_tests (list_view self.now.session.now.tests))) profile rows.unused) }
         ensures page { IfOk result (λ rows. Appends (O.contents out.old) (O.contents out.new)
             (tests_text self.now.head.now self.now.colour rows.tests.items)) }
         ensures err { IfErr result (StopsList (λ _. ⊥) (AreFirstWritten filter_holds
-            self.now.list.mode (profile_meaning (marks_view names_of) on.now) self.now.list.settings.now
+            self.now.list.mode (profile_meaning (marks_view names_of) on.now)
+            self.now.list.settings.now
             (all_tests (list_view self.now.session.now.tests)) self.now.head.now self.now.colour
             (O.contents out.old) (O.contents out.new))
             (O.contents out.old) (O.contents out.new)) }
     {
-        let platforms = &self.session.engines.platforms;
-        let default_filter = on.filterset_ecx().default_filter;
-        let wrappers = wrapper_rules(alloc, self.config, chain)?;
-        let wrappers = RuleUse::new(alloc, &wrappers, platforms, default_filter)?;
         let asking = Asking {
             profile: on,
             mode: self.list.mode,
             asked: self.list.settings,
-            wrappers: &wrappers,
         };
-        let rules = all_rules(alloc, self.config, chain)?;
         let queries = self.session.tests.queries(alloc)?;
         let mut origins = Origins::new(alloc, &self.session.layers, chain);
-        self.write_tests(
-            alloc,
-            &asking,
-            &queries,
-            &rules,
-            &mut origins,
-            progress,
-            out,
-        )
+        self.write_tests(alloc, &asking, &queries, &mut origins, progress, out)
     }
 
     /// Writes what stands behind the tests: how many there are, and the rules that hold for none,
@@ -219,12 +189,12 @@ impl<'c> ListPage<'c, '_> {
         &self,
         alloc: Global,
         count: u64,
-        unused: &[RulePlace<'_>],
+        unused: &UnusedRules<'_>,
         out: &mut O,
     ) -> Result<Vec<Origin>, ListFault>
         ensures origins { IfOk result (λ origins.
             AllZip (λ place. IsOriginOf self.now.session.now.layers.items place [])
-            (map place_view unused.now) origins.items) }
+            (places_of unused.now) origins.items) }
         ensures page { IfOk result (λ origins. Appends (O.contents out.old) (O.contents out.new)
             (page_text self.now.colour (count_runs count
             ++ flat_map (unused_runs (string_bytes self.now.head.now.root)
@@ -232,7 +202,7 @@ impl<'c> ListPage<'c, '_> {
         ensures err { IfErr result (StopsList (λ _. ⊥) ⊥
             (O.contents out.old) (O.contents out.new)) }
     {
-        let origins = origins_of_rules(alloc, &self.session.layers, unused)?;
+        let origins = unused_origins(alloc, &self.session.layers, unused)?;
         let text = render_list_end(alloc, self.head, self.colour, count, &origins)?;
         write_last(text.as_str(), out)?;
         Ok(origins)
@@ -247,11 +217,13 @@ impl<'c> ListPage<'c, '_> {
     ) -> Result<Content, ListFault>
         requires { IsIn (names_in self.now.config.now.config.profiles) self.now.list.profile.now }
         ensures told { IfOk result (λ content. IfListed content (listed_by self.now.session.now
-            self.now.config.now self.now.list.profile.now self.now.list.mode self.now.list.settings.now)) }
+            self.now.config.now self.now.list.profile.now self.now.list.mode
+            self.now.list.settings.now)) }
         ensures page { IfOk result (λ content. Appends (O.contents out.old) (O.contents out.new)
             (page_text self.now.colour (content_runs self.now.head.now content))) }
         ensures err { IfErr result (StopsList (λ _. ⊥) (AreFirstBy self.now.session.now
-            self.now.config.now self.now.list.profile.now self.now.list.mode self.now.list.settings.now
+            self.now.config.now self.now.list.profile.now self.now.list.mode
+            self.now.list.settings.now
             self.now.colour (O.contents out.old) (O.contents out.new))
             (O.contents out.old) (O.contents out.new)) }
     {
@@ -265,7 +237,7 @@ impl<'c> ListPage<'c, '_> {
         )?;
         let on = profile_on(alloc, self.session, self.config, self.list.profile)?;
         let rows = self.write_rows(alloc, &chain, &on, progress, out)?;
-        let scripts = scripts_of_list(alloc, self.session, self.config, &chain, &on)?;
+        let scripts = scripts_of_list(alloc, self.session, &on)?;
         let unused = self.write_end(alloc, rows.tests.len() as u64, &rows.unused, out)?;
         Ok(Content::List {
             asked,

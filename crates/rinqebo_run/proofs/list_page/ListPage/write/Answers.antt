@@ -2,12 +2,8 @@ use Rattle.std.proofs.Common.{◌≡◌, arith, inl, length, refl, subst, sym}
 use Rattle.filter_language.specs.Filtersets.{marks_view}
 use Rattle.nextest_filters.specs.Compiling.{names_of}
 use Rattle.nextest_filters.specs.Engine.{filter_holds}
-use Rattle.nextest_inheritance.specs.Parents.{parents_in}
-use Rattle.nextest_inheritance.specs.View.{borrowed_view}
-use Rattle.nextest_load.specs.Config.{config_parents}
 use Rattle.nextest_profiles.specs.Meaning.{profile_meaning}
-use Rattle.nextest_profiles.specs.Profiles.{IsChainAndDefault}
-use Rattle.rinqebo_run.proofs.Listing.{listed_here, scripts_here, told_of}
+use Rattle.rinqebo_run.proofs.Listing.{listed_here}
 use Rattle.rinqebo_run.proofs.Writing.{all_first, first_here, passed_stop, stops_at_end, stops_so, whole_page}
 use Rattle.rinqebo_run.specs.Begun.{AreFirstWritten}
 use Rattle.rinqebo_run.specs.Written.{AreFirstBy}
@@ -19,23 +15,13 @@ use Rattle.rinqebo_run.proofs.list_page.ListPage.write.Goals as goal
 pub profile_on-requires : goal.profile_on-requires
 profile_on-requires g c = c.requires
 
-pub scripts_of_list-requires : goal.scripts_of_list-requires
-scripts_of_list-requires g c =
-    let self = c.args.self.now in
-    let name = self.list.profile.now in
-    let chain = subst (λ names. IsChainAndDefault (parents_in (config_parents self.config.now.config))
-    name (borrowed_view names)) (sym c.deref-3.ensures.value) (c.in_ok-chain.ensures c.requires) in
-    scripts_here self.session.now self.config.now name c.in_ok-on.on _ c.in_ok-on.ensures chain
-
 pub returns-clause-told : goal.returns-clause-told
 returns-clause-told g c =
     let self = c.args.self.now in
     let list = self.list in
-    let chain = subst (λ names. IsChainAndDefault (parents_in (config_parents self.config.now.config))
-    list.profile.now (borrowed_view names)) (sym c.deref-2.ensures.value) (c.in_ok-chain.ensures c.requires) in
-    listed_here self.session.now self.config.now list.profile.now list.mode list.settings.now c.in_ok-on.on _ _ _ _ _
-    c.in_ok-on.ensures chain c.in_ok-rows.ensures.tests c.in_ok-rows.ensures.unused
-    (told_of _ _ _ _ _ refl c.deref-4.ensures.value c.in_ok-unused.ensures.origins) c.in_ok-scripts.ensures
+    listed_here self.session.now self.config.now list.profile.now list.mode list.settings.now c.in_ok-on.on _ _ _ _
+    c.in_ok-on.ensures c.in_ok-rows.ensures.tests c.in_ok-rows.ensures.unused c.in_ok-unused.ensures.origins
+    c.in_ok-scripts.ensures
 
 pub returns-clause-page : goal.returns-clause-page
 returns-clause-page g c =

@@ -1,21 +1,15 @@
-use Rattle.std.proofs.Common.{◌≡◌, ◌∙◌, ap, inl, map, refl, subst, sym, take}
+use Rattle.std.proofs.Common.{◌∙◌, inl, refl, subst}
 use Rattle.std.proofs.lemmas.List.{take_all}
 use Rattle.std.specs.List.{AllZip}
 use Rattle.filter_language.specs.Filtersets.{marks_view}
 use Rattle.nextest_engines.specs.Engines.{test_view}
-use Rattle.nextest_engines.specs.declared.queries.TestQuery.{TestQuery}
 use Rattle.nextest_filters.specs.Compiling.{names_of}
-use Rattle.nextest_filters.specs.Engine.{Filter, filter_holds}
+use Rattle.nextest_filters.specs.Engine.{filter_holds}
 use Rattle.nextest_profiles.specs.Meaning.{profile_meaning}
-use Rattle.nextest_settings.specs.Deciding.{QueryContext}
 use Rattle.nextest_settings.specs.Queries.{query_in}
-use Rattle.rinqebo_list.specs.RuleViews.{list_rule_view}
 use Rattle.rinqebo_list.specs.Rows.{IsTestTold}
-use Rattle.rinqebo_list.specs.Unused.{unused_among}
-use Rattle.rinqebo_list.specs.Uses.{AreMarked, meant_rules}
-use Rattle.rinqebo_list.proofs.Listing.{made_twice, meant_read, seen_more, zip_mapped}
+use Rattle.rinqebo_list.proofs.Listing.{zip_mapped}
 use Rattle.rinqebo_list.proofs.RowsMore.{zip_more}
-use Rattle.rinqebo_rules.specs.Conditions.{is_met_by}
 use Rattle.rinqebo_run.specs.declared.list_fault.ListFault.TheVariants as faults
 use Rattle.rinqebo_run.proofs.Writing.{first_so_far, one_more, passed_stop}
 use Rattle.rinqebo_run.proofs.list_page.ListPage.write_tests.Goals as goal
@@ -32,12 +26,6 @@ loop-query-preserved g c =
       told = zip_more (λ query. IsTestTold (query_in filter_holds profile (test_view query)) asking.mode profile
           asking.asked.now (test_view query)) queries i _ _ c.loop-query-test.true refl _ _ _ before.told
           adds.are_told adds.added;
-      rules = c.see.ensures.rules ∙ before.rules;
-      default_filter = c.see.ensures.default_filter ∙ before.default_filter;
-      marks = subst (λ seen. AreMarked (marks_view names_of) seen c.see.new.self.rules)
-          (seen_more (λ query. query_in filter_holds profile (test_view query)) queries i _ _ c.loop-query-test.true
-          refl)
-          (rw before.default_filter at (c.see.ensures.marks _ before.marks));
       page = one_more c.args.self.now.head.now c.args.self.now.colour c.loop-query.tests.items
           c.take_test.new.tests.items adds.rows c.as_str.result.now _ _ _ adds.added
           (c.as_str.ensures.value ∙ adds.shown) before.page c.in_ok-write_text.ensures.ok;
@@ -53,25 +41,6 @@ returns-clause-tests g c =
     (subst (λ qs. AllZip (λ query. IsTestTold (query_in filter_holds profile (test_view query)) asking.mode profile
     asking.asked.now (test_view query)) qs c.loop-query.tests.items)
     (take_all c.loop-query.query-index queries c.loop-query-test.false) c.loop-query.invariant.told)
-
-pub returns-clause-unused : goal.returns-clause-unused
-returns-clause-unused g c =
-    let f = marks_view names_of in
-    let profile = profile_meaning f c.args.asking.now.profile.now in
-    let platforms = c.args.self.now.session.now.engines.platforms in
-    let queries = c.args.queries.now in
-    let before = c.loop-query.invariant in
-    let rules = meant_rules f c.loop-query.uses.rules in
-    let query : TestQuery → QueryContext Filter = λ q. query_in filter_holds profile (test_view q) in
-    let seen : map query (take c.loop-query.query-index queries)
-    ≡ map (query_in filter_holds profile) (map test_view queries) =
-    ap (map query) (take_all c.loop-query.query-index queries c.loop-query-test.false)
-    ∙ sym (made_twice (query_in filter_holds profile) test_view queries) in
-    c.in_ok-unused.ensures _ before.marks
-    ∙ ap (λ ts. map (λ rule. rule.writes) (unused_among ts rules)) seen
-    ∙ ap (λ rs. map (λ rule. rule.writes)
-    (unused_among (map (query_in filter_holds profile) (map test_view queries)) rs))
-    (meant_read f is_met_by platforms c.loop-query.uses.rules (map list_rule_view c.args.rules.now) before.rules)
 
 pub returns-in_err-text-clause-err : goal.returns-in_err-text-clause-err
 returns-in_err-text-clause-err g c =

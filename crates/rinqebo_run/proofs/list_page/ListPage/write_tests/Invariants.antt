@@ -1,4 +1,4 @@
-use Rattle.std.proofs.Common.{◌≡◌, map, take}
+use Rattle.std.proofs.Common.{take}
 use Rattle.std.specs.Io.KnownBytes.{Appends}
 use Rattle.std.specs.List.{AllZip}
 use Rattle.filter_language.specs.Filtersets.{marks_view}
@@ -6,16 +6,12 @@ use Rattle.nextest_engines.specs.Engines.{test_view}
 use Rattle.nextest_filters.specs.Compiling.{names_of}
 use Rattle.nextest_filters.specs.Engine.{filter_holds}
 use Rattle.nextest_profiles.specs.Meaning.{profile_meaning}
-use Rattle.nextest_settings.specs.Platforms.{rule_on}
 use Rattle.nextest_settings.specs.Queries.{query_in}
-use Rattle.rinqebo_list.specs.RuleViews.{list_rule_view}
 use Rattle.rinqebo_list.specs.Rows.{IsTestTold}
-use Rattle.rinqebo_list.specs.Uses.{AreMarked, rules_in}
 use Rattle.rinqebo_run.specs.Begun.{tests_text}
-use Rattle.rinqebo_rules.specs.Conditions.{is_met_by}
 use Rattle.rinqebo_run.proofs.list_page.ListPage.write_tests.Given as goal
 
--- The tests so far are told and went out, and each rule is marked that holds for one of them.
+-- The tests so far are told and went out.
 abbrev pub invariant-loop-query : goal.invariant-loop-query
 invariant-loop-query g l =
     let profile = profile_meaning (marks_view names_of) l.asking.profile.now in
@@ -23,11 +19,6 @@ invariant-loop-query g l =
     record {
       told : AllZip (λ query. IsTestTold (query_in filter_holds profile (test_view query)) l.asking.mode profile
           l.asking.asked.now (test_view query)) queries l.tests.items;
-      rules : rules_in l.uses.rules
-          ≡ map (rule_on is_met_by l.self.session.now.engines.platforms) (map list_rule_view l.rules);
-      default_filter : l.uses.default_filter ≡ l.asking.profile.now.default_filter.filter;
-      marks : AreMarked (marks_view names_of) (map (λ query. query_in filter_holds profile (test_view query)) queries)
-          l.uses.rules;
       page : Appends (g.O.Write.contents l.initial.out) (g.O.Write.contents l.out)
           (tests_text l.self.head.now l.self.colour l.tests.items);
     }
