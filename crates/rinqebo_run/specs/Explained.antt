@@ -121,7 +121,8 @@ pub record IsTestTold (layers : List Layer) (chain : List Name) (wrapping : Opti
     (row : Row) (test : TestName) (settings : List Setting) (told : TestRows) : Type 0 where
   pub binary : string_bytes told.binary ≡ test.binary.now
   pub name : string_bytes told.name ≡ test.name.now
-  pub settings_told : AllZip (IsTold layers chain wrapping row test.mode) settings told.settings.items
+  pub settings_told : AllZip (IsTold layers chain wrapping row test.mode) settings
+      told.settings.items
 
 -- a fact of the test that a report tells the settings of
 abbrev pub IfExplained : Content → (TestRows → Type 0) → Type 0
