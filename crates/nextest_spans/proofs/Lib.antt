@@ -1,3 +1,9 @@
 pub mod Cuts
+pub mod Ending
 pub mod Itemized
+pub mod Lists
+pub mod Open
+pub mod Placed
+pub mod Rooted
+pub mod Turned
 pub mod Walk
