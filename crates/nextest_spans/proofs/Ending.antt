@@ -34,11 +34,11 @@ ends_nothing_past text items k end past item c here holds less first last =
 
 pub ends_no_list : (text : List ℕ) (items : List Item) (k end : ℕ) (x : Item) → x ≡ get_or items k x
     → ((c : Container) → ¬ (role_sort x.role ≡ value (Some c))) → Ends text k end items items
-ends_no_list text items k end x x_is no item c here holds less first last =
-    absurd (no c (ap (λ i. role_sort i.role) (one_item items k x item x_is here) ∙ holds))
+ends_no_list text items k end x x_is isnt item c here holds less first last =
+    absurd (isnt c (ap (λ i. role_sort i.role) (one_item items k x item x_is here) ∙ holds))
 
 pub ends_within_character : (text : List ℕ) (items : List Item) (k end : ℕ) (y : Item) → y ≡ get_or items k y
     → (y.span.start < end → IsCharBoundary text y.span.start → ¬ IsCharBoundary text end) → Ends text k end items items
-ends_within_character text items k end y y_is no item c here holds less first last =
+ends_within_character text items k end y y_is isnt item c here holds less first last =
     let same : item ≡ y = sym (one_item items k y item y_is here) in
-    absurd (no (subst (λ i. i.span.start < end) same less) (subst (λ i. IsCharBoundary text i.span.start) same first) last)
+    absurd (isnt (subst (λ i. i.span.start < end) same less) (subst (λ i. IsCharBoundary text i.span.start) same first) last)

@@ -39,11 +39,11 @@ at_set (x ∷ xs) zero y less = refl
 at_set (x ∷ xs) (suc k) y less = at_set xs k y (omega (arith, less))
 
 pub at_other : {A : Type 0} (xs : List A) (k i : ℕ) (y : A) → ¬ (i ≡ k) → slice_get (set xs k y) i ≡ slice_get xs i
-at_other [] k i y no = refl
-at_other (x ∷ xs) zero zero y no = absurd (no refl)
-at_other (x ∷ xs) zero (suc i) y no = refl
-at_other (x ∷ xs) (suc k) zero y no = refl
-at_other (x ∷ xs) (suc k) (suc i) y no = at_other xs k i y (λ e. no (ap suc e))
+at_other [] k i y isnt = refl
+at_other (x ∷ xs) zero zero y isnt = absurd (isnt refl)
+at_other (x ∷ xs) zero (suc i) y isnt = refl
+at_other (x ∷ xs) (suc k) zero y isnt = refl
+at_other (x ∷ xs) (suc k) (suc i) y isnt = at_other xs k i y (λ e. isnt (ap suc e))
 
 pub set_cases : {A : Type 0} (xs : List A) (k : ℕ) (y : A) (i : ℕ) (z : A) → slice_get (set xs k y) i ≡ Some z
     → ((¬ (i ≡ k)) × (slice_get xs i ≡ Some z)) ⊎ ((i ≡ k) × (z ≡ y))
@@ -69,7 +69,7 @@ pub split_last : {A : Type 0} (xs front behind : List A) (y z : A) → xs ++ y �
 split_last [] [] behind y z e = inl (refl, same_head y z [] behind e)
 split_last [] (f ∷ front) behind y z e =
     let none : [] ≡ front ++ z ∷ behind = same_tail y f [] (front ++ z ∷ behind) e in
-    let size : length {A = A} [] ≡ length front + suc (length behind) = ap length none ∙ length-append front (z ∷ behind) in
+    let size : 0 ≡ length front + suc (length behind) = ap length none ∙ length-append front (z ∷ behind) in
     absurd (omega (arith, size))
 split_last (x ∷ xs) [] behind y z e = inr (xs, ap (λ h. h ∷ xs) (same_head x z (xs ++ y ∷ []) behind e))
 split_last (x ∷ xs) (f ∷ front) behind y z e =

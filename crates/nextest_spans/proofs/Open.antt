@@ -18,7 +18,7 @@ pub record IsUnclosed (item : Item) (c : Container) : Type 0 where
 abbrev pub NoneUnclosed : List Item → ℕ → ℕ → Type 0
 NoneUnclosed items low high = (i : ℕ) (item : Item) (c : Container) → low ≤ i → i < high → slice_get items i ≡ Some item → ¬ IsUnclosed item c
 
--- these lists and tables are not closed, and no others from one index on
+-- these lists and tables are not closed, and isnt others from one index on
 abbrev pub AreOpen : List Item → ℕ → List (ℕ × Container) → Type 0
 AreOpen items low [] = NoneUnclosed items low (length items)
 AreOpen items low (h ∷ hs) = (item : Item) × (low ≤ h.0) × (slice_get items h.0 ≡ Some item) × IsUnclosed item h.1
@@ -34,15 +34,15 @@ none_pushed items x low high within none i item c le less at =
 
 pub open_pushed : (items : List Item) (x : Item) (low : ℕ) (hs : List (ℕ × Container)) → AreOpen items low hs → ((c : Container) → ¬ IsUnclosed x c)
     → AreOpen (items ++ x ∷ []) low hs
-open_pushed items x low [] none no i item c le less at =
+open_pushed items x low [] none isnt = λ i item c le less at.
     elim (at_cases items x i item at) [
       | inl was ↦ none i item c le (slice_get_within items i item was) was
-      | inr is ↦ subst (λ y. ¬ IsUnclosed y c) (sym is.1) (no c)
+      | inr is ↦ subst (λ y. ¬ IsUnclosed y c) (sym is.1) (isnt c)
     ]
-open_pushed items x low (h ∷ hs) are no =
+open_pushed items x low (h ∷ hs) are isnt =
     let within : h.0 < length items = slice_get_within items h.0 are.0 are.2 in
     (are.0, are.1, at_pushed items x h.0 within ∙ are.2, are.3, none_pushed items x low h.0 (omega (arith, within)) are.4,
-      open_pushed items x (suc h.0) hs are.5 no)
+      open_pushed items x (suc h.0) hs are.5 isnt)
 
 pub open_opened : (items : List Item) (x : Item) (c : Container) (low : ℕ) (hs : List (ℕ × Container)) → AreOpen items low hs → low ≤ length items
     → IsUnclosed x c → AreOpen (items ++ x ∷ []) low (hs ++ (length items, c) ∷ [])
@@ -59,9 +59,9 @@ open_above items low [] h are = are.1
 open_above items low (g ∷ hs) h are = omega (arith, are.1, open_above items (suc g.0) hs h are.5)
 
 sides : (i k : ℕ) → ¬ (i ≡ k) → (i < k) ⊎ (suc k ≤ i)
-sides i k no =
+sides i k isnt =
     elim (cases_order i k) [
-      | inl is ↦ absurd (no is)
+      | inl is ↦ absurd (isnt is)
       | inr is ↦ elim is [
         | inl less ↦ inl less
         | inr more ↦ inr (omega (arith, more))
@@ -74,19 +74,19 @@ none_set items k z low high within none i item c le less at =
 
 pub open_closed : (items : List Item) (z : Item) (low : ℕ) (hs : List (ℕ × Container)) (h : ℕ × Container) → AreOpen items low (hs ++ h ∷ [])
     → ((c : Container) → ¬ IsUnclosed z c) → AreOpen (set items h.0 z) low hs
-open_closed items z low [] h are no i item c le less at =
+open_closed items z low [] h are isnt = λ i item c le less at.
     elim (set_cases items h.0 z i item at) [
-      | inr is ↦ subst (λ y. ¬ IsUnclosed y c) (sym is.1) (no c)
+      | inr is ↦ subst (λ y. ¬ IsUnclosed y c) (sym is.1) (isnt c)
       | inl was ↦ λ o.
           elim (sides i h.0 was.0) [
             | inl before ↦ are.4 i item c le before was.1 o
             | inr after ↦ are.5 i item c after (slice_get_within items i item was.1) was.1 o
           ]
     ]
-open_closed items z low (g ∷ hs) h are no =
+open_closed items z low (g ∷ hs) h are isnt =
     let above : suc g.0 ≤ h.0 = open_above items (suc g.0) hs h are.5 in
     (are.0, are.1, at_other items h.0 g.0 z (λ e. absurd (omega (arith, e, above))) ∙ are.2, are.3,
-      none_set items h.0 z low g.0 (omega (arith, above)) are.4, open_closed items z (suc g.0) hs h are.5 no)
+      none_set items h.0 z low g.0 (omega (arith, above)) are.4, open_closed items z (suc g.0) hs h are.5 isnt)
 
 -- ---- the innermost
 

@@ -58,7 +58,7 @@ grows_set now items k a z at kept = record {
         | inl is ↦
             let same : a ≡ b = same_Some a b (sym at ∙ ap (slice_get items) (sym is) ∙ here) in
             (z, ap (slice_get (set items k z)) is ∙ at_set items k z (slice_get_within items k a at), subst (λ x. Kept now x z) same kept)
-        | inr no ↦ (b, at_other items k i z no ∙ here, same_item now b)
+        | inr isnt ↦ (b, at_other items k i z isnt ∙ here, same_item now b)
       ];
   back = λ i b less here.
       elim (set_cases items k z i b here) [

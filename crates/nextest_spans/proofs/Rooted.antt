@@ -70,8 +70,8 @@ part_more : (tokens : List Token) (t : Token) → ends_in_part (tokens ++ t ∷ 
 part_more tokens t = last_more false tokens t
 
 not_part_before : (tokens : List Token) (t : Token) → is_part t.kind ≡ false → None ≡ part_before (tokens ++ t ∷ [])
-not_part_before tokens t no =
-    sym (ap (λ b. last_before b (item_count (tokens ++ t ∷ []))) (part_more tokens t ∙ no))
+not_part_before tokens t isnt =
+    sym (ap (λ b. last_before b (item_count (tokens ++ t ∷ []))) (part_more tokens t ∙ isnt))
 
 all_more : (xs : List Token) (t : Token) → AllByRecursion (λ u. is_header u.kind ≡ false) xs → is_header t.kind ≡ false
     → AllByRecursion (λ u. is_header u.kind ≡ false) (xs ++ t ∷ [])
@@ -79,14 +79,14 @@ all_more [] t all is = (is, tt)
 all_more (x ∷ xs) t all is = (all.0, all_more xs t all.1 is)
 
 begun_more : (tokens : List Token) (t : Token) (low : ℕ) → is_header t.kind ≡ false → IsBegun tokens low → IsBegun (tokens ++ t ∷ []) low
-begun_more tokens t low no (inl none) = inl (all_more tokens t none.0 no, none.1)
-begun_more tokens t low no (inr is) = inr (record {
+begun_more tokens t low isnt (inl none) = inl (all_more tokens t none.0 isnt, none.1)
+begun_more tokens t low isnt (inr is) = inr (record {
   front = is.front;
   header = is.header;
   behind = is.behind ++ t ∷ [];
   whole = ap (λ ts. ts ++ t ∷ []) is.whole ∙ append_assoc is.front (is.header ∷ is.behind) (t ∷ []);
   is = is.is;
-  last = all_more is.behind t is.last no;
+  last = all_more is.behind t is.last isnt;
   count = is.count;
 })
 
@@ -104,21 +104,21 @@ section_begun items tokens t is count =
 
 pub section_more : (items : List Item) (tokens : List Token) (t : Token) (count : ℕ) (section : Option ℕ) → is_header t.kind ≡ false
     → IsSection items tokens count section → IsSection items (tokens ++ t ∷ []) count section
-section_more items tokens t count section no s = (s.0, begun_more tokens t s.0 no s.1, s.2)
+section_more items tokens t count section isnt s = (s.0, begun_more tokens t s.0 isnt s.1, s.2)
 
 none_heads_more : (items : List Item) (x : Item) (low : ℕ) → is_heading x.role ≡ false → NoneHeads items low (length items)
     → NoneHeads (items ++ x ∷ []) low (suc (length items))
-none_heads_more items x low no none i item le less here =
+none_heads_more items x low isnt none i item le less here =
     elim (at_cases items x i item here) [
       | inl was ↦ none i item le (slice_get_within items i item was) was
-      | inr is ↦ ap (λ y. is_heading y.role) is.1 ∙ no
+      | inr is ↦ ap (λ y. is_heading y.role) is.1 ∙ isnt
     ]
 
 last_heading_more : (items : List Item) (x : Item) (low : ℕ) (section : Option ℕ) → is_heading x.role ≡ false
     → IsLastHeading items low (length items) section → IsLastHeading (items ++ x ∷ []) low (suc (length items)) section
-last_heading_more items x low None no is = none_heads_more items x low no is
-last_heading_more items x low (Some i) no is =
-    (is.0, is.1, omega (arith, is.2), at_pushed items x i is.2 ∙ is.3, is.4, none_heads_more items x (suc i) no is.5)
+last_heading_more items x low None isnt is = none_heads_more items x low isnt is
+last_heading_more items x low (Some i) isnt is =
+    (is.0, is.1, omega (arith, is.2), at_pushed items x i is.2 ∙ is.3, is.4, none_heads_more items x (suc i) isnt is.5)
 
 -- an item more, which is a part of a header's key or not
 section_pushed : (items : List Item) (tokens : List Token) (x : Item) (section new : Option ℕ) (heading : Bool) → is_heading x.role ≡ heading
@@ -166,20 +166,20 @@ rooted_skipped text rest behind tokens items held key section nest r taken = rec
   heading = r.heading;
 }
 
--- ---- a token that is no item and closes nothing
+-- ---- a token that is isnt item and closes nothing
 
 pub rooted_passed : (text rest behind : List ℕ) (tokens : List Token) (items : List Item) (token : Token) (held : List (ℕ × Container))
     (key section new : Option ℕ) (nest : List Container) → Rooted text tokens items rest held key section nest → IsTaken text rest (Some token) behind
     → kind_sort token.kind ≡ None → is_part token.kind ≡ false → IsPlaced token.kind items tokens token
     → IsSection items (tokens ++ token ∷ []) (length items) new → Rooted text (tokens ++ token ∷ []) items behind held None new nest
-rooted_passed text rest behind tokens items token held key section new nest r taken none no place heading = record {
+rooted_passed text rest behind tokens items token held key section new nest r taken none isnt place heading = record {
   base = itemized_kept text rest behind tokens items items token r.base taken none (kept text items);
   placed = placed_more items tokens token r.placed place;
   closed = closed_more items tokens token r.closed;
   ends = ends_later items (at text rest) (at text behind) (behind_later text rest behind (Some token) taken) r.ends;
   are = r.are;
   nested = r.nested;
-  before = not_part_before tokens token no;
+  before = not_part_before tokens token isnt;
   low = tt;
   heading = heading;
 }
@@ -224,7 +224,7 @@ pub rooted_begun : (text rest own behind : List ℕ) (tokens : List Token) (item
     → map (λ (h : ℕ × Container). h.1) held_new ≡ nest_new
     → Rooted text (tokens ++ token ∷ []) (items ++ record { parent = parent; role = role; span = token.span; kind = kind } ∷ []) behind held_new key_new
         new nest_new
-rooted_begun text rest own behind tokens items token parent role kind held held_new key key_new section new nest nest_new r taken parent_was sort no kind_is
+rooted_begun text rest own behind tokens items token parent role kind held held_new key key_new section new nest nest_new r taken parent_was sort isnt kind_is
     own_is is nested =
     let x : Item = record { parent = parent; role = role; span = token.span; kind = kind } in
     let wanted : Option ℕ = parent_of token.kind (is_heading role) key (last_of held) section in
@@ -276,7 +276,7 @@ rooted_begun text rest own behind tokens items token parent role kind held held_
       low = subst (λ n. IfSome key_new (λ i. i < n)) (sym size) (low_by (is_part token.kind) (length items) key_new is.key_is);
       heading =
           subst (λ n. IsSection (items ++ x ∷ []) (tokens ++ token ∷ []) n new) (sym size)
-          (section_more (items ++ x ∷ []) tokens token (suc (length items)) new no
+          (section_more (items ++ x ∷ []) tokens token (suc (length items)) new isnt
           (section_pushed items tokens x section new (is_heading role) refl count is.section_is r.heading));
     }
 

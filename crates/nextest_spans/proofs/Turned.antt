@@ -61,11 +61,11 @@ headed : (kind : TokenKind) (text rest behind : List ℕ) (tokens : List Token) 
     → token.kind ≡ kind → is_header kind ≡ true → kind_sort kind ≡ None → is_part kind ≡ false → IsPlaced kind items tokens token
     → Rooted text tokens items rest (holders old) old.key old.section nest → IsTaken text rest (Some token) behind → new.key ≡ None → new.section ≡ None
     → is_pair new.kind ≡ false → holders new ≡ holders old → nest_new ≡ nest → Reads text items behind new nest_new
-headed kind text rest behind tokens items token old new nest nest_new is header none no place r taken key section pair held same = record {
+headed kind text rest behind tokens items token old new nest nest_new is header none isnt place r taken key section pair held same = record {
   tokens = tokens ++ token ∷ [];
   is =
       rooted_same text behind (tokens ++ token ∷ []) items (holders old) (holders new) None new.key None new.section nest nest_new held key section same
-      (rooted_passed text rest behind tokens items token (holders old) old.key old.section None nest r taken (ap kind_sort is ∙ none) (ap is_part is ∙ no)
+      (rooted_passed text rest behind tokens items token (holders old) old.key old.section None nest r taken (ap kind_sort is ∙ none) (ap is_part is ∙ isnt)
       (subst (λ k. IsPlaced k items tokens token) (sym is) place)
       (section_begun items tokens token (ap is_header is ∙ header) (counted text tokens items rest r.base)));
   kind = pair;

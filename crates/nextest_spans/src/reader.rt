@@ -1,5 +1,5 @@
 //! Tokens as items.
-ghost use Rattle.std.specs.Prelude.{◌≡◌, ◌++◌, ◌∷◌, [], IfOk, OnOk, Some, None, option_map};
+ghost use Rattle.std.specs.Prelude.{◌≡◌, ◌++◌, ◌∷◌, [], false, IfOk, OnOk, Some, None, option_map};
 ghost use Rattle.std.specs.Option.{option_or};
 ghost use Rattle.nextest_spans.specs.Nesting.{last_of};
 ghost use Rattle.nextest_spans.specs.Tree.{held_in, list_of};
@@ -61,7 +61,11 @@ pub(crate) struct Reader {
 
 impl Reader {
     /// Nothing was read.
-    pub(crate) fn new(alloc: Global) -> Reader {
+    pub(crate) fn new(alloc: Global) -> Reader
+        ensures held { holders result ≡ [] }
+        ensures none { (result.key ≡ None) × (result.section ≡ None)
+            × (spec.is_pair result.kind ≡ false) }
+    {
         Reader {
             kind: KeyKind::Table,
             section: None,

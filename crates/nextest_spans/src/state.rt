@@ -1,5 +1,5 @@
 //! What may stand next in a text.
-ghost use Rattle.std.specs.Prelude.{◌≡◌, OnOk, Some};
+ghost use Rattle.std.specs.Prelude.{◌≡◌, List, [], OnOk, Some};
 ghost use Rattle.std.specs.Bool.{OnTrue};
 ghost use Rattle.nextest_spans.specs.Nesting.{IsCloseIn, NestsAs, last_of};
 
@@ -65,7 +65,9 @@ pub(crate) struct State {
 
 impl State {
     /// The start of a text.
-    pub(crate) fn new(alloc: Global) -> State {
+    pub(crate) fn new(alloc: Global) -> State
+        ensures { result.nest.items ≡ [] }
+    {
         State {
             next: Next::Expression,
             is_dotted: false,
@@ -275,7 +277,9 @@ fn part_len(text: &str) -> Option<usize> {
 }
 
 /// A string or a word.
-fn scalar(text: &str) -> Front {
+fn scalar(text: &str) -> Front
+    ensures { (nest : List Container) → IsCloseIn nest result.raw }
+{
     if !starts_string(text) {
         return piece(Raw::Word, word_len(text));
     }
@@ -287,10 +291,14 @@ fn scalar(text: &str) -> Front {
     piece(Raw::String, len)
 }
 
-fn piece(raw: Raw, len: usize) -> Front {
+fn piece(raw: Raw, len: usize) -> Front
+    ensures { result.raw ≡ raw }
+{
     Front { raw, len }
 }
 
-fn gap(len: usize) -> Front {
+fn gap(len: usize) -> Front
+    ensures { result.raw ≡ Raw.Gap }
+{
     piece(Raw::Gap, len)
 }

@@ -6,7 +6,10 @@ use Rattle.nextest_spans.proofs.Turned.{reads_begun, reads_closed, reads_end, re
 use Rattle.nextest_spans.proofs.items.items_of.Goals as goal
 
 pub tokens-init : goal.tokens-init
-tokens-init c = ?
+tokens-init c =
+    rw c.new-items.ensures.items
+    (reads_start c.args.text.now c.new-reader.result c.utf8.text c.new-reader.ensures.held c.new-reader.ensures.none.0 c.new-reader.ensures.none.1
+    c.new-reader.ensures.none.2 c.new-state.result.nest.items c.new-state.ensures)
 
 pub tokens-preserved-in-None : goal.tokens-preserved-in-None
 tokens-preserved-in-None c =
@@ -45,4 +48,6 @@ tokens-preserved c =
     c.in_ok-close-in-Closes.ensures.keeps c.in_ok-close-in-Closes.ensures.ends
 
 pub returns : goal.returns
-returns c = ?
+returns c =
+    reads_end c.args.text.now c.tokens.rest.now c.tokens.items.items c.tokens.reader c.tokens.state.nest.items c.tokens.invariant
+    (grind (arith, c.is_empty.ensures, c.tokens-test.ensures, c.tokens-test.false))
