@@ -19,14 +19,16 @@ span_to item end = record { start = item.span.start; end = end }
 pub ends_at : (text : List ℕ) (items : List Item) (k : ℕ) (y z new : Item) (end : ℕ) (kind : Option ValueKind) → y ≡ get_or items k y → z ≡ get_or items k z
     → new ≡ record { parent = z.parent; role = z.role; span = record { start = y.span.start; end = end }; kind = kind } → Ends text k end items (set items k new)
 ends_at text items k y z new end kind y_is z_is new_is item c here holds less first last =
-    let same : z ≡ item = one_item items k z item z_is here in
-    (new,
+    let same : z ≡ item = one_item items k z item z_is here in (
+      new,
       record {
         parent = ap (λ i. i.parent) new_is ∙ ap (λ i. i.parent) same;
         role = ap (λ i. i.role) new_is ∙ ap (λ i. i.role) same;
         span =
             ap (λ i. i.span) new_is ∙ ap (λ i. span_to i end) (one_item items k y item y_is here);
-      }, refl)
+      },
+      refl,
+    )
 
 pub ends_nothing_past : (text : List ℕ) (items : List Item) (k end : ℕ) → length items ≤ k → Ends text k end items items
 ends_nothing_past text items k end past item c here holds less first last =

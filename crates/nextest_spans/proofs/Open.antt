@@ -40,19 +40,34 @@ open_pushed items x low [] none isnt = λ i item c le less at.
       | inr is ↦ subst (λ y. ¬ IsUnclosed y c) (sym is.1) (isnt c)
     ]
 open_pushed items x low (h ∷ hs) are isnt =
-    let within : h.0 < length items = slice_get_within items h.0 are.0 are.2 in
-    (are.0, are.1, at_pushed items x h.0 within ∙ are.2, are.3, none_pushed items x low h.0 (omega (arith, within)) are.4,
-      open_pushed items x (suc h.0) hs are.5 isnt)
+    let within : h.0 < length items = slice_get_within items h.0 are.0 are.2 in (
+      are.0,
+      are.1,
+      at_pushed items x h.0 within ∙ are.2,
+      are.3,
+      none_pushed items x low h.0 (omega (arith, within)) are.4,
+      open_pushed items x (suc h.0) hs are.5 isnt,
+    )
 
 pub open_opened : (items : List Item) (x : Item) (c : Container) (low : ℕ) (hs : List (ℕ × Container)) → AreOpen items low hs → low ≤ length items
     → IsUnclosed x c → AreOpen (items ++ x ∷ []) low (hs ++ (length items, c) ∷ [])
-open_opened items x c low [] none le is =
-    (x, le, at_seam items x, is, none_pushed items x low (length items) (omega arith) none,
-      λ i item d more less at o. absurd (omega (arith, more, less, length-append items (x ∷ []))))
+open_opened items x c low [] none le is = (
+  x,
+  le,
+  at_seam items x,
+  is,
+  none_pushed items x low (length items) (omega arith) none,
+  λ i item d more less at o. absurd (omega (arith, more, less, length-append items (x ∷ []))),
+)
 open_opened items x c low (h ∷ hs) are le is =
-    let within : h.0 < length items = slice_get_within items h.0 are.0 are.2 in
-    (are.0, are.1, at_pushed items x h.0 within ∙ are.2, are.3, none_pushed items x low h.0 (omega (arith, within)) are.4,
-      open_opened items x c (suc h.0) hs are.5 (omega (arith, within)) is)
+    let within : h.0 < length items = slice_get_within items h.0 are.0 are.2 in (
+      are.0,
+      are.1,
+      at_pushed items x h.0 within ∙ are.2,
+      are.3,
+      none_pushed items x low h.0 (omega (arith, within)) are.4,
+      open_opened items x c (suc h.0) hs are.5 (omega (arith, within)) is,
+    )
 
 pub open_above : (items : List Item) (low : ℕ) (hs : List (ℕ × Container)) (h : ℕ × Container) → AreOpen items low (hs ++ h ∷ []) → low ≤ h.0
 open_above items low [] h are = are.1
@@ -84,9 +99,14 @@ open_closed items z low [] h are isnt = λ i item c le less at.
           ]
     ]
 open_closed items z low (g ∷ hs) h are isnt =
-    let above : suc g.0 ≤ h.0 = open_above items (suc g.0) hs h are.5 in
-    (are.0, are.1, at_other items h.0 g.0 z (λ e. absurd (omega (arith, e, above))) ∙ are.2, are.3,
-      none_set items h.0 z low g.0 (omega (arith, above)) are.4, open_closed items z (suc g.0) hs h are.5 isnt)
+    let above : suc g.0 ≤ h.0 = open_above items (suc g.0) hs h are.5 in (
+      are.0,
+      are.1,
+      at_other items h.0 g.0 z (λ e. absurd (omega (arith, e, above))) ∙ are.2,
+      are.3,
+      none_set items h.0 z low g.0 (omega (arith, above)) are.4,
+      open_closed items z (suc g.0) hs h are.5 isnt,
+    )
 
 -- ---- the innermost
 
@@ -127,7 +147,11 @@ innermost_now items hs now are ends =
           let last = last_open items 0 is.0 h (subst (AreOpen items 0) is.2 are) in
           let begun : last.item.span.start < now = omega (arith, last.is.alone, ends h.0 last.item last.at) in
           subst (λ l. IsInnermost items (length items) now (last_of l)) (sym is.2)
-          (subst (IsInnermost items (length items) now) (sym (last_is is.0 h))
-          (last.item, slice_get_within items h.0 last.item last.at, last.at,
-            record { holds = last.is.holds; begun = begun; goes_on = inr last.is.alone }, none_open items (suc h.0) now ends last.none))
+          (subst (IsInnermost items (length items) now) (sym (last_is is.0 h)) (
+            last.item,
+            slice_get_within items h.0 last.item last.at,
+            last.at,
+            record { holds = last.is.holds; begun = begun; goes_on = inr last.is.alone },
+            none_open items (suc h.0) now ends last.none,
+          ))
     ]

@@ -163,9 +163,11 @@ child_kept now old new front token g less is =
       section = is.section;
       at = there.1;
       innermost = innermost_kept now old new (item_count front) token.span.start is.held g (omega (arith, within)) less is.innermost;
-      heading =
-          (is.heading.0, is.heading.1,
-            last_heading_kept now old new is.heading.0 (item_count front) is.section g (omega (arith, within)) is.heading.2);
+      heading = (
+        is.heading.0,
+        is.heading.1,
+        last_heading_kept now old new is.heading.0 (item_count front) is.section g (omega (arith, within)) is.heading.2,
+      );
       parent =
           there.2.parent ∙ is.parent
           ∙ ap (λ r. parent_of token.kind (is_heading r) (part_before front) is.held is.section) (sym there.2.role);

@@ -97,10 +97,11 @@ begun_within tokens low (inr is) = omega (arith, is.count, front_count tokens is
 -- a header begins a section without parts
 pub section_begun : (items : List Item) (tokens : List Token) (t : Token) → is_header t.kind ≡ true → item_count tokens ≡ length items
     → IsSection items (tokens ++ t ∷ []) (length items) None
-section_begun items tokens t is count =
-    (length items,
-      inr (record { front = tokens; header = t; behind = []; whole = refl; is = is; last = tt; count = sym count }),
-      λ i item le less here. absurd (omega (arith, le, less)))
+section_begun items tokens t is count = (
+  length items,
+  inr (record { front = tokens; header = t; behind = []; whole = refl; is = is; last = tt; count = sym count }),
+  λ i item le less here. absurd (omega (arith, le, less)),
+)
 
 pub section_more : (items : List Item) (tokens : List Token) (t : Token) (count : ℕ) (section : Option ℕ) → is_header t.kind ≡ false
     → IsSection items tokens count section → IsSection items (tokens ++ t ∷ []) count section
@@ -126,9 +127,11 @@ section_pushed : (items : List Item) (tokens : List Token) (x : Item) (section n
     → IsSection items tokens (length items) section → IsSection (items ++ x ∷ []) tokens (suc (length items)) new
 section_pushed items tokens x section new true is count new_is s =
     let le : s.0 ≤ length items = omega (arith, count, begun_within tokens s.0 s.1) in
-    subst (IsSection (items ++ x ∷ []) tokens (suc (length items))) (sym new_is)
-    (s.0, s.1,
-      (x, le, omega arith, at_seam items x, is, λ i item more less here. absurd (omega (arith, more, less))))
+    subst (IsSection (items ++ x ∷ []) tokens (suc (length items))) (sym new_is) (
+      s.0,
+      s.1,
+      (x, le, omega arith, at_seam items x, is, λ i item more less here. absurd (omega (arith, more, less))),
+    )
 section_pushed items tokens x section new false is count new_is s =
     subst (IsSection (items ++ x ∷ []) tokens (suc (length items))) (sym new_is)
     (s.0, s.1, last_heading_more items x s.0 section is s.2)
@@ -217,13 +220,13 @@ pub rooted_begun : (text rest own behind : List ℕ) (tokens : List Token) (item
     (kind : Option ValueKind) (held held_new : List (ℕ × Container)) (key key_new section new : Option ℕ) (nest nest_new : List Container)
     → Rooted text tokens items rest held key section nest → IsTaken text rest (Some token) behind
     → (IfSome (parent_of token.kind (is_heading role) key (last_of held) section) (λ i. i < length items)
-        → parent ≡ parent_of token.kind (is_heading role) key (last_of held) section)
+    → parent ≡ parent_of token.kind (is_heading role) key (last_of held) section)
     → kind_sort token.kind ≡ Some (role_sort role) → is_header token.kind ≡ false → kind ≡ kind_by_sort own (role_sort role)
     → own ≡ between (at text rest) (at text behind) text
     → IsNew items token (record { parent = parent; role = role; span = token.span; kind = kind }) held section new held_new key_new
     → map (λ (h : ℕ × Container). h.1) held_new ≡ nest_new
     → Rooted text (tokens ++ token ∷ []) (items ++ record { parent = parent; role = role; span = token.span; kind = kind } ∷ []) behind held_new key_new
-        new nest_new
+    new nest_new
 rooted_begun text rest own behind tokens items token parent role kind held held_new key key_new section new nest nest_new r taken parent_was sort isnt kind_is
     own_is is nested =
     let x : Item = record { parent = parent; role = role; span = token.span; kind = kind } in
@@ -253,9 +256,11 @@ rooted_begun text rest own behind tokens items token parent role kind held held_
           (omega (arith, some, end_is))
           (subst (λ n. IsInnermost items (length items) n (last_of held)) (sym start_is) (innermost_now items held (at text rest) r.are r.ends)));
       heading =
-          subst (λ n. IsSection (items ++ x ∷ []) tokens n section) (sym count)
-          (r.heading.0, r.heading.1,
-            last_heading_kept (at text behind) items (items ++ x ∷ []) r.heading.0 (length items) section grows (omega arith) r.heading.2);
+          subst (λ n. IsSection (items ++ x ∷ []) tokens n section) (sym count) (
+            r.heading.0,
+            r.heading.1,
+            last_heading_kept (at text behind) items (items ++ x ∷ []) r.heading.0 (length items) section grows (omega arith) r.heading.2,
+          );
       parent = parent_is ∙ ap (λ k. parent_of token.kind (is_heading role) k (last_of held) section) r.before;
     } in
     record {
@@ -319,9 +324,10 @@ start_boundary text span is =
     let own = IsCharBoundary-start (text_at text span) is.utf8 in
     let size : length (text_at text span) ≡ span.end - span.start = length_between text span.start span.end is.within in
     let first : slice_index (text_at text span) 0 ≡ slice_index text span.start =
-    first_between text span.start span.end is.some in
-    (omega (arith, is.some, is.within),
-      λ less high. subst (λ n. 192 ≤ n) first (own.1 (omega (arith, size, is.some)) (subst (λ n. 128 ≤ n) (sym first) high)))
+    first_between text span.start span.end is.some in (
+      omega (arith, is.some, is.within),
+      λ less high. subst (λ n. 192 ≤ n) first (own.1 (omega (arith, size, is.some)) (subst (λ n. 128 ≤ n) (sym first) high)),
+    )
 
 ended_not : (now : ℕ) (a z : Item) (c : Container) → a.span.end ≡ suc a.span.start → z.span ≡ record { start = a.span.start; end = now } → suc a.span.start < now
     → ¬ IsUnclosed z c
@@ -382,19 +388,19 @@ rooted_closed text rest behind tokens items new token c i held key section nest 
     (subst (λ t. IsPlaced t (set items i z) tokens token) (sym kind) place) in
     let closed : AreClosed (set items i z) (tokens ++ token ∷ []) =
     λ j item d here holds.
-        elim (set_cases items i z j item here) [
-          | inl was ↦ closed_more items tokens token r.closed j item d was.1 holds
-          | inr is ↦
-              let same : value (Some d) ≡ value (Some c) = sym holds ∙ ap (λ y. role_sort y.role) is.1 ∙ ap role_sort e.1.role ∙ last.is.holds in
-              inr (record {
-                front = tokens;
-                token = token;
-                behind = [];
-                whole = refl;
-                kind = kind ∙ ap (λ e. kinds.Close e) (sym (same_container d c same));
-                ends = sym (ap (λ y. y.span.end) is.1 ∙ end_same);
-              })
-        ] in
+    elim (set_cases items i z j item here) [
+      | inl was ↦ closed_more items tokens token r.closed j item d was.1 holds
+      | inr is ↦
+          let same : value (Some d) ≡ value (Some c) = sym holds ∙ ap (λ y. role_sort y.role) is.1 ∙ ap role_sort e.1.role ∙ last.is.holds in
+          inr (record {
+            front = tokens;
+            token = token;
+            behind = [];
+            whole = refl;
+            kind = kind ∙ ap (λ e. kinds.Close e) (sym (same_container d c same));
+            ends = sym (ap (λ y. y.span.end) is.1 ∙ end_same);
+          })
+    ] in
     record {
       base = base;
       placed = subst (λ xs. ArePlaced xs (tokens ++ token ∷ [])) (sym made) placed;
@@ -414,7 +420,9 @@ rooted_closed text rest behind tokens items new token c i held key section nest 
       heading =
           subst (λ xs. IsSection xs (tokens ++ token ∷ []) (length xs) section) (sym made)
           (subst (λ n. IsSection (set items i z) (tokens ++ token ∷ []) n section) (sym size)
-          (section_more (set items i z) tokens token (length items) section not_header
-          (r.heading.0, r.heading.1,
-            last_heading_kept token.span.end items (set items i z) r.heading.0 (length items) section grows (omega arith) r.heading.2)));
+          (section_more (set items i z) tokens token (length items) section not_header (
+            r.heading.0,
+            r.heading.1,
+            last_heading_kept token.span.end items (set items i z) r.heading.0 (length items) section grows (omega arith) r.heading.2,
+          )));
     }

@@ -254,8 +254,8 @@ begun (kinds.Open c) text rest own behind tokens items token old new index headi
     value_begun (kinds.Open c) (Some c) text rest own behind tokens items token old new index heading parent role value_kind nest nest_new
     (holders old ++ (index, c) ∷ []) is refl refl refl (λ h. refl) r pair taken index_is turn (λ d some. one)
     (λ x sort span are. subst (λ n. AreOpen (items ++ x ∷ []) 0 (holders old ++ (n, c) ∷ [])) (sym index_is)
-        (open_opened items x c 0 (holders old) are (omega arith)
-        (record { holds = sort; alone = ap (λ s. s.end) span ∙ one ∙ ap (λ s. suc s.start) (sym span) })))
+    (open_opened items x c 0 (holders old) are (omega arith)
+    (record { holds = sort; alone = ap (λ s. s.end) span ∙ one ∙ ap (λ s. suc s.start) (sym span) })))
     (map-append (λ (h : ℕ × Container). h.1) (holders old) ((index, c) ∷ []) ∙ ap (λ ns. ns ++ c ∷ []) r.nested ∙ sym nests) kind_is own_is
 
 pub reads_begun : (text rest own behind : List ℕ) (items : List Item) (token : Token) (old new : Reader) (index : ℕ) (heading : Bool) (parent : Option ℕ)

@@ -126,8 +126,8 @@ abbrev pub held_in : Option (ℕ × Container) → Option ℕ → Option ℕ
 held_in None section = section
 held_in (Some held) section = Some held.0
 
--- what the first part of a key stands in: at the root for a header, and else in the innermost that is
--- open, or in the section where none is
+-- what the first part of a key stands in: at the root for a header, and else in the innermost that
+-- is open, or in the section where none is
 abbrev pub first_in : Bool → Option (ℕ × Container) → Option ℕ → Option ℕ
 first_in true held section = None
 first_in false held section = held_in held section
@@ -153,7 +153,8 @@ pub record IsRightChild (items : List Item) (front : List Token) (token : Token)
       ≡ parent_of token.kind (is_heading item.role) (part_before front) held section
 
 -- the innermost that is open ends with a token
-pub record IsRightEnd (items : List Item) (front : List Token) (token : Token) (c : Container) : Type 0 where
+pub record IsRightEnd (items : List Item) (front : List Token) (token : Token) (c : Container)
+    : Type 0 where
   pub index : ℕ
   pub item : Item
   pub at : slice_get items index ≡ Some item
@@ -189,9 +190,10 @@ AreClosed items tokens = (i : ℕ) (item : Item) (c : Container) → slice_get i
 
 -- ---- the items of a text
 
--- The text is some tokens with nothing but gaps between them. An item begins at each token of a key's
--- part or a value, in order, and each item is right. Each stands in the innermost list or table that is
--- open, or in the part of a key before it; and each that is closed is so where it is the innermost.
+-- The text is some tokens with nothing but gaps between them. An item begins at each token of a
+-- key's part or a value, in order, and each item is right. Each stands in the innermost list or table
+-- that is open, or in the part of a key before it; and each that is closed is so where it is the
+-- innermost.
 pub record AreItems (text : List ℕ) (items : List Item) : Type 0 where
   pub tokens : List Token
   pub are : AreTokens text 0 tokens (length text)

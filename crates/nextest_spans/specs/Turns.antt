@@ -40,7 +40,8 @@ IsHeaderTurn old new Nothing = (new.key ≡ None) × (new.section ≡ None)
 IsHeaderTurn old new _ = ⊥
 
 -- a part of a key begins an item
-pub record IsPart (old new : Reader) (index : ℕ) (heading : Bool) (wanted : Option ℕ) (name : Option (String Global)) (parent : Option ℕ) (role : Role) : Type 0 where
+pub record IsPart (old new : Reader) (index : ℕ) (heading : Bool) (wanted : Option ℕ)
+    (name : Option (String Global)) (parent : Option ℕ) (role : Role) : Type 0 where
   pub sort : role_sort role ≡ key_part name
   pub heads : is_pair old.kind ≡ false → is_heading role ≡ heading
   pub stands : IsKept index wanted parent
@@ -49,19 +50,23 @@ pub record IsPart (old new : Reader) (index : ℕ) (heading : Bool) (wanted : Op
   pub kind : new.kind ≡ old.kind
   pub held : holders new ≡ holders old
 
-abbrev pub IsPartTurn : Reader → Reader → ℕ → Bool → Option ℕ → Option (String Global) → Turn → Type 0
+abbrev pub IsPartTurn : Reader → Reader → ℕ → Bool → Option ℕ → Option (String Global) → Turn
+    → Type 0
 IsPartTurn old new index heading wanted name (Begins parent role) =
     IsPart old new index heading wanted name parent role
 IsPartTurn old new index heading wanted name _ = ⊥
 
 -- a value begins an item, and these are open behind it
-pub record IsValue (old new : Reader) (index : ℕ) (wanted : Option ℕ) (container : Option Container) (held : List (ℕ × Container)) (parent : Option ℕ) (role : Role) : Type 0 where
+pub record IsValue (old new : Reader) (index : ℕ) (wanted : Option ℕ)
+    (container : Option Container) (held : List (ℕ × Container)) (parent : Option ℕ) (role : Role)
+    : Type 0 where
   pub sort : role_sort role ≡ value container
   pub stands : IsKept index wanted parent
   pub behind : IsBehind old new
   pub opens : holders new ≡ held
 
-abbrev pub IsValueTurn : Reader → Reader → ℕ → Option ℕ → Option Container → List (ℕ × Container) → Turn → Type 0
+abbrev pub IsValueTurn : Reader → Reader → ℕ → Option ℕ → Option Container
+    → List (ℕ × Container) → Turn → Type 0
 IsValueTurn old new index wanted container held (Begins parent role) =
     IsValue old new index wanted container held parent role
 IsValueTurn old new index wanted container held _ = ⊥
@@ -107,7 +112,7 @@ pub record IsEnded (end : ℕ) (item ended : Item) : Type 0 where
   pub role : ended.role ≡ item.role
   pub span : ended.span ≡ record { start = item.span.start; end = end }
 
--- the item at an index ends at a byte, if it is a list or a table with some whole characters up to it
+-- the item at an index ends at a byte, if it is a list or a table with whole characters up to it
 abbrev pub Ends : List ℕ → ℕ → ℕ → List Item → List Item → Type 0
 Ends text index end old new = (item : Item) (c : Container) → slice_get old index ≡ Some item
     → role_sort item.role ≡ value (Some c) → item.span.start < end

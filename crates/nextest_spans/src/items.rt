@@ -95,8 +95,9 @@ fn close(
 
 /// What the first byte of an item opens, if it is a list or a table.
 fn container_of(role: &Role) -> Option<Container>
-    ensures { MatchOption result ((c : Container) → ¬ (spec.role_sort role.now ≡ spec.value (Some c)))
-        (λ c. spec.role_sort role.now ≡ spec.value (Some c)) }
+    ensures { let sort = spec.role_sort role.now in
+        MatchOption result ((c : Container) → ¬ (sort ≡ spec.value (Some c)))
+        (λ c. sort ≡ spec.value (Some c)) }
 {
     match role {
         Role::Key { .. } => None,

@@ -144,7 +144,7 @@ impl Reader {
     ) -> Result<Turn, AllocError>
         ensures { let held = last_of (holders self.old) in
             IfOk result (IsPartTurn self.old self.new place.index place.is_header
-                (spec.first_in place.is_header held self.old.section) name) }
+            (spec.first_in place.is_header held self.old.section) name) }
     {
         let parent = self.first_in(place.is_header);
         self.part(alloc, parent, name, place)
@@ -160,7 +160,7 @@ impl Reader {
         ensures { let held = last_of (holders self.old) in
             let first = spec.first_in place.is_header held self.old.section in
             IfOk result (IsPartTurn self.old self.new place.index place.is_header
-                (option_or self.old.key first) name) }
+            (option_or self.old.key first) name) }
     {
         let parent = self.key.or(self.first_in(place.is_header));
         self.part(alloc, parent, name, place)
@@ -203,8 +203,8 @@ impl Reader {
     fn value(&mut self, container: Option<Container>, index: usize) -> Turn
         ensures { let held = last_of (holders self.old) in
             IsValueTurn self.old self.new index
-                (option_or (list_of held) (option_or self.old.key (held_in held self.old.section)))
-                container (holders self.old) result }
+            (option_or (list_of held) (option_or self.old.key (held_in held self.old.section)))
+            container (holders self.old) result }
     {
         let base = self.key.or(self.base());
         let (parent, position) = match self.next_in_list() {
@@ -241,8 +241,8 @@ impl Reader {
     fn opened(&mut self, container: Container, index: usize) -> Result<Turn, AllocError>
         ensures { let held = last_of (holders self.old) in
             IfOk result (IsValueTurn self.old self.new index
-                (option_or (list_of held) (option_or self.old.key (held_in held self.old.section)))
-                (Some container) (holders self.old ++ (index, container) ∷ [])) }
+            (option_or (list_of held) (option_or self.old.key (held_in held self.old.section)))
+            (Some container) (holders self.old ++ (index, container) ∷ [])) }
     {
         let turn = self.value(Some(container), index);
         self.held.push(Holder {
