@@ -13,8 +13,8 @@ use Rattle.nextest_spans.specs.declared.token.Token.{Token}
 use Rattle.nextest_spans.specs.declared.token.TokenKind.{TokenKind}
 use Rattle.nextest_spans.specs.declared.token.TokenKind.TheVariants as token
 use Rattle.nextest_spans.specs.Tokens.{IsRightKind, IsTaken, IsToken, at, text_at}
-use Rattle.nextest_spans.specs.Items.{AreItems, EachIs, IsItem, IsNamedSort, IsTextAt, KeepsItems, Sort, item_mark, kind_by_sort, kind_sort, mark, marks_by_sort, read_kind, role_sort, token_marks, value}
-use Rattle.nextest_spans.proofs.Walk.{Walked, walk_end, walk_skipped, walk_start, walk_token}
+use Rattle.nextest_spans.specs.Items.{EachIs, IsItem, IsNamedSort, IsTextAt, KeepsItems, Sort, item_mark, kind_by_sort, kind_sort, mark, marks_by_sort, read_kind, role_sort, token_marks, value}
+use Rattle.nextest_spans.proofs.Walk.{Walked, walk_skipped, walk_start, walk_token}
 
 -- ---- items in a list
 
@@ -110,47 +110,45 @@ right_sort text token.Other right = tt
 
 -- ---- the walk
 
-pub record Itemized (text : List ℕ) (items : List Item) (rest : List ℕ) : Type 0 where
-  pub tokens : List Token
+pub record Itemized (text : List ℕ) (tokens : List Token) (items : List Item) (rest : List ℕ) : Type 0 where
   pub walked : Walked text tokens rest
   pub marks : map item_mark items ≡ flat_map token_marks tokens
   pub each : EachIs text 0 items
 
-pub itemized_start : (text : List ℕ) → IsUtf8 text → Itemized text [] text
-itemized_start text utf8 = record { tokens = []; walked = walk_start text utf8; marks = refl; each = tt }
+pub itemized_start : (text : List ℕ) → IsUtf8 text → Itemized text [] [] text
+itemized_start text utf8 = record { walked = walk_start text utf8; marks = refl; each = tt }
 
-pub itemized_skipped : (text rest behind : List ℕ) (items : List Item) → Itemized text items rest → IsTaken text rest None behind
-    → Itemized text items behind
-itemized_skipped text rest behind items i taken = record {
-  tokens = i.tokens;
-  walked = walk_skipped text rest behind i.tokens i.walked taken;
+pub itemized_skipped : (text rest behind : List ℕ) (tokens : List Token) (items : List Item) → Itemized text tokens items rest
+    → IsTaken text rest None behind → Itemized text tokens items behind
+itemized_skipped text rest behind tokens items i taken = record {
+  walked = walk_skipped text rest behind tokens i.walked taken;
   marks = i.marks;
   each = i.each;
 }
 
 -- the marks of one more token
-more_marks : (tokens : List Token) (token : Token) → flat_map token_marks (tokens ++ token ∷ []) ≡ flat_map token_marks tokens ++ token_marks token
+pub more_marks : (tokens : List Token) (token : Token) → flat_map token_marks (tokens ++ token ∷ []) ≡ flat_map token_marks tokens ++ token_marks token
 more_marks tokens token =
     flat_map-append token_marks tokens (token ∷ []) ∙ ap (λ ms. flat_map token_marks tokens ++ ms) (append-nil (token_marks token))
 
-pub itemized_kept : (text rest behind : List ℕ) (items new : List Item) (token : Token) → Itemized text items rest
-    → IsTaken text rest (Some token) behind → kind_sort token.kind ≡ None → KeepsItems text items new → Itemized text new behind
-itemized_kept text rest behind items new token i taken none keeps =
+pub itemized_kept : (text rest behind : List ℕ) (tokens : List Token) (items new : List Item) (token : Token) → Itemized text tokens items rest
+    → IsTaken text rest (Some token) behind → kind_sort token.kind ≡ None → KeepsItems text items new
+    → Itemized text (tokens ++ token ∷ []) new behind
+itemized_kept text rest behind tokens items new token i taken none keeps =
     let no_marks : token_marks token ≡ [] = ap (λ sort. marks_by_sort sort token.span) none in
     record {
-      tokens = i.tokens ++ token ∷ [];
-      walked = walk_token text rest behind i.tokens token i.walked taken;
+      walked = walk_token text rest behind tokens token i.walked taken;
       marks =
-          keeps.marks ∙ i.marks ∙ sym (append-nil (flat_map token_marks i.tokens)) ∙ ap (λ ms. flat_map token_marks i.tokens ++ ms) (sym no_marks)
-          ∙ sym (more_marks i.tokens token);
+          keeps.marks ∙ i.marks ∙ sym (append-nil (flat_map token_marks tokens)) ∙ ap (λ ms. flat_map token_marks tokens ++ ms) (sym no_marks)
+          ∙ sym (more_marks tokens token);
       each = keeps.each i.each;
     }
 
-pub itemized_begun : (text rest own behind : List ℕ) (items : List Item) (token : Token) (parent : Option ℕ) (role : Role) (kind : Option ValueKind)
-    → Itemized text items rest → IsTaken text rest (Some token) behind → IfSome parent (λ i. i < length items)
+pub itemized_begun : (text rest own behind : List ℕ) (tokens : List Token) (items : List Item) (token : Token) (parent : Option ℕ) (role : Role)
+    (kind : Option ValueKind) → Itemized text tokens items rest → IsTaken text rest (Some token) behind → IfSome parent (λ i. i < length items)
     → kind_sort token.kind ≡ Some (role_sort role) → kind ≡ kind_by_sort own (role_sort role) → own ≡ between (at text rest) (at text behind) text
-    → Itemized text (items ++ record { parent = parent; role = role; span = token.span; kind = kind } ∷ []) behind
-itemized_begun text rest own behind items token parent role kind i taken earlier sort kind_is own_was =
+    → Itemized text (tokens ++ token ∷ []) (items ++ record { parent = parent; role = role; span = token.span; kind = kind } ∷ []) behind
+itemized_begun text rest own behind tokens items token parent role kind i taken earlier sort kind_is own_was =
     let item : Item = record { parent = parent; role = role; span = token.span; kind = kind } in
     let is : IsToken text token = taken.found.0 in
     let own_is : own ≡ text_at text token.span =
@@ -164,14 +162,9 @@ itemized_begun text rest own behind items token parent role kind i taken earlier
       kind = kind_is ∙ ap (λ bytes. kind_by_sort bytes (role_sort role)) own_is;
     } in
     record {
-      tokens = i.tokens ++ token ∷ [];
-      walked = walk_token text rest behind i.tokens token i.walked taken;
+      walked = walk_token text rest behind tokens token i.walked taken;
       marks =
           map-append item_mark items (item ∷ []) ∙ ap (λ ms. ms ++ item_mark item ∷ []) i.marks
-          ∙ ap (λ ms. flat_map token_marks i.tokens ++ ms) (sym one) ∙ sym (more_marks i.tokens token);
+          ∙ ap (λ ms. flat_map token_marks tokens ++ ms) (sym one) ∙ sym (more_marks tokens token);
       each = item_pushed text 0 items item i.each right;
     }
-
-pub itemized_end : (text rest : List ℕ) (items : List Item) → Itemized text items rest → length rest ≡ 0 → AreItems text items
-itemized_end text rest items i none =
-    record { tokens = i.tokens; are = walk_end text rest i.tokens i.walked none; marks = i.marks; each = i.each }

@@ -1,3 +1,11 @@
 pub mod Cuts
+pub mod Ending
+pub mod Holders
 pub mod Itemized
+pub mod Lists
+pub mod Nests
+pub mod Open
+pub mod Placed
+pub mod Rooted
+pub mod Turned
 pub mod Walk

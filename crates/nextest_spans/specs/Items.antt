@@ -10,14 +10,12 @@ use Rattle.nextest_spans.specs.declared.item.Role.{Role}
 use Rattle.nextest_spans.specs.declared.item.Role.TheVariants as role
 use Rattle.nextest_spans.specs.declared.item.ValueKind.{ValueKind}
 use Rattle.nextest_spans.specs.declared.item.ValueKind.TheVariants as kind
-use Rattle.nextest_spans.specs.declared.reader.Turn.{Turn}
-use Rattle.nextest_spans.specs.declared.reader.Turn.TheVariants.{Nothing, Begins, Closes}
 use Rattle.nextest_spans.specs.declared.token.Container.{Container}
 use Rattle.nextest_spans.specs.declared.token.Span.{Span}
 use Rattle.nextest_spans.specs.declared.token.Token.{Token}
 use Rattle.nextest_spans.specs.declared.token.TokenKind.{TokenKind}
 use Rattle.nextest_spans.specs.declared.token.TokenKind.TheVariants as token
-use Rattle.nextest_spans.specs.Tokens.{AreTokens, IsNamed, text_at}
+use Rattle.nextest_spans.specs.Tokens.{IsNamed, text_at}
 
 -- ---- what an item is
 
@@ -105,22 +103,7 @@ abbrev pub EachIs : List ℕ → ℕ → List Item → Type 0
 EachIs text index [] = Unit {0}
 EachIs text index (item ∷ items) = IsItem text index item × EachIs text (suc index) items
 
--- the text is some tokens with nothing but gaps between them, an item begins at each token of a key's part or a
--- value, in order, and each item is right
-pub record AreItems (text : List ℕ) (items : List Item) : Type 0 where
-  pub tokens : List Token
-  pub are : AreTokens text 0 tokens (length text)
-  pub marks : map item_mark items ≡ flat_map token_marks tokens
-  pub each : EachIs text 0 items
-
 -- ---- how items are made
-
--- the turn begins an item of this sort in an earlier one, or none begins
-abbrev pub IsTurn : ℕ → Option Sort → Turn → Type 0
-IsTurn index sort Nothing = sort ≡ None
-IsTurn index sort (Closes i) = sort ≡ None
-IsTurn index sort (Begins parent role) =
-    IfSome parent (λ i. i < index) × (sort ≡ Some (role_sort role))
 
 -- the items begin where they began, and are right if they were
 pub record KeepsItems (text : List ℕ) (old new : List Item) : Type 0 where

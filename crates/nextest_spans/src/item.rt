@@ -1,7 +1,8 @@
 //! Items of a text.
-ghost use Rattle.std.specs.Prelude.{◌≡◌, IfOk, IfSome, ◌<◌};
+ghost use Rattle.std.specs.Prelude.{◌≡◌, IfOk};
 ghost use Rattle.toml.specs.View.{view};
 ghost use Rattle.nextest_spans.specs.Items.{data_kind, read_kind};
+ghost use Rattle.nextest_spans.specs.Turns.{IsKept};
 
 use crate::token::{Container, Span};
 use std::alloc::{AllocError, Global};
@@ -116,7 +117,7 @@ fn kind_of(value: &Value) -> ValueKind
 
 /// The index, if it is below the length.
 pub(crate) fn earlier(index: Option<usize>, len: usize) -> Option<usize>
-    ensures { IfSome result (λ i. i < len) }
+    ensures { IsKept len index result }
 {
     match index {
         Some(i) if i < len => Some(i),

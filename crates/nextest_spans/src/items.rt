@@ -1,6 +1,9 @@
 //! The items of a text, token by token.
-ghost use Rattle.std.specs.Prelude.{◌≡◌, IfOk, IfSome, OnOk, Some};
-ghost use Rattle.nextest_spans.specs.Items.{AreItems, IsTextAt, KeepsItems};
+ghost use Rattle.std.specs.Prelude.{◌≡◌, ◌<◌, IfOk, MatchOption, OnOk, Some};
+ghost use Rattle.std.specs.Str.{IsCharBoundary};
+ghost use Rattle.nextest_spans.specs.Items.{IsTextAt, KeepsItems};
+ghost use Rattle.nextest_spans.specs.Tree.{AreItems};
+ghost use Rattle.nextest_spans.specs.Turns.{Ends};
 ghost use Rattle.nextest_spans.specs.Items as spec;
 
 use crate::item::{Item, Role, ValueKind, read_kind};
@@ -72,7 +75,8 @@ fn close(
     index: usize,
     end: usize,
 ) -> Result<(), AllocError>
-    ensures { OnOk result (KeepsItems text.now items.old.items items.new.items) }
+    ensures keeps { OnOk result (KeepsItems text.now items.old.items items.new.items) }
+    ensures ends { OnOk result (Ends text.now index end items.old.items items.new.items) }
 {
     if index >= items.len() {
         return Ok(());
@@ -91,7 +95,9 @@ fn close(
 
 /// What the first byte of an item opens, if it is a list or a table.
 fn container_of(role: &Role) -> Option<Container>
-    ensures { IfSome result (λ c. spec.role_sort role.now ≡ spec.value (Some c)) }
+    ensures { let sort = spec.role_sort role.now in
+        MatchOption result ((c : Container) → ¬ (sort ≡ spec.value (Some c)))
+        (λ c. sort ≡ spec.value (Some c)) }
 {
     match role {
         Role::Key { .. } => None,
@@ -102,7 +108,9 @@ fn container_of(role: &Role) -> Option<Container>
 /// The bytes of a text from one place up to another, if there are some and they are whole
 /// characters.
 pub(crate) fn span_text(text: &str, start: usize, end: usize) -> Option<&str>
-    ensures { IfSome result (λ own. IsTextAt text.now start end own.now) }
+    ensures { MatchOption result
+        (start < end → IsCharBoundary text.now start → ¬ (IsCharBoundary text.now end))
+        (λ own. IsTextAt text.now start end own.now) }
 {
     if start < end {
         text.get(start..end)

@@ -1,7 +1,10 @@
 //! Tokens as items.
-ghost use Rattle.std.specs.Prelude.{IfOk, Some};
-ghost use Rattle.nextest_spans.specs.Items.{IsTurn, key_part, kind_sort};
-ghost use Rattle.nextest_spans.specs.Items as spec;
+ghost use Rattle.std.specs.Prelude.{◌≡◌, ◌++◌, ◌∷◌, [], false, IfOk, OnOk, Some, None, option_map};
+ghost use Rattle.std.specs.Option.{option_or};
+ghost use Rattle.nextest_spans.specs.Nesting.{last_of};
+ghost use Rattle.nextest_spans.specs.Tree.{held_in, list_of};
+ghost use Rattle.nextest_spans.specs.Tree as spec;
+ghost use Rattle.nextest_spans.specs.Turns.{IsCloseTurn, IsPartTurn, IsTurn, IsValueTurn, holders};
 
 use crate::item::{KeyKind, Role, earlier};
 use crate::sections::Sections;
@@ -50,20 +53,24 @@ pub(crate) struct Reader {
     kind: KeyKind,
     /// The last part of the last header's key.
     section: Option<usize>,
-    /// The last part of the last key.
+    /// The part of a key that stands right before, if one does.
     key: Option<usize>,
-    open: Vec<Holder>,
+    held: Vec<Holder>,
     sections: Sections,
 }
 
 impl Reader {
     /// Nothing was read.
-    pub(crate) fn new(alloc: Global) -> Reader {
+    pub(crate) fn new(alloc: Global) -> Reader
+        ensures held { holders result ≡ [] }
+        ensures none { (result.key ≡ None) × (result.section ≡ None)
+            × (spec.is_pair result.kind ≡ false) }
+    {
         Reader {
             kind: KeyKind::Table,
             section: None,
             key: None,
-            open: Vec::new(alloc),
+            held: Vec::new(alloc),
             sections: Sections::new(alloc),
         }
     }
@@ -75,7 +82,7 @@ impl Reader {
         kind: TokenKind,
         place: Place,
     ) -> Result<Turn, AllocError>
-        ensures { IfOk result (IsTurn place.index (kind_sort kind)) }
+        ensures { IfOk result (IsTurn self.old self.new place.index place.is_header kind) }
     {
         match kind {
             TokenKind::TableHeader => {
@@ -86,35 +93,77 @@ impl Reader {
                 self.header(alloc, KeyKind::Element)?;
                 Ok(Turn::Nothing)
             }
-            TokenKind::Key(name) => {
-                let parent = if place.is_header { None } else { self.base() };
-                self.part(alloc, parent, name, place)
-            }
-            TokenKind::Dotted(name) => self.part(alloc, self.key, name, place),
+            TokenKind::Key(name) => self.first_part(alloc, name, place),
+            TokenKind::Dotted(name) => self.dotted_part(alloc, name, place),
             TokenKind::Open(container) => self.opened(container, place.index),
-            TokenKind::Close(_) => Ok(match self.open.pop() {
-                Some(holder) => Turn::Closes(holder.item),
-                None => Turn::Nothing,
-            }),
+            TokenKind::Close(_) => Ok(self.closed()),
             TokenKind::String | TokenKind::Word => Ok(self.value(None, place.index)),
-            TokenKind::Other => Ok(Turn::Nothing),
+            TokenKind::Other => {
+                self.key = None;
+                Ok(Turn::Nothing)
+            }
         }
     }
 
     /// A header begins.
-    fn header(&mut self, alloc: Global, kind: KeyKind) -> Result<(), AllocError> {
+    fn header(&mut self, alloc: Global, kind: KeyKind) -> Result<(), AllocError>
+        ensures kind { OnOk result (self.new.kind ≡ kind) }
+        ensures none { OnOk result ((self.new.key ≡ None) × (self.new.section ≡ None)) }
+        ensures held { OnOk result (holders self.new ≡ holders self.old) }
+    {
         self.kind = kind;
         self.section = None;
         self.key = None;
         self.sections.restart(alloc)
     }
 
-    /// The item in which the next key stands.
-    fn base(&self) -> Option<usize> {
-        match self.open.last() {
+    /// The innermost list or table that is open, or else the last header's key.
+    fn base(&self) -> Option<usize>
+        ensures { result ≡ held_in (last_of (holders self.now)) self.now.section }
+    {
+        match self.held.last() {
             Some(holder) => Some(holder.item),
             None => self.section,
         }
+    }
+
+    /// What the first part of a key stands in.
+    fn first_in(&self, is_header: bool) -> Option<usize>
+        ensures { result
+            ≡ spec.first_in is_header (last_of (holders self.now)) self.now.section }
+    {
+        if is_header { None } else { self.base() }
+    }
+
+    /// The first part of a key.
+    fn first_part(
+        &mut self,
+        alloc: Global,
+        name: Option<String>,
+        place: Place,
+    ) -> Result<Turn, AllocError>
+        ensures { let held = last_of (holders self.old) in
+            IfOk result (IsPartTurn self.old self.new place.index place.is_header
+            (spec.first_in place.is_header held self.old.section) name) }
+    {
+        let parent = self.first_in(place.is_header);
+        self.part(alloc, parent, name, place)
+    }
+
+    /// A part behind a dot, which stands in the part before it, if there is one.
+    fn dotted_part(
+        &mut self,
+        alloc: Global,
+        name: Option<String>,
+        place: Place,
+    ) -> Result<Turn, AllocError>
+        ensures { let held = last_of (holders self.old) in
+            let first = spec.first_in place.is_header held self.old.section in
+            IfOk result (IsPartTurn self.old self.new place.index place.is_header
+            (option_or self.old.key first) name) }
+    {
+        let parent = self.key.or(self.first_in(place.is_header));
+        self.part(alloc, parent, name, place)
     }
 
     /// A part of a key.
@@ -125,7 +174,8 @@ impl Reader {
         name: Option<String>,
         place: Place,
     ) -> Result<Turn, AllocError>
-        ensures { IfOk result (IsTurn place.index (Some (key_part name))) }
+        ensures { IfOk result
+            (IsPartTurn self.old self.new place.index place.is_header parent name) }
     {
         let kind = if place.is_header {
             self.kind
@@ -149,19 +199,19 @@ impl Reader {
         })
     }
 
-    /// A value: an item of the list that is open, or else the value of the last key.
+    /// A value: an item of the list that is open, or else the value of the key before it.
     fn value(&mut self, container: Option<Container>, index: usize) -> Turn
-        ensures { IsTurn index (Some (spec.value container)) result }
+        ensures { let held = last_of (holders self.old) in
+            IsValueTurn self.old self.new index
+            (option_or (list_of held) (option_or self.old.key (held_in held self.old.section)))
+            container (holders self.old) result }
     {
-        let mut parent = self.key;
-        let mut position = None;
-        if let Some(holder) = self.open.last_mut()
-            && holder.container == Container::List
-        {
-            parent = Some(holder.item);
-            position = Some(holder.count);
-            holder.count = holder.count.saturating_add(1);
-        }
+        let base = self.key.or(self.base());
+        let (parent, position) = match self.next_in_list() {
+            Some((list, position)) => (Some(list), Some(position)),
+            None => (base, None),
+        };
+        self.key = None;
         Turn::Begins {
             parent: earlier(parent, index),
             role: Role::Value {
@@ -171,16 +221,46 @@ impl Reader {
         }
     }
 
+    /// The innermost that is open, if it is a list, with the position of its next item.
+    fn next_in_list(&mut self) -> Option<(usize, usize)>
+        ensures list { option_map (λ next. next.0) result ≡ list_of (last_of (holders self.old)) }
+        ensures held { holders self.new ≡ holders self.old }
+        ensures rest { (self.new.key ≡ self.old.key) × (self.new.section ≡ self.old.section)
+            × (self.new.kind ≡ self.old.kind) }
+    {
+        let holder = self.held.last_mut()?;
+        if holder.container != Container::List {
+            return None;
+        }
+        let position = holder.count;
+        holder.count = position.saturating_add(1);
+        Some((holder.item, position))
+    }
+
     /// A list or a table opens.
     fn opened(&mut self, container: Container, index: usize) -> Result<Turn, AllocError>
-        ensures { IfOk result (IsTurn index (Some (spec.value (Some container)))) }
+        ensures { let held = last_of (holders self.old) in
+            IfOk result (IsValueTurn self.old self.new index
+            (option_or (list_of held) (option_or self.old.key (held_in held self.old.section)))
+            (Some container) (holders self.old ++ (index, container) ∷ [])) }
     {
         let turn = self.value(Some(container), index);
-        self.open.push(Holder {
+        self.held.push(Holder {
             item: index,
             container,
             count: 0,
         })?;
         Ok(turn)
+    }
+
+    /// The innermost list or table that is open is closed.
+    fn closed(&mut self) -> Turn
+        ensures { IsCloseTurn self.old self.new result }
+    {
+        self.key = None;
+        match self.held.pop() {
+            Some(holder) => Turn::Closes(holder.item),
+            None => Turn::Nothing,
+        }
     }
 }

@@ -1,6 +1,7 @@
 //! The scan of a text.
 ghost use Rattle.std.specs.Prelude.{◌≡◌, [], IfOk, length};
 ghost use Rattle.nextest_spans.specs.Tokens.{AreTokens, IsRest, IsRightPiece, IsTaken, at};
+ghost use Rattle.nextest_spans.specs.Nesting.{IsOfRaw, Nests};
 ghost use Rattle.std.specs.List.{between};
 
 use crate::cut::cut;
@@ -45,13 +46,15 @@ pub(crate) fn next_token<'a>(
     ensures taken { IfOk result (λ found. IsTaken text.now rest.now found.0 found.2.now) }
     ensures own { IfOk result (λ found. found.1.now
         ≡ between (at text.now rest.now) (at text.now found.2.now) text.now) }
+    ensures nests { IfOk result (λ found. Nests found.0 state.old.nest.items state.new.nest.items) }
 {
-    let front = state.take(rest)?;
+    let front = state.take(rest);
     let (own, behind) = cut(rest, front.len);
     let kind = match kind_of(alloc, front.raw, own)? {
         None => return Ok((None, own, behind)),
         Some(kind) => kind,
     };
+    state.follow(&kind)?;
     let start = text.len() - rest.len();
     let end = text.len() - behind.len();
     let span = Span { start, end };
@@ -61,7 +64,8 @@ pub(crate) fn next_token<'a>(
 /// What a piece of a text is: a token where it can be what the state says, or else a gap or other
 /// bytes. A part of a key has the name that it reads as.
 fn kind_of(alloc: Global, raw: Raw, text: &str) -> Result<Option<TokenKind>, AllocError>
-    ensures { IfOk result (IsRightPiece text.now) }
+    ensures piece { IfOk result (IsRightPiece text.now) }
+    ensures closes { IfOk result (IsOfRaw raw) }
 {
     let kind = match raw {
         Raw::TableHeader if text == "[" => TokenKind::TableHeader,

@@ -1,7 +1,10 @@
 //! What may stand next in a text.
+ghost use Rattle.std.specs.Prelude.{◌≡◌, List, [], OnOk, Some};
+ghost use Rattle.std.specs.Bool.{OnTrue};
+ghost use Rattle.nextest_spans.specs.Nesting.{IsCloseIn, NestsAs, last_of};
 
 use crate::lens::{bare_len, blank_len, is_multi, line_string_len, multi_string_len, word_len};
-use crate::token::Container;
+use crate::token::{Container, TokenKind};
 use std::alloc::{AllocError, Global};
 use toml_parser::bytes::is_bare;
 use toml_parser::starts_string;
@@ -57,16 +60,18 @@ pub(crate) struct State {
     /// Whether a dot stands right before, so that a part goes on a key.
     is_dotted: bool,
     /// The lists and tables that are not closed, from the outermost.
-    open: Vec<Container>,
+    nest: Vec<Container>,
 }
 
 impl State {
     /// The start of a text.
-    pub(crate) fn new(alloc: Global) -> State {
+    pub(crate) fn new(alloc: Global) -> State
+        ensures { result.nest.items ≡ [] }
+    {
         State {
             next: Next::Expression,
             is_dotted: false,
-            open: Vec::new(alloc),
+            nest: Vec::new(alloc),
         }
     }
 
@@ -79,29 +84,35 @@ impl State {
     }
 
     /// What stands at the front of the text that is left.
-    pub(crate) fn take(&mut self, text: &str) -> Result<Front, AllocError> {
+    pub(crate) fn take(&mut self, text: &str) -> Front
+        ensures nest { self.new.nest ≡ self.old.nest }
+        ensures closes { IsCloseIn self.old.nest.items result.raw }
+    {
         let blank = blank_len(text);
         if byte_at(text, blank) == b'\n' {
-            if self.open.is_empty() {
+            if self.nest.is_empty() {
                 self.next = Next::Expression;
                 self.is_dotted = false;
             }
-            return Ok(gap(blank.saturating_add(1)));
+            return gap(blank.saturating_add(1));
         }
         if blank > 0 {
-            return Ok(gap(blank));
+            return gap(blank);
         }
         match self.next {
-            Next::Expression => Ok(self.expression(text)),
-            Next::Header => Ok(self.header(text)),
-            Next::Key => Ok(self.key(text)),
+            Next::Expression => self.expression(text),
+            Next::Header => self.header(text),
+            Next::Key => self.key(text),
             Next::Value => self.value(text),
-            Next::Behind => Ok(self.behind(text)),
+            Next::Behind => self.behind(text),
         }
     }
 
     /// A header, or a key.
-    fn expression(&mut self, text: &str) -> Front {
+    fn expression(&mut self, text: &str) -> Front
+        ensures nest { self.new.nest ≡ self.old.nest }
+        ensures closes { IsCloseIn self.old.nest.items result.raw }
+    {
         if first(text) == BYTE_ORDER_MARK {
             return piece(Raw::Other, 3);
         }
@@ -118,7 +129,10 @@ impl State {
     }
 
     /// A part of a header's key. Behind the closing bracket nothing is read up to the line's end.
-    fn header(&mut self, text: &str) -> Front {
+    fn header(&mut self, text: &str) -> Front
+        ensures nest { self.new.nest ≡ self.old.nest }
+        ensures closes { IsCloseIn self.old.nest.items result.raw }
+    {
         if let Some(len) = part_len(text) {
             return self.part(len);
         }
@@ -130,7 +144,10 @@ impl State {
     }
 
     /// A part of a pair's key, or the sign behind it. A table's end closes it.
-    fn key(&mut self, text: &str) -> Front {
+    fn key(&mut self, text: &str) -> Front
+        ensures nest { self.new.nest ≡ self.old.nest }
+        ensures closes { IsCloseIn self.old.nest.items result.raw }
+    {
         if let Some(len) = part_len(text) {
             return self.part(len);
         }
@@ -146,7 +163,10 @@ impl State {
     }
 
     /// A part of a key.
-    fn part(&mut self, len: usize) -> Front {
+    fn part(&mut self, len: usize) -> Front
+        ensures nest { self.new.nest ≡ self.old.nest }
+        ensures closes { IsCloseIn self.old.nest.items result.raw }
+    {
         let raw = if self.is_dotted {
             Raw::Dotted
         } else {
@@ -157,25 +177,31 @@ impl State {
     }
 
     /// A value, or the end of the list that was to hold it.
-    fn value(&mut self, text: &str) -> Result<Front, AllocError> {
+    fn value(&mut self, text: &str) -> Front
+        ensures nest { self.new.nest ≡ self.old.nest }
+        ensures closes { IsCloseIn self.old.nest.items result.raw }
+    {
         match first(text) {
             b'[' => self.opened(Container::List, Next::Value),
             b'{' => self.opened(Container::Table, Next::Key),
-            b']' | b'}' | b',' => Ok(self.behind(text)),
+            b']' | b'}' | b',' => self.behind(text),
             _ => {
                 self.next = Next::Behind;
-                Ok(scalar(text))
+                scalar(text)
             }
         }
     }
 
     /// What separates values or closes what holds them.
-    fn behind(&mut self, text: &str) -> Front {
+    fn behind(&mut self, text: &str) -> Front
+        ensures nest { self.new.nest ≡ self.old.nest }
+        ensures closes { IsCloseIn self.old.nest.items result.raw }
+    {
         match first(text) {
             b']' => self.close(Container::List),
             b'}' => self.close(Container::Table),
             b',' => {
-                self.next = match self.open.last() {
+                self.next = match self.nest.last() {
                     Some(Container::List) => Next::Value,
                     Some(Container::Table) => Next::Key,
                     None => Next::Behind,
@@ -187,28 +213,55 @@ impl State {
     }
 
     /// A list or a table that opens, with what comes next in it.
-    fn opened(&mut self, container: Container, next: Next) -> Result<Front, AllocError> {
-        self.open.push(container)?;
+    fn opened(&mut self, container: Container, next: Next) -> Front
+        ensures nest { self.new.nest ≡ self.old.nest }
+        ensures closes { IsCloseIn self.old.nest.items result.raw }
+    {
         self.next = next;
-        Ok(piece(Raw::Open(container), 1))
+        piece(Raw::Open(container), 1)
     }
 
     /// Whether the innermost that is open is such a one.
-    fn is_innermost(&self, container: Container) -> bool {
-        match self.open.last() {
+    fn is_innermost(&self, container: Container) -> bool
+        ensures { OnTrue result (last_of self.now.nest.items ≡ Some container) }
+    {
+        match self.nest.last() {
             Some(last) => *last == container,
             None => false,
         }
     }
 
     /// The end of a list or a table, if it is the innermost that is open.
-    fn close(&mut self, container: Container) -> Front {
+    fn close(&mut self, container: Container) -> Front
+        ensures nest { self.new.nest ≡ self.old.nest }
+        ensures closes { IsCloseIn self.old.nest.items result.raw }
+    {
         if !self.is_innermost(container) {
             return gap(1);
         }
-        let _closed = self.open.pop();
         self.next = Next::Behind;
         piece(Raw::Close(container), 1)
+    }
+
+    /// A token was read. What it opens is the innermost from here on, and what it closes is open no
+    /// more.
+    pub(crate) fn follow(&mut self, kind: &TokenKind) -> Result<(), AllocError>
+        ensures { OnOk result (NestsAs kind.now self.old.nest.items self.new.nest.items) }
+    {
+        match kind {
+            TokenKind::Open(container) => self.nest.push(*container)?,
+            TokenKind::Close(_) => {
+                let _closed = self.nest.pop();
+            }
+            TokenKind::TableHeader
+            | TokenKind::ElementHeader
+            | TokenKind::Key(_)
+            | TokenKind::Dotted(_)
+            | TokenKind::String
+            | TokenKind::Word
+            | TokenKind::Other => {}
+        }
+        Ok(())
     }
 }
 
@@ -224,7 +277,9 @@ fn part_len(text: &str) -> Option<usize> {
 }
 
 /// A string or a word.
-fn scalar(text: &str) -> Front {
+fn scalar(text: &str) -> Front
+    ensures { (nest : List Container) → IsCloseIn nest result.raw }
+{
     if !starts_string(text) {
         return piece(Raw::Word, word_len(text));
     }
@@ -236,10 +291,14 @@ fn scalar(text: &str) -> Front {
     piece(Raw::String, len)
 }
 
-fn piece(raw: Raw, len: usize) -> Front {
+fn piece(raw: Raw, len: usize) -> Front
+    ensures { result.raw ≡ raw }
+{
     Front { raw, len }
 }
 
-fn gap(len: usize) -> Front {
+fn gap(len: usize) -> Front
+    ensures { result.raw ≡ Raw.Gap }
+{
     piece(Raw::Gap, len)
 }

@@ -1,5 +1,7 @@
-use Rattle.std.proofs.Common.{◌-◌, length, refl, subst}
+use Rattle.std.proofs.Common.{◌-◌, length, refl, ap, subst}
+use Rattle.nextest_spans.specs.Nesting.{IsOfRaw}
 use Rattle.nextest_spans.specs.Tokens.{IsRightPiece}
+use Rattle.nextest_spans.proofs.Nests.{nests_by}
 use Rattle.nextest_spans.proofs.Walk.{own_of, taken_none, taken_token}
 use Rattle.nextest_spans.proofs.scan.next_token.Goals as goal
 
@@ -8,8 +10,9 @@ returns-in-None c =
     record {
       taken =
           taken_none c.args.text.now c.args.rest.now c.cut.result.0.now c.cut.result.1.now c.requires.place c.cut.ensures
-          (subst (IsRightPiece c.cut.result.0.now) c.in-None.is c.in_ok-kind_of.ensures);
+          (subst (IsRightPiece c.cut.result.0.now) c.in-None.is c.in_ok-kind_of.ensures.piece);
       own = own_of c.args.text.now c.args.rest.now c.cut.result.0.now c.cut.result.1.now c.requires.place c.cut.ensures;
+      nests = ap (λ nest. nest.items) c.take-front.ensures.nest;
     }
 
 pub returns : goal.returns
@@ -24,6 +27,10 @@ returns c =
               end = length c.args.text.now - length c.cut.result.1.now;
             };
           })
-          c.requires.place c.cut.ensures (subst (IsRightPiece c.cut.result.0.now) c.in-Some.is c.in_ok-kind_of.ensures) refl refl;
+          c.requires.place c.cut.ensures (subst (IsRightPiece c.cut.result.0.now) c.in-Some.is c.in_ok-kind_of.ensures.piece) refl refl;
       own = own_of c.args.text.now c.args.rest.now c.cut.result.0.now c.cut.result.1.now c.requires.place c.cut.ensures;
+      nests =
+          nests_by c.in-Some.kind c.take-front.result.raw c.args.state.now.nest.items c.take-front.new.self.nest.items c.follow.new.self.nest.items
+          (ap (λ nest. nest.items) c.take-front.ensures.nest) c.take-front.ensures.closes
+          (subst (IsOfRaw c.take-front.result.raw) c.in-Some.is c.in_ok-kind_of.ensures.closes) c.in_ok-follow.ensures;
     }
