@@ -1,5 +1,5 @@
 -- A token closes the innermost that is open.
-use Rattle.std.proofs.Common.{◌≡◌, List, [], ◌∷◌, ◌++◌, Some, refl, sym, ap, ◌∙◌, subst}
+use Rattle.std.proofs.Common.{◌≡◌, List, [], ◌∷◌, ◌++◌, Some, sym, ap, ◌∙◌, subst}
 use Rattle.nextest_spans.specs.declared.state.Raw.{Raw}
 use Rattle.nextest_spans.specs.declared.token.Container.{Container}
 use Rattle.nextest_spans.specs.declared.token.TokenKind.{TokenKind}

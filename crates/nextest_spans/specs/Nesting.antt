@@ -1,5 +1,5 @@
 -- Which lists and tables are open behind some tokens.
-use Rattle.std.specs.Prelude.{◌≡◌, ◌-◌, ℕ, List, [], ◌∷◌, ◌++◌, length, slice_get, Option, Some, None}
+use Rattle.std.specs.Prelude.{◌≡◌, ◌-◌, List, [], ◌∷◌, ◌++◌, length, slice_get, Option, Some, None}
 use Rattle.nextest_spans.specs.declared.state.Raw.{Raw}
 use Rattle.nextest_spans.specs.declared.state.Raw.TheVariants as raw
 use Rattle.nextest_spans.specs.declared.token.Container.{Container}

@@ -12,7 +12,7 @@ use Rattle.nextest_spans.specs.declared.token.Container.TheVariants as container
 use Rattle.nextest_spans.specs.declared.token.Token.{Token}
 use Rattle.nextest_spans.specs.declared.token.TokenKind.{TokenKind}
 use Rattle.nextest_spans.specs.declared.token.TokenKind.TheVariants as kinds
-use Rattle.nextest_spans.specs.Items.{EachIs, Sort, item_mark, role_sort, token_marks, value}
+use Rattle.nextest_spans.specs.Items.{EachIs, item_mark, role_sort, token_marks, value}
 use Rattle.nextest_spans.specs.Tokens.{AreTokens}
 
 -- how many items begin at some tokens

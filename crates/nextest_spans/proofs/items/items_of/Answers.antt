@@ -1,4 +1,4 @@
-use Rattle.std.proofs.Common.{◌≡◌, ◌∙◌, length, refl, subst, arith}
+use Rattle.std.proofs.Common.{◌≡◌, ◌∙◌, length, subst, arith}
 use Rattle.nextest_spans.specs.Nesting.{Nests}
 use Rattle.nextest_spans.specs.Tokens.{IsTaken}
 use Rattle.nextest_spans.specs.Turns.{IsTurn}
