@@ -17,6 +17,10 @@ pub returns-in_err-on-clause-err : goal.returns-in_err-on-clause-err
 returns-in_err-on-clause-err c =
     want_told c.args.session.now c.args.profile.now _ c.from_residual-in_err-on.ensures.1
 
+pub returns-in_err-asked_of-clause-err : goal.returns-in_err-asked_of-clause-err
+returns-in_err-asked_of-clause-err c =
+    want_told c.args.session.now c.args.profile.now _ c.from_residual-in_err-asked_of.ensures.1
+
 pub returns-in_err-test_rows-clause-err : goal.returns-in_err-test_rows-clause-err
 returns-in_err-test_rows-clause-err c =
     want_told c.args.session.now c.args.profile.now _ c.from_residual-in_err-test_rows.ensures.1
