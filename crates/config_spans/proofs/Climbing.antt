@@ -1,6 +1,9 @@
 -- Ways up from an item, along the front of a path.
-use Rattle.std.proofs.Common.{◌≡◌, ◌≤◌, ℕ, zero, suc, List, [], ◌∷◌, ◌++◌, length, map, take, Option, Some, None, refl, sym, ap, ◌∙◌, subst, arith}
+use Rattle.std.proofs.Common.{◌≡◌, ◌≤◌, ◌==◌, ℕ, zero, suc, List, [], ◌∷◌, ◌++◌, length, map, take, Option, Some, None, refl, sym, ap, ◌∙◌, subst, arith}
+use Rattle.std.specs.Bool.{OnTrue}
 use Rattle.std.specs.List.{slice_get}
+use Rattle.std.proofs.Math.Dec.{eqb-suc-zero}
+use Rattle.std.proofs.lemmas.Option.{none-some, same_Some}
 use Rattle.std.proofs.Math.Seq.{take-length}
 use Rattle.std.proofs.lemmas.List.{length-take-le}
 use Rattle.config_places.specs.declared.step.Step.{Step}
@@ -41,3 +44,18 @@ pub climbs_end : (items : List Item) (parent : Option ℕ) (path : List Step) (l
     → LeadsTo items parent (map path_step path)
 climbs_end items parent path left c none =
     c.leads (subst (λ n. LeadsTo items None (map path_step (take n path))) (sym none) at_root)
+
+-- a test for nothing that is left
+pub on_zero : (n : ℕ) (P : Type 0) → (n ≡ 0 → P) → OnTrue (n == 0) P
+on_zero zero P then = then refl
+on_zero (suc n) P then = subst (λ b. OnTrue b P) (sym (eqb-suc-zero n)) tt
+
+-- ---- the end of a path
+
+pub ended : (path : List Step) (n : ℕ) (step : Step) → suc n ≡ length path → slice_get path n ≡ Some step → IsEndedBy path (path_step step ∷ []) n
+ended [] n step size here = absurd (none-some step here)
+ended (x ∷ []) zero step size here = (omega arith, ap (λ s. path_step s ∷ []) (same_Some x step here))
+ended (x ∷ y ∷ path) zero step size here = absurd (omega (arith, size))
+ended (x ∷ path) (suc n) step size here =
+    let r = ended path n step (omega (arith, size)) here in
+    (omega (arith, r.0), ap (λ ps. path_step x ∷ ps) r.1)

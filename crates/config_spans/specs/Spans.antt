@@ -1,8 +1,10 @@
 -- Where what stands at a path is written in a text.
-use Rattle.std.specs.Prelude.{◌≡◌, ◌≤◌, ◌+◌, Bool, true, false, ℕ, List, [], ◌∷◌, map, slice_get, Option, Some, None, IfSome, option_and_then, option_map}
+use Rattle.std.specs.Prelude.{◌≡◌, ◌≤◌, ◌+◌, Bool, true, false, ℕ, List, [], ◌∷◌, map, slice_get, Option, Some, IfSome, option_and_then, option_map}
 use Rattle.std.specs.Str.{IsCharBoundary}
 use Rattle.toml.specs.Data.{Data, at, get, table}
 use Rattle.toml.specs.Parse.{parse_document}
+use Rattle.toml.specs.View.{view}
+use Rattle.toml.specs.declared.value.Value.{Value}
 use Rattle.config_places.specs.Place.{IsPlaceOfPath}
 use Rattle.config_places.specs.declared.place.Lines.{Lines}
 use Rattle.config_places.specs.declared.step.Step.{Step}
@@ -83,6 +85,9 @@ pub record IsPathSpan (path : List Step) (text : List ℕ) (found : PathSpan) : 
   pub key : IfSome found.key (IsKeyOf text items path found.lines)
   pub value : IfSome found.value (λ span.
       (node : Data) × StandsAt path text node × IsValueOf text items path found.lines node span)
+
+abbrev pub root_view : Option Value → Option Data
+root_view root = option_map view root
 
 -- what is kept of a text
 pub record IsKept (text : List ℕ) (items : List Item) (root : Option Data) (places : List ℕ) : Type 0 where

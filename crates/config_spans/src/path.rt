@@ -89,7 +89,10 @@ fn leads_to(items: &[Item], parent: Option<usize>, path: &[Step]) -> bool
         base = item.parent;
         left = before;
     }
-    base.is_none() && left == 0
+    match base {
+        None => left == 0,
+        Some(_) => false,
+    }
 }
 
 /// Whether an item stands at a path.

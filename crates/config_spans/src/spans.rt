@@ -1,8 +1,8 @@
 //! Paths of a text with their lines and bytes.
-ghost use Rattle.std.specs.Prelude.{◌≡◌, List, ℕ, Some, IfOk, IfSome, MatchOption, option_map};
+ghost use Rattle.std.specs.Prelude.{◌≡◌, List, ℕ, Some, IfOk, IfSome, MatchOption};
 ghost use Rattle.toml.specs.View.{view};
 ghost use Rattle.config_places.specs.Place.{HasNoPlace};
-ghost use Rattle.config_spans.specs.Spans.{IsDocumentOf, IsKept, IsKeyOf, IsPathSpan, IsValueOf};
+ghost use Rattle.config_spans.specs.Spans.{IsDocumentOf, IsKept, IsKeyOf, IsPathSpan, IsValueOf, root_view};
 ghost use Rattle.config_spans.specs.Spans as spec;
 
 use crate::lines::is_on_lines;
@@ -41,7 +41,7 @@ impl<'a> Model for PathSpans<'a> {
     ghost view = { λ spans. spans.text.now };
 
     ghost invariant = { λ spans.
-        IsKept spans.text.now spans.items.items (option_map view spans.root) spans.places };
+        IsKept spans.text.now spans.items.items (root_view spans.root) spans.places };
 }
 
 impl<'a> PathSpans<'a> {
