@@ -10,14 +10,17 @@
 //! | `tokens` | its tokens |
 //! | `nodes` | whether each item of a document reads as its node |
 //! | `cuts` | how many items each front of it has, from the empty one on |
+//! | `at` | where what stands at a path is written: the path and a tab are before the text (`paths.rt`) |
 //!
 //! For a line of another form the program prints an error on standard error. Its status is then 2.
 #![tactic(auto)]
 
 mod escapes;
+mod paths;
 mod shown;
 
 use escapes::{RowError, unescaped};
+use paths::shown_at;
 use shown::{cuts_of, shown_items, shown_nodes, shown_tokens};
 use std::alloc::Global;
 use std::io;
@@ -26,6 +29,11 @@ use std::process::ExitCode;
 /// What is printed for a line.
 fn answer_to(alloc: Global, line: &str) -> Result<String, RowError> {
     let (word, row) = line.split_once('\t').ok_or(RowError::NoRow)?;
+    if word == "at" {
+        let (path, row) = row.split_once('\t').ok_or(RowError::NoRow)?;
+        let text = unescaped(alloc, row)?;
+        return Ok(shown_at(alloc, path, text.as_str())?);
+    }
     let text = unescaped(alloc, row)?;
     match word {
         "items" => Ok(shown_items(alloc, text.as_str())?),
