@@ -56,7 +56,8 @@ is_key (role.Key name kind element) = true
 is_key (role.Value position container) = false
 
 -- one of the items stands at the path, in these lines of the text
-pub record IsSpanOf (text : List ℕ) (items : List Item) (path : List Step) (lines : Lines) (span : Span) (item : Item) : Type 0 where
+pub record IsSpanOf (text : List ℕ) (items : List Item) (path : List Step)
+    (lines : Lines) (span : Span) (item : Item) : Type 0 where
   pub index : ℕ
   pub among : slice_get items index ≡ Some item
   pub leads : IsAtPath items item (map path_step path)
@@ -64,13 +65,15 @@ pub record IsSpanOf (text : List ℕ) (items : List Item) (path : List Step) (li
   pub on_lines : IsOnLines text lines span
 
 -- a part of a key that stands at the path
-pub record IsKeyOf (text : List ℕ) (items : List Item) (path : List Step) (lines : Lines) (span : Span) : Type 0 where
+pub record IsKeyOf (text : List ℕ) (items : List Item) (path : List Step)
+    (lines : Lines) (span : Span) : Type 0 where
   pub item : Item
   pub is : IsSpanOf text items path lines span item
   pub sort : is_key item.role ≡ true
 
 -- a value that stands at the path, whose bytes read as a node
-pub record IsValueOf (text : List ℕ) (items : List Item) (path : List Step) (lines : Lines) (node : Data) (span : Span) : Type 0 where
+pub record IsValueOf (text : List ℕ) (items : List Item) (path : List Step)
+    (lines : Lines) (node : Data) (span : Span) : Type 0 where
   pub item : Item
   pub is : IsSpanOf text items path lines span item
   pub sort : is_key item.role ≡ false
@@ -90,7 +93,8 @@ abbrev pub root_view : Option Value → Option Data
 root_view root = option_map view root
 
 -- what is kept of a text
-pub record IsKept (text : List ℕ) (items : List Item) (root : Option Data) (places : List ℕ) : Type 0 where
+pub record IsKept (text : List ℕ) (items : List Item) (root : Option Data) (places : List ℕ)
+    : Type 0 where
   pub are : AreItems text items
   pub document : IfSome root (IsDocumentOf text)
   pub same : places ≡ text
