@@ -54,7 +54,7 @@ pub enum MetadataFault {
     /// The text is no JSON.
     #[error("the metadata is no JSON")]
     NotJson,
-    /// Something else stands at the place, or nothing.
+    /// The value at the place is of another kind, or missing.
     #[error("expected {0} at `{1}`")]
     Expected(Wanted, Place),
     /// The text at the place is the id of no package.

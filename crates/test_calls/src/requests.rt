@@ -10,7 +10,10 @@ const MEMBERS: [(&str, &str); 9] = [
     ("config-file", "null"),
     ("organisation-config-file", "null"),
     ("tools", "[]"),
-    ("features", r#"{"setup-scripts": false, "wrapper-scripts": false}"#),
+    (
+        "features",
+        r#"{"setup-scripts": false, "wrapper-scripts": false}"#,
+    ),
     ("metadata", "null"),
     ("host", r#"{"triple": "t", "cfg": null}"#),
     ("target", "null"),
@@ -45,8 +48,16 @@ fn says_what_is_expected(rt: HostRuntime) -> Result<(), Fail> {
             r#"{"path": "/f", "outcome": "not-found", "text": ""}"#,
             "expected null at `file.text`",
         ),
-        ("config-file", r#""/c""#, "expected an object or null at `config-file`"),
-        ("organisation-config-file", "[]", "expected an object or null at `organisation-config-file`"),
+        (
+            "config-file",
+            r#""/c""#,
+            "expected an object or null at `config-file`",
+        ),
+        (
+            "organisation-config-file",
+            "[]",
+            "expected an object or null at `organisation-config-file`",
+        ),
         ("tools", "{}", "expected a list at `tools`"),
         ("features", "null", "expected an object at `features`"),
         (
