@@ -5,7 +5,7 @@ use Rattle.std.specs.Option.{option_or}
 use Rattle.std.specs.Str.{bytes_eq}
 use Rattle.nextest_engines.specs.declared.queries.BuildPlatform.{BuildPlatform}
 use Rattle.nextest_engines.specs.declared.queries.BuildPlatform.TheVariants.{Host, Target}
-use Rattle.serde_json.specs.Data.{Data, null, string, object, Members, no_members, member}
+use Rattle.serde_json.specs.Data.{Data, null, string, Members, no_members, member}
 use Rattle.serde_json.specs.Find.{get, as_object}
 use Rattle.json_fields.specs.Parts.{a_list, fits, kind_of, under}
 use Rattle.json_fields.specs.declared.kind.Kind.{Kind}
