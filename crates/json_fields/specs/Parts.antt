@@ -1,6 +1,6 @@
 -- Parts of a JSON value.
-use Rattle.std.specs.Prelude.{ℕ, List, Bool, false, is_some, if◌then◌else◌, Option, None, Some, option_and_then, option_map}
-use Rattle.serde_json.specs.Data.{Data, null, boolean, number, string, array, object}
+use Rattle.std.specs.Prelude.{ℕ, List, [], ◌∷◌, Bool, false, is_some, if◌then◌else◌, Option, None, Some, option_and_then, option_map}
+use Rattle.serde_json.specs.Data.{Data, null, boolean, number, string, array, object, Items, no_items, item}
 use Rattle.serde_json.specs.Find.{get, as_array, as_bool, as_null, as_object, as_str}
 use Rattle.json_fields.specs.declared.kind.Kind.{Kind}
 use Rattle.json_fields.specs.declared.kind.Kind.TheVariants as kinds
@@ -15,6 +15,15 @@ kind_of (number n) = kinds.Number
 kind_of (string s) = kinds.Text
 kind_of (array ds) = kinds.List
 kind_of (object ms) = kinds.Object
+
+-- the items of an array, in order
+abbrev pub listed : Items → List Data
+listed no_items = []
+listed (item d ds) = d ∷ listed ds
+
+-- the values of a list, in order
+abbrev pub a_list : Data → Option (List Data)
+a_list value = option_map listed (as_array value)
 
 -- a value, if it is an object
 abbrev pub an_object : Data → Option Data

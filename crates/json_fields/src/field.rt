@@ -1,10 +1,10 @@
 //! Fields of JSON objects, each with its place.
-ghost use Rattle.std.specs.Prelude.{◌≡◌, option_map};
+ghost use Rattle.std.specs.Prelude.{◌≡◌, map, option_map};
 ghost use Rattle.std.specs.Option.{ok_or};
-ghost use Rattle.serde_json.specs.Find.{get, as_array, as_bool, as_null, as_object, as_str};
-ghost use Rattle.serde_json.specs.View.{items_view, members_view, view};
+ghost use Rattle.serde_json.specs.Find.{get, as_bool, as_null, as_object, as_str};
+ghost use Rattle.serde_json.specs.View.{members_view, view};
 ghost use Rattle.json_fields.specs.Fields.{Reads, found_at, misfit_of};
-ghost use Rattle.json_fields.specs.Parts.{an_object, optional_object, optional_text};
+ghost use Rattle.json_fields.specs.Parts.{a_list, an_object, optional_object, optional_text};
 ghost use Rattle.json_fields.specs.declared.kind.Wanted.TheVariants as wants;
 
 use crate::kind::{Kind, Wanted};
@@ -38,6 +38,14 @@ impl<P: fmt::Display> fmt::Display for Misfit<P> {
             None => write!(f, "`{}` is missing: expected {}", self.place, self.wanted),
         }
     }
+}
+
+/// The values of a list.
+#[tactic(auto, using(crate::proofs::Listing::listed_items))]
+fn values_of(value: &Value) -> Option<&[Value]>
+    ensures { option_map (λ values. map view values.now) result ≡ a_list (view value.now) }
+{
+    Some(value.as_array()?.as_slice())
 }
 
 impl<'v, P: Copy> Field<'v, P> {
@@ -104,12 +112,9 @@ impl<'v, P: Copy> Field<'v, P> {
 
     /// The values of the list that is there.
     pub fn list(self) -> Result<&'v [Value], Misfit<P>>
-        ensures { Reads (λ values. items_view values.now) as_array wants.List self.entry result }
+        ensures { Reads (λ values. map view values.now) a_list wants.List self.entry result }
     {
-        let read = match self.found.and_then(Value::as_array) {
-            Some(values) => Some(values.as_slice()),
-            None => None,
-        };
+        let read = self.found.and_then(values_of);
         self.wanted(Wanted::List, read)
     }
 

@@ -1,6 +1,5 @@
 pub mod Composing
 pub mod Gathering
-pub mod Listing
 pub mod Matching
 pub mod Placing
 pub mod Reaching

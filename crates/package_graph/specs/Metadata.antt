@@ -1,13 +1,15 @@
 -- What the JSON of `cargo metadata` says: a graph, or the first fault.
-use Rattle.std.specs.Prelude.{ℕ, List, [], ◌∷◌, position, codes, flat_map, option_map, option_and_then, Result, Ok}
+use Rattle.std.specs.Prelude.{ℕ, List, position, codes, flat_map, Result, Ok}
 use Rattle.std.specs.Option.{ok_or}
 use Rattle.std.specs.Str.{bytes_eq}
-use Rattle.serde_json.specs.Data.{Data, Items, no_items, item}
-use Rattle.serde_json.specs.Find.{get, as_array, as_object, as_str}
+use Rattle.serde_json.specs.Data.{Data}
+use Rattle.serde_json.specs.Find.{as_str}
 use Rattle.serde_json.specs.Read.{read}
+use Rattle.json_fields.specs.Parts.{a_list, an_object, under}
+use Rattle.json_fields.specs.declared.kind.Wanted.TheVariants as wants
 use Rattle.package_graph.specs.declared.edges.Edge.{Edge}
 use Rattle.package_graph.specs.declared.fault.MetadataFault.{MetadataFault}
-use Rattle.package_graph.specs.declared.fault.MetadataFault.TheVariants.{NotJson, ExpectedList, ExpectedObject, ExpectedText, UnknownPackage}
+use Rattle.package_graph.specs.declared.fault.MetadataFault.TheVariants.{NotJson, Expected, UnknownPackage}
 use Rattle.package_graph.specs.declared.fault.Place.{Place}
 use Rattle.package_graph.specs.declared.fault.Place.TheVariants.{Packages, PackageId, PackageName, WorkspaceMembers, WorkspaceMember, Resolve, Nodes, NodeId, Dependencies, Dependency}
 use Rattle.package_graph.specs.Graph.{Graph}
@@ -15,30 +17,21 @@ use Rattle.package_graph.specs.Results.{and_then, each}
 
 -- ---- parts of a value
 
--- the items of an array, in order
-abbrev pub listed : Items → List Data
-listed no_items = []
-listed (item d ds) = d ∷ listed ds
-
--- the array under a key
-abbrev pub list_under : List ℕ → Place → Data → Result (List Data) MetadataFault
-list_under key place value =
-    ok_or (option_map listed (option_and_then as_array (get key value))) (ExpectedList place)
-
--- the object under a key, as a value
-abbrev pub object_under : List ℕ → Place → Data → Result Data MetadataFault
-object_under key place value =
-    ok_or
-    (option_and_then (λ found. option_map (λ _. found) (as_object found)) (get key value))
-    (ExpectedObject place)
-
 -- the text that a value is
 abbrev pub text_of : Place → Data → Result (List ℕ) MetadataFault
-text_of place value = ok_or (as_str value) (ExpectedText place)
+text_of place value = ok_or (as_str value) (Expected wants.Text place)
 
 -- the text under a key
 abbrev pub text_under : List ℕ → Place → Data → Result (List ℕ) MetadataFault
-text_under key place value = ok_or (option_and_then as_str (get key value)) (ExpectedText place)
+text_under key place value = ok_or (under as_str key value) (Expected wants.Text place)
+
+-- the list under a key
+abbrev pub list_under : List ℕ → Place → Data → Result (List Data) MetadataFault
+list_under key place value = ok_or (under a_list key value) (Expected wants.List place)
+
+-- the object under a key
+abbrev pub object_under : List ℕ → Place → Data → Result Data MetadataFault
+object_under key place value = ok_or (under an_object key value) (Expected wants.Object place)
 
 -- ---- packages
 

@@ -1,4 +1,5 @@
 //! Why metadata says no graph.
+use json_fields::{Misfit, Wanted};
 use std::alloc::{AllocError, AllocFailed};
 use std::fmt;
 use thiserror::Error;
@@ -53,21 +54,26 @@ pub enum MetadataFault {
     /// The text is no JSON.
     #[error("the metadata is no JSON")]
     NotJson,
-    /// No list stands at the place.
-    #[error("expected a list at `{0}`")]
-    ExpectedList(Place),
-    /// No object stands at the place.
-    #[error("expected an object at `{0}`")]
-    ExpectedObject(Place),
-    /// No text stands at the place.
-    #[error("expected a text at `{0}`")]
-    ExpectedText(Place),
+    /// The value at the place is of another kind, or missing.
+    #[error("expected {0} at `{1}`")]
+    Expected(Wanted, Place),
     /// The text at the place is the id of no package.
     #[error("no package has the id at `{0}`")]
     UnknownPackage(Place),
     /// There was no memory.
     #[error("out of memory")]
     Memory,
+}
+
+impl From<Misfit<Place>> for MetadataFault {
+    ghost use Rattle.std.specs.Prelude.{◌≡◌};
+    ghost use Rattle.package_graph.specs.declared.fault.MetadataFault.TheVariants.{Expected};
+
+    ghost from_gives = { λ misfit e. e ≡ Expected misfit.wanted misfit.place };
+
+    fn from(misfit: Misfit<Place>) -> Self {
+        MetadataFault::Expected(misfit.wanted, misfit.place)
+    }
 }
 
 impl From<AllocError> for MetadataFault {

@@ -7,7 +7,7 @@ use crate::fault::{MetadataFault, Place};
 use crate::member_set::MemberSet;
 use crate::metadata::{edges_of, members_of, package_ids, package_names};
 use crate::search::reach;
-use crate::values::list_under;
+use json_fields::Field;
 use nextest_engines::NameMatcher;
 use serde_json::Value;
 use std::alloc::{AllocError, Global};
@@ -57,10 +57,11 @@ impl PackageGraph {
     }
 
     /// The graph in a JSON value.
+    #[tactic(auto, unfolding(crate::specs::Metadata::graph_of))]
     fn from_value(alloc: Global, metadata: &Value) -> Result<PackageGraph, MetadataFault>
         ensures { Reads graph_view result (graph_of (view metadata.now)) }
     {
-        let packages = list_under(metadata, "packages", Place::Packages)?;
+        let packages = Field::under(metadata, "packages", Place::Packages).list()?;
         let ids = package_ids(alloc, packages)?;
         let names = package_names(alloc, packages)?;
         let members = members_of(alloc, &ids, metadata)?;

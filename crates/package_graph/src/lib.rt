@@ -9,9 +9,9 @@ mod laws;
 mod member_set;
 mod metadata;
 mod search;
-mod values;
 
 pub use fault::{MetadataFault, Place};
 pub use graph::PackageGraph;
+pub use json_fields::Wanted;
 pub use laws::law_reaching;
 pub use member_set::MemberSet;

@@ -1,18 +1,28 @@
 //! The parts of the metadata from which a graph is made.
 ghost use Rattle.std.specs.Prelude.{◌≡◌, map, flat_map, position, Ok};
+ghost use Rattle.std.specs.Result.{result_map_both};
 ghost use Rattle.std.specs.Str.{bytes_eq};
 ghost use Rattle.serde_json.specs.View.{view};
-ghost use Rattle.package_graph.specs.Metadata.{package_ids, package_names, package_of, member_at, members_of, edge_at, node_at, edges_of};
+ghost use Rattle.package_graph.specs.Metadata.{package_ids, package_names, package_of, member_at, members_of, edge_at, node_at, edges_of, text_under};
 ghost use Rattle.package_graph.specs.Names.{names_view, ids_view};
 ghost use Rattle.package_graph.specs.Results.{Reads, and_then, each};
 
 use crate::edges::Edge;
 use crate::fault::{MetadataFault, Place};
-use crate::values::{list_under, object_under, text_of, text_under};
+use json_fields::Field;
 use serde_json::Value;
 use std::alloc::Global;
 
+/// The text under a key.
+fn text_under<'v>(value: &'v Value, key: &str, place: Place) -> Result<&'v str, MetadataFault>
+    ensures { result_map_both (λ text. text.now) (λ e. e) result
+        ≡ text_under key.now place (view value.now) }
+{
+    Ok(Field::under(value, key, place).text()?)
+}
+
 /// The ids of packages.
+#[tactic(auto, using(crate::proofs::Gathering::seen_start, crate::proofs::Gathering::seen_all))]
 pub fn package_ids(alloc: Global, packages: &[Value]) -> Result<Vec<&str>, MetadataFault>
     ensures { Reads (λ ids. ids_view ids.items) result (package_ids (map view packages.now)) }
 {
@@ -25,6 +35,7 @@ pub fn package_ids(alloc: Global, packages: &[Value]) -> Result<Vec<&str>, Metad
 }
 
 /// The names of packages.
+#[tactic(auto, using(crate::proofs::Gathering::seen_start, crate::proofs::Gathering::seen_all))]
 pub fn package_names(alloc: Global, packages: &[Value]) -> Result<Vec<String>, MetadataFault>
     ensures { Reads (λ names. names_view names.items) result
         (package_names (map view packages.now)) }
@@ -55,11 +66,16 @@ fn package_of(ids: &[&str], id: &str, place: Place) -> Result<usize, MetadataFau
 fn member_at(ids: &[&str], place: usize, value: &Value) -> Result<usize, MetadataFault>
     ensures { result ≡ member_at (ids_view ids.now) place (view value.now) }
 {
-    let id = text_of(value, Place::WorkspaceMember(place))?;
-    package_of(ids, id, Place::WorkspaceMember(place))
+    let place = Place::WorkspaceMember(place);
+    let id = Field {
+        found: Some(value),
+        place,
+    };
+    package_of(ids, id.text()?, place)
 }
 
 /// The members that a list of ids names.
+#[tactic(auto, using(crate::proofs::Gathering::seen_start, crate::proofs::Gathering::seen_step, crate::proofs::Gathering::seen_all))]
 fn member_list(alloc: Global, ids: &[&str], values: &[Value]) -> Result<Vec<usize>, MetadataFault>
     ensures { Reads (λ members. members.items) result
         (each (member_at (ids_view ids.now)) (map view values.now)) }
@@ -81,7 +97,7 @@ pub fn members_of(
     ensures { Reads (λ members. members.items) result
         (members_of (ids_view ids.now) (view metadata.now)) }
 {
-    let values = list_under(metadata, "workspace_members", Place::WorkspaceMembers)?;
+    let values = Field::under(metadata, "workspace_members", Place::WorkspaceMembers).list()?;
     member_list(alloc, ids, values)
 }
 
@@ -95,12 +111,14 @@ fn edge_at(
 ) -> Result<Edge, MetadataFault>
     ensures { result ≡ edge_at (ids_view ids.now) node from place (view value.now) }
 {
-    let id = text_under(value, "pkg", Place::Dependency(node, place))?;
-    let to = package_of(ids, id, Place::Dependency(node, place))?;
+    let place = Place::Dependency(node, place);
+    let id = text_under(value, "pkg", place)?;
+    let to = package_of(ids, id, place)?;
     Ok(Edge { from, to })
 }
 
 /// The dependencies of a package.
+#[tactic(auto, using(crate::proofs::Gathering::seen_start, crate::proofs::Gathering::seen_step, crate::proofs::Gathering::seen_all))]
 fn edge_list(
     alloc: Global,
     ids: &[&str],
@@ -131,7 +149,7 @@ fn node_at(
 {
     let id = text_under(value, "id", Place::NodeId(place))?;
     let from = package_of(ids, id, Place::NodeId(place))?;
-    let values = list_under(value, "deps", Place::Dependencies(place))?;
+    let values = Field::under(value, "deps", Place::Dependencies(place)).list()?;
     edge_list(alloc, ids, place, from, values)
 }
 
@@ -154,7 +172,7 @@ pub fn edges_of(alloc: Global, ids: &[&str], metadata: &Value) -> Result<Vec<Edg
     ensures { Reads (λ edges. edges.items) result
         (edges_of (ids_view ids.now) (view metadata.now)) }
 {
-    let resolve = object_under(metadata, "resolve", Place::Resolve)?;
-    let nodes = list_under(resolve, "nodes", Place::Nodes)?;
+    let resolve = Field::under(metadata, "resolve", Place::Resolve).object()?;
+    let nodes = Field::under(resolve, "nodes", Place::Nodes).list()?;
     node_list(alloc, ids, nodes)
 }

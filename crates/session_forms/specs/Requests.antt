@@ -1,13 +1,12 @@
 -- What a request in JSON says.
 use Rattle.std.specs.Prelude.{ℕ, List, [], ◌∷◌, Option, None, Some, codes, option_and_then, option_map, map, string_bytes, if◌then◌else◌}
 use Rattle.std.specs.Str.{bytes_eq}
-use Rattle.serde_json.specs.Data.{Data, Items}
+use Rattle.serde_json.specs.Data.{Data}
 use Rattle.serde_json.specs.Read.{read}
 use Rattle.nextest_sources.specs.Sources.{Outcome, text, not_found, not_a_directory, failed, InputFile, file_view, ToolFile, tool_file_view}
 use Rattle.nextest_texts.specs.Identifier.{is_part}
-use Rattle.serde_json.specs.Find.{as_array, as_bool, as_null, as_str}
-use Rattle.package_graph.specs.Metadata.{listed}
-use Rattle.json_fields.specs.Parts.{an_object, optional_object, optional_text, under}
+use Rattle.serde_json.specs.Find.{as_bool, as_null, as_str}
+use Rattle.json_fields.specs.Parts.{a_list, an_object, optional_object, optional_text, under}
 use Rattle.session_forms.specs.declared.outcome.OutcomeKind.{OutcomeKind}
 use Rattle.session_forms.specs.declared.outcome.OutcomeKind.TheVariants as outcomes
 use Rattle.session_forms.specs.declared.request.Machine.{Machine}
@@ -118,8 +117,8 @@ all_said f [] = Some []
 all_said f (x ∷ xs) = option_and_then (λ y. option_map (λ ys. y ∷ ys) (all_said f xs)) (f x)
 
 -- the files of tools that a list says
-abbrev pub tools_in : Items → Option (List ToolFile)
-tools_in items = all_said tool_in (listed items)
+abbrev pub tools_in : List Data → Option (List ToolFile)
+tools_in values = all_said tool_in values
 
 -- the machine that an object says, by `triple` and `cfg`
 abbrev pub machine_in : Data → Option MachineText
@@ -173,7 +172,7 @@ request_in value =
     (option_and_then machine_in (under an_object (codes "host") value)))
     (under optional_text (codes "metadata") value))
     (option_and_then switches_in (under an_object (codes "features") value)))
-    (option_and_then tools_in (under as_array (codes "tools") value)))
+    (option_and_then tools_in (under a_list (codes "tools") value)))
     (organisation_file_in value))
     (config_file_in value))
     (option_and_then file_in (under an_object (codes "file") value)))

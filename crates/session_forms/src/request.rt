@@ -1,6 +1,6 @@
 //! A request for a session, read from JSON.
 ghost use Rattle.std.specs.Prelude.{◌≡◌, IfOk, MatchResult, map, option_map, string_bytes};
-ghost use Rattle.serde_json.specs.View.{items_view, view};
+ghost use Rattle.serde_json.specs.View.{view};
 ghost use Rattle.nextest_sources.specs.Sources.{file_view, tool_file_view};
 ghost use Rattle.session_forms.specs.Reading.{Reads};
 ghost use Rattle.session_forms.specs.Requests.{config_file_in, file_in, tool_in, tools_in, machine_in, machine_view, switches_in, target_in, request_in, request_view, request_of, organisation_file_in, tool_name_in};
@@ -120,7 +120,7 @@ fn tool_in(alloc: Global, value: &Value, place: usize) -> Result<ToolConfigFile,
 /// The files of tools that a list says.
 fn tools_in(alloc: Global, values: &[Value]) -> Result<Vec<ToolConfigFile>, RequestFault>
     ensures { Reads (λ tools. map tool_file_view tools.items) result
-        (tools_in (items_view values.now)) }
+        (tools_in (map view values.now)) }
 {
     let mut tools = Vec::new(alloc);
     for (place, value) in values.iter().enumerate() {

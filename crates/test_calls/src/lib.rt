@@ -23,6 +23,8 @@ mod queries;
 #[cfg(test)]
 mod refusals;
 #[cfg(test)]
+mod requests;
+#[cfg(test)]
 mod sinks;
 #[cfg(test)]
 mod specs;

@@ -1,12 +1,13 @@
 -- What has to stand where in a list of tests, and what is wrong where it does not.
 use Rattle.std.specs.Prelude.{ℕ, List, [], ◌∷◌, ◌++◌, Option, None, Some, is_some, option_map, option_and_then, unwrap_or, codes, flat_map, if◌then◌else◌}
+use Rattle.std.specs.List.{slice_get}
 use Rattle.std.specs.Option.{option_or}
 use Rattle.std.specs.Str.{bytes_eq}
 use Rattle.nextest_engines.specs.declared.queries.BuildPlatform.{BuildPlatform}
 use Rattle.nextest_engines.specs.declared.queries.BuildPlatform.TheVariants.{Host, Target}
-use Rattle.serde_json.specs.Data.{Data, null, string, object, Members, no_members, member}
-use Rattle.serde_json.specs.Find.{get, at, as_object}
-use Rattle.json_fields.specs.Parts.{fits, kind_of}
+use Rattle.serde_json.specs.Data.{Data, null, string, Members, no_members, member}
+use Rattle.serde_json.specs.Find.{get, as_object}
+use Rattle.json_fields.specs.Parts.{a_list, fits, kind_of, under}
 use Rattle.json_fields.specs.declared.kind.Kind.{Kind}
 use Rattle.json_fields.specs.declared.kind.Wanted.{Wanted}
 use Rattle.json_fields.specs.declared.kind.Wanted.TheVariants as kinds
@@ -99,6 +100,11 @@ abbrev pub triple_in : Option Data → Option Data
 triple_in found = option_and_then (get (codes "triple"))
     (option_and_then (get (codes "platform")) found)
 
+-- the first of the targets, if they are a list that has one
+abbrev pub first_target : Data → Option Data
+first_target platforms =
+    option_and_then (λ targets. slice_get targets 0) (under a_list (codes "targets") platforms)
+
 -- a value is demanded below the platforms of the build
 abbrev pub platforms_demand : List ℕ → Option Data → Wanted → Demand
 platforms_demand keys found kind = record {
@@ -122,7 +128,7 @@ platforms_demands platforms =
     platforms_demand (codes "host.platform.triple") (triple_in (get (codes "host") platforms))
     kinds.Text
     ∷ platforms_demand (codes "targets") (get (codes "targets") platforms) kinds.List
-    ∷ first_target_demands (option_and_then (at 0) (get (codes "targets") platforms))
+    ∷ first_target_demands (first_target platforms)
 
 -- what is demanded of the platforms of the build: nothing, where a list has none
 abbrev pub build_demands : Data → List Demand

@@ -1,10 +1,10 @@
 -- Lists of tests, and what a document says of them.
-use Rattle.std.specs.Prelude.{◌≡◌, ℕ, List, map, Option, None, Some, MatchOption, option_map, option_and_then, codes, flat_map}
+use Rattle.std.specs.Prelude.{◌≡◌, ℕ, List, map, Option, None, Some, MatchOption, option_map, codes, flat_map}
 use Rattle.std.specs.List.{AllZip}
 use Rattle.nextest_engines.specs.Engines.{Binary, Test}
 use Rattle.serde_json.specs.Data.{Data, string, object, Members}
-use Rattle.serde_json.specs.Find.{get, at}
-use Rattle.test_lists.specs.Demands.{listed, platform_of, platforms_in, triple_in}
+use Rattle.serde_json.specs.Find.{get}
+use Rattle.test_lists.specs.Demands.{first_target, listed, platform_of, platforms_in, triple_in}
 
 -- A binary of a list: what filters see of it, the name of its package, and the names of its tests.
 pub record Listed : Type 0 where
@@ -60,8 +60,7 @@ pub record IsSuiteOf (suite : Data) (b : Listed) : Type 0 where
 -- Triples are those that the platforms of a build have: of the host, and of the first target.
 pub record AreTriplesIn (platforms : Data) (triples : Triples) : Type 0 where
   pub host : triple_in (get (codes "host") platforms) ≡ option_map string triples.host
-  pub target : triple_in (option_and_then (at 0) (get (codes "targets") platforms))
-      ≡ option_map string triples.target
+  pub target : triple_in (first_target platforms) ≡ option_map string triples.target
 
 -- Triples are those that a document says: none, where it has no platforms of the build.
 abbrev pub AreTriples : Data → Triples → Type 0

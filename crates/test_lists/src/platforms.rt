@@ -1,8 +1,8 @@
 //! The platforms of the build whose tests are listed.
-ghost use Rattle.std.specs.Prelude.{◌≡◌, None, IfOk, IfErr, option_map};
+ghost use Rattle.std.specs.Prelude.{◌≡◌, None, IfOk, IfErr, map, option_map};
+ghost use Rattle.std.specs.List.{slice_get};
 ghost use Rattle.serde_json.specs.Data.{string};
-ghost use Rattle.serde_json.specs.Find.{get_item};
-ghost use Rattle.serde_json.specs.View.{items_view, view};
+ghost use Rattle.serde_json.specs.View.{view};
 ghost use Rattle.test_lists.specs.Demands.{platforms_in, triple_in, first_target_demands, platforms_demands, build_demands, first_fault};
 ghost use Rattle.test_lists.specs.Faults.{TellsFirst};
 ghost use Rattle.test_lists.specs.Lists.{AreTriplesIn, AreTriples};
@@ -45,12 +45,12 @@ fn triple_in(platform: Option<&Value>) -> Option<&Value>
 
 /// The triple of the first platform that is built for, if there is one.
 fn target_in(alloc: Global, targets: &[Value]) -> Result<Option<&str>, ListFault>
-    ensures ok { IfOk result (λ target. triple_in (get_item 0 (items_view targets.now))
+    ensures ok { IfOk result (λ target. triple_in (slice_get (map view targets.now) 0)
         ≡ option_map (λ text. string text.now) target) }
     ensures met { IfOk result (λ _.
-        first_fault (first_target_demands (get_item 0 (items_view targets.now))) ≡ None) }
+        first_fault (first_target_demands (slice_get (map view targets.now) 0)) ≡ None) }
     ensures err { IfErr result
-        (TellsFirst (first_target_demands (get_item 0 (items_view targets.now)))) }
+        (TellsFirst (first_target_demands (slice_get (map view targets.now) 0))) }
 {
     match targets.first() {
         None => Ok(None),

@@ -1,15 +1,10 @@
-use Rattle.std.proofs.Common.{map, sym}
+use Rattle.std.proofs.Common.{sym}
 use Rattle.std.proofs.lemmas.Result.{err_from_is_err_and}
 use Rattle.serde_json.specs.View.{view}
 use Rattle.package_graph.specs.Metadata.{member_at}
 use Rattle.package_graph.specs.Names.{ids_view}
-use Rattle.package_graph.proofs.Gathering.{seen_start, seen_step, seen_all, seen_fault}
+use Rattle.package_graph.proofs.Gathering.{seen_fault}
 use Rattle.package_graph.proofs.metadata.member_list.Goals as goal
-
-pub loop-place-init : goal.loop-place-init
-loop-place-init c =
-    seen_start (member_at (ids_view c.args.ids.now)) (map view c.args.values.now) c.new-members.result.items
-    c.new-members.ensures.items
 
 pub returns-in_err-member : goal.returns-in_err-member
 returns-in_err-member c =
@@ -18,14 +13,3 @@ returns-in_err-member c =
     (λ _. seen_fault view (member_at (ids_view c.args.ids.now)) c.args.values.now c.loop-place.place _
     c.index-values-place.result c.in_err-member.field-0.0 c.loop-place-test.true c.index-values-place.is
     (sym c.in_err-member.ensures) c.loop-place.invariant)
-
-pub loop-place-preserved : goal.loop-place-preserved
-loop-place-preserved c =
-    seen_step view (member_at (ids_view c.args.ids.now)) c.args.values.now c.loop-place.place
-    c.loop-place.members.items c.push.new.self.items c.index-values-place.result c.in_ok-member.member
-    c.loop-place-test.true c.index-values-place.is (sym c.in_ok-member.ensures) c.loop-place.invariant
-    c.in_ok-push.ensures.items
-
-pub returns : goal.returns
-returns c = seen_all view (member_at (ids_view c.args.ids.now)) c.args.values.now c.loop-place.place _
-    c.loop-place-test.false c.loop-place.invariant

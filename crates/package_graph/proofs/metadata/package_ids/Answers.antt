@@ -1,17 +1,12 @@
-use Rattle.std.proofs.Common.{codes, map, ap, ◌∙◌, sym}
+use Rattle.std.proofs.Common.{codes, ap, ◌∙◌, sym}
 use Rattle.std.proofs.lemmas.List.{map-append}
 use Rattle.std.proofs.lemmas.Result.{err_from_is_err_and}
 use Rattle.serde_json.specs.View.{view}
 use Rattle.package_graph.specs.declared.fault.Place.TheVariants.{PackageId}
 use Rattle.package_graph.specs.Metadata.{text_under}
 use Rattle.package_graph.specs.Names.{ids_view}
-use Rattle.package_graph.proofs.Gathering.{seen_start, seen_step, seen_all, seen_fault}
+use Rattle.package_graph.proofs.Gathering.{seen_step, seen_fault}
 use Rattle.package_graph.proofs.metadata.package_ids.Goals as goal
-
-pub loop-place-init : goal.loop-place-init
-loop-place-init c =
-    seen_start (λ place. text_under (codes "id") (PackageId place)) (map view c.args.packages.now)
-    (ids_view c.new-ids.result.items) (ap ids_view c.new-ids.ensures.items)
 
 pub returns-in_err-id : goal.returns-in_err-id
 returns-in_err-id c =
@@ -28,7 +23,3 @@ loop-place-preserved c =
     c.in_ok-id.id.now c.loop-place-test.true c.index-packages-place.is (sym c.in_ok-id.ensures)
     c.loop-place.invariant
     (ap ids_view c.in_ok-push.ensures.items ∙ map-append (λ id. id.now) c.loop-place.ids.items _)
-
-pub returns : goal.returns
-returns c = seen_all view (λ place. text_under (codes "id") (PackageId place)) c.args.packages.now
-    c.loop-place.place _ c.loop-place-test.false c.loop-place.invariant

@@ -1,17 +1,12 @@
-use Rattle.std.proofs.Common.{codes, map, ap, ◌∙◌, sym, string_bytes, ◌++◌, ◌∷◌, []}
+use Rattle.std.proofs.Common.{codes, ap, ◌∙◌, sym, string_bytes, ◌++◌, ◌∷◌, []}
 use Rattle.std.proofs.lemmas.List.{map-append}
 use Rattle.std.proofs.lemmas.Result.{err_from_is_err_and}
 use Rattle.serde_json.specs.View.{view}
 use Rattle.package_graph.specs.declared.fault.Place.TheVariants.{PackageName}
 use Rattle.package_graph.specs.Metadata.{text_under}
 use Rattle.package_graph.specs.Names.{names_view}
-use Rattle.package_graph.proofs.Gathering.{seen_start, seen_step, seen_all, seen_fault}
+use Rattle.package_graph.proofs.Gathering.{seen_step, seen_fault}
 use Rattle.package_graph.proofs.metadata.package_names.Goals as goal
-
-pub loop-place-init : goal.loop-place-init
-loop-place-init c =
-    seen_start (λ place. text_under (codes "name") (PackageName place)) (map view c.args.packages.now)
-    (names_view c.new-names.result.items) (ap names_view c.new-names.ensures.items)
 
 pub returns-in_err-name : goal.returns-in_err-name
 returns-in_err-name c =
@@ -29,7 +24,3 @@ loop-place-preserved c =
     (sym c.in_ok-name.ensures) c.loop-place.invariant
     (ap names_view c.in_ok-push.ensures.items ∙ map-append string_bytes c.loop-place.names.items _
     ∙ ap (λ name. names_view c.loop-place.names.items ++ name ∷ []) c.in_ok-from_str.ensures.ok)
-
-pub returns : goal.returns
-returns c = seen_all view (λ place. text_under (codes "name") (PackageName place)) c.args.packages.now
-    c.loop-place.place _ c.loop-place-test.false c.loop-place.invariant

@@ -3,17 +3,16 @@ use Rattle.std.proofs.lemmas.List.{map-append}
 use Rattle.std.proofs.lemmas.Result.{err_from_is_err_and}
 use Rattle.serde_json.specs.View.{view}
 use Rattle.nextest_sources.specs.Sources.{tool_file_view}
-use Rattle.session_forms.specs.Requests.{all_said, tool_in}
-use Rattle.package_graph.proofs.Listing.{listed_items}
+use Rattle.session_forms.specs.Requests.{tool_in}
 use Rattle.session_forms.proofs.Saying.{said_step, said_all, said_none}
 use Rattle.session_forms.proofs.request.tools_in.Goals as goal
 
 pub returns-in_err-tool : goal.returns-in_err-tool
 returns-in_err-tool c =
     let p = err_from_is_err_and c.from_residual.result c.from_residual.ensures.1 in
-    rw (p.1, p.2) (λ has_memory. ap (all_said tool_in) (listed_items c.args.values.now)
-    ∙ said_none view tool_in c.args.values.now c.loop-place.place c.index-values-place.result
-    c.loop-place-test.true c.index-values-place.is (c.in_err-tool.ensures has_memory))
+    rw (p.1, p.2) (λ has_memory. said_none view tool_in c.args.values.now c.loop-place.place
+    c.index-values-place.result c.loop-place-test.true c.index-values-place.is
+    (c.in_err-tool.ensures has_memory))
 
 pub loop-place-preserved : goal.loop-place-preserved
 loop-place-preserved c =
@@ -25,6 +24,5 @@ loop-place-preserved c =
 
 pub returns : goal.returns
 returns c =
-    ap (all_said tool_in) (listed_items c.args.values.now)
-    ∙ said_all view tool_in c.args.values.now c.loop-place.place (map tool_file_view c.loop-place.tools.items)
+    said_all view tool_in c.args.values.now c.loop-place.place (map tool_file_view c.loop-place.tools.items)
     c.loop-place-test.false c.loop-place.invariant

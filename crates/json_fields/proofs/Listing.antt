@@ -1,9 +1,9 @@
--- The parts of a value as the specifications see them.
+-- The values of a list as contracts see them.
 use Rattle.std.proofs.Common.{◌≡◌, List, [], ◌∷◌, map, refl, ap}
 use Rattle.serde_json.specs.Data.{Data}
 use Rattle.serde_json.specs.View.{view, items_of, items_view}
 use Rattle.serde_json.specs.declared.value.Value.{Value}
-use Rattle.package_graph.specs.Metadata.{listed}
+use Rattle.json_fields.specs.Parts.{listed}
 
 listed-items_of : (ds : List Data) → listed (items_of ds) ≡ ds
 listed-items_of [] = refl

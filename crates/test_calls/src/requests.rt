@@ -1,0 +1,88 @@
+//! Requests of the library that are not understood: what is expected, and where.
+use session_forms::LoadRequest;
+use std::alloc::{AllocError, Global};
+use std::test::Fail;
+
+/// The members of a request that is understood.
+const MEMBERS: [(&str, &str); 9] = [
+    ("root", r#""/w""#),
+    ("file", r#"{"path": "/f", "outcome": "text", "text": ""}"#),
+    ("config-file", "null"),
+    ("organisation-config-file", "null"),
+    ("tools", "[]"),
+    (
+        "features",
+        r#"{"setup-scripts": false, "wrapper-scripts": false}"#,
+    ),
+    ("metadata", "null"),
+    ("host", r#"{"triple": "t", "cfg": null}"#),
+    ("target", "null"),
+];
+
+/// That request, with another value for a member.
+fn request_with(alloc: Global, key: &str, value: &str) -> Result<String, AllocError> {
+    let mut text = String::from_str(alloc, "{\"further\": 0")?;
+    for (member, usual) in MEMBERS {
+        let value = if member == key { value } else { usual };
+        text.push_str(format!(in alloc; ", \"{member}\": {value}")?.as_str())?;
+    }
+    text.push_str("}")?;
+    Ok(text)
+}
+
+#[test]
+fn says_what_is_expected(rt: HostRuntime) -> Result<(), Fail> {
+    let alloc = rt.alloc();
+    let usual = request_with(alloc, "further", "0")?;
+    assert!(rt; LoadRequest::read(alloc, usual.as_str()).is_ok());
+    for (key, value, reason) in [
+        ("root", "null", "expected a text at `root`"),
+        ("file", "[]", "expected an object at `file`"),
+        (
+            "file",
+            r#"{"path": "/f", "outcome": "text", "text": null}"#,
+            "expected a text at `file.text`",
+        ),
+        (
+            "file",
+            r#"{"path": "/f", "outcome": "not-found", "text": ""}"#,
+            "expected null at `file.text`",
+        ),
+        (
+            "config-file",
+            r#""/c""#,
+            "expected an object or null at `config-file`",
+        ),
+        (
+            "organisation-config-file",
+            "[]",
+            "expected an object or null at `organisation-config-file`",
+        ),
+        ("tools", "{}", "expected a list at `tools`"),
+        ("features", "null", "expected an object at `features`"),
+        (
+            "features",
+            r#"{"setup-scripts": 0, "wrapper-scripts": false}"#,
+            "expected true or false at `features.setup-scripts`",
+        ),
+        (
+            "features",
+            r#"{"setup-scripts": false}"#,
+            "expected true or false at `features.wrapper-scripts`",
+        ),
+        ("metadata", "{}", "expected a text or null at `metadata`"),
+        ("host", r#""t""#, "expected an object at `host`"),
+        (
+            "host",
+            r#"{"triple": "t", "cfg": false}"#,
+            "expected a text or null at `host.cfg`",
+        ),
+        ("target", "[]", "expected an object or null at `target`"),
+    ] {
+        let request = request_with(alloc, key, value)?;
+        let fault = LoadRequest::read(alloc, request.as_str()).err();
+        let told = format!(in alloc; "{}", fault.ok_or("no fault")?)?;
+        assert_eq!(rt; told.as_str(), reason);
+    }
+    Ok(())
+}
