@@ -19,8 +19,8 @@ use target_platforms::Platform;
 pub struct TargetSpecs;
 
 /// The bytes of a fault, and what is wrong with them.
-fn span_of(alloc: Global, fault: &TargetSpecFault) -> Result<LabeledSpan, AllocError>
-    ensures { IfOk result (IsSpanOf fault.now) }
+fn span_of(alloc: Global, fault: TargetSpecFault) -> Result<LabeledSpan, AllocError>
+    ensures { IfOk result (IsSpanOf fault) }
 {
     Ok(LabeledSpan {
         bytes: fault.span.start..fault.span.end,
@@ -29,8 +29,8 @@ fn span_of(alloc: Global, fault: &TargetSpecFault) -> Result<LabeledSpan, AllocE
 }
 
 /// The refusal that says what a fault is, and where.
-fn refusal_of(alloc: Global, fault: &TargetSpecFault) -> Result<Refusal, AllocError>
-    ensures { IfOk result (Says fault.now) }
+fn refusal_of(alloc: Global, fault: TargetSpecFault) -> Result<Refusal, AllocError>
+    ensures { IfOk result (Says fault) }
 {
     let message = format!(in alloc; "{fault}")?;
     Ok(Refusal {
@@ -40,8 +40,8 @@ fn refusal_of(alloc: Global, fault: &TargetSpecFault) -> Result<Refusal, AllocEr
 }
 
 /// The refusal of a text that has a fault.
-fn refused(alloc: Global, fault: &TargetSpecFault) -> SpecFault
-    ensures { IfSpecRefused result (Says fault.now) }
+fn refused(alloc: Global, fault: TargetSpecFault) -> SpecFault
+    ensures { IfSpecRefused result (Says fault) }
 {
     match refusal_of(alloc, fault) {
         Ok(refusal) => SpecFault::Refused(refusal),
@@ -62,6 +62,7 @@ impl Specs for TargetSpecs {
 
     ghost holds_on = { λ spec platform. spec_value (platform_view platform) spec };
 
+    #[tactic(auto, using(crate::proofs::Refusals::read_err, crate::proofs::Refusals::points_into, crate::proofs::Refusals::first_fault))]
     fn parse(&self, alloc: Global, text: &str) -> Result<TargetSpec, SpecFault>
         ensures ok { IfOk result (λ spec. spec_read text.now ≡ Ok (spec_view spec)) }
         ensures err { IfErr result (λ fault. IfSpecRefused fault
@@ -71,7 +72,7 @@ impl Specs for TargetSpecs {
     {
         match TargetSpec::parse(alloc, text) {
             Ok(spec) => Ok(spec),
-            Err(TargetSpecError::Refused(fault)) => Err(refused(alloc, &fault)),
+            Err(TargetSpecError::Refused(fault)) => Err(refused(alloc, fault)),
             Err(TargetSpecError::Memory) => Err(SpecFault::Memory),
         }
     }
