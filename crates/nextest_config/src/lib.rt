@@ -39,7 +39,7 @@ pub use profile_error::{ProfileError, ProfileNotFound};
 // The engines, and what is asked of them.
 pub use nextest_engines::{
     BinaryQuery, BuildPlatform, BuildPlatforms, EvalContext, FilterFault, Filters, FiltersetKind,
-    NameMatcher, ParseContext, SpecFault, Specs, Tally, TestQuery,
+    LabeledSpan, NameMatcher, ParseContext, Refusal, SpecFault, Specs, Tally, TestQuery,
 };
 
 // Sources, warnings and refusals.

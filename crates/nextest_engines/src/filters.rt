@@ -3,20 +3,21 @@
 //! The library never looks into an expression. It speaks of what the text of a rule means to the
 //! engine that reads it.
 ghost use Rattle.std.specs.Prelude.{◌≡◌, ◌++◌, ◌∷◌, [], List, ℕ, Bool, true, Option, Some, Result, Ok, Err, IfOk, IfErr, IsSome, map, string_bytes};
-ghost use Rattle.nextest_engines.specs.Engines.{Test, Binary, test_view, binary_view, IfFilterRefused};
+ghost use Rattle.nextest_engines.specs.Engines.{Test, Binary, test_view, binary_view, refusal_message, IfFilterRefused, PointsInto};
 ghost use Rattle.nextest_engines.specs.declared.queries.FiltersetKind.{FiltersetKind};
 ghost use Rattle.nextest_engines.specs.declared.queries.FiltersetKind.TheVariants.{DefaultFilter};
 
 use crate::queries::{BinaryQuery, EvalContext, FiltersetKind, TestQuery};
+use crate::refusal::Refusal;
 use std::alloc::{AllocError, Global};
 use thiserror::Error;
 
 /// Why a filter was not read.
 #[derive(Debug, Drop, Error)]
 pub enum FilterFault {
-    /// The text is no filter of its kind. It holds the engine's message.
+    /// The text is no filter of its kind.
     #[error("{0}")]
-    Refused(String),
+    Refused(Refusal),
     /// A growth of memory was refused.
     #[error("out of memory")]
     Memory,
@@ -70,7 +71,8 @@ pub trait Filters {
         ensures ok { IfOk result (λ expr. read self.now kind text.now ≡ Ok (meaning expr)) }
         ensures err { IfErr result
             (λ fault. IfFilterRefused fault
-            (λ message. read self.now kind text.now ≡ Err message)) };
+            (λ refusal. read self.now kind text.now ≡ Err (refusal_message refusal))) }
+        ensures span { IfErr result (λ fault. IfFilterRefused fault (PointsInto text.now)) };
 
     /// The filter that matches everything. It takes no memory.
     fn all(&self) -> Self::Expr

@@ -10,6 +10,7 @@ mod names;
 mod parse_context;
 mod platforms;
 mod queries;
+mod refusal;
 
 pub use filters::{FilterFault, Filters, Tally};
 pub use names::NameMatcher;
@@ -18,3 +19,4 @@ pub use platforms::{SpecFault, Specs};
 pub use queries::{
     BinaryQuery, BuildPlatform, BuildPlatforms, EvalContext, FiltersetKind, TestQuery,
 };
+pub use refusal::{LabeledSpan, Refusal};

@@ -1,16 +1,17 @@
 //! The language of platforms.
 ghost use Rattle.std.specs.Prelude.{◌≡◌, List, ℕ, Bool, Option, Result, Ok, Err, IfOk, IfErr};
-ghost use Rattle.nextest_engines.specs.Engines.{IfSpecRefused};
+ghost use Rattle.nextest_engines.specs.Engines.{refusal_message, IfSpecRefused, PointsInto};
 
+use crate::refusal::Refusal;
 use std::alloc::Global;
 use thiserror::Error;
 
 /// Why a platform spec was not read.
 #[derive(Debug, Drop, Error)]
 pub enum SpecFault {
-    /// The text is no platform spec. It holds the engine's message.
+    /// The text is no platform spec.
     #[error("{0}")]
-    Refused(String),
+    Refused(Refusal),
     /// A growth of memory was refused.
     #[error("out of memory")]
     Memory,
@@ -40,7 +41,8 @@ pub trait Specs {
         ensures ok { IfOk result (λ spec. read_spec self.now text.now ≡ Ok (spec_meaning spec)) }
         ensures err { IfErr result
             (λ fault. IfSpecRefused fault
-            (λ message. read_spec self.now text.now ≡ Err message)) };
+            (λ refusal. read_spec self.now text.now ≡ Err (refusal_message refusal))) }
+        ensures span { IfErr result (λ fault. IfSpecRefused fault (PointsInto text.now)) };
 
     /// Whether a platform meets a spec, or `None` where that is unknown.
     fn eval(spec: &Self::Spec, platform: &Self::Platform) -> Option<bool>

@@ -1,18 +1,20 @@
 //! The engine of filters.
-ghost use Rattle.std.specs.Prelude.{◌≡◌, [], None, Some, refl};
+ghost use Rattle.std.specs.Prelude.{◌≡◌, ◌+◌, ◌<◌, ◌^◌, [], None, Some, Ok, Err, IfOk, IfErr, refl};
 ghost use Rattle.filter_language.specs.Filtersets.{marks_view};
 ghost use Rattle.filter_language.specs.Leaves.{leaves};
-ghost use Rattle.filter_language.specs.Messages.{message};
-ghost use Rattle.nextest_engines.specs.Engines.{IfFilterRefused};
+ghost use Rattle.nextest_engines.specs.Engines.{refusal_message, IfFilterRefused, PointsInto};
 ghost use Rattle.nextest_filters.specs.Compiling.{names_of};
 ghost use Rattle.nextest_filters.specs.Decided.{default_filter_answers};
 ghost use Rattle.nextest_filters.specs.Engine.{Filter, read_filter, everything, filter_holds, filter_holds_binary};
+ghost use Rattle.nextest_filters.specs.Refusals.{IsSpanOf, Says, SaysFirstFault};
 
 use crate::compiling::FieldMatcher;
+use crate::words::fault_words;
 use filter_language::{Filterset, FiltersetFault, ParseFault};
 use nextest_engines::history::RuleHistory;
 use nextest_engines::{
-    BinaryQuery, EvalContext, FilterFault, Filters, FiltersetKind, Tally, TestQuery,
+    BinaryQuery, EvalContext, FilterFault, Filters, FiltersetKind, LabeledSpan, Refusal, Tally,
+    TestQuery,
 };
 use package_graph::PackageGraph;
 use std::alloc::{AllocError, Global};
@@ -60,12 +62,37 @@ impl NextestFilters {
     }
 }
 
-/// The refusal that tells a fault.
-fn refusal(alloc: Global, fault: FiltersetFault) -> FilterFault
-    ensures { IfFilterRefused result (λ text. text ≡ message fault) }
+/// The bytes of a fault, and what is wrong with them.
+fn span_of(alloc: Global, fault: FiltersetFault) -> Result<LabeledSpan, AllocError>
+    requires { fault.span.start + fault.span.length < 2 ^ 64 }
+    ensures { IfOk result (IsSpanOf fault) }
 {
-    match format!(in alloc; "{fault}") {
-        Ok(text) => FilterFault::Refused(text),
+    let start = fault.span.start;
+    Ok(LabeledSpan {
+        bytes: start..start + fault.span.length,
+        label: String::from_str(alloc, fault_words(fault.kind))?,
+    })
+}
+
+/// The refusal that says what a fault is, and where.
+fn refusal_of(alloc: Global, fault: FiltersetFault) -> Result<Refusal, AllocError>
+    requires { fault.span.start + fault.span.length < 2 ^ 64 }
+    ensures { IfOk result (Says fault) }
+{
+    let message = format!(in alloc; "{fault}")?;
+    Ok(Refusal {
+        message,
+        span: Some(span_of(alloc, fault)?),
+    })
+}
+
+/// The refusal of a text that has a fault.
+fn refused(alloc: Global, fault: FiltersetFault) -> FilterFault
+    requires { fault.span.start + fault.span.length < 2 ^ 64 }
+    ensures { IfFilterRefused result (Says fault) }
+{
+    match refusal_of(alloc, fault) {
+        Ok(refusal) => FilterFault::Refused(refusal),
         Err(_) => FilterFault::Memory,
     }
 }
@@ -89,16 +116,29 @@ impl Filters for NextestFilters {
 
     ghost leaves = { leaves };
 
-    #[tactic(auto, using(crate::proofs::Readings::read_ok, crate::proofs::Readings::read_err))]
+    #[tactic(auto, using(
+        crate::proofs::Readings::read_ok,
+        crate::proofs::Readings::read_err,
+        crate::proofs::Readings::points_into,
+        crate::proofs::Readings::first_fault
+    ))]
     fn parse(
         &self,
         alloc: Global,
         text: &str,
         kind: FiltersetKind,
-    ) -> Result<Filterset<FieldMatcher>, FilterFault> {
+    ) -> Result<Filterset<FieldMatcher>, FilterFault>
+        ensures ok { IfOk result
+            (λ filter. read_filter self.now kind text.now ≡ Ok (marks_view names_of filter)) }
+        ensures err { IfErr result (λ fault. IfFilterRefused fault
+            (λ refusal. read_filter self.now kind text.now ≡ Err (refusal_message refusal))) }
+        ensures span { IfErr result (λ fault. IfFilterRefused fault (PointsInto text.now)) }
+        ensures first { IfErr result (λ fault. IfFilterRefused fault
+            (SaysFirstFault self.now kind text.now)) }
+    {
         match Filterset::parse(self, alloc, text, kind) {
             Ok(filter) => Ok(filter),
-            Err(ParseFault::Refused(fault)) => Err(refusal(alloc, fault)),
+            Err(ParseFault::Refused(fault)) => Err(refused(alloc, fault)),
             Err(ParseFault::Memory) => Err(FilterFault::Memory),
         }
     }

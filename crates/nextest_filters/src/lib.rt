@@ -8,6 +8,7 @@
 mod compiling;
 mod engine;
 mod names;
+mod words;
 
 pub use compiling::FieldMatcher;
 pub use engine::{NextestFilters, NextestTally};
@@ -16,3 +17,4 @@ pub use filter_language::{
 };
 pub use names::NamePattern;
 pub use package_graph::{MetadataFault, PackageGraph};
+pub use words::fault_words;

@@ -1,75 +1,58 @@
 //! Filters and platforms that are refused, with the part that is wrong.
-use crate::fault_words::{fault_help, fault_words};
 use crate::refused::Refused;
 use config_places::Step;
-use nextest_config::{ConfigCompileSection, FiltersetKind, Tree};
-use nextest_filters::{Filterset, ParseFault};
+use nextest_config::{
+    ConfigCompileError, ConfigCompileErrorKind, ConfigCompileSection, Refusal, Tree,
+};
+use nextest_filters::{FaultKind, fault_words};
 use rinqebo_files::{host_text, profile_table, rule_table, target_text, text_at};
-use rinqebo_report::{Expression, Finding, Span};
+use rinqebo_report::{Expression, Span};
 use std::alloc::{AllocError, Global};
-use target_language::{TargetSpec, TargetSpecError};
+use std::ops::Range;
 
 /// How many characters stand before a byte of a text.
 fn characters_before(text: &str, byte: usize) -> usize {
     text.char_indices().filter(|(at, _)| *at < byte).count()
 }
 
-/// A refused text, and the part from one byte of it until another.
-fn expression(
-    alloc: Global,
-    text: &str,
-    start: usize,
-    end: usize,
-) -> Result<Expression, AllocError> {
+/// A refused text, and the part of it that is at fault.
+fn expression(alloc: Global, text: &str, bytes: &Range<usize>) -> Result<Expression, AllocError> {
     Ok(Expression {
         text: String::from_str(alloc, text)?,
         span: Some(Span {
-            from: characters_before(text, start),
-            to: characters_before(text, end),
+            from: characters_before(text, bytes.start),
+            to: characters_before(text, bytes.end),
         }),
     })
 }
 
-/// Adds what is wrong with a filter at a path, if something is.
-fn add_filter(
-    refused: &mut Refused<'_, '_>,
-    path: &[Step<'_>],
-    text: &str,
-    kind: FiltersetKind,
-) -> Result<(), AllocError> {
-    let alloc = refused.alloc;
-    match Filterset::parse(refused.filters, alloc, text, kind) {
-        Ok(_) => Ok(()),
-        Err(ParseFault::Memory) => Err(AllocError),
-        Err(ParseFault::Refused(fault)) => {
-            let mut found: Finding = refused.at(path, fault_words(fault.kind))?;
-            let start = fault.span.start;
-            let end = start.saturating_add(fault.span.length);
-            found.expression = Some(expression(alloc, text, start, end)?);
-            if let Some(help) = fault_help(fault.kind) {
-                found.help = Some(String::from_str(alloc, help)?);
-            }
-            refused.add_finding(found)
-        }
+/// What to do about a refused filter, where that is not plain.
+fn filter_help(label: &str) -> Option<&'static str> {
+    if label == fault_words(FaultKind::NoPackageGraph) {
+        return Some(
+            "pass `--metadata F`, where F has what `cargo metadata --format-version 1` prints",
+        );
     }
+    None
 }
 
-/// Adds what is wrong with a platform at a path, if something is.
-fn add_spec(
+/// Adds what is wrong with a text at a path.
+fn add_text(
     refused: &mut Refused<'_, '_>,
     path: &[Step<'_>],
     text: &str,
+    refusal: &Refusal,
 ) -> Result<(), AllocError> {
     let alloc = refused.alloc;
-    match TargetSpec::parse(alloc, text) {
-        Ok(_) => Ok(()),
-        Err(TargetSpecError::Memory) => Err(AllocError),
-        Err(TargetSpecError::Refused(fault)) => {
-            let mut found: Finding = refused.at(path, fault.label())?;
-            found.expression = Some(expression(alloc, text, fault.span.start, fault.span.end)?);
-            refused.add_finding(found)
-        }
+    let Some(span) = &refusal.span else {
+        return refused.add_at(path, refusal.message.as_str(), None);
+    };
+    let mut found = refused.at(path, span.label.as_str())?;
+    found.expression = Some(expression(alloc, text, &span.bytes)?);
+    if let Some(help) = filter_help(span.label.as_str()) {
+        found.help = Some(String::from_str(alloc, help)?);
     }
+    refused.add_finding(found)
 }
 
 /// Where the texts of a section stand: its path, and its table.
@@ -92,18 +75,31 @@ fn path_below<'p>(
     Ok(longer)
 }
 
-/// Adds what is wrong with the filter of a section at a key.
-fn add_filter_at(
+/// Adds what is wrong with the filter of a section at a key, if it is refused.
+fn add_filter(
     refused: &mut Refused<'_, '_>,
     section: Section<'_>,
     key: &str,
-    kind: FiltersetKind,
+    refusal: &Option<Refusal>,
 ) -> Result<(), AllocError> {
-    let Some(text) = text_at(section.table, key) else {
+    let (Some(refusal), Some(text)) = (refusal, text_at(section.table, key)) else {
         return Ok(());
     };
     let path = path_below(refused.alloc, section.path, &[key])?;
-    add_filter(refused, &path, text, kind)
+    add_text(refused, &path, text, refusal)
+}
+
+/// Adds what is wrong with what a rule asks of the host, if it is refused.
+fn add_host(
+    refused: &mut Refused<'_, '_>,
+    section: Section<'_>,
+    refusal: &Option<Refusal>,
+) -> Result<(), AllocError> {
+    let (Some(refusal), Some(text)) = (refusal, host_text(section.table)) else {
+        return Ok(());
+    };
+    let path = path_below(refused.alloc, section.path, &["platform", "host"])?;
+    add_text(refused, &path, text, refusal)
 }
 
 /// The path at which a rule writes what the platform has to meet which a binary runs on.
@@ -114,59 +110,62 @@ fn target_path<'p>(alloc: Global, section: Section<'p>) -> Result<Vec<Step<'p>>,
     }
 }
 
-/// Adds what is wrong with the platforms of a section.
-fn add_platforms(refused: &mut Refused<'_, '_>, section: Section<'_>) -> Result<(), AllocError> {
-    if let Some(text) = host_text(section.table) {
-        let path = path_below(refused.alloc, section.path, &["platform", "host"])?;
-        add_spec(refused, &path, text)?;
-    }
-    if let Some(text) = target_text(section.table) {
-        let path = target_path(refused.alloc, section)?;
-        add_spec(refused, &path, text)?;
-    }
-    Ok(())
-}
-
-/// Adds what is wrong with the texts of a rule: of its host, its target, its filter, which is of a
-/// kind, and its default filter.
-fn add_rule_texts(
+/// Adds what is wrong with what a rule asks of the platform which a binary runs on, if it is
+/// refused.
+fn add_target(
     refused: &mut Refused<'_, '_>,
     section: Section<'_>,
-    kind: FiltersetKind,
+    refusal: &Option<Refusal>,
 ) -> Result<(), AllocError> {
-    add_platforms(refused, section)?;
-    add_filter_at(refused, section, "filter", kind)?;
-    add_filter_at(
-        refused,
-        section,
-        "default-filter",
-        FiltersetKind::DefaultFilter,
-    )
+    let (Some(refusal), Some(text)) = (refusal, target_text(section.table)) else {
+        return Ok(());
+    };
+    let path = target_path(refused.alloc, section)?;
+    add_text(refused, &path, text, refusal)
 }
 
-/// Adds what is wrong with the texts of a section of a profile.
+/// Adds what is wrong with the texts of a section: its host, its target, its filter and its default
+/// filter.
+fn add_texts(
+    refused: &mut Refused<'_, '_>,
+    section: Section<'_>,
+    kind: &ConfigCompileErrorKind,
+) -> Result<(), AllocError> {
+    let ConfigCompileErrorKind::Parse {
+        host_parse_error,
+        target_parse_error,
+        filter_parse_error,
+        default_filter_parse_error,
+    } = kind
+    else {
+        return Ok(());
+    };
+    add_host(refused, section, host_parse_error)?;
+    add_target(refused, section, target_parse_error)?;
+    add_filter(refused, section, "filter", filter_parse_error)?;
+    add_filter(refused, section, "default-filter", default_filter_parse_error)
+}
+
+/// Adds what is wrong with the refused texts of a section of a profile.
 pub fn add_refused_texts(
     refused: &mut Refused<'_, '_>,
-    profile: &str,
-    section: ConfigCompileSection,
+    error: &ConfigCompileError,
 ) -> Result<(), AllocError> {
     let Some(tree) = refused.source.tree() else {
         return Ok(());
     };
-    let (list, index, kind) = match section {
+    let profile = error.profile_name.as_str();
+    let (list, index) = match error.section {
         ConfigCompileSection::DefaultFilter => {
             let path = [Step::Key("profile"), Step::Key(profile)];
             let section = Section {
                 path: &path,
                 table: profile_table(tree, profile),
             };
-            let kind = FiltersetKind::DefaultFilter;
-            return add_filter_at(refused, section, "default-filter", kind);
+            return add_texts(refused, section, &error.kind);
         }
-        ConfigCompileSection::Override(index) => {
-            ("overrides", index, FiltersetKind::OverrideFilter)
-        }
-        ConfigCompileSection::Script(index) => ("scripts", index, FiltersetKind::DefaultFilter),
+        ConfigCompileSection::Override(index) => ("overrides", index),
+        ConfigCompileSection::Script(index) => ("scripts", index),
     };
     let path = [
         Step::Key("profile"),
@@ -178,5 +177,5 @@ pub fn add_refused_texts(
         path: &path,
         table: rule_table(tree, profile, list, index),
     };
-    add_rule_texts(refused, section, kind)
+    add_texts(refused, section, &error.kind)
 }

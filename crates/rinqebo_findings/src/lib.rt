@@ -7,7 +7,6 @@ mod checks;
 mod expected;
 mod expressions;
 mod failures;
-mod fault_words;
 mod findings;
 mod given;
 mod hints;

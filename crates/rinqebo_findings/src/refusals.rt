@@ -10,10 +10,9 @@ use crate::refused_values::Fault;
 use crate::unknown_names::{add_script_errors, add_unknown_group};
 use config_places::Step;
 use nextest_config::{
-    ConfigCompileError, ConfigCompileErrorKind, ConfigCompileSection, ConfigExperimental,
-    ConfigParseError, ConfigParseErrorKind, ConfigPath, CustomTestGroup, ElementCause,
-    ElementFault, IdentifierOwner, InheritsError, ReadOutcome, ScriptId, ToolName, Tree,
-    UnknownTestGroupError,
+    ConfigCompileError, ConfigCompileSection, ConfigExperimental, ConfigParseError,
+    ConfigParseErrorKind, ConfigPath, CustomTestGroup, ElementCause, ElementFault,
+    IdentifierOwner, InheritsError, ReadOutcome, ScriptId, ToolName, Tree, UnknownTestGroupError,
 };
 use rinqebo_files::{Layer, place_at};
 use rinqebo_load::Session;
@@ -301,9 +300,7 @@ fn add_compile(
     let profile = error.profile_name.as_str();
     let section = error.section;
     let told = refused.findings.len();
-    if let ConfigCompileErrorKind::Parse { .. } = &error.kind {
-        add_refused_texts(refused, profile, section)?;
-    }
+    add_refused_texts(refused, error)?;
     if refused.findings.len() > told {
         return Ok(());
     }
@@ -445,7 +442,6 @@ pub fn add_refusal(
 ) -> Result<(), AllocError> {
     let mut refused = Refused {
         alloc,
-        filters: &session.engines.filters,
         source: SourceAt {
             layers: &session.layers,
             position: refused_place(&session.layers, error),

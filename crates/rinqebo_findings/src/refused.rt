@@ -2,7 +2,6 @@
 use crate::findings::{SourceAt, finding, finding_at};
 use crate::paths::path_text;
 use config_places::Step;
-use nextest_filters::NextestFilters;
 use rinqebo_files::{Layer, path_place};
 use rinqebo_report::{Finding, Level, Place};
 use std::alloc::{AllocError, Global};
@@ -11,8 +10,6 @@ use std::alloc::{AllocError, Global};
 #[derive(Drop)]
 pub struct Refused<'r, 't> {
     pub alloc: Global,
-    /// The language of filters, which says where a refused filter is wrong.
-    pub filters: &'r NextestFilters,
     /// The source that is refused.
     pub source: SourceAt<'r, 't>,
     /// The name of the refusal, the code of its findings.

@@ -15,6 +15,7 @@ pub mod Orders
 pub mod Parts
 pub mod Points
 pub mod Prefixes
+pub mod Refusals
 pub mod Spans
 pub mod Specs
 pub mod Suffixes

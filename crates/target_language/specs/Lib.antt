@@ -9,3 +9,4 @@ pub mod Messages
 pub mod Reading
 pub mod Texts
 pub mod Values
+pub mod Refusals

@@ -7,7 +7,7 @@ ghost use Rattle.std.specs.Str.{bytes_eq};
 
 use nextest_engines::history::RuleHistory;
 use nextest_engines::{
-    BinaryQuery, EvalContext, FilterFault, Filters, FiltersetKind, SpecFault, Specs, Tally,
+    BinaryQuery, EvalContext, FilterFault, Filters, FiltersetKind, Refusal, SpecFault, Specs, Tally,
     TestQuery,
 };
 use std::alloc::{AllocError, Global};
@@ -125,7 +125,10 @@ impl Filters for Names {
             return Err(FilterFault::Memory);
         }
         if text.as_bytes().contains(&b'!') {
-            return Err(FilterFault::Refused(String::new(alloc)));
+            return Err(FilterFault::Refused(Refusal {
+                message: String::new(alloc),
+                span: None,
+            }));
         }
         if text.is_empty() {
             return Ok(Name(None));

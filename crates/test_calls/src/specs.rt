@@ -14,7 +14,7 @@ fn answer<S: Specs>(
 ) -> Result<String, AllocError> {
     let spec = match engine.parse(alloc, text) {
         Ok(spec) => spec,
-        Err(SpecFault::Refused(message)) => return Ok(message),
+        Err(SpecFault::Refused(refusal)) => return Ok(refusal.message),
         Err(SpecFault::Memory) => return Err(AllocError),
     };
     let value = S::eval(&spec, platform);

@@ -1,7 +1,7 @@
 //! The engine of filters.
 ghost use Rattle.std.specs.Prelude.{◌≡◌, ◌++◌, ◌∷◌, [], Ok, Err, IfOk, IfErr, map, refl, string_bytes};
 ghost use Rattle.std.specs.List.{flat_map, list_any};
-ghost use Rattle.nextest_engines.specs.Engines.{IfFilterRefused};
+ghost use Rattle.nextest_engines.specs.Engines.{refusal_message, IfFilterRefused};
 ghost use Rattle.toy_engines.specs.FilterValues.{Filter, match_all as nothing_asked, term_of, lists_of, filter_of, subject_of};
 ghost use Rattle.toy_engines.specs.Filters as messages;
 ghost use Rattle.toy_engines.specs.Filters.{filter_read, read_for, filter_matches, filter_holds_binary, filter_leaves, term_leaves, value_beside as value_beside_default, asks_default, is_default_term as asks_for_default};
@@ -11,7 +11,7 @@ use crate::expr::{Leaf, Subject, Term, ToyExpr};
 use crate::parse::{Reading, read_filter};
 use nextest_engines::history::RuleHistory;
 use nextest_engines::{
-    BinaryQuery, EvalContext, FilterFault, Filters, FiltersetKind, Tally, TestQuery,
+    BinaryQuery, EvalContext, FilterFault, Filters, FiltersetKind, Refusal, Tally, TestQuery,
 };
 use std::alloc::{AllocError, Global};
 
@@ -98,23 +98,31 @@ fn with_leaves(alloc: Global, found: Vec<String>, terms: &[Term]) -> Result<Vec<
 
 /// The refusal of a text that breaks at a piece.
 fn no_filter(alloc: Global, text: &str, piece: &str) -> FilterFault
-    ensures { IfFilterRefused result (λ message. message ≡ messages.no_filter text.now piece.now) }
+    ensures { IfFilterRefused result
+        (λ refusal. refusal_message refusal ≡ messages.no_filter text.now piece.now) }
 {
     match format!(in alloc; "`{text}` is no filter: it breaks at `{piece}`") {
-        Ok(message) => FilterFault::Refused(message),
+        Ok(message) => FilterFault::Refused(Refusal {
+            message,
+            span: None,
+        }),
         Err(_) => FilterFault::Memory,
     }
 }
 
 /// The refusal of a default filter that asks for itself.
 fn default_in_default(alloc: Global, text: &str) -> FilterFault
-    ensures { IfFilterRefused result (λ message. message ≡ messages.default_in_default text.now) }
+    ensures { IfFilterRefused result
+        (λ refusal. refusal_message refusal ≡ messages.default_in_default text.now) }
 {
     let message = format!(in alloc;
         "`{text}` asks for the default filter, which a default filter may not"
     );
     match message {
-        Ok(message) => FilterFault::Refused(message),
+        Ok(message) => FilterFault::Refused(Refusal {
+            message,
+            span: None,
+        }),
         Err(_) => FilterFault::Memory,
     }
 }
@@ -130,7 +138,8 @@ fn for_kind(
     ensures ok { IfOk result
         (λ expr. read_for kind text.now (Ok (lists_of lists.items)) ≡ Ok (filter_of expr)) }
     ensures err { IfErr result (λ fault. IfFilterRefused fault
-        (λ message. read_for kind text.now (Ok (lists_of lists.items)) ≡ Err message)) }
+        (λ refusal. read_for kind text.now (Ok (lists_of lists.items))
+        ≡ Err (refusal_message refusal))) }
 {
     match kind {
         FiltersetKind::DefaultFilter => {

@@ -1,13 +1,13 @@
 //! The engine of platforms. A platform is a triple, kept as a text.
 ghost use Rattle.std.specs.Prelude.{◌≡◌, ◌||◌, Some, IfOk, option_map, string_bytes};
 ghost use Rattle.std.specs.List.{list_all};
-ghost use Rattle.nextest_engines.specs.Engines.{IfSpecRefused};
+ghost use Rattle.nextest_engines.specs.Engines.{refusal_message, IfSpecRefused};
 ghost use Rattle.toy_engines.specs.Platforms as messages;
 ghost use Rattle.toy_engines.specs.Platforms.{Platforms, platforms_of, spec_in, spec_read, other_spec, meets, OnUnix, is_triple_byte};
 ghost use Rattle.toy_engines.specs.Platforms.{is_cfg as cfg_test, is_triple as triple_test};
 
 use crate::texts::{after, contains, is_ended_by};
-use nextest_engines::{SpecFault, Specs};
+use nextest_engines::{Refusal, SpecFault, Specs};
 use std::alloc::{AllocError, Global};
 
 /// A platform spec.
@@ -84,10 +84,14 @@ fn read_spec(alloc: Global, text: &str) -> Result<Option<ToySpec>, AllocError>
 
 /// The refusal of a text.
 fn no_spec(alloc: Global, text: &str) -> SpecFault
-    ensures { IfSpecRefused result (λ message. message ≡ messages.no_spec text.now) }
+    ensures { IfSpecRefused result
+        (λ refusal. refusal_message refusal ≡ messages.no_spec text.now) }
 {
     match format!(in alloc; "`{text}` is no platform spec") {
-        Ok(message) => SpecFault::Refused(message),
+        Ok(message) => SpecFault::Refused(Refusal {
+            message,
+            span: None,
+        }),
         Err(_) => SpecFault::Memory,
     }
 }

@@ -38,13 +38,13 @@ fn compile_default_filter<F: Filters, S: Specs>(
         ≡ map compile_error_view errors.old.items ++ fault_in profile.now in_default_filter
         (default_filter_cause engines (option_map string_bytes text.now))) }
 {
-    let mut messages = Vec::new(alloc);
     let kind = FiltersetKind::DefaultFilter;
-    let filter = read_filter(alloc, pcx.filters, kind, text, &mut messages)?;
+    let (filter, refusal) = read_filter(alloc, pcx.filters, kind, text)?;
     let refusals = Refusals {
         host: None,
         target: None,
-        filters: messages,
+        filter: None,
+        default_filter: refusal,
     };
     let error = refusals.into_error();
     let section = ConfigCompileSection::DefaultFilter;

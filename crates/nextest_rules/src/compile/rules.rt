@@ -96,11 +96,12 @@ fn read_override<F: Filters, S: Specs>(
         ≡ override_refusals engines (override_view table.now)) }
 {
     let (platforms, mut refusals) = read_platforms(alloc, pcx.specs, &table.platform)?;
-    let messages = &mut refusals.filters;
     let kind = FiltersetKind::OverrideFilter;
-    let filter = read_filter(alloc, pcx.filters, kind, &table.filter, messages)?;
+    let (filter, refusal) = read_filter(alloc, pcx.filters, kind, &table.filter)?;
+    refusals.filter = refusal;
     let kind = FiltersetKind::DefaultFilter;
-    let default_filter = read_filter(alloc, pcx.filters, kind, &table.default_filter, messages)?;
+    let (default_filter, refusal) = read_filter(alloc, pcx.filters, kind, &table.default_filter)?;
+    refusals.default_filter = refusal;
     Ok(ReadOverride {
         platforms,
         filter,
@@ -159,9 +160,9 @@ pub(crate) fn compile_script_rule<F: Filters, S: Specs>(
         ≡ script_rule_cause engines (script_rule_table_view table)) }
 {
     let (platforms, mut refusals) = read_platforms(alloc, pcx.specs, &table.platform)?;
-    let messages = &mut refusals.filters;
     let kind = FiltersetKind::DefaultFilter;
-    let filter = read_filter(alloc, pcx.filters, kind, &table.filter, messages)?;
+    let (filter, refusal) = read_filter(alloc, pcx.filters, kind, &table.filter)?;
+    refusals.filter = refusal;
     let error = script_rule_error(&table, refusals);
     let ScriptRuleTable { scripts, .. } = table;
     let rule = CompiledProfileScripts {

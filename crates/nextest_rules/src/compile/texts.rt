@@ -1,22 +1,24 @@
 //! The texts of rules: what the engines make of them, and why they refuse them.
-ghost use Rattle.std.specs.Prelude.{◌≡◌, ◌++◌, [], None, map, IfOk, OnOk, option_map, option_to_list, string_bytes};
+ghost use Rattle.std.specs.Prelude.{◌≡◌, [], IfOk, option_map, string_bytes};
+ghost use Rattle.nextest_engines.specs.Engines.{refusal_message};
 ghost use Rattle.nextest_sources.specs.Errors.{compile_cause_view};
 ghost use Rattle.nextest_rules.specs.CompileFaults.{refusal_cause, refusal_of};
 ghost use Rattle.nextest_rules.specs.Refusals.{refusals_view};
 ghost use Rattle.nextest_rules.specs.Rules.{meaning_of};
 
 use crate::overrides::PlatformSpecs;
-use nextest_engines::{FilterFault, Filters, FiltersetKind, SpecFault, Specs};
+use nextest_engines::{FilterFault, Filters, FiltersetKind, Refusal, SpecFault, Specs};
 use nextest_sources::ConfigCompileErrorKind;
 use nextest_tables::PlatformStrings;
 use std::alloc::{AllocError, Global};
 
-/// Why the engines refuse texts of a rule: their messages.
+/// Why the engines refuse texts of a rule.
 #[derive(Drop)]
 pub(crate) struct Refusals {
-    pub(crate) host: Option<String>,
-    pub(crate) target: Option<String>,
-    pub(crate) filters: Vec<String>,
+    pub(crate) host: Option<Refusal>,
+    pub(crate) target: Option<Refusal>,
+    pub(crate) filter: Option<Refusal>,
+    pub(crate) default_filter: Option<Refusal>,
 }
 
 impl Refusals {
@@ -27,15 +29,18 @@ impl Refusals {
         let Refusals {
             host,
             target,
-            filters,
+            filter,
+            default_filter,
         } = self;
-        if host.is_none() && target.is_none() && filters.is_empty() {
+        let platforms_are_read = host.is_none() && target.is_none();
+        if platforms_are_read && filter.is_none() && default_filter.is_none() {
             return None;
         }
         Some(ConfigCompileErrorKind::Parse {
             host_parse_error: host,
             target_parse_error: target,
-            filter_parse_errors: filters,
+            filter_parse_error: filter,
+            default_filter_parse_error: default_filter,
         })
     }
 }
@@ -45,10 +50,10 @@ fn read_spec<S: Specs>(
     alloc: Global,
     specs: &S,
     text: &Option<String>,
-) -> Result<(Option<S::Spec>, Option<String>), AllocError>
+) -> Result<(Option<S::Spec>, Option<Refusal>), AllocError>
     ensures meaning { IfOk result (λ read. option_map S.spec_meaning read.0
         ≡ meaning_of (S.read_spec specs.now) (option_map string_bytes text.now)) }
-    ensures refusal { IfOk result (λ read. option_map string_bytes read.1
+    ensures refusal { IfOk result (λ read. option_map refusal_message read.1
         ≡ refusal_of (S.read_spec specs.now) (option_map string_bytes text.now)) }
 {
     let Some(text) = text else {
@@ -56,7 +61,7 @@ fn read_spec<S: Specs>(
     };
     match specs.parse(alloc, text.as_str()) {
         Ok(spec) => Ok((Some(spec), None)),
-        Err(SpecFault::Refused(message)) => Ok((None, Some(message))),
+        Err(SpecFault::Refused(refusal)) => Ok((None, Some(refusal))),
         Err(SpecFault::Memory) => Err(AllocError),
     }
 }
@@ -83,34 +88,30 @@ pub(crate) fn read_platforms<S: Specs>(
     let refusals = Refusals {
         host: host_refusal,
         target: target_refusal,
-        filters: Vec::new(alloc),
+        filter: None,
+        default_filter: None,
     };
     Ok((PlatformSpecs { host, target }, refusals))
 }
 
-/// What an engine makes of the text of a filter. Why it refuses it is added to the messages.
+/// What an engine makes of the text of a filter, and why it refuses it.
 pub(crate) fn read_filter<F: Filters>(
     alloc: Global,
     filters: &F,
     kind: FiltersetKind,
     text: &Option<String>,
-    messages: &mut Vec<String>,
-) -> Result<Option<F::Expr>, AllocError>
-    ensures meaning { IfOk result (λ expr. option_map F.meaning expr
+) -> Result<(Option<F::Expr>, Option<Refusal>), AllocError>
+    ensures meaning { IfOk result (λ read. option_map F.meaning read.0
         ≡ meaning_of (F.read filters.now kind) (option_map string_bytes text.now)) }
-    ensures refusal { OnOk result (map string_bytes messages.new.items
-        ≡ map string_bytes messages.old.items ++ option_to_list
-        (refusal_of (F.read filters.now kind) (option_map string_bytes text.now))) }
+    ensures refusal { IfOk result (λ read. option_map refusal_message read.1
+        ≡ refusal_of (F.read filters.now kind) (option_map string_bytes text.now)) }
 {
     let Some(text) = text else {
-        return Ok(None);
+        return Ok((None, None));
     };
     match filters.parse(alloc, text.as_str(), kind) {
-        Ok(expr) => Ok(Some(expr)),
-        Err(FilterFault::Refused(message)) => {
-            messages.push(message)?;
-            Ok(None)
-        }
+        Ok(expr) => Ok((Some(expr), None)),
+        Err(FilterFault::Refused(refusal)) => Ok((None, Some(refusal))),
         Err(FilterFault::Memory) => Err(AllocError),
     }
 }

@@ -1,5 +1,6 @@
 //! What does not compile: default filters, overrides and script rules.
 use crate::one_line::OneLine;
+use nextest_engines::Refusal;
 use std::fmt;
 use thiserror::Error;
 
@@ -13,14 +14,16 @@ pub enum ConfigCompileErrorKind {
     },
     /// The override has both a filter and a default filter.
     FilterAndDefaultFilterSpecified,
-    /// The engines refuse texts of the rule. Each refusal is the engine's message.
+    /// The engines refuse texts of the rule.
     Parse {
         /// The refusal of the host's spec.
-        host_parse_error: Option<String>,
+        host_parse_error: Option<Refusal>,
         /// The refusal of the target's spec.
-        target_parse_error: Option<String>,
-        /// The filter's message stands before the default filter's.
-        filter_parse_errors: Vec<String>,
+        target_parse_error: Option<Refusal>,
+        /// The refusal of the filter.
+        filter_parse_error: Option<Refusal>,
+        /// The refusal of the default filter.
+        default_filter_parse_error: Option<Refusal>,
     },
 }
 
@@ -57,33 +60,16 @@ impl fmt::Display for ConfigCompileSection {
     }
 }
 
-/// Writes a refusal of an engine behind what it refuses.
+/// Writes the refusal of an engine, if there is one, behind what it refuses.
 fn write_refusal<W: fmt::Write>(
     f: &mut fmt::Formatter<W>,
     what: &str,
-    message: &str,
+    refusal: &Option<Refusal>,
 ) -> fmt::Result {
-    write!(f, "; {what}: {}", OneLine(message))
-}
-
-/// Writes all refusals of engines, in the order of host, target and filters.
-fn write_refusals<W: fmt::Write>(
-    f: &mut fmt::Formatter<W>,
-    host: &Option<String>,
-    target: &Option<String>,
-    filters: &[String],
-) -> fmt::Result {
-    f.write_str("not understood")?;
-    for message in host.iter() {
-        write_refusal(f, "host", message.as_str())?;
+    match refusal {
+        Some(refusal) => write!(f, "; {what}: {}", OneLine(refusal.message.as_str())),
+        None => Ok(()),
     }
-    for message in target.iter() {
-        write_refusal(f, "target", message.as_str())?;
-    }
-    for message in filters {
-        write_refusal(f, "filter", message.as_str())?;
-    }
-    Ok(())
 }
 
 impl fmt::Display for ConfigCompileErrorKind {
@@ -103,8 +89,15 @@ impl fmt::Display for ConfigCompileErrorKind {
             ConfigCompileErrorKind::Parse {
                 host_parse_error,
                 target_parse_error,
-                filter_parse_errors,
-            } => write_refusals(f, host_parse_error, target_parse_error, filter_parse_errors),
+                filter_parse_error,
+                default_filter_parse_error,
+            } => {
+                f.write_str("not understood")?;
+                write_refusal(f, "host", host_parse_error)?;
+                write_refusal(f, "target", target_parse_error)?;
+                write_refusal(f, "filter", filter_parse_error)?;
+                write_refusal(f, "filter", default_filter_parse_error)
+            }
         }
     }
 }

@@ -1,8 +1,13 @@
-//! What is told of a fault in a filter.
-use nextest_filters::{Ban, FaultKind};
+//! What is wrong with a filter, in a few words.
+ghost use Rattle.std.specs.Prelude.{◌≡◌};
+ghost use Rattle.nextest_filters.specs.Refusals.{ban_words as words_of_ban, words};
+
+use filter_language::{Ban, FaultKind};
 
 /// Why a set may not stand in a filter.
-fn ban_words(ban: Ban) -> &'static str {
+fn ban_words(ban: Ban) -> &'static str
+    ensures { result.now ≡ words_of_ban ban }
+{
     match ban {
         Ban::DefaultInDefaultFilter => "`default()` may not stand here",
         Ban::GroupInDefaultFilter | Ban::GroupInOverrideFilter => "`group(..)` may not stand here",
@@ -10,7 +15,9 @@ fn ban_words(ban: Ban) -> &'static str {
 }
 
 /// What is wrong with a filter.
-pub fn fault_words(kind: FaultKind) -> &'static str {
+pub fn fault_words(kind: FaultKind) -> &'static str
+    ensures { result.now ≡ words kind }
+{
     match kind {
         FaultKind::ExpectedExpr => "expected an expression",
         FaultKind::TooDeeplyNested => "more than 128 levels",
@@ -31,15 +38,5 @@ pub fn fault_words(kind: FaultKind) -> &'static str {
         FaultKind::BannedPredicate(ban) => ban_words(ban),
         FaultKind::NoTestGroups => "groups of tests are not known here",
         FaultKind::NoPackageGraph => "the packages are not known",
-    }
-}
-
-/// What to do about it, where that is not plain.
-pub fn fault_help(kind: FaultKind) -> Option<&'static str> {
-    match kind {
-        FaultKind::NoPackageGraph => {
-            Some("pass `--metadata F`, where F has what `cargo metadata --format-version 1` prints")
-        }
-        _ => None,
     }
 }
