@@ -1,3 +1,4 @@
 mod Switching
 mod Layering
 mod Seeking
+mod Highest

@@ -1,17 +1,18 @@
 //! The experimental features of a run.
 ghost use Rattle.std.specs.List.{list_any};
 ghost use Rattle.std.specs.Option.{option_and_then};
-ghost use Rattle.std.specs.Prelude.{◌≡◌, ◌↔◌, [], ◌∷◌, false, IfOk, IsTrue, OnOk, Some, option_map, unwrap_or};
+ghost use Rattle.std.specs.Prelude.{◌≡◌, ◌↔◌, ◌-◌, [], ◌∷◌, false, IfOk, IsTrue, OnOk, Some, length, map, option_map, slice_get, unwrap_or};
 ghost use Rattle.nextest_elements.specs.Experimental.{experimental_text};
 ghost use Rattle.nextest_tree.specs.Node.{as_bool};
 ghost use Rattle.nextest_tree.specs.View.{tree_view};
-ghost use Rattle.rinqebo_files.specs.Features.{repository_file, experimental_in, is_this_text, SwitchesOn, AreWith, AreAdded, AreFeaturesOf};
+ghost use Rattle.rinqebo_files.specs.Features.{experimental_in, is_this_text, SwitchesOn, AreWith, AreAdded, AreFeaturesOf};
+ghost use Rattle.rinqebo_files.specs.Layers.{layer_tree, layer_view, layers_read};
+ghost use Rattle.rinqebo_files.specs.declared.files.Gathered.{Gathered};
 
-use crate::document::tree_of;
-use crate::files::Gathered;
-use nextest_config::{ConfigExperimental, ReadOutcome, Tree};
+use crate::layers::Layer;
+use nextest_config::{ConfigExperimental, Tree};
 use rinqebo_request::{FEATURES, feature_name};
-use std::alloc::{AllocError, Global};
+use std::alloc::AllocError;
 use std::collections::BTreeSet;
 
 /// Whether a tree is a text.
@@ -53,13 +54,14 @@ fn switches_on(written: &Tree, name: &str) -> bool
     }
 }
 
-/// What came of reading the repository's file.
-fn repository_outcome(gathered: &Gathered) -> &ReadOutcome
-    ensures { result.now ≡ (repository_file gathered.now).outcome }
+/// Returns the tree of the highest layer, if it is a document.
+fn highest_tree<'l>(layers: &'l [Layer]) -> Option<&'l Tree>
+    ensures { option_map (λ tree. tree_view tree.now) result
+        ≡ option_and_then layer_tree (slice_get layers.now (length layers.now - 1)) }
 {
-    match &gathered.config_file {
-        Some(file) => &file.outcome,
-        None => &gathered.paths.shared.outcome,
+    match layers.last() {
+        Some(layer) => layer.tree.as_ref(),
+        None => None,
     }
 }
 
@@ -109,10 +111,10 @@ fn add_written(
 /// Adds the features that a document switches on.
 fn add_switched(
     features: &mut BTreeSet<ConfigExperimental>,
-    document: Option<Tree>,
+    document: Option<&Tree>,
 ) -> Result<(), AllocError>
-    ensures { OnOk result
-        (AreWith (experimental_in (option_map tree_view document)) features.old features.new) }
+    ensures { let node = option_map (λ tree. tree_view tree.now) document.entry in
+        OnOk result (AreWith (experimental_in node) features.old features.new) }
 {
     match document {
         Some(tree) => add_written(features, tree.get("experimental")),
@@ -120,15 +122,16 @@ fn add_switched(
     }
 }
 
-/// The features of a run: those that words switch on, and those of the repository's file.
+/// Returns the features of a run: those that words switch on, and those of the repository's file,
+/// which is the highest of the layers.
 pub fn features_of(
-    alloc: Global,
     named: &BTreeSet<ConfigExperimental>,
-    gathered: &Gathered,
+    layers: &[Layer],
 ) -> Result<BTreeSet<ConfigExperimental>, AllocError>
-    ensures { IfOk result (AreFeaturesOf named.now gathered.now) }
+    ensures { (gathered : Gathered) → map layer_view layers.now ≡ layers_read gathered
+        → IfOk result (AreFeaturesOf named.now gathered) }
 {
     let mut features = named.clone()?;
-    add_switched(&mut features, tree_of(alloc, repository_outcome(gathered))?)?;
+    add_switched(&mut features, highest_tree(layers))?;
     Ok(features)
 }

@@ -9,7 +9,7 @@ mod layers;
 mod places;
 mod root;
 
-pub use document::{NoDocument, tree_of};
+pub use document::NoDocument;
 pub use features::features_of;
 pub use files::{GatherFault, Gathered, gather};
 pub use layers::{

@@ -61,12 +61,14 @@ impl<'g> Session<'g> {
         let path = request.list().map_or("", ListFile::path);
         let tests = listed_tests(alloc, path, gathered)?;
         let triples = triples_for(alloc, &request.engines, &tests)?;
+        let engines = Engines::new(alloc, request, &triples, gathered)?;
+        let layers = layers_of(alloc, gathered)?;
         Ok(Session {
             gathered,
             profile_source: request.profile_source,
-            engines: Engines::new(alloc, request, &triples, gathered)?,
-            features: features_of(alloc, &request.features, gathered)?,
-            layers: layers_of(alloc, gathered)?,
+            engines,
+            features: features_of(&request.features, &layers)?,
+            layers,
             tests,
             triples,
         })

@@ -9,11 +9,11 @@ pub returns-in-Some : goal.returns-in-Some
 returns-in-Some c =
     let before = c.args.features.now in
     let after = c.add_written.new.features in
-    subst (λ d. OnOk c.add_written.result (AreWith (experimental_in (option_map tree_view d)) before after))
-    (sym c.in-Some.is)
+    subst (λ d. OnOk c.add_written.result
+    (AreWith (experimental_in (option_map (λ tree. tree_view tree.now) d)) before after)) (sym c.in-Some.is)
     (subst (λ o. OnOk c.add_written.result (AreWith o before after)) c.get.ensures c.add_written.ensures)
 
 pub returns-in-None : goal.returns-in-None
 returns-in-None c =
-    subst (λ d. AreWith (experimental_in (option_map tree_view d)) c.args.features.now c.args.features.now)
-    (sym c.in-None.is) (nothing_more c.args.features.now)
+    subst (λ d. AreWith (experimental_in (option_map (λ tree. tree_view tree.now) d)) c.args.features.now
+    c.args.features.now) (sym c.in-None.is) (nothing_more c.args.features.now)

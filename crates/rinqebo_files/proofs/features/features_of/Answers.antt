@@ -1,11 +1,12 @@
-use Rattle.std.proofs.Common.{◌≡◌, ◌∙◌, ap, subst}
+use Rattle.std.proofs.Common.{◌≡◌, ◌∙◌, subst}
 use Rattle.std.proofs.lemmas.List.Elements.{same_from_all_zip}
-use Rattle.rinqebo_files.specs.Features.{experimental_in, tree_read, AreWith}
+use Rattle.rinqebo_files.specs.Features.{experimental_in, AreWith}
+use Rattle.rinqebo_files.proofs.Highest.{repository_last}
 use Rattle.rinqebo_files.proofs.Switching.{copied}
 use Rattle.rinqebo_files.proofs.features.features_of.Goals as goal
 
 pub returns : goal.returns
-returns c =
+returns c = λ gathered are.
     let named = c.args.named.now in
     let copy = c.in_ok-features.features in
     let after = c.add_switched.new.features in
@@ -13,4 +14,4 @@ returns c =
     same_from_all_zip _ named.keys copy.keys c.in_ok-features.ensures.cases (λ x y is. is) in
     copied _ named copy after same
     (subst (λ document. AreWith (experimental_in document) copy after)
-    (c.in_ok-tree_of.ensures ∙ ap tree_read c.repository_outcome.ensures) c.in_ok-add_switched.ensures)
+    (c.highest_tree.ensures ∙ repository_last c.args.layers.now gathered are) c.in_ok-add_switched.ensures)
