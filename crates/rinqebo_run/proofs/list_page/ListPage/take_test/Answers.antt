@@ -1,4 +1,3 @@
-use Rattle.std.proofs.Common.{◌∙◌}
 use Rattle.rinqebo_run.proofs.list_page.ListPage.take_test.Goals as goal
 
 pub returns-clause-ok : goal.returns-clause-ok
