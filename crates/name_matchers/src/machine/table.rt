@@ -8,7 +8,7 @@ use std::alloc::{AllocError, Global};
 pub const MOST_ROWS: usize = 32;
 
 // The most cells of a table.
-const MOST_CELLS: usize = 512;
+const MOST_CELLS: usize = 256;
 
 /// How a search goes on from a row of a table.
 #[derive(Clone, Copy)]
