@@ -157,9 +157,10 @@ fn found(
     rule: Option<RulePlace<'_>>,
     key: SettingKey,
 ) -> Result<Vec<Origin>, AllocError>
-    ensures { let basis = record { layers = layers.now; chain = borrowed_view chain.now } in
-        IfOk result (λ origins. AreOriginsAt basis (option_map place_view rule)
-        (option_map (λ table. table.now) key.table) key.key.now origins.items) }
+    ensures { IfOk result (λ origins. AreOriginsAt
+        (record { layers = layers.now; chain = borrowed_view chain.now })
+        (option_map place_view rule) (option_map (λ table. table.now) key.table) key.key.now
+        origins.items) }
 {
     match rule {
         Some(place) => place.origins_at_key(alloc, layers, key),
