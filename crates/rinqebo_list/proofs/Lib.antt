@@ -1,3 +1,4 @@
+pub mod Copies
 pub mod Listing
 pub mod NoneHold
 pub mod RowsMore

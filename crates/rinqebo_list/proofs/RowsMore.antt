@@ -1,12 +1,17 @@
 -- Rows of settings, one after another.
-use Rattle.std.proofs.Common.{◌≡◌, ◌∙◌, ◌<◌, ◌+◌, ℕ, List, [], ◌∷◌, ◌++◌, Bool, true, false, cond, Option, ap, append-nil, filter, get_or, length, refl, subst, sym, take}
+use Rattle.std.proofs.Common.{◌≡◌, ◌∙◌, ◌<◌, ◌+◌, ℕ, List, [], ◌∷◌, ◌++◌, Bool, true, false, cond, None, Option, Some, ap, append-nil, filter, get_or, length, option_map, refl, subst, sym, take}
 use Rattle.std.proofs.lemmas.List.{take_more}
 use Rattle.std.proofs.lemmas.Slice.Zip.{all_zipped_more}
 use Rattle.std.specs.List.{AllZip}
 use Rattle.nextest_elements.specs.declared.run_mode.NextestRunMode.{NextestRunMode}
+use Rattle.nextest_rules.specs.Rules.{RuleId, ScriptRuleUse}
+use Rattle.nextest_settings.specs.Platforms.{EvaluatedRule}
 use Rattle.nextest_settings.specs.Queries.{Origin}
 use Rattle.nextest_settings.specs.Settings.{ValueOf}
+use Rattle.nextest_settings.specs.SourceView.{setting_source_view, MarksOrigin}
 use Rattle.nextest_settings.specs.declared.setting.Setting.{Setting}
+use Rattle.nextest_settings.specs.declared.source.SettingSource.{SettingSource}
+use Rattle.rinqebo_list.specs.Origins.{Basis}
 use Rattle.rinqebo_list.specs.Settings.{IsSettingTold, told_settings}
 use Rattle.rinqebo_request.specs.declared.request.AskedSettings.{AskedSettings}
 use Rattle.rinqebo_report.specs.declared.report.SettingRow.{SettingRow}
@@ -53,12 +58,29 @@ filter_same p xs i x d below same now before fails =
     ∙ sym (filter-one p (take i xs) x) ∙ ap (filter p) (sym taken)
 
 -- rows tell the settings by whatever says the same of each
-pub told_alike : (v w : (s : Setting) → Option (ValueOf s)) (o p : Setting → Option Origin) (mode : NextestRunMode)
-    (asked : AskedSettings) (rows : List SettingRow) → ((s : Setting) → v s ≡ w s) → ((s : Setting) → o s ≡ p s)
-    → AllZip (IsSettingTold v mode) (told_settings asked o) rows
-    → AllZip (IsSettingTold w mode) (told_settings asked p) rows
-told_alike v w o p mode asked rows values origins told =
+pub told_alike : (basis : Basis) (one other : Option RuleId) (v w : (s : Setting) → Option (ValueOf s))
+    (o p : Setting → Option Origin) (mode : NextestRunMode) (asked : AskedSettings) (rows : List SettingRow)
+    → one ≡ other → ((s : Setting) → v s ≡ w s) → ((s : Setting) → o s ≡ p s)
+    → AllZip (IsSettingTold basis one v o mode) (told_settings asked o) rows
+    → AllZip (IsSettingTold basis other w p mode) (told_settings asked p) rows
+told_alike basis one other v w o p mode asked rows wrapping values origins told =
     let same_values : v ≡ w = λ i s. values s i in
     let same_origins : o ≡ p = λ i s. origins s i in
-    subst (λ v. AllZip (IsSettingTold v mode) (told_settings asked p) rows) same_values
-    (subst (λ o. AllZip (IsSettingTold v mode) (told_settings asked o) rows) same_origins told)
+    subst (λ v. AllZip (IsSettingTold basis other v p mode) (told_settings asked p) rows) same_values
+    (subst (λ o. AllZip (IsSettingTold basis other v o mode) (told_settings asked o) rows) same_origins
+    (subst (λ id. AllZip (IsSettingTold basis id v o mode) (told_settings asked o) rows) wrapping told))
+
+-- the id of what a rule writes is that of the rule
+pub wrapping_alike : {M : Type 0} (uses : Option ScriptRuleUse) (rule : Option (EvaluatedRule M ScriptRuleUse))
+    → uses ≡ option_map (λ r. r.writes) rule → option_map (λ u. u.id) uses ≡ option_map (λ r. r.writes.id) rule
+wrapping_alike uses None is = ap (option_map (λ u. u.id)) is
+wrapping_alike uses (Some rule) is = ap (option_map (λ u. u.id)) is
+
+-- a mark tells the origin that it is right for
+pub marked : {F S E T N P : Type 0} (source : Option (SettingSource F S E T N P)) (origin : Option Origin)
+    → MarksOrigin (λ mark told. setting_source_view mark ≡ told) source origin
+    → option_map setting_source_view source ≡ origin
+marked None None marks = refl
+marked None (Some origin) marks = absurd marks
+marked (Some source) None marks = absurd marks
+marked (Some source) (Some origin) marks = ap Some marks

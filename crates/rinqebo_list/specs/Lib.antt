@@ -1,3 +1,5 @@
+pub mod Origins
+pub mod KnownOrigins
 pub mod Selections
 pub mod Unused
 pub mod Settings

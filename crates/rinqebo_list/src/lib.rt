@@ -15,8 +15,8 @@ mod unused;
 mod values;
 
 pub use laws::law_unused;
-pub use lister::{Asking, ListedRows};
-pub use origins::{Decider, OriginTeller};
+pub use lister::{Asking, ListedRows, reported_platform};
+pub use origins::Origins;
 pub use progress::{Progress, Untold};
 pub use scripts::scripts_of;
 pub use unused::{UnusedRules, unused_rules};

@@ -6,7 +6,7 @@ ghost use Rattle.nextest_settings.specs.Queries.{query_in};
 ghost use Rattle.rinqebo_list.specs.Rows.{AreTestsTold, IsTestTold};
 ghost use Rattle.rinqebo_list.specs.Unused.{AreUnusedIn};
 
-use crate::origins::OriginTeller;
+use crate::origins::Origins;
 use crate::progress::Progress;
 use crate::rows::rows_of;
 use crate::unused::{UnusedRules, unused_rules};
@@ -38,7 +38,7 @@ pub struct ListedRows<'c> {
 }
 
 /// For what a binary is built, as it is reported.
-fn reported_platform(platform: BuildPlatform) -> Platform {
+pub fn reported_platform(platform: BuildPlatform) -> Platform {
     match platform {
         BuildPlatform::Host => Platform::Host,
         BuildPlatform::Target => Platform::Target,
@@ -47,16 +47,17 @@ fn reported_platform(platform: BuildPlatform) -> Platform {
 
 impl<'l, 'c, F: Filters, S: Specs> Asking<'l, 'c, F, S> {
     /// The settings of a test that are told. It takes as much memory as they do, and loads nothing.
-    pub fn rows_of<O: OriginTeller<'c>>(
+    pub fn rows_of(
         &self,
         alloc: Global,
         query: &TestQuery<'_>,
         tally: &mut F::Tally,
-        teller: &mut O,
+        origins: &mut Origins<'_, '_, 'c>,
     ) -> Result<TestRows, AllocError>
-        ensures { let profile = profile_meaning F.meaning self.now.profile.now in
-            IfOk result (IsTestTold (query_in F.holds profile (test_view query.now)) self.now.mode
-            profile self.now.asked.now (test_view query.now)) }
+        ensures same { origins.new ≡ origins.old }
+        ensures told { let profile = profile_meaning F.meaning self.now.profile.now in
+            IfOk result (IsTestTold origins.old (query_in F.holds profile (test_view query.now))
+            self.now.mode profile self.now.asked.now (test_view query.now)) }
     {
         let settings = self
             .profile
@@ -65,30 +66,30 @@ impl<'l, 'c, F: Filters, S: Specs> Asking<'l, 'c, F, S> {
             binary: String::from_str(alloc, query.binary_query.binary_id)?,
             name: String::from_str(alloc, query.test_name)?,
             platform: reported_platform(query.binary_query.platform),
-            settings: rows_of(alloc, &settings, self.asked, self.mode, teller)?,
+            settings: rows_of(alloc, &settings, self.asked, self.mode, origins)?,
         })
     }
 
     /// The rows of tests, one test after another, and the rules of the profile that hold for none.
     /// After each test it is told how far the list is.
-    pub fn list<O: OriginTeller<'c>, P: Progress>(
+    pub fn list<P: Progress>(
         &self,
         alloc: Global,
         queries: &[TestQuery<'_>],
         tally: &mut F::Tally,
-        teller: &mut O,
+        origins: &mut Origins<'_, '_, 'c>,
         progress: &mut P,
     ) -> Result<ListedRows<'c>, AllocError>
         ensures tests { let profile = profile_meaning F.meaning self.now.profile.now in
-            IfOk result (λ listed. AreTestsTold F.holds self.now.mode profile self.now.asked.now
-            (map test_view queries.now) listed.tests.items) }
+            IfOk result (λ listed. AreTestsTold origins.old F.holds self.now.mode profile
+            self.now.asked.now (map test_view queries.now) listed.tests.items) }
         ensures unused { let profile = profile_meaning F.meaning self.now.profile.now in
             IfOk result (λ listed. AreUnusedIn
             (map (query_in F.holds profile) (map test_view queries.now)) profile listed.unused) }
     {
         let mut tests = Vec::new(alloc);
         for query in queries {
-            tests.push(self.rows_of(alloc, query, tally, teller)?)?;
+            tests.push(self.rows_of(alloc, query, tally, origins)?)?;
             progress.asked(tests.len(), queries.len());
         }
         let unused = unused_rules(alloc, self.profile, queries, tally)?;

@@ -8,10 +8,12 @@ use Rattle.nextest_engines.specs.declared.queries.BuildPlatforms.{BuildPlatforms
 use Rattle.nextest_filters.specs.Compiling.{names_of}
 use Rattle.nextest_filters.specs.Engine.{Filter}
 use Rattle.nextest_filters.specs.declared.compiling.FieldMatcher.{FieldMatcher}
-use Rattle.nextest_load.specs.Config.{ConfigModel}
+use Rattle.nextest_inheritance.specs.Parents.{parents_in}
+use Rattle.nextest_load.specs.Config.{ConfigModel, config_parents}
 use Rattle.nextest_load.specs.Load.{Loaded}
 use Rattle.nextest_profiles.proofs.MeaningOfTexts.{profile_means}
 use Rattle.nextest_profiles.specs.Meaning.{configured_meaning, profile_meaning}
+use Rattle.nextest_profiles.specs.Profiles.{IsChainAndDefault}
 use Rattle.nextest_rules.specs.Rules.{OverrideUse, RuleId, ScriptRuleUse}
 use Rattle.nextest_rules.specs.View.{id_view, script_rule_id_view}
 use Rattle.nextest_rules.specs.declared.overrides.OverrideId.{OverrideId}
@@ -22,6 +24,7 @@ use Rattle.nextest_settings.specs.Profile.{Configured, EvaluatableModel}
 use Rattle.nextest_settings.specs.Queries.{query_in}
 use Rattle.nextest_tables.specs.FileTexts.{names_in, IsIn}
 use Rattle.nextest_tables.specs.Written.{Name}
+use Rattle.rinqebo_list.specs.Origins.{Basis}
 use Rattle.rinqebo_list.specs.Rows.{AreTestsTold}
 use Rattle.rinqebo_list.specs.Scripts.{AreScriptsTold}
 use Rattle.rinqebo_list.specs.Unused.{unused_among, AreUnusedIn}
@@ -39,7 +42,7 @@ use Rattle.test_lists.specs.Lists.{all_binaries, all_tests}
 use Rattle.rinqebo_load.specs.Accepted.{AreAccepted}
 use Rattle.rinqebo_rules.specs.Conditions.{is_met_by}
 use Rattle.rinqebo_run.specs.Listed.{IsProfileOn, unused_places, AreTestsOf, IfListed, TellsTests}
-use Rattle.rinqebo_run.specs.ListedBy.{read_by, listed_by, places_of}
+use Rattle.rinqebo_run.specs.ListedBy.{basis_of, read_by, listed_by, places_of}
 use Rattle.rinqebo_files.specs.declared.layers.Layer.{Layer as FileLayer}
 use Rattle.rinqebo_rules.specs.Origins.{IsOriginOf}
 use Rattle.rinqebo_rules.specs.RulePlaces.{Place, id_place, script_place}
@@ -95,13 +98,24 @@ module _ {E N M K P : Type 0} (f : E → M) (g : N → K) (meets : K → P → O
     is_profile = ap (profile_meaning f) is.is_profile ∙ profile_means f g meets platforms c name is.chain;
   }
 
+-- what origins are looked up in
+based : List Name → List FileLayer → Basis
+based chain layers = record { layers = layers; chain = chain }
+
+-- origins are looked up in the layers of a session
+pub basis_here : (session : Session) (basis : Basis) (layers : List FileLayer) (chain : List Name)
+    → basis ≡ record { layers = layers; chain = chain } → layers ≡ session.layers.items
+    → basis ≡ basis_of session chain
+basis_here session basis layers chain is same = is ∙ ap (based chain) same
+
 -- tests, rules and scripts are told by a configuration that was loaded
 pub listed_here : (session : Session) (loaded : Loaded (Filterset FieldMatcher) TargetSpec) (name : Name)
     (mode : NextestRunMode) (asked : AskedSettings) (on : EvaluatableModel (Filterset FieldMatcher))
-    (ids : UnusedRules) (tests : List TestRows) (unused : List Origin) (scripts : ListScripts)
+    (names chain : List Name) (ids : UnusedRules) (tests : List TestRows) (unused : List Origin) (scripts : ListScripts)
     → IsProfileOn is_met_by session.engines.platforms (read_by session loaded) name on
-    → AreTestsTold (readings session.engines.filters).matches_test mode (profile_meaning (marks_view names_of) on)
-    asked (all_tests (list_view session.tests)) tests
+    → IsChainAndDefault (parents_in (config_parents loaded.config)) name names → chain ≡ names
+    → AreTestsTold (basis_of session chain) (readings session.engines.filters).matches_test mode
+    (profile_meaning (marks_view names_of) on) asked (all_tests (list_view session.tests)) tests
     → AreUnusedIn (map (query_in (readings session.engines.filters).matches_test
     (profile_meaning (marks_view names_of) on)) (all_tests (list_view session.tests)))
     (profile_meaning (marks_view names_of) on) ids
@@ -110,14 +124,18 @@ pub listed_here : (session : Session) (loaded : Loaded (Filterset FieldMatcher) 
     (profile_meaning (marks_view names_of) on) (all_tests (list_view session.tests))
     (all_binaries (list_view session.tests)) scripts
     → listed_by session loaded name mode asked tests unused scripts
-listed_here session loaded name mode asked on ids tests unused scripts is told are origins scripted =
+listed_here session loaded name mode asked on names chain ids tests unused scripts is ends same told are origins
+    scripted =
     let engines = readings session.engines.filters in
     let profile = profile_meaning (marks_view names_of) on in
     record {
       profile = profile;
       is_profile = given_means (marks_view names_of) spec_view engines.meets session.engines.platforms
           (read_by session loaded) name on is;
-      tests_told = told;
+      chain = names;
+      is_chain = ends;
+      tests_told = subst (λ ns. AreTestsTold (basis_of session ns) engines.matches_test mode profile asked
+          (all_tests (list_view session.tests)) tests) same told;
       unused_told = subst (λ places. AllZip (λ place. IsOriginOf session.layers.items place []) places unused)
           (unused_stand (map (query_in engines.matches_test profile) (all_tests (list_view session.tests))) profile ids
           are)

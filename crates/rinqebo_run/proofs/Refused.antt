@@ -1,110 +1,22 @@
 -- Why a run answers nothing: from loads and rows to questions, and from there to exit statuses.
-use Rattle.std.proofs.Common.{◌≡◌, ◌∙◌, ◌⊎◌, inl, inr, ℕ, List, false, map, string_bytes, Result, Ok, Err, IfErr, IsErrAnd, arith, subst, sym}
+use Rattle.std.proofs.Common.{◌≡◌, ◌∙◌, ◌⊎◌, inl, inr, ℕ, Result, Ok, Err, IfErr, IsErrAnd, arith, subst, sym}
 use Rattle.std.specs.Result.{result_map_both}
-use Rattle.filter_language.specs.declared.filterset.Filterset.{Filterset}
-use Rattle.nextest_config.specs.Headline.{Request, Resolves}
-use Rattle.nextest_config.specs.RunView.{refusal_view, run_view}
-use Rattle.nextest_config.specs.declared.run.fault.ResolveFault.{ResolveFault}
-use Rattle.nextest_config.specs.declared.run.fault.ResolveFault.TheVariants as faults
-use Rattle.nextest_engines.specs.Engines.{Test}
-use Rattle.nextest_filters.specs.declared.compiling.FieldMatcher.{FieldMatcher}
-use Rattle.nextest_filters.specs.declared.engine.NextestFilters.{NextestFilters}
-use Rattle.nextest_load.specs.Accepted.{IsAccepted}
-use Rattle.nextest_load.specs.Config.{config_of}
-use Rattle.nextest_load.specs.Load.{Loaded}
-use Rattle.nextest_rules.specs.Definitions.{Features}
-use Rattle.nextest_rules.specs.KnownView.{features_view}
-use Rattle.nextest_sources.specs.Endings.{IsMemory}
-use Rattle.nextest_sources.specs.Inputs.{LoadInputs, sources_in}
-use Rattle.nextest_sources.specs.Warnings.{Warning}
-use Rattle.nextest_sources.specs.declared.error.ConfigParseError.{ConfigParseError}
-use Rattle.nextest_tables.specs.FileTexts.{names_in, IsIn}
 use Rattle.nextest_tables.specs.Written.{Name}
-use Rattle.nextest_tree.specs.Schema.{is_one_of}
 use Rattle.rinqebo_files.specs.declared.files.Gathered.{Gathered}
 use Rattle.rinqebo_report.specs.declared.report.Report.{Report}
 use Rattle.rinqebo_request.specs.declared.request.Question.{Question}
 use Rattle.rinqebo_request.specs.declared.request.Question.TheVariants as questions
 use Rattle.rinqebo_request.specs.declared.request.Request.{Request as Asked}
-use Rattle.rinqebo_request.specs.declared.request.TestName.{TestName}
 use Rattle.rinqebo_run.proofs.Statuses.{shown_low}
 use Rattle.rinqebo_run.specs.Answered.{AnswersQuestion, IsAnswer}
 use Rattle.rinqebo_load.specs.Accepted.{AreAccepted}
-use Rattle.rinqebo_run.specs.Explained.{Asks}
 use Rattle.rinqebo_run.specs.Refused.{AreRefusedFor, Fails, IsFailureIn, IsToldBy, LackProfileFor, LacksProfileOf}
-use Rattle.rinqebo_findings.specs.Failures.{IsFailureAbout, IsLoadFailure, IsProfileFailure, IsRunFailure, LacksProfile}
+use Rattle.rinqebo_findings.specs.Failures.{IsFailureAbout}
 use Rattle.rinqebo_load.specs.SessionOf.{IsSessionOf}
-use Rattle.rinqebo_load.specs.Sessions.{files_view, readings, IsLoadedFrom}
 use Rattle.rinqebo_run.specs.Statuses.{failure_status}
 use Rattle.rinqebo_load.specs.declared.failure.Failure.{Failure}
 use Rattle.rinqebo_load.specs.declared.failure.Failure.TheVariants as failures
 use Rattle.rinqebo_load.specs.declared.session.Session.{Session}
-use Rattle.target_language.specs.declared.expression.TargetSpec.{TargetSpec}
-use Rattle.target_platforms.specs.declared.Platform.{Platform}
-
--- the failure of a load that was refused
-pub load_failure : (session : Session) (profile : Name) (error : ConfigParseError) (failure : Failure)
-    → IsMemory error ⊎ (¬ AreAccepted session) → IsLoadFailure error failure → IsFailureAbout session profile failure
-load_failure session profile error (failures.Engines fault) loaded is = is
-load_failure session profile error (failures.Refused report) (inl memory) is = absurd (is memory)
-load_failure session profile error (failures.Refused report) (inr broken) is = broken
-load_failure session profile error (failures.NoProfile report) loaded is = absurd is
-load_failure session profile error failures.Memory loaded is = tt
-
--- the failure for a profile that files lack
-pub profile_failure : (session : Session) (profile : Name) (failure : Failure) → LacksProfile session profile
-    → IsProfileFailure failure → IsFailureAbout session profile failure
-profile_failure session profile (failures.Engines fault) lacks is = is
-profile_failure session profile (failures.Refused report) lacks is = absurd is
-profile_failure session profile (failures.NoProfile report) lacks is = lacks
-profile_failure session profile failures.Memory lacks is = tt
-
--- files that were loaded lack a profile
-pub lacks : (session : Session) (profile : Name) (loaded : Loaded (Filterset FieldMatcher) TargetSpec)
-    → AreAccepted session → IsLoadedFrom (readings session.engines.filters) (files_view session.gathered.now) loaded
-    → is_one_of (names_in loaded.config.profiles) profile ≡ false → LacksProfile session profile
-lacks session profile loaded accepted from none = record {
-  acceptance = accepted;
-  absent = subst (λ config. ¬ IsIn (names_in config.profiles) profile) from.means (λ is. absurd (cc));
-}
-
--- what holds of the files that are asked for holds of those of a session
-of_session : {asked : Test} (P : NextestFilters → Features → LoadInputs → Type 0) (session : Session) (profile : List ℕ)
-    (test : TestName) (filters : NextestFilters) (request : Request Platform) → filters ≡ session.engines.filters
-    → Asks session profile test asked request → P filters request.features request.files
-    → P session.engines.filters (features_view session.features) (files_view session.gathered.now)
-of_session P session profile test filters request same asks holds =
-    subst (λ f. P f (features_view session.features) (files_view session.gathered.now)) same
-    (subst (λ features. P filters features (files_view session.gathered.now)) asks.features
-    (subst (λ files. P filters request.features files) asks.files_read holds))
-
--- the failure of a run without rows
-pub run_failure : {asked : Test} (session : Session) (profile : List ℕ) (test : TestName) (filters : NextestFilters)
-    (request : Request Platform) (fault : ResolveFault) (failure : Failure) (old new : List Warning)
-    (before after : List ℕ) → filters ≡ session.engines.filters → Asks session profile test asked request
-    → Resolves (readings filters) request (run_view (Err (refusal_view fault)) old new before after)
-    → IsRunFailure fault failure → IsFailureAbout session profile failure
-run_failure session profile test filters request (faults.Config error) failure old new before after same asks
-    resolves is =
-    load_failure session profile error failure
-    (inr (of_session (λ f features files. ¬ IsAccepted (readings f) features files) session profile test filters request
-    same asks resolves.refusal.broken)) is
-run_failure session profile test filters request (faults.NoProfile missing) failure old new before after same
-    asks resolves is =
-    let none = resolves.absence.1 in
-    let names = names_in (config_of (readings filters) (sources_in request.files)).profiles in
-    let absent : ¬ IsIn names profile = subst (λ name. ¬ IsIn names name) asks.profile_named
-    (subst (λ all. ¬ IsIn all request.profile) none.all
-    (subst (λ name. ¬ IsIn (map string_bytes missing.known.items) name) none.same none.absent)) in
-    profile_failure session profile failure (record {
-      acceptance = of_session (λ f features files. IsAccepted (readings f) features files) session profile test filters
-          request same asks resolves.absence.0;
-      absent = of_session
-          (λ f features files. ¬ IsIn (names_in (config_of (readings f) (sources_in files)).profiles) profile) session
-          profile test filters request same asks absent;
-    }) is
-run_failure session profile test filters request faults.Memory failure old new before after same asks resolves is =
-    subst (IsFailureAbout session profile) (sym is) tt
 
 -- want of memory is a failure about any profile
 pub want_told : {A : Type 0} (session : Session) (profile : Name) (r : Result A Failure)

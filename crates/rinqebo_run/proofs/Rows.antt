@@ -1,165 +1,90 @@
--- Settings of a row, and the rows of a test.
-use Rattle.std.proofs.Common.{◌≡◌, ◌∙◌, ℕ, List, [], ◌∷◌, Option, Some, None, Result, Ok, Err, IfOk, ap, map, refl, subst, sym, string_bytes, unwrap_or}
-use Rattle.std.specs.List.{slice_get}
+-- What is told of the settings of a test.
+use Rattle.std.proofs.Common.{◌≡◌, ◌∙◌, List, string_bytes, subst, sym}
 use Rattle.filter_language.specs.Filtersets.{marks_view}
 use Rattle.filter_language.specs.declared.filterset.Filterset.{Filterset}
-use Rattle.nextest_config.specs.Headline.{Request, Row, Resolves}
-use Rattle.nextest_config.specs.RowView.{row_view}
-use Rattle.nextest_config.specs.RunView.{request_view, run_view}
-use Rattle.nextest_config.specs.declared.run.Inputs.{Inputs}
-use Rattle.nextest_config.specs.declared.run.row.TestRow.{TestRow}
-use Rattle.nextest_engines.specs.Engines.{Test, test_view}
-use Rattle.nextest_engines.specs.declared.queries.TestQuery.{TestQuery}
+use Rattle.nextest_engines.specs.Engines.{Test}
 use Rattle.nextest_filters.specs.Compiling.{names_of}
-use Rattle.nextest_filters.specs.Engine.{filter_holds}
+use Rattle.nextest_filters.specs.Engine.{Filter, filter_holds}
 use Rattle.nextest_filters.specs.declared.compiling.FieldMatcher.{FieldMatcher}
-use Rattle.nextest_filters.specs.declared.engine.NextestFilters.{NextestFilters}
 use Rattle.nextest_inheritance.specs.Parents.{parents_in}
-use Rattle.nextest_load.specs.Config.{config_parents}
+use Rattle.nextest_load.specs.Config.{ConfigModel, config_parents}
 use Rattle.nextest_load.specs.Load.{Loaded}
 use Rattle.nextest_profiles.specs.Meaning.{profile_meaning}
 use Rattle.nextest_profiles.specs.Profiles.{IsChainAndDefault}
-use Rattle.nextest_rules.specs.KnownView.{features_view}
-use Rattle.nextest_rules.specs.Rules.{RuleId}
 use Rattle.nextest_settings.specs.Profile.{EvaluatableModel}
 use Rattle.nextest_settings.specs.Queries.{query_in}
 use Rattle.nextest_settings.specs.declared.setting.Setting.{Setting}
-use Rattle.nextest_sources.specs.Inputs.{load_inputs_view}
-use Rattle.nextest_sources.specs.Warnings.{Warning}
+use Rattle.nextest_tables.specs.FileTexts.{names_in, IsIn}
 use Rattle.nextest_tables.specs.Written.{Name}
-use Rattle.rinqebo_files.specs.declared.layers.Layer.{Layer}
+use Rattle.rinqebo_list.specs.Origins.{Basis}
+use Rattle.rinqebo_list.specs.Rows.{AreSettingsTold}
+use Rattle.rinqebo_load.specs.Accepted.{AreAccepted}
+use Rattle.rinqebo_load.specs.Sessions.{files_view, readings, IsLoadedFrom}
+use Rattle.rinqebo_load.specs.declared.session.Session.{Session}
 use Rattle.rinqebo_report.specs.declared.report.Content.{Content}
 use Rattle.rinqebo_report.specs.declared.report.Report.{Report}
-use Rattle.target_language.specs.Expressions.{spec_view}
-use Rattle.target_language.specs.declared.expression.TargetSpec.{TargetSpec}
-use Rattle.target_platforms.specs.declared.Platform.{Platform}
-use Rattle.rinqebo_run.proofs.Listing.{given_means}
-use Rattle.rinqebo_run.specs.Explained.{Asks, AreRowsOf, AreSettingsTold, IfExplained, IsTestTold, IsWrapping, Explains, wrapping_id}
-use Rattle.rinqebo_run.specs.Listed.{IsProfileOn}
-use Rattle.rinqebo_run.specs.ListedBy.{read_by}
-use Rattle.rinqebo_rules.specs.Conditions.{is_met_by}
-use Rattle.rinqebo_load.specs.Sessions.{files_view, readings, IsLoadedFrom}
+use Rattle.rinqebo_report.specs.declared.report.TestRows.{TestRows}
 use Rattle.rinqebo_request.specs.declared.request.TestName.{TestName}
-use Rattle.rinqebo_load.specs.declared.session.Session.{Session}
+use Rattle.rinqebo_rules.specs.Conditions.{is_met_by}
+use Rattle.rinqebo_run.proofs.Listing.{given_means}
+use Rattle.rinqebo_run.specs.Explained.{Explains, IfExplained, IsTestOf}
+use Rattle.rinqebo_run.specs.Listed.{IsProfileOn}
+use Rattle.rinqebo_run.specs.ListedBy.{basis_of, explained_by, read_by}
+use Rattle.target_language.specs.Expressions.{Spec, spec_view}
+use Rattle.target_language.specs.declared.expression.TargetSpec.{TargetSpec}
 
--- the first view is that of the first row
-at_first : {X Y : Type 0} (view : X → Y) (P : Y → Type 0) (rows : List X) (first : X) (row : Y)
-    → Some first ≡ slice_get rows 0 → slice_get (map view rows) 0 ≡ Some row → P (view first) → P row
-at_first view P [] first row is asked holds = absurd (cc)
-at_first view P (x ∷ xs) first row is asked holds =
-    let viewed : view x ≡ row = ap (λ o. unwrap_or o row) asked in
-    let same : first ≡ x = ap (λ o. unwrap_or o first) is in
-    subst P (ap view same ∙ viewed) holds
-
--- what holds at the view of the first row holds at the first view
-pub first_holds : {X Y T E : Type 0} (view : X → Y) (P : Y → T → Type 0) (r : Result T E) (rows : List X) (first : X)
-    → Some first ≡ slice_get rows 0 → IfOk r (P (view first))
-    → IfOk r (λ told. (row : Y) → slice_get (map view rows) 0 ≡ Some row → P row told)
-first_holds view P (Ok told) rows first is holds =
-    λ row asked. at_first view (λ y. P y told) rows first row is asked holds
-first_holds view P (Err e) rows first is holds = tt
-
--- without a first row there is no first view
-pub no_first : {X Y Z : Type 0} (view : X → Y) (rows : List X) (row : Y) → None ≡ slice_get rows 0
-    → slice_get (map view rows) 0 ≡ Some row → Z
-no_first view [] row is asked = absurd (cc)
-no_first view (x ∷ xs) row is asked = absurd (cc)
-
--- what the inputs of a session ask for, in a profile and of one test
-pub asked_by : (session : Session) (profile : List ℕ) (test : TestName) (inputs : Inputs) (query : TestQuery)
-    → inputs.paths.now ≡ session.gathered.now.paths
-    → load_inputs_view inputs.paths.now.shared inputs.selection inputs.tools.now ≡ files_view session.gathered.now
-    → inputs.features.now ≡ session.features → query.test_name.now ≡ test.name.now
-    → query.binary_query.binary_id.now ≡ test.binary.now → query.binary_query.platform ≡ test.platform
-    → Asks session profile test (test_view query)
-    (request_view inputs profile session.engines.platforms test.mode (query ∷ []))
-asked_by session profile test inputs query paths files features name binary platform = record {
-  root = ap (λ paths. string_bytes paths.workspace_root) paths;
-  files_read = files;
-  features = ap features_view features;
-  profile_named = refl;
-  platforms = refl;
-  mode = refl;
-  tests = refl;
-  name = name;
-  binary = binary;
-  platform = platform;
-}
-
--- rows that resolve what a session asks for are those of its test
-pub rows_of : {asked : Test} (session : Session) (profile : List ℕ) (test : TestName) (filters : NextestFilters)
-    (request : Request Platform) (rows : List Row) (old new : List Warning) (before after : List ℕ)
-    → filters ≡ session.engines.filters → Asks session profile test asked request
-    → Resolves (readings filters) request (run_view (Ok rows) old new before after)
-    → AreRowsOf session profile test asked rows
-rows_of session profile test filters request rows old new before after same asks resolves = record {
-  request = request;
-  asks = asks;
-  run = run_view (Ok rows) old new before after;
-  answered = refl;
-  resolves = subst (λ f. Resolves (readings f) request (run_view (Ok rows) old new before after)) same resolves;
-}
-
--- the script rule that wraps the run of a test is that of what the files mean
-wrapping_meant : (session : Session) (profile : Name) (asked : Test)
-    (loaded : Loaded (Filterset FieldMatcher) TargetSpec) (on : EvaluatableModel (Filterset FieldMatcher))
-    (id : Option RuleId) → IsLoadedFrom (readings session.engines.filters) (files_view session.gathered.now) loaded
-    → IsProfileOn is_met_by session.engines.platforms (read_by session loaded) profile on
-    → id ≡ wrapping_id (query_in filter_holds (profile_meaning (marks_view names_of) on) asked)
-    (profile_meaning (marks_view names_of) on) → IsWrapping session profile asked id
-wrapping_meant session profile asked loaded on id from is first =
-    let engines = readings session.engines.filters in
-    let platforms = session.engines.platforms in
-    let f = marks_view names_of in
+-- a test is told by a configuration that was loaded
+pub explained_here : (session : Session) (loaded : Loaded (Filterset FieldMatcher) TargetSpec) (name : Name)
+    (test : TestName) (settings these : List Setting) (asked : Test) (basis : Basis)
+    (on : EvaluatableModel (Filterset FieldMatcher)) (names : List Name) (rows : TestRows)
+    → IsProfileOn is_met_by session.engines.platforms (read_by session loaded) name on
+    → IsChainAndDefault (parents_in (config_parents loaded.config)) name names → basis ≡ basis_of session names
+    → asked.name ≡ test.name.now → asked.binary.binary_id ≡ test.binary.now → asked.binary.platform ≡ test.platform
+    → string_bytes rows.binary ≡ asked.binary.binary_id → string_bytes rows.name ≡ asked.name → these ≡ settings
+    → AreSettingsTold basis (query_in filter_holds (profile_meaning (marks_view names_of) on) asked) test.mode
+    (profile_meaning (marks_view names_of) on) these rows.settings.items
+    → explained_by session loaded name test settings rows
+explained_here session loaded name test settings these asked basis on names rows is ends same_basis same_name binary
+    platform rows_binary rows_name same told =
+    let profile = profile_meaning (marks_view names_of) on in
+    let query = query_in filter_holds profile asked in
     record {
+      asked = asked;
+      asked_name = same_name;
+      asked_binary = binary;
+      asked_platform = platform;
+      profile = profile;
+      is_profile = given_means (marks_view names_of) spec_view (readings session.engines.filters).meets
+          session.engines.platforms (read_by session loaded) name on is;
+      chain = names;
+      is_chain = ends;
+      binary = rows_binary ∙ binary;
+      name_told = rows_name ∙ same_name;
+      settings_told = subst (λ b. AreSettingsTold b query test.mode profile settings rows.settings.items) same_basis
+          (subst (λ ss. AreSettingsTold basis query test.mode profile ss rows.settings.items) same told);
+    }
+
+-- a report tells the settings of a test by what was loaded
+pub explains : (session : Session) (profile : Name) (test : TestName) (settings : List Setting) (report : Report)
+    (content : Content) (loaded : Loaded (Filterset FieldMatcher) TargetSpec) → AreAccepted session
+    → IsLoadedFrom (readings session.engines.filters) (files_view session.gathered.now) loaded
+    → IsIn (names_in loaded.config.profiles) profile → report.content ≡ content
+    → IfExplained content (explained_by session loaded profile test settings)
+    → Explains session profile test settings report
+explains session profile test settings report content loaded accepted from there same is =
+    let engines = readings session.engines.filters in
+    let Told : Content → ConfigModel Filter Spec → Type 0 =
+    λ content config. IfExplained content (IsTestOf engines.meets engines.matches_test session.engines.platforms
+    (record {
+      root = string_bytes session.gathered.now.paths.workspace_root;
+      config = config;
+      scripts = loaded.scripts;
+    }) profile test settings session.layers.items) in
+    record {
+      acceptance = accepted;
       scripts = loaded.scripts;
       are_scripts = from.scripts;
-      profile = profile_meaning f on;
-      is_profile = subst (λ config. IsProfileOn engines.meets platforms (record {
-        root = string_bytes session.gathered.now.paths.workspace_root;
-        config = config;
-        scripts = loaded.scripts;
-      }) profile (profile_meaning f on)) from.means
-          (given_means f spec_view engines.meets platforms (read_by session loaded) profile on is);
-      first = first;
+      known = subst (λ config. IsIn (names_in config.profiles) profile) from.means there;
+      told = subst (Told report.content) from.means
+          (subst (λ content. IfExplained content (explained_by session loaded profile test settings)) (sym same) is);
     }
-
--- settings are told by a configuration that was loaded
-pub settings_told : (session : Session) (profile : Name) (test : TestName) (asked : Test) (settings : List Setting)
-    (rows : List Row) (loaded : Loaded (Filterset FieldMatcher) TargetSpec)
-    (on : EvaluatableModel (Filterset FieldMatcher)) (wrapping : Option RuleId) (layers : List Layer)
-    (chain names : List Name) (content : Content)
-    → IsLoadedFrom (readings session.engines.filters) (files_view session.gathered.now) loaded
-    → IsProfileOn is_met_by session.engines.platforms (read_by session loaded) profile on
-    → wrapping ≡ wrapping_id (query_in filter_holds (profile_meaning (marks_view names_of) on) asked)
-    (profile_meaning (marks_view names_of) on)
-    → IsChainAndDefault (parents_in (config_parents loaded.config)) profile names → layers ≡ session.layers.items
-    → chain ≡ names
-    → IfExplained content (λ told. (row : Row) → slice_get rows 0 ≡ Some row
-    → IsTestTold layers chain wrapping row test settings told)
-    → AreSettingsTold session profile test asked settings rows content
-settings_told session profile test asked settings rows loaded on wrapping layers chain names content from there first is
-    same_layers same told = record {
-      chain = names;
-      is_chain = subst (λ config. IsChainAndDefault (parents_in (config_parents config)) profile names) from.means is;
-      wrapping = wrapping;
-      is_wrapping = wrapping_meant session profile asked loaded on wrapping from there first;
-      told = subst (λ ls. IfExplained content (λ told. (row : Row) → slice_get rows 0 ≡ Some row
-          → IsTestTold ls names wrapping row test settings told)) same_layers
-          (subst (λ ns. IfExplained content (λ told. (row : Row) → slice_get rows 0 ≡ Some row
-          → IsTestTold layers ns wrapping row test settings told)) same told);
-    }
-
--- a report explains a test by its rows
-pub explains : {asked : Test} (session : Session) (profile : List ℕ) (test : TestName) (settings : List Setting)
-    (report : Report) (content : Content) (rows read : List TestRow) → report.content ≡ content → read ≡ rows
-    → AreRowsOf session profile test asked (map row_view rows)
-    → AreSettingsTold session profile test asked settings (map row_view read) content
-    → Explains session profile test settings report
-explains {asked} session profile test settings report content rows read same same_rows are told = record {
-  asked = asked;
-  rows = map row_view rows;
-  are_rows = are;
-  told = subst (λ xs. AreSettingsTold session profile test asked settings (map row_view xs) report.content) same_rows
-      (subst (λ content. AreSettingsTold session profile test asked settings (map row_view read) content) (sym same) told);
-}

@@ -13,14 +13,17 @@ use Rattle.nextest_engines.specs.declared.queries.TestQuery.{TestQuery}
 use Rattle.nextest_filters.specs.Compiling.{names_of}
 use Rattle.nextest_filters.specs.Engine.{Filter, filter_holds}
 use Rattle.nextest_filters.specs.declared.compiling.FieldMatcher.{FieldMatcher}
-use Rattle.nextest_load.specs.Config.{ConfigModel}
+use Rattle.nextest_inheritance.specs.Parents.{parents_in}
+use Rattle.nextest_load.specs.Config.{ConfigModel, config_parents}
 use Rattle.nextest_load.specs.Load.{Loaded}
 use Rattle.nextest_profiles.specs.Meaning.{profile_meaning}
+use Rattle.nextest_profiles.specs.Profiles.{IsChainAndDefault}
 use Rattle.nextest_settings.specs.Profile.{EvaluatableModel}
 use Rattle.nextest_settings.specs.Queries.{query_in}
 use Rattle.nextest_tables.specs.FileTexts.{names_in, IsIn}
 use Rattle.nextest_tables.specs.Written.{Name}
 use Rattle.rinqebo_files.specs.declared.files.Gathered.{Gathered}
+use Rattle.rinqebo_list.specs.Origins.{Basis}
 use Rattle.rinqebo_list.specs.Rows.{AreTestsTold, IsTestTold}
 use Rattle.rinqebo_report.specs.Pages.{content_runs, count_runs, list_runs, listed_runs, unused_runs}
 use Rattle.rinqebo_report.specs.Pieces.{painted, page_text}
@@ -49,7 +52,7 @@ use Rattle.rinqebo_run.specs.Begun.{tests_text, AreFirstOf, AreFirstWritten, Beg
 use Rattle.rinqebo_load.specs.Accepted.{AreAccepted}
 use Rattle.rinqebo_rules.specs.Conditions.{is_met_by}
 use Rattle.rinqebo_run.specs.Listed.{IfListed, IsProfileOn, TellsTests}
-use Rattle.rinqebo_run.specs.ListedBy.{listed_by, read_by}
+use Rattle.rinqebo_run.specs.ListedBy.{basis_of, listed_by, read_by}
 use Rattle.rinqebo_run.specs.Refused.{Fails, IsFailureIn, IsToldBy}
 use Rattle.rinqebo_findings.specs.Failures.{IsFailureAbout}
 use Rattle.rinqebo_load.specs.SessionOf.{IsSessionOf}
@@ -109,15 +112,16 @@ whole_page head tint tests unused count old mid new all before after =
     (Appends-trans old mid new (tests_text head tint tests) (ending count) before after)
 
 -- the tests so far went out
-pub first_so_far : (mode : NextestRunMode) (profile : EvaluatableModel Filter) (asked : AskedSettings) (head : Report)
-    (tint : Colour) (queries : List TestQuery) (i : ℕ) (tests : List TestRows) (old new : Option (List ℕ))
-    → AllZip (λ query. IsTestTold (query_in filter_holds profile (test_view query)) mode profile asked
+pub first_so_far : (basis : Basis) (mode : NextestRunMode) (profile : EvaluatableModel Filter) (asked : AskedSettings)
+    (head : Report) (tint : Colour) (queries : List TestQuery) (i : ℕ) (tests : List TestRows)
+    (old new : Option (List ℕ))
+    → AllZip (λ query. IsTestTold basis (query_in filter_holds profile (test_view query)) mode profile asked
     (test_view query)) (take i queries) tests
     → Appends old new (tests_text head tint tests)
-    → AreFirstWritten filter_holds mode profile asked (map test_view queries) head tint old new
-first_so_far mode profile asked head tint queries i tests old new told page =
+    → AreFirstWritten basis filter_holds mode profile asked (map test_view queries) head tint old new
+first_so_far basis mode profile asked head tint queries i tests old new told page =
     let Told : Test → TestRows → Type 0 =
-    λ test. IsTestTold (query_in filter_holds profile test) mode profile asked test in
+    λ test. IsTestTold basis (query_in filter_holds profile test) mode profile asked test in
     record {
       count = i;
       tests = tests;
@@ -127,32 +131,37 @@ first_so_far mode profile asked head tint queries i tests old new told page =
     }
 
 -- all tests went out
-pub all_first : (mode : NextestRunMode) (profile : EvaluatableModel Filter) (asked : AskedSettings) (head : Report)
-    (tint : Colour) (list : List Test) (tests : List TestRows) (old new : Option (List ℕ))
-    → AreTestsTold filter_holds mode profile asked list tests → Appends old new (tests_text head tint tests)
-    → AreFirstWritten filter_holds mode profile asked list head tint old new
-all_first mode profile asked head tint list tests old new told page = record {
+pub all_first : (basis : Basis) (mode : NextestRunMode) (profile : EvaluatableModel Filter) (asked : AskedSettings)
+    (head : Report) (tint : Colour) (list : List Test) (tests : List TestRows) (old new : Option (List ℕ))
+    → AreTestsTold basis filter_holds mode profile asked list tests → Appends old new (tests_text head tint tests)
+    → AreFirstWritten basis filter_holds mode profile asked list head tint old new
+all_first basis mode profile asked head tint list tests old new told page = record {
   count = length list;
   tests = tests;
-  are_told = subst (λ first. AreTestsTold filter_holds mode profile asked first tests)
+  are_told = subst (λ first. AreTestsTold basis filter_holds mode profile asked first tests)
       (sym (take_all (length list) list (omega arith))) told;
   page = page;
 }
 
 -- the first tests went out by a configuration that was loaded
 pub first_here : (session : Session) (loaded : Loaded (Filterset FieldMatcher) TargetSpec) (name : Name)
-    (mode : NextestRunMode) (asked : AskedSettings) (on : EvaluatableModel (Filterset FieldMatcher)) (head : Report)
-    (tint : Colour) (old new : Option (List ℕ))
+    (mode : NextestRunMode) (asked : AskedSettings) (on : EvaluatableModel (Filterset FieldMatcher))
+    (names chain : List Name) (head : Report) (tint : Colour) (old new : Option (List ℕ))
     → IsProfileOn is_met_by session.engines.platforms (read_by session loaded) name on
-    → AreFirstWritten (readings session.engines.filters).matches_test mode (profile_meaning (marks_view names_of) on)
-    asked (all_tests (list_view session.tests)) head tint old new
+    → IsChainAndDefault (parents_in (config_parents loaded.config)) name names → chain ≡ names
+    → AreFirstWritten (basis_of session chain) (readings session.engines.filters).matches_test mode
+    (profile_meaning (marks_view names_of) on) asked (all_tests (list_view session.tests)) head tint old new
     → AreFirstBy session loaded name mode asked tint old new
-first_here session loaded name mode asked on head tint old new is first = record {
+first_here session loaded name mode asked on names chain head tint old new is ends same first = record {
   head = head;
   profile = profile_meaning (marks_view names_of) on;
   is_profile = given_means (marks_view names_of) spec_view (readings session.engines.filters).meets
       session.engines.platforms (read_by session loaded) name on is;
-  first = first;
+  chain = names;
+  is_chain = ends;
+  first = subst (λ ns. AreFirstWritten (basis_of session ns) (readings session.engines.filters).matches_test mode
+      (profile_meaning (marks_view names_of) on) asked (all_tests (list_view session.tests)) head tint old new)
+      same first;
 }
 
 -- the page of a list was begun by what was loaded
@@ -169,7 +178,7 @@ begins_list session profile mode asked tint loaded old new accepted from there f
       root = string_bytes session.gathered.now.paths.workspace_root;
       config = config;
       scripts = loaded.scripts;
-    }) profile mode asked (all_tests (list_view session.tests)) tint old new in
+    }) profile mode asked session.layers.items (all_tests (list_view session.tests)) tint old new in
     record {
       acceptance = accepted;
       scripts = loaded.scripts;

@@ -4,13 +4,17 @@ use Rattle.std.specs.Io.KnownBytes.{Appends}
 use Rattle.nextest_elements.specs.declared.run_mode.NextestRunMode.{NextestRunMode}
 use Rattle.nextest_engines.specs.Engines.{Test}
 use Rattle.nextest_engines.specs.declared.queries.BuildPlatforms.{BuildPlatforms}
-use Rattle.nextest_load.specs.Config.{ScriptTables}
+use Rattle.nextest_inheritance.specs.Parents.{parents_in}
+use Rattle.nextest_load.specs.Config.{ScriptTables, config_parents}
 use Rattle.nextest_load.specs.Scripts.{AreScriptsOf}
+use Rattle.nextest_profiles.specs.Profiles.{IsChainAndDefault}
 use Rattle.nextest_settings.specs.Profile.{Configured, EvaluatableModel}
 use Rattle.nextest_sources.specs.Inputs.{sources_in}
 use Rattle.nextest_tables.specs.FileTexts.{names_in, IsIn}
 use Rattle.nextest_tables.specs.Written.{Name}
 use Rattle.rinqebo_files.specs.declared.files.Gathered.{Gathered}
+use Rattle.rinqebo_files.specs.declared.layers.Layer.{Layer}
+use Rattle.rinqebo_list.specs.Origins.{Basis}
 use Rattle.rinqebo_list.specs.Rows.{AreTestsTold}
 use Rattle.rinqebo_report.specs.Pages.{listed_runs}
 use Rattle.rinqebo_report.specs.Pieces.{page_text}
@@ -38,24 +42,27 @@ tests_text head tint tests =
 
 -- The first tests of a list went out, each whole and told as a profile gives it settings: known bytes
 -- grew by their lines on the page of a report, and by nothing else.
-pub record AreFirstWritten {M : Type 0} (matches : M → Test → M → Bool) (mode : NextestRunMode)
-    (profile : EvaluatableModel M) (asked : AskedSettings) (list : List Test) (head : Report)
-    (tint : Colour) (old new : Option (List ℕ)) : Type 0 where
+pub record AreFirstWritten {M : Type 0} (basis : Basis) (matches : M → Test → M → Bool)
+    (mode : NextestRunMode) (profile : EvaluatableModel M) (asked : AskedSettings)
+    (list : List Test) (head : Report) (tint : Colour) (old new : Option (List ℕ)) : Type 0 where
   pub count : ℕ
   pub tests : List TestRows
-  pub are_told : AreTestsTold matches mode profile asked (take count list) tests
+  pub are_told : AreTestsTold basis matches mode profile asked (take count list) tests
   pub page : Appends old new (tests_text head tint tests)
 
 -- The first tests of a list went out, as the profile of a name gives them settings on the platforms
 -- of a build.
 pub record AreFirstOf {M K P : Type 0} (meets : K → P → Option Bool) (matches : M → Test → M → Bool)
     (platforms : BuildPlatforms P) (configured : Configured M K) (name : Name)
-    (mode : NextestRunMode) (asked : AskedSettings) (list : List Test) (tint : Colour)
-    (old new : Option (List ℕ)) : Type 0 where
+    (mode : NextestRunMode) (asked : AskedSettings) (layers : List Layer) (list : List Test)
+    (tint : Colour) (old new : Option (List ℕ)) : Type 0 where
   pub head : Report
   pub profile : EvaluatableModel M
   pub is_profile : IsProfileOn meets platforms configured name profile
-  pub first : AreFirstWritten matches mode profile asked list head tint old new
+  pub chain : List Name
+  pub is_chain : IsChainAndDefault (parents_in (config_parents configured.config)) name chain
+  pub first : AreFirstWritten (record { layers = layers; chain = chain }) matches mode profile asked
+      list head tint old new
 
 -- The page of a list was begun: its first tests went out, by what the files mean.
 pub record BeginsList (session : Session) (profile : Name) (mode : NextestRunMode)
@@ -69,8 +76,8 @@ pub record BeginsList (session : Session) (profile : Name) (mode : NextestRunMod
   pub known : IsIn (names_in (configured_by session scripts).config.profiles) profile
   pub first : AreFirstOf (readings session.engines.filters).meets
       (readings session.engines.filters).matches_test session.engines.platforms
-      (configured_by session scripts) profile mode asked (all_tests (list_view session.tests))
-      tint old new
+      (configured_by session scripts) profile mode asked session.layers.items
+      (all_tests (list_view session.tests)) tint old new
 
 -- the page that answers a question was begun: only a list goes out before its end is known
 abbrev pub BeginsPage : Question → Session → Colour → Option (List ℕ) → Option (List ℕ) → Type 0

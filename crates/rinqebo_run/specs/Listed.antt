@@ -8,6 +8,7 @@ use Rattle.nextest_inheritance.specs.Parents.{parents_in, IsChain}
 use Rattle.nextest_load.specs.Closed.{BinaryMatch}
 use Rattle.nextest_load.specs.Config.{ScriptTables, config_parents}
 use Rattle.nextest_load.specs.Scripts.{AreScriptsOf}
+use Rattle.nextest_profiles.specs.Profiles.{IsChainAndDefault}
 use Rattle.nextest_settings.specs.Deciding.{QueryContext}
 use Rattle.nextest_settings.specs.Profile.{Configured, EvaluatableModel, profile_of, profile_on}
 use Rattle.nextest_settings.specs.Queries.{query_in}
@@ -55,8 +56,9 @@ abbrev pub AreUnused : {M : Type 0} → List Layer → List (QueryContext M) →
 AreUnused layers tests profile unused =
     AllZip (λ place. IsOriginOf layers place []) (unused_places tests profile) unused
 
--- Tests are told as the profile of a name gives them settings on the platforms of a build, of its
--- rules those that hold for none, and the scripts that it gives to the list.
+-- Tests are told as the profile of a name gives them settings on the platforms of a build, with where
+-- these come from in the layers of the files and in the chain of the profile, of its rules those that
+-- hold for none, and the scripts that it gives to the list.
 pub record AreTestsOf {M K P : Type 0} (meets : K → P → Option Bool) (matches : M → Test → M → Bool)
     (matches_binary : BinaryMatch M) (platforms : BuildPlatforms P) (configured : Configured M K)
     (name : Name) (mode : NextestRunMode) (asked : AskedSettings) (layers : List Layer)
@@ -64,7 +66,10 @@ pub record AreTestsOf {M K P : Type 0} (meets : K → P → Option Bool) (matche
     : Type 0 where
   pub profile : EvaluatableModel M
   pub is_profile : IsProfileOn meets platforms configured name profile
-  pub tests_told : AreTestsTold matches mode profile asked (all_tests list) tests
+  pub chain : List Name
+  pub is_chain : IsChainAndDefault (parents_in (config_parents configured.config)) name chain
+  pub tests_told : AreTestsTold (record { layers = layers; chain = chain }) matches mode profile
+      asked (all_tests list) tests
   pub unused_told : AreUnused layers (map (query_in matches profile) (all_tests list))
       profile unused
   pub scripts_told : AreScriptsTold matches matches_binary profile (all_tests list)
@@ -85,9 +90,9 @@ pub record TellsTests (session : Session) (profile : Name) (mode : NextestRunMod
   pub are_scripts : AreScriptsOf (sources_in (files_view session.gathered.now)) scripts
   -- They have the profile.
   pub known : IsIn (names_in (configured_by session scripts).config.profiles) profile
-  -- The report tells each test of the list in order, with the values that the profile gives it, the
-  -- rules of the profile that hold for none, the setup scripts that the tests enable, and what wraps
-  -- the binaries of the list.
+  -- The report tells each test of the list in order, with the values that the profile gives it and
+  -- with where these come from, the rules of the profile that hold for none, the setup scripts that
+  -- the tests enable, and what wraps the binaries of the list.
   pub told : IfListed report.content
       (AreTestsOf (readings session.engines.filters).meets
       (readings session.engines.filters).matches_test

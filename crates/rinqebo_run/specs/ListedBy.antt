@@ -1,4 +1,4 @@
--- What is told of the tests of a list, by a configuration as it was read.
+-- What is told of a test, and of the tests of a list, by a configuration as it was read.
 use Rattle.std.specs.Prelude.{◌++◌, List, map, string_bytes}
 use Rattle.filter_language.specs.Filtersets.{marks_view}
 use Rattle.filter_language.specs.declared.filterset.Filterset.{Filterset}
@@ -9,15 +9,19 @@ use Rattle.nextest_load.specs.Load.{Loaded}
 use Rattle.nextest_profiles.specs.Meaning.{configured_meaning}
 use Rattle.nextest_rules.specs.View.{id_view, script_rule_id_view}
 use Rattle.nextest_settings.specs.Profile.{Configured}
+use Rattle.nextest_settings.specs.declared.setting.Setting.{Setting}
 use Rattle.nextest_tables.specs.Written.{Name}
 use Rattle.rinqebo_report.specs.declared.origin.Origin.{Origin}
 use Rattle.rinqebo_report.specs.declared.report.ListScripts.{ListScripts}
 use Rattle.rinqebo_report.specs.declared.report.TestRows.{TestRows}
 use Rattle.rinqebo_request.specs.declared.request.AskedSettings.{AskedSettings}
+use Rattle.rinqebo_request.specs.declared.request.TestName.{TestName}
 use Rattle.target_language.specs.Expressions.{spec_view}
 use Rattle.target_language.specs.declared.expression.TargetSpec.{TargetSpec}
 use Rattle.test_lists.specs.ListView.{list_view}
+use Rattle.rinqebo_run.specs.Explained.{IsTestOf}
 use Rattle.rinqebo_run.specs.Listed.{AreTestsOf}
+use Rattle.rinqebo_list.specs.Origins.{Basis}
 use Rattle.rinqebo_list.specs.declared.unused.UnusedRules.{UnusedRules}
 use Rattle.rinqebo_rules.specs.RulePlaces.{Place, id_place, script_place}
 use Rattle.rinqebo_load.specs.Sessions.{readings}
@@ -46,3 +50,16 @@ listed_by session loaded profile mode asked =
     (readings session.engines.filters).matches_binary session.engines.platforms
     (configured_meaning (marks_view names_of) spec_view (read_by session loaded)) profile mode
     asked session.layers.items (list_view session.tests)
+
+-- a test is told as the profile of a name gives it settings, by what was loaded
+abbrev pub explained_by : Session → Loaded (Filterset FieldMatcher) TargetSpec → Name → TestName
+    → List Setting → TestRows → Type 0
+explained_by session loaded profile test settings =
+    IsTestOf (readings session.engines.filters).meets
+    (readings session.engines.filters).matches_test session.engines.platforms
+    (configured_meaning (marks_view names_of) spec_view (read_by session loaded)) profile test
+    settings session.layers.items
+
+-- what the origins of a session are looked up in, with the chain of a profile
+abbrev pub basis_of : Session → List Name → Basis
+basis_of session chain = record { layers = session.layers.items; chain = chain }

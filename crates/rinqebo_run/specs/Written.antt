@@ -12,6 +12,7 @@ use Rattle.nextest_profiles.specs.Meaning.{configured_meaning}
 use Rattle.nextest_settings.specs.Deciding.{QueryContext}
 use Rattle.nextest_settings.specs.Profile.{EvaluatableModel}
 use Rattle.nextest_tables.specs.Written.{Name}
+use Rattle.rinqebo_list.specs.Origins.{Basis}
 use Rattle.rinqebo_list.specs.Rows.{IsTestTold}
 use Rattle.rinqebo_findings.specs.Reports.{IsReportOf}
 use Rattle.rinqebo_report.specs.Pages.{listed_runs}
@@ -46,11 +47,11 @@ AsksList (questions.List profile mode list settings) asked =
 AsksList _ asked = ⊥
 
 -- One more test is told, and these are its lines on the page of a report.
-pub record AddsTest {M : Type 0} (query : QueryContext M) (mode : NextestRunMode)
+pub record AddsTest {M : Type 0} (basis : Basis) (query : QueryContext M) (mode : NextestRunMode)
     (profile : EvaluatableModel M) (asked : AskedSettings) (test : Test) (head : Report)
     (tint : Colour) (old new : List TestRows) (lines : List ℕ) : Type 0 where
   pub rows : TestRows
-  pub are_told : IsTestTold query mode profile asked test rows
+  pub are_told : IsTestTold basis query mode profile asked test rows
   pub added : new ≡ old ++ rows ∷ []
   pub shown : lines ≡ page_text tint
       (listed_runs (string_bytes head.root) head.sources.items rows)
@@ -62,7 +63,7 @@ AreFirstBy session loaded profile mode asked =
     AreFirstOf (readings session.engines.filters).meets
     (readings session.engines.filters).matches_test session.engines.platforms
     (configured_meaning (marks_view names_of) spec_view (read_by session loaded)) profile mode
-    asked (all_tests (list_view session.tests))
+    asked session.layers.items (all_tests (list_view session.tests))
 
 -- The page of a list went out whole.
 pub record WritesList (session : Session) (profile : Name) (mode : NextestRunMode)

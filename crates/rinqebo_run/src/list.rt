@@ -3,6 +3,7 @@ ghost use Rattle.std.specs.Prelude.{IfErr, IfOk, map};
 ghost use Rattle.filter_language.specs.Filtersets.{marks_view};
 ghost use Rattle.nextest_filters.specs.Compiling.{names_of};
 ghost use Rattle.nextest_filters.specs.Engine.{filter_holds};
+ghost use Rattle.nextest_inheritance.specs.View.{borrowed_view};
 ghost use Rattle.nextest_profiles.specs.Meaning.{profile_meaning};
 ghost use Rattle.nextest_settings.specs.Queries.{query_in};
 ghost use Rattle.nextest_tables.specs.FileTexts.{names_in, IsIn};
@@ -12,17 +13,17 @@ ghost use Rattle.rinqebo_list.specs.Rows.{AreTestsTold};
 ghost use Rattle.rinqebo_list.specs.Unused.{AreUnusedIn};
 ghost use Rattle.rinqebo_rules.specs.Conditions.{is_met_by};
 ghost use Rattle.rinqebo_run.specs.Listed.{IfListed, IsProfileOn, TellsTests};
-ghost use Rattle.rinqebo_run.specs.ListedBy.{read_by, listed_by};
+ghost use Rattle.rinqebo_run.specs.ListedBy.{basis_of, read_by, listed_by};
 ghost use Rattle.rinqebo_findings.specs.Failures.{IsFailureAbout};
 ghost use Rattle.rinqebo_findings.specs.Reports.{IsReportOf};
 
 use crate::asked::asked_of;
-use crate::list_origins::{Origins, unused_origins};
+use crate::list_origins::unused_origins;
 use crate::list_scripts::scripts_of_list;
 use nextest_config::{DefaultConfigWarnings, EarlyProfile, EvaluatableProfile, NextestRunMode};
 use nextest_filters::{NextestFilters, NextestTally};
 use rinqebo_findings::{config_with, report_of, warning_findings};
-use rinqebo_list::{Asking, ListedRows, Progress};
+use rinqebo_list::{Asking, ListedRows, Origins, Progress};
 use rinqebo_load::{Config, Failure, Session, chain_of_profile};
 use rinqebo_report::{Content, Report};
 use rinqebo_request::AskedSettings;
@@ -61,7 +62,8 @@ fn listed_rows<'c, P: Progress>(
     asked: &AskedSettings,
     progress: &mut P,
 ) -> Result<ListedRows<'c>, AllocError>
-    ensures tests { IfOk result (λ rows. AreTestsTold filter_holds mode
+    ensures tests { IfOk result (λ rows. AreTestsTold
+        (basis_of session.now (borrowed_view chain.now)) filter_holds mode
         (profile_meaning (marks_view names_of) profile.now) asked.now
         (all_tests (list_view session.now.tests)) rows.tests.items) }
     ensures unused { let profile = profile_meaning (marks_view names_of) profile.now in

@@ -6,6 +6,7 @@ ghost use Rattle.filter_language.specs.Filtersets.{marks_view};
 ghost use Rattle.nextest_engines.specs.Engines.{test_view};
 ghost use Rattle.nextest_filters.specs.Compiling.{names_of};
 ghost use Rattle.nextest_filters.specs.Engine.{filter_holds};
+ghost use Rattle.nextest_inheritance.specs.View.{borrowed_view};
 ghost use Rattle.nextest_profiles.specs.Meaning.{profile_meaning};
 ghost use Rattle.nextest_settings.specs.Queries.{query_in};
 ghost use Rattle.nextest_tables.specs.FileTexts.{names_in, IsIn};
@@ -16,7 +17,7 @@ ghost use Rattle.rinqebo_list.specs.Unused.{AreUnusedIn};
 ghost use Rattle.rinqebo_report.specs.Pages.{content_runs, count_runs, unused_runs};
 ghost use Rattle.rinqebo_report.specs.Pieces.{page_text};
 ghost use Rattle.rinqebo_run.specs.Listed.{IfListed};
-ghost use Rattle.rinqebo_run.specs.ListedBy.{listed_by, places_of};
+ghost use Rattle.rinqebo_run.specs.ListedBy.{basis_of, listed_by, places_of};
 ghost use Rattle.rinqebo_rules.specs.Origins.{IsOriginOf};
 ghost use Rattle.rinqebo_run.specs.Begun.{tests_text, AreFirstWritten};
 ghost use Rattle.rinqebo_run.specs.Written.{AddsTest, AreFirstBy, StopsList};
@@ -25,11 +26,11 @@ ghost use Rattle.rinqebo_run.specs.declared.list_fault.ListFault.TheVariants as 
 use crate::asked::asked_of;
 use crate::list::{Profile, profile_on};
 use crate::list_fault::ListFault;
-use crate::list_origins::{Origins, unused_origins};
+use crate::list_origins::unused_origins;
 use crate::list_scripts::scripts_of_list;
 use nextest_config::{NextestRunMode, TestQuery};
 use nextest_filters::{NextestFilters, NextestTally};
-use rinqebo_list::{Asking, ListedRows, Progress, UnusedRules, unused_rules};
+use rinqebo_list::{Asking, ListedRows, Origins, Progress, UnusedRules, unused_rules};
 use rinqebo_load::{Config, Session, chain_of_profile};
 use rinqebo_report::{Colour, Content, Origin, Report, TestRows, render_list_end, render_listed};
 use rinqebo_request::AskedSettings;
@@ -97,11 +98,13 @@ impl<'c> ListPage<'c, '_> {
         origins: &mut Origins<'_, '_, 'c>,
         tests: &mut Vec<TestRows>,
     ) -> Result<String, AllocError>
+        ensures same { origins.new ≡ origins.old }
         ensures ok { let profile = profile_meaning (marks_view names_of)
             asking.now.profile.now in
-            IfOk result (λ text. AddsTest (query_in filter_holds profile (test_view query.now))
-            asking.now.mode profile asking.now.asked.now (test_view query.now) self.now.head.now
-            self.now.colour tests.old.items tests.new.items (string_bytes text)) }
+            IfOk result (λ text. AddsTest origins.old
+            (query_in filter_holds profile (test_view query.now)) asking.now.mode profile
+            asking.now.asked.now (test_view query.now) self.now.head.now self.now.colour
+            tests.old.items tests.new.items (string_bytes text)) }
         ensures err { OnErr result (tests.new.items ≡ tests.old.items) }
     {
         let rows = asking.rows_of(alloc, query, tally, origins)?;
@@ -123,7 +126,7 @@ impl<'c> ListPage<'c, '_> {
     ) -> Result<ListedRows<'c>, ListFault>
         ensures tests { let profile = profile_meaning (marks_view names_of)
             asking.now.profile.now in
-            IfOk result (λ rows. AreTestsTold filter_holds asking.now.mode profile
+            IfOk result (λ rows. AreTestsTold origins.old filter_holds asking.now.mode profile
             asking.now.asked.now (map test_view queries.now) rows.tests.items) }
         ensures unused { let profile = profile_meaning (marks_view names_of)
             asking.now.profile.now in
@@ -131,7 +134,7 @@ impl<'c> ListPage<'c, '_> {
             (map (query_in filter_holds profile) (map test_view queries.now)) profile rows.unused) }
         ensures page { IfOk result (λ rows. Appends (O.contents out.old) (O.contents out.new)
             (tests_text self.now.head.now self.now.colour rows.tests.items)) }
-        ensures err { IfErr result (StopsList (λ _. ⊥) (AreFirstWritten filter_holds
+        ensures err { IfErr result (StopsList (λ _. ⊥) (AreFirstWritten origins.old filter_holds
             asking.now.mode (profile_meaning (marks_view names_of) asking.now.profile.now)
             asking.now.asked.now (map test_view queries.now) self.now.head.now self.now.colour
             (O.contents out.old) (O.contents out.new))
@@ -158,7 +161,9 @@ impl<'c> ListPage<'c, '_> {
         progress: &mut P,
         out: &mut O,
     ) -> Result<ListedRows<'c>, ListFault>
-        ensures tests { IfOk result (λ rows. AreTestsTold filter_holds self.now.list.mode
+        ensures tests { IfOk result (λ rows. AreTestsTold
+            (basis_of self.now.session.now (borrowed_view chain.now)) filter_holds
+            self.now.list.mode
             (profile_meaning (marks_view names_of) on.now) self.now.list.settings.now
             (all_tests (list_view self.now.session.now.tests)) rows.tests.items) }
         ensures unused { let profile = profile_meaning (marks_view names_of) on.now in
@@ -166,7 +171,8 @@ impl<'c> ListPage<'c, '_> {
             (all_tests (list_view self.now.session.now.tests))) profile rows.unused) }
         ensures page { IfOk result (λ rows. Appends (O.contents out.old) (O.contents out.new)
             (tests_text self.now.head.now self.now.colour rows.tests.items)) }
-        ensures err { IfErr result (StopsList (λ _. ⊥) (AreFirstWritten filter_holds
+        ensures err { IfErr result (StopsList (λ _. ⊥) (AreFirstWritten
+            (basis_of self.now.session.now (borrowed_view chain.now)) filter_holds
             self.now.list.mode (profile_meaning (marks_view names_of) on.now)
             self.now.list.settings.now
             (all_tests (list_view self.now.session.now.tests)) self.now.head.now self.now.colour

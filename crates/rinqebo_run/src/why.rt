@@ -22,11 +22,11 @@ ghost use Rattle.rinqebo_values.specs.Told.{told_of, value_view};
 ghost use Rattle.target_language.specs.declared.expression.TargetSpec.{TargetSpec};
 
 use crate::asked::asked_of;
-use crate::explain::reported_platform;
 use crate::idle::findings_on;
 use nextest_config::{DefaultConfigWarnings, NextestRunMode, Setting};
 use rinqebo_files::{Layer, host_text, target_text, text_at};
 use rinqebo_findings::{config_with, report_of};
+use rinqebo_list::reported_platform;
 use rinqebo_load::{Config, Failure, Session, chain_of_profile};
 use rinqebo_report::{Condition, ConditionAnswer, Content, Origin, Report, Rule, TestId, Verdict};
 use rinqebo_request::{SettingKey, TestName};

@@ -1,8 +1,18 @@
+use Rattle.rinqebo_run.proofs.Refused.{want_told}
 use Rattle.rinqebo_run.proofs.Rows.{explains}
 use Rattle.rinqebo_run.proofs.explain.explain.Goals as goal
 
 pub returns-clause-ok : goal.returns-clause-ok
 returns-clause-ok c =
+    let config = c.in_ok-config.ensures in
     explains c.args.session.now c.args.profile.now c.args.test.now c.args.settings.now c.in_ok-report.report
-    c.in_ok-content.content c.in_ok-rows.rows.items c.deref.result.now c.in_ok-report.ensures.content c.deref.ensures.value
-    c.in_ok-rows.ensures.ok c.in_ok-content.ensures.ok
+    c.in_ok-content.content c.in_ok-config.config config.accepted config.means config.known c.in_ok-report.ensures.content
+    c.in_ok-content.ensures
+
+pub returns-in_err-content-clause-err : goal.returns-in_err-content-clause-err
+returns-in_err-content-clause-err c =
+    want_told c.args.session.now c.args.profile.now _ c.from_residual-in_err-content.ensures.1
+
+pub returns-in_err-findings-clause-err : goal.returns-in_err-findings-clause-err
+returns-in_err-findings-clause-err c =
+    want_told c.args.session.now c.args.profile.now _ c.from_residual-in_err-findings.ensures.1

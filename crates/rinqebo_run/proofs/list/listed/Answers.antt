@@ -1,3 +1,5 @@
+use Rattle.std.proofs.Common.{ap}
+use Rattle.nextest_inheritance.specs.View.{borrowed_view}
 use Rattle.rinqebo_run.proofs.Listing.{listed_here, told_in}
 use Rattle.rinqebo_run.proofs.list.listed.Goals as goal
 
@@ -7,5 +9,7 @@ profile_on-requires g c = c.requires
 pub returns : goal.returns
 returns g c =
     listed_here c.args.session.now c.args.config.now c.args.profile.now c.args.mode c.args.asked.now
-    c.in_ok-on.on _ _ _ _ c.in_ok-on.ensures c.in_ok-rows.ensures.tests c.in_ok-rows.ensures.unused
+    c.in_ok-on.on (borrowed_view c.in_ok-chain.chain.items) (borrowed_view c.deref.result.now) _ _ _ _
+    c.in_ok-on.ensures (c.in_ok-chain.ensures c.requires) (ap borrowed_view c.deref.ensures.value)
+    c.in_ok-rows.ensures.tests c.in_ok-rows.ensures.unused
     (told_in _ _ _ _ c.deref-3.ensures.value c.in_ok-unused_origins.ensures) c.in_ok-scripts_of_list.ensures

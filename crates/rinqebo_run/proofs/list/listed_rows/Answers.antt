@@ -1,19 +1,30 @@
-use Rattle.std.proofs.Common.{◌∙◌, ap, map, subst, IfOk}
+use Rattle.std.proofs.Common.{◌≡◌, ◌∙◌, List, ap, map, subst, IfOk}
 use Rattle.filter_language.specs.Filtersets.{marks_view}
-use Rattle.nextest_engines.specs.Engines.{test_view}
+use Rattle.nextest_engines.specs.Engines.{Test, test_view}
 use Rattle.nextest_filters.specs.Compiling.{names_of}
 use Rattle.nextest_filters.specs.Engine.{filter_holds}
+use Rattle.nextest_inheritance.specs.View.{borrowed_view}
 use Rattle.nextest_profiles.specs.Meaning.{profile_meaning}
 use Rattle.nextest_settings.specs.Queries.{query_in}
+use Rattle.rinqebo_list.specs.Origins.{Basis}
 use Rattle.rinqebo_list.specs.Rows.{AreTestsTold}
 use Rattle.rinqebo_list.specs.Unused.{AreUnusedIn}
+use Rattle.rinqebo_run.proofs.Listing.{basis_here}
+use Rattle.test_lists.specs.ListView.{list_view}
+use Rattle.test_lists.specs.Lists.{all_tests}
 use Rattle.rinqebo_run.proofs.list.listed_rows.Goals as goal
 
 pub returns-clause-tests : goal.returns-clause-tests
 returns-clause-tests g c =
-    subst (λ tests. IfOk c.list.result (λ rows. AreTestsTold filter_holds c.args.mode
-    (profile_meaning (marks_view names_of) c.args.profile.now) c.args.asked.now tests rows.tests.items))
-    (ap (map test_view) c.deref-2.ensures.value ∙ c.in_ok-queries.ensures) c.list.ensures.tests
+    let session = c.args.session.now in
+    let Told : Basis → List Test → Type 0 = λ basis tests. IfOk c.list.result
+    (λ rows. AreTestsTold basis filter_holds c.args.mode (profile_meaning (marks_view names_of) c.args.profile.now)
+    c.args.asked.now tests rows.tests.items) in
+    subst (λ basis. Told basis (all_tests (list_view session.tests)))
+    (basis_here session c.new-origins.result _ (borrowed_view c.args.chain.now) c.new-origins.ensures
+    c.deref.ensures.value)
+    (subst (Told c.new-origins.result) (ap (map test_view) c.deref-2.ensures.value ∙ c.in_ok-queries.ensures)
+    c.list.ensures.tests)
 
 pub returns-clause-unused : goal.returns-clause-unused
 returns-clause-unused g c =

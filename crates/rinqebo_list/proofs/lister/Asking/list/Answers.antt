@@ -1,4 +1,4 @@
-use Rattle.std.proofs.Common.{◌≡◌, refl, subst, take}
+use Rattle.std.proofs.Common.{◌≡◌, ◌∙◌, refl, subst, take}
 use Rattle.std.proofs.lemmas.List.{take_all}
 use Rattle.std.specs.List.{AllZip}
 use Rattle.nextest_engines.specs.Engines.{test_view}
@@ -14,9 +14,15 @@ loop-query-preserved g c =
     let F = g.F.Filters in
     let self = c.args.self.now in
     let profile = profile_meaning F.meaning self.profile.now in
-    zip_more (λ query. IsTestTold (query_in F.holds profile (test_view query)) self.mode profile self.asked.now
-    (test_view query)) c.args.queries.now c.loop-query.query-index _ _ c.loop-query-test.true refl _ _ _
-    c.loop-query.invariant c.in_ok-rows_of.ensures c.in_ok-push.ensures.items
+    let before = c.loop-query.invariant in
+    record {
+      same = c.rows_of.ensures.same ∙ before.same;
+      told = zip_more (λ query. IsTestTold c.args.origins.now (query_in F.holds profile (test_view query)) self.mode
+          profile self.asked.now (test_view query)) c.args.queries.now c.loop-query.query-index _ _
+          c.loop-query-test.true refl _ _ _ before.told
+          (subst (λ basis. IsTestTold basis (query_in F.holds profile _) self.mode profile self.asked.now _ _)
+          before.same c.in_ok-rows_of.ensures.told) c.in_ok-push.ensures.items;
+    }
 
 pub returns-clause-tests : goal.returns-clause-tests
 returns-clause-tests g c =
@@ -26,7 +32,7 @@ returns-clause-tests g c =
     let queries = c.args.queries.now in
     let all : take c.loop-query.query-index queries ≡ queries =
     take_all c.loop-query.query-index queries c.loop-query-test.false in
-    zip_mapped test_view (λ test. IsTestTold (query_in F.holds profile test) self.mode profile self.asked.now test)
-    queries c.loop-query.tests.items
-    (subst (λ qs. AllZip (λ query. IsTestTold (query_in F.holds profile (test_view query)) self.mode profile
-    self.asked.now (test_view query)) qs c.loop-query.tests.items) all c.loop-query.invariant)
+    zip_mapped test_view (λ test. IsTestTold c.args.origins.now (query_in F.holds profile test) self.mode profile
+    self.asked.now test) queries c.loop-query.tests.items
+    (subst (λ qs. AllZip (λ query. IsTestTold c.args.origins.now (query_in F.holds profile (test_view query)) self.mode
+    profile self.asked.now (test_view query)) qs c.loop-query.tests.items) all c.loop-query.invariant.told)

@@ -1,4 +1,4 @@
-use Rattle.std.proofs.Common.{take}
+use Rattle.std.proofs.Common.{◌≡◌, take}
 use Rattle.std.specs.List.{AllZip}
 use Rattle.nextest_engines.specs.Engines.{test_view}
 use Rattle.nextest_profiles.specs.Meaning.{profile_meaning}
@@ -11,5 +11,8 @@ abbrev pub invariant-loop-query : goal.invariant-loop-query
 invariant-loop-query g l =
     let F = g.F.Filters in
     let profile = profile_meaning F.meaning l.self.profile.now in
-    AllZip (λ query. IsTestTold (query_in F.holds profile (test_view query)) l.self.mode profile l.self.asked.now
-    (test_view query)) (take l.query-index l.queries) l.tests.items
+    record {
+      same : l.origins ≡ l.initial.origins;
+      told : AllZip (λ query. IsTestTold l.initial.origins (query_in F.holds profile (test_view query)) l.self.mode
+          profile l.self.asked.now (test_view query)) (take l.query-index l.queries) l.tests.items;
+    }

@@ -1,12 +1,15 @@
+use Rattle.std.proofs.Common.{◌≡◌, ◌∙◌, Option, ap, option_map}
 use Rattle.nextest_engines.specs.Engines.{test_view}
 use Rattle.nextest_profiles.specs.Meaning.{profile_meaning}
-use Rattle.nextest_settings.specs.Queries.{query_in, setting_origin, setting_value}
+use Rattle.nextest_rules.specs.Rules.{RuleId}
+use Rattle.nextest_settings.specs.Queries.{query_in, setting_origin, setting_value, wrapping_rule}
 use Rattle.nextest_settings.specs.SettingsView.{origin_at, value_at}
-use Rattle.rinqebo_list.proofs.RowsMore.{told_alike}
+use Rattle.rinqebo_list.specs.Origins.{wrapping_at, wrapping_id}
+use Rattle.rinqebo_list.proofs.RowsMore.{told_alike, wrapping_alike}
 use Rattle.rinqebo_list.proofs.lister.Asking.rows_of.Goals as goal
 
-pub returns : goal.returns
-returns g c =
+pub returns-clause-told : goal.returns-clause-told
+returns-clause-told g c =
     let self = c.args.self.now in
     let profile = profile_meaning g.F.Filters.meaning self.profile.now in
     let query = query_in g.F.Filters.holds profile (test_view c.args.query.now) in
@@ -15,7 +18,8 @@ returns g c =
     record {
       binary = c.in_ok-from_str.ensures.ok;
       name = c.in_ok-from_str-2.ensures.ok;
-      settings_told = told_alike (value_at settings) (setting_value query self.mode profile) (origin_at settings)
+      settings_told = told_alike c.args.origins.now (wrapping_at settings) (wrapping_id query profile)
+          (value_at settings) (setting_value query self.mode profile) (origin_at settings)
           (setting_origin query self.mode profile) self.mode self.asked.now c.in_ok-rows_of.field-0.items
-          are.values are.origins c.in_ok-rows_of.ensures;
+          (wrapping_alike _ _ are.script_rule) are.values are.origins c.in_ok-rows_of.ensures.told;
     }

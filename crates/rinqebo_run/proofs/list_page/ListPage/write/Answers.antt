@@ -1,11 +1,13 @@
-use Rattle.std.proofs.Common.{◌≡◌, arith, inl, length, subst}
+use Rattle.std.proofs.Common.{◌≡◌, ap, arith, inl, length, subst}
 use Rattle.filter_language.specs.Filtersets.{marks_view}
 use Rattle.nextest_filters.specs.Compiling.{names_of}
 use Rattle.nextest_filters.specs.Engine.{filter_holds}
+use Rattle.nextest_inheritance.specs.View.{borrowed_view}
 use Rattle.nextest_profiles.specs.Meaning.{profile_meaning}
 use Rattle.rinqebo_run.proofs.Listing.{listed_here}
 use Rattle.rinqebo_run.proofs.Writing.{all_first, first_here, passed_stop, stops_at_end, stops_so, whole_page}
 use Rattle.rinqebo_run.specs.Begun.{AreFirstWritten}
+use Rattle.rinqebo_run.specs.ListedBy.{basis_of}
 use Rattle.rinqebo_run.specs.Written.{AreFirstBy}
 use Rattle.rinqebo_run.specs.declared.list_fault.ListFault.TheVariants as faults
 use Rattle.test_lists.specs.ListView.{list_view}
@@ -19,9 +21,10 @@ pub returns-clause-told : goal.returns-clause-told
 returns-clause-told g c =
     let self = c.args.self.now in
     let list = self.list in
-    listed_here self.session.now self.config.now list.profile.now list.mode list.settings.now c.in_ok-on.on _ _ _ _
-    c.in_ok-on.ensures c.in_ok-rows.ensures.tests c.in_ok-rows.ensures.unused c.in_ok-unused.ensures.origins
-    c.in_ok-scripts.ensures
+    listed_here self.session.now self.config.now list.profile.now list.mode list.settings.now c.in_ok-on.on
+    (borrowed_view c.in_ok-chain.chain.items) (borrowed_view c.deref-2.result.now) _ _ _ _ c.in_ok-on.ensures
+    (c.in_ok-chain.ensures c.requires) (ap borrowed_view c.deref-2.ensures.value) c.in_ok-rows.ensures.tests
+    c.in_ok-rows.ensures.unused c.in_ok-unused.ensures.origins c.in_ok-scripts.ensures
 
 pub returns-clause-page : goal.returns-clause-page
 returns-clause-page g c =
@@ -38,13 +41,14 @@ returns-in_err-rows-clause-err g c =
     let old = g.O.Write.contents c.args.out.now in
     let new = g.O.Write.contents c.write_rows.new.out in
     passed_stop _ c.from_residual-in_err-rows.result c.in_err-rows.field-0.0 c.from_residual-in_err-rows.ensures.1
-    (stops_so (λ _. ⊥) (λ _. ⊥) (AreFirstWritten filter_holds list.mode
-    (profile_meaning (marks_view names_of) c.in_ok-on.on) list.settings.now (all_tests (list_view self.session.now.tests))
-    self.head.now self.colour old new)
+    (stops_so (λ _. ⊥) (λ _. ⊥) (AreFirstWritten (basis_of self.session.now (borrowed_view c.deref-2.result.now))
+    filter_holds list.mode (profile_meaning (marks_view names_of) c.in_ok-on.on) list.settings.now
+    (all_tests (list_view self.session.now.tests)) self.head.now self.colour old new)
     (AreFirstBy self.session.now self.config.now list.profile.now list.mode list.settings.now self.colour old new)
     old new c.in_err-rows.field-0.0 (λ _ none. none)
-    (first_here self.session.now self.config.now list.profile.now list.mode list.settings.now c.in_ok-on.on self.head.now
-    self.colour old new c.in_ok-on.ensures)
+    (first_here self.session.now self.config.now list.profile.now list.mode list.settings.now c.in_ok-on.on
+    (borrowed_view c.in_ok-chain.chain.items) (borrowed_view c.deref-2.result.now) self.head.now self.colour old new
+    c.in_ok-on.ensures (c.in_ok-chain.ensures c.requires) (ap borrowed_view c.deref-2.ensures.value))
     c.in_err-rows.ensures.err)
 
 pub returns-in_err-scripts-clause-err : goal.returns-in_err-scripts-clause-err
@@ -55,8 +59,9 @@ returns-in_err-scripts-clause-err g c =
     let new = g.O.Write.contents c.write_rows.new.out in
     passed_stop _ c.from_residual-in_err-scripts.result faults.Memory c.from_residual-in_err-scripts.ensures.1
     (inl (first_here self.session.now self.config.now list.profile.now list.mode list.settings.now c.in_ok-on.on
-    self.head.now self.colour old new c.in_ok-on.ensures
-    (all_first list.mode (profile_meaning (marks_view names_of) c.in_ok-on.on) list.settings.now self.head.now
+    (borrowed_view c.in_ok-chain.chain.items) (borrowed_view c.deref-2.result.now) self.head.now self.colour old new
+    c.in_ok-on.ensures (c.in_ok-chain.ensures c.requires) (ap borrowed_view c.deref-2.ensures.value)
+    (all_first (basis_of self.session.now (borrowed_view c.deref-2.result.now)) list.mode (profile_meaning (marks_view names_of) c.in_ok-on.on) list.settings.now self.head.now
     self.colour (all_tests (list_view self.session.now.tests)) c.in_ok-rows.rows.tests.items old new
     c.in_ok-rows.ensures.tests c.in_ok-rows.ensures.page)))
 
@@ -75,8 +80,9 @@ returns-in_err-unused-clause-err g c =
     old mid new c.in_err-unused.field-0.0
     (λ same. subst
     (AreFirstBy self.session.now self.config.now list.profile.now list.mode list.settings.now self.colour old) same
-    (first_here self.session.now self.config.now list.profile.now list.mode list.settings.now c.in_ok-on.on self.head.now
-    self.colour old mid c.in_ok-on.ensures
-    (all_first list.mode profile list.settings.now self.head.now self.colour tests c.in_ok-rows.rows.tests.items old mid
+    (first_here self.session.now self.config.now list.profile.now list.mode list.settings.now c.in_ok-on.on
+    (borrowed_view c.in_ok-chain.chain.items) (borrowed_view c.deref-2.result.now) self.head.now self.colour old mid
+    c.in_ok-on.ensures (c.in_ok-chain.ensures c.requires) (ap borrowed_view c.deref-2.ensures.value)
+    (all_first (basis_of self.session.now (borrowed_view c.deref-2.result.now)) list.mode profile list.settings.now self.head.now self.colour tests c.in_ok-rows.rows.tests.items old mid
     c.in_ok-rows.ensures.tests c.in_ok-rows.ensures.page)))
     c.in_err-unused.ensures.err)

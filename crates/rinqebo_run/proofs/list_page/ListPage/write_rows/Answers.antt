@@ -1,22 +1,33 @@
-use Rattle.std.proofs.Common.{◌∙◌, ap, map, subst, IfErr, IfOk}
+use Rattle.std.proofs.Common.{◌≡◌, ◌∙◌, List, ap, map, subst, IfErr, IfOk}
 use Rattle.filter_language.specs.Filtersets.{marks_view}
-use Rattle.nextest_engines.specs.Engines.{test_view}
+use Rattle.nextest_engines.specs.Engines.{Test, test_view}
 use Rattle.nextest_filters.specs.Compiling.{names_of}
 use Rattle.nextest_filters.specs.Engine.{filter_holds}
+use Rattle.nextest_inheritance.specs.View.{borrowed_view}
 use Rattle.nextest_profiles.specs.Meaning.{profile_meaning}
 use Rattle.nextest_settings.specs.Queries.{query_in}
+use Rattle.rinqebo_list.specs.Origins.{Basis}
 use Rattle.rinqebo_list.specs.Rows.{AreTestsTold}
 use Rattle.rinqebo_list.specs.Unused.{AreUnusedIn}
 use Rattle.rinqebo_run.specs.Begun.{AreFirstWritten}
 use Rattle.rinqebo_run.specs.Written.{StopsList}
+use Rattle.rinqebo_run.proofs.Listing.{basis_here}
+use Rattle.test_lists.specs.ListView.{list_view}
+use Rattle.test_lists.specs.Lists.{all_tests}
 use Rattle.rinqebo_run.proofs.list_page.ListPage.write_rows.Goals as goal
 
 pub returns-clause-tests : goal.returns-clause-tests
 returns-clause-tests g c =
-    let list = c.args.self.now.list in
-    subst (λ tests. IfOk c.write_tests.result (λ rows. AreTestsTold filter_holds list.mode
-    (profile_meaning (marks_view names_of) c.args.on.now) list.settings.now tests rows.tests.items))
-    (ap (map test_view) c.deref-2.ensures.value ∙ c.in_ok-queries.ensures) c.write_tests.ensures.tests
+    let self = c.args.self.now in
+    let list = self.list in
+    let Told : Basis → List Test → Type 0 = λ basis tests. IfOk c.write_tests.result
+    (λ rows. AreTestsTold basis filter_holds list.mode (profile_meaning (marks_view names_of) c.args.on.now)
+    list.settings.now tests rows.tests.items) in
+    subst (λ basis. Told basis (all_tests (list_view self.session.now.tests)))
+    (basis_here self.session.now c.new-origins.result _ (borrowed_view c.args.chain.now) c.new-origins.ensures
+    c.deref.ensures.value)
+    (subst (Told c.new-origins.result) (ap (map test_view) c.deref-2.ensures.value ∙ c.in_ok-queries.ensures)
+    c.write_tests.ensures.tests)
 
 pub returns-clause-unused : goal.returns-clause-unused
 returns-clause-unused g c =
@@ -30,7 +41,11 @@ returns-clause-err g c =
     let self = c.args.self.now in
     let old = g.O.Write.contents c.args.out.now in
     let new = g.O.Write.contents c.write_tests.new.out in
-    subst (λ tests. IfErr c.write_tests.result (StopsList (λ _. ⊥) (AreFirstWritten filter_holds self.list.mode
-    (profile_meaning (marks_view names_of) c.args.on.now) self.list.settings.now tests self.head.now self.colour
-    old new) old new))
-    (ap (map test_view) c.deref-2.ensures.value ∙ c.in_ok-queries.ensures) c.write_tests.ensures.err
+    let Stops : Basis → List Test → Type 0 = λ basis tests. IfErr c.write_tests.result (StopsList (λ _. ⊥)
+    (AreFirstWritten basis filter_holds self.list.mode (profile_meaning (marks_view names_of) c.args.on.now)
+    self.list.settings.now tests self.head.now self.colour old new) old new) in
+    subst (λ basis. Stops basis (all_tests (list_view self.session.now.tests)))
+    (basis_here self.session.now c.new-origins.result _ (borrowed_view c.args.chain.now) c.new-origins.ensures
+    c.deref.ensures.value)
+    (subst (Stops c.new-origins.result) (ap (map test_view) c.deref-2.ensures.value ∙ c.in_ok-queries.ensures)
+    c.write_tests.ensures.err)

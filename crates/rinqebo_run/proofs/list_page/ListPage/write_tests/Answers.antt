@@ -23,9 +23,12 @@ loop-query-preserved g c =
     let before = c.loop-query.invariant in
     let adds = c.in_ok-text.ensures.ok in
     record {
-      told = zip_more (λ query. IsTestTold (query_in filter_holds profile (test_view query)) asking.mode profile
-          asking.asked.now (test_view query)) queries i _ _ c.loop-query-test.true refl _ _ _ before.told
-          adds.are_told adds.added;
+      same = c.take_test.ensures.same ∙ before.same;
+      told = zip_more (λ query. IsTestTold c.args.origins.now (query_in filter_holds profile (test_view query))
+          asking.mode profile asking.asked.now (test_view query)) queries i _ _ c.loop-query-test.true refl _ _ _
+          before.told
+          (subst (λ basis. IsTestTold basis (query_in filter_holds profile _) asking.mode profile asking.asked.now _ _)
+          before.same adds.are_told) adds.added;
       page = one_more c.args.self.now.head.now c.args.self.now.colour c.loop-query.tests.items
           c.take_test.new.tests.items adds.rows c.as_str.result.now _ _ _ adds.added
           (c.as_str.ensures.value ∙ adds.shown) before.page c.in_ok-write_text.ensures.ok;
@@ -36,10 +39,10 @@ returns-clause-tests g c =
     let asking = c.args.asking.now in
     let profile = profile_meaning (marks_view names_of) asking.profile.now in
     let queries = c.args.queries.now in
-    zip_mapped test_view (λ test. IsTestTold (query_in filter_holds profile test) asking.mode profile
-    asking.asked.now test) queries c.loop-query.tests.items
-    (subst (λ qs. AllZip (λ query. IsTestTold (query_in filter_holds profile (test_view query)) asking.mode profile
-    asking.asked.now (test_view query)) qs c.loop-query.tests.items)
+    zip_mapped test_view (λ test. IsTestTold c.args.origins.now (query_in filter_holds profile test) asking.mode
+    profile asking.asked.now test) queries c.loop-query.tests.items
+    (subst (λ qs. AllZip (λ query. IsTestTold c.args.origins.now (query_in filter_holds profile (test_view query))
+    asking.mode profile asking.asked.now (test_view query)) qs c.loop-query.tests.items)
     (take_all c.loop-query.query-index queries c.loop-query-test.false) c.loop-query.invariant.told)
 
 pub returns-in_err-text-clause-err : goal.returns-in_err-text-clause-err
@@ -47,8 +50,8 @@ returns-in_err-text-clause-err g c =
     let asking = c.args.asking.now in
     let self = c.args.self.now in
     let before = c.loop-query.invariant in
-    passed_stop _ c.from_residual.result faults.Memory c.from_residual.ensures.1
-    (inl (first_so_far asking.mode (profile_meaning (marks_view names_of) asking.profile.now) asking.asked.now
+    passed_stop _ c.from_residual-in_err-text.result faults.Memory c.from_residual-in_err-text.ensures.1
+    (inl (first_so_far c.args.origins.now asking.mode (profile_meaning (marks_view names_of) asking.profile.now) asking.asked.now
     self.head.now self.colour c.args.queries.now c.loop-query.query-index c.loop-query.tests.items _ _ before.told
     before.page))
 
@@ -58,6 +61,6 @@ returns-in_err-unused-clause-err g c =
     let self = c.args.self.now in
     let before = c.loop-query.invariant in
     passed_stop _ c.from_residual-in_err-unused.result faults.Memory c.from_residual-in_err-unused.ensures.1
-    (inl (first_so_far asking.mode (profile_meaning (marks_view names_of) asking.profile.now) asking.asked.now
+    (inl (first_so_far c.args.origins.now asking.mode (profile_meaning (marks_view names_of) asking.profile.now) asking.asked.now
     self.head.now self.colour c.args.queries.now c.loop-query.query-index c.loop-query.tests.items _ _ before.told
     before.page))

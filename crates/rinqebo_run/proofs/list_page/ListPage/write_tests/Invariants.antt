@@ -1,4 +1,4 @@
-use Rattle.std.proofs.Common.{take}
+use Rattle.std.proofs.Common.{◌≡◌, take}
 use Rattle.std.specs.Io.KnownBytes.{Appends}
 use Rattle.std.specs.List.{AllZip}
 use Rattle.filter_language.specs.Filtersets.{marks_view}
@@ -17,8 +17,9 @@ invariant-loop-query g l =
     let profile = profile_meaning (marks_view names_of) l.asking.profile.now in
     let queries = take l.query-index l.queries in
     record {
-      told : AllZip (λ query. IsTestTold (query_in filter_holds profile (test_view query)) l.asking.mode profile
-          l.asking.asked.now (test_view query)) queries l.tests.items;
+      same : l.origins ≡ l.initial.origins;
+      told : AllZip (λ query. IsTestTold l.initial.origins (query_in filter_holds profile (test_view query))
+          l.asking.mode profile l.asking.asked.now (test_view query)) queries l.tests.items;
       page : Appends (g.O.Write.contents l.initial.out) (g.O.Write.contents l.out)
           (tests_text l.self.head.now l.self.colour l.tests.items);
     }
