@@ -15,7 +15,7 @@ mod unused;
 mod values;
 
 pub use laws::law_unused;
-pub use lister::{Asking, ListedRows, reported_platform};
+pub use lister::{Lister, ListedRows, reported_platform};
 pub use origins::Origins;
 pub use progress::{Progress, Untold};
 pub use scripts::scripts_of;

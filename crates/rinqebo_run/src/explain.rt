@@ -12,7 +12,7 @@ use crate::list::profile_on;
 use nextest_config::{DefaultConfigWarnings, Setting};
 use nextest_filters::NextestTally;
 use rinqebo_findings::{config_with, report_of};
-use rinqebo_list::{Asking, Origins};
+use rinqebo_list::{Lister, Origins};
 use rinqebo_load::{Config, Failure, Session, chain_of_profile};
 use rinqebo_report::{Content, Report};
 use rinqebo_request::{AskedSettings, TestName};
@@ -35,7 +35,7 @@ fn explained<'c>(
     let chain = chain_of_profile(alloc, config, profile)?;
     let on = profile_on(alloc, session, config, profile)?;
     let asked = AskedSettings::These(Vec::from_slice(alloc, settings)?);
-    let asking = Asking {
+    let asking = Lister {
         profile: &on,
         mode: test.mode,
         asked: &asked,

@@ -30,7 +30,7 @@ use crate::list_origins::unused_origins;
 use crate::list_scripts::scripts_of_list;
 use nextest_config::{NextestRunMode, TestQuery};
 use nextest_filters::{NextestFilters, NextestTally};
-use rinqebo_list::{Asking, ListedRows, Origins, Progress, UnusedRules, unused_rules};
+use rinqebo_list::{Lister, ListedRows, Origins, Progress, UnusedRules, unused_rules};
 use rinqebo_load::{Config, Session, chain_of_profile};
 use rinqebo_report::{Colour, Content, Origin, Report, TestRows, render_list_end, render_listed};
 use rinqebo_request::AskedSettings;
@@ -39,7 +39,7 @@ use std::io::Write;
 use target_language::TargetSpecs;
 
 /// How the tests of a list are asked.
-type TestAsking<'l, 'c> = Asking<'l, 'c, NextestFilters, TargetSpecs>;
+type TestLister<'l, 'c> = Lister<'l, 'c, NextestFilters, TargetSpecs>;
 
 /// What is asked of a list.
 #[derive(Clone, Copy)]
@@ -92,7 +92,7 @@ impl<'c> ListPage<'c, '_> {
     fn take_test(
         &self,
         alloc: Global,
-        asking: &TestAsking<'_, 'c>,
+        asking: &TestLister<'_, 'c>,
         query: &TestQuery<'_>,
         tally: &mut NextestTally,
         origins: &mut Origins<'_, '_, 'c>,
@@ -118,7 +118,7 @@ impl<'c> ListPage<'c, '_> {
     fn write_tests<O: Write, P: Progress>(
         &self,
         alloc: Global,
-        asking: &TestAsking<'_, 'c>,
+        asking: &TestLister<'_, 'c>,
         queries: &[TestQuery<'_>],
         origins: &mut Origins<'_, '_, 'c>,
         progress: &mut P,
@@ -179,7 +179,7 @@ impl<'c> ListPage<'c, '_> {
             (O.contents out.old) (O.contents out.new))
             (O.contents out.old) (O.contents out.new)) }
     {
-        let asking = Asking {
+        let asking = Lister {
             profile: on,
             mode: self.list.mode,
             asked: self.list.settings,

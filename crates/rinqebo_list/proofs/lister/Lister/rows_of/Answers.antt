@@ -6,7 +6,7 @@ use Rattle.nextest_settings.specs.Queries.{query_in, setting_origin, setting_val
 use Rattle.nextest_settings.specs.SettingsView.{origin_at, value_at}
 use Rattle.rinqebo_list.specs.Origins.{wrapping_at, wrapping_id}
 use Rattle.rinqebo_list.proofs.RowsMore.{told_alike, wrapping_alike}
-use Rattle.rinqebo_list.proofs.lister.Asking.rows_of.Goals as goal
+use Rattle.rinqebo_list.proofs.lister.Lister.rows_of.Goals as goal
 
 pub returns-clause-told : goal.returns-clause-told
 returns-clause-told g c =
