@@ -16,8 +16,8 @@ use Rattle.nextest_settings.specs.Queries.{query_in}
 use Rattle.nextest_settings.specs.declared.setting.Setting.{Setting}
 use Rattle.nextest_tables.specs.FileTexts.{names_in, IsIn}
 use Rattle.nextest_tables.specs.Written.{Name}
-use Rattle.rinqebo_list.specs.Origins.{Basis}
-use Rattle.rinqebo_list.specs.Rows.{AreSettingsTold}
+use Rattle.rinqebo_rules.specs.TestOrigins.{Basis}
+use Rattle.rinqebo_rules.specs.Rows.{AreSettingsTold}
 use Rattle.rinqebo_load.specs.Accepted.{AreAccepted}
 use Rattle.rinqebo_load.specs.Sessions.{files_view, readings, IsLoadedFrom}
 use Rattle.rinqebo_load.specs.declared.session.Session.{Session}

@@ -13,7 +13,7 @@ use Rattle.nextest_sources.specs.Inputs.{sources_in}
 use Rattle.nextest_tables.specs.FileTexts.{names_in, IsIn}
 use Rattle.nextest_tables.specs.Written.{Name}
 use Rattle.rinqebo_files.specs.declared.layers.Layer.{Layer}
-use Rattle.rinqebo_list.specs.Rows.{AreSettingsTold}
+use Rattle.rinqebo_rules.specs.Rows.{AreSettingsTold}
 use Rattle.rinqebo_load.specs.Accepted.{AreAccepted}
 use Rattle.rinqebo_load.specs.Sessions.{files_view, readings}
 use Rattle.rinqebo_load.specs.declared.session.Session.{Session}

@@ -12,7 +12,7 @@ use crate::list::profile_on;
 use nextest_config::{DefaultConfigWarnings, Setting};
 use nextest_filters::NextestTally;
 use rinqebo_findings::{config_with, report_of};
-use rinqebo_list::{Lister, Origins};
+use rinqebo_rules::{Lister, Origins};
 use rinqebo_load::{Config, Failure, Session, chain_of_profile};
 use rinqebo_report::{Content, Report};
 use rinqebo_request::{AskedSettings, TestName};

@@ -6,7 +6,7 @@ ghost use Rattle.rinqebo_rules.specs.RulePlaces.{place_view};
 ghost use Rattle.rinqebo_run.specs.ListedBy.{places_of};
 
 use rinqebo_files::Layer;
-use rinqebo_list::UnusedRules;
+use rinqebo_rules::UnusedRules;
 use rinqebo_report::Origin;
 use rinqebo_rules::RulePlace;
 use std::alloc::{AllocError, Global};

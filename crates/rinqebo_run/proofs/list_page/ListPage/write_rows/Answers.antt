@@ -6,9 +6,9 @@ use Rattle.nextest_filters.specs.Engine.{filter_holds}
 use Rattle.nextest_inheritance.specs.View.{borrowed_view}
 use Rattle.nextest_profiles.specs.Meaning.{profile_meaning}
 use Rattle.nextest_settings.specs.Queries.{query_in}
-use Rattle.rinqebo_list.specs.Origins.{Basis}
-use Rattle.rinqebo_list.specs.Rows.{AreTestsTold}
-use Rattle.rinqebo_list.specs.Unused.{AreUnusedIn}
+use Rattle.rinqebo_rules.specs.TestOrigins.{Basis}
+use Rattle.rinqebo_rules.specs.Rows.{AreTestsTold}
+use Rattle.rinqebo_rules.specs.Unused.{AreUnusedIn}
 use Rattle.rinqebo_run.specs.Begun.{AreFirstWritten}
 use Rattle.rinqebo_run.specs.Written.{StopsList}
 use Rattle.rinqebo_run.proofs.Listing.{basis_here}

@@ -1,0 +1,14 @@
+use Rattle.std.proofs.Common.{option_map, subst, sym}
+use Rattle.std.proofs.lemmas.List.Elements.{All-get_or}
+use Rattle.rinqebo_rules.proofs.Copies.{known_at}
+use Rattle.rinqebo_rules.specs.KnownOrigins.{AreOriginsAt, IsKnown}
+use Rattle.rinqebo_rules.specs.RulePlaces.{place_view}
+use Rattle.rinqebo_rules.proofs.origins.known_of.Goals as goal
+
+pub returns-then-are_of : goal.returns-then-are_of
+returns-then-are_of c = λ basis all.
+    let found = c.if-are_of.true in
+    subst (AreOriginsAt basis (option_map place_view c.args.rule) (option_map (λ table. table.now) c.args.key.table)
+    c.args.key.key.now) (sym c.as_slice.ensures.value)
+    (known_at basis _ _ _ _ (c.are_of.ensures.rule found) (c.are_of.ensures.table found) (c.are_of.ensures.key found)
+    (All-get_or (IsKnown basis) c.args.known.now c.loop-one.one-index _ c.loop-one-test.true all))
