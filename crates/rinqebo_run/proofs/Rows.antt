@@ -3,9 +3,9 @@ use Rattle.std.proofs.Common.{◌≡◌, ◌∙◌, List, string_bytes, subst, s
 use Rattle.filter_language.specs.Filtersets.{marks_view}
 use Rattle.filter_language.specs.declared.filterset.Filterset.{Filterset}
 use Rattle.nextest_engines.specs.Engines.{Test}
-use Rattle.nextest_filters.specs.Compiling.{names_of}
-use Rattle.nextest_filters.specs.Engine.{Filter, filter_holds}
-use Rattle.nextest_filters.specs.declared.compiling.FieldMatcher.{FieldMatcher}
+use Rattle.filter_engine.specs.Compiling.{names_of}
+use Rattle.filter_engine.specs.Engine.{Filter, filter_holds}
+use Rattle.filter_engine.specs.declared.compiling.FieldMatcher.{FieldMatcher}
 use Rattle.nextest_inheritance.specs.Parents.{parents_in}
 use Rattle.nextest_load.specs.Config.{ConfigModel, config_parents}
 use Rattle.nextest_load.specs.Load.{Loaded}
@@ -30,8 +30,8 @@ use Rattle.rinqebo_run.proofs.Listing.{given_means}
 use Rattle.rinqebo_run.specs.Explained.{Explains, IfExplained, IsTestOf}
 use Rattle.rinqebo_run.specs.Listed.{IsProfileOn}
 use Rattle.rinqebo_run.specs.ListedBy.{basis_of, explained_by, read_by}
-use Rattle.target_language.specs.Expressions.{Spec, spec_view}
-use Rattle.target_language.specs.declared.expression.TargetSpec.{TargetSpec}
+use Rattle.platform_language.specs.Expressions.{Spec, spec_view}
+use Rattle.platform_language.specs.declared.expression.TargetSpec.{TargetSpec}
 
 -- a test is told by a configuration that was loaded
 pub explained_here : (session : Session) (loaded : Loaded (Filterset FieldMatcher) TargetSpec) (name : Name)

@@ -10,7 +10,7 @@ use crate::asked::asked_of;
 use crate::idle::findings_on;
 use crate::list::profile_on;
 use nextest_config::{DefaultConfigWarnings, Setting};
-use nextest_filters::NextestTally;
+use filter_engine::NextestTally;
 use rinqebo_findings::{config_with, report_of};
 use rinqebo_rules::{Lister, Origins};
 use rinqebo_load::{Config, Failure, Session, chain_of_profile};
