@@ -7,11 +7,11 @@ ghost use Rattle.rinqebo_rules.specs.KnownOrigins.{AreOriginsAt, IsCopyOf, IsKno
 ghost use Rattle.rinqebo_rules.specs.TestOrigins.{Basis};
 ghost use Rattle.rinqebo_rules.specs.RulePlaces.{place_view};
 
+use crate::{RuleKind, RulePlace, profile_grounds};
 use nextest_sources::{ConfigSource, ConfigSourceKind};
 use rinqebo_files::Layer;
 use rinqebo_report::{Origin, Written};
 use rinqebo_request::SettingKey;
-use crate::{RuleKind, RulePlace, profile_grounds};
 use std::alloc::{AllocError, Global};
 use std::marker::Model;
 

@@ -11,14 +11,13 @@ ghost use Rattle.rinqebo_rules.specs.Origins.{IsOriginOf, key_steps};
 
 use crate::origins::Origins;
 use crate::values::SourcedSettings;
+use crate::{RulePlace, built_in, reported_if_set};
 use nextest_elements::NextestRunMode;
 use nextest_engines::{Filters, Specs};
 use nextest_rules::ScriptRuleId;
 use nextest_settings::{Setting, SettingSource, SettingValues};
 use rinqebo_report::{Origin, SettingRow};
 use rinqebo_request::{AskedSettings, SettingKey};
-use crate::{RulePlace, built_in};
-use crate::reported_if_set;
 use std::alloc::{AllocError, Global};
 
 /// Whether a rule decides a setting of a test.

@@ -9,14 +9,13 @@ ghost use Rattle.rinqebo_run.specs.ListedBy.{explained_by};
 use crate::asked::asked_of;
 use crate::idle::findings_on;
 use crate::list::profile_on;
-use nextest_config::{DefaultConfigWarnings, Setting};
 use filter_engine::NextestTally;
+use nextest_config::{DefaultConfigWarnings, Setting};
 use rinqebo_findings::{config_with, report_of};
-use rinqebo_rules::{Lister, Origins};
 use rinqebo_load::{Config, Failure, Session, chain_of_profile};
 use rinqebo_report::{Content, Report};
 use rinqebo_request::{AskedSettings, TestName};
-use rinqebo_rules::query_of;
+use rinqebo_rules::{Lister, Origins, query_of};
 use std::alloc::{AllocError, Global};
 
 /// The settings of a test, by a configuration: the rows of a list of this one test.

@@ -6,9 +6,8 @@ ghost use Rattle.rinqebo_rules.specs.RulePlaces.{place_view};
 ghost use Rattle.rinqebo_run.specs.ListedBy.{places_of};
 
 use rinqebo_files::Layer;
-use rinqebo_rules::UnusedRules;
 use rinqebo_report::Origin;
-use rinqebo_rules::RulePlace;
+use rinqebo_rules::{RulePlace, UnusedRules};
 use std::alloc::{AllocError, Global};
 
 /// The places of the rules that hold for no test: those of the overrides in order, and then those

@@ -26,16 +26,13 @@ use crate::idle::findings_on;
 use nextest_config::{DefaultConfigWarnings, NextestRunMode, Setting};
 use rinqebo_files::{Layer, host_text, target_text, text_at};
 use rinqebo_findings::{config_with, report_of};
-use rinqebo_rules::reported_platform;
 use rinqebo_load::{Config, Failure, Session, chain_of_profile};
 use rinqebo_report::{Condition, ConditionAnswer, Content, Origin, Report, Rule, TestId, Verdict};
 use rinqebo_request::{SettingKey, TestName};
 use rinqebo_rules::{
-    Asking, SettingRule, answers_to, default_filter, facts_of, fallback_of_chain, profile_grounds,
-    query_of, rules_for,
+    Asking, RuleFacts, SettingRule, answers_to, default_filter, facts_of, fallback_of_chain,
+    profile_grounds, query_of, reported_if_set, reported_platform, rules_for, verdicts_of,
 };
-use rinqebo_rules::reported_if_set;
-use rinqebo_rules::{RuleFacts, verdicts_of};
 use std::alloc::{AllocError, Global};
 
 /// A condition, with its text.
