@@ -44,7 +44,8 @@ AreOriginsBy basis wrapping table name (Some unwritten) origins = origins ≡ ki
 AreOriginsBy basis wrapping table name (Some by_profile) origins =
     AreProfileOrigins basis.layers basis.chain table name origins
 AreOriginsBy basis wrapping table name (Some (by_override id)) origins =
-    AllZip (λ place. IsOriginOf basis.layers place (key_steps table name)) (id_place id ∷ []) origins
+    AllZip (λ place. IsOriginOf basis.layers place (key_steps table name)) (id_place id ∷ [])
+    origins
 AreOriginsBy basis wrapping table name (Some by_script) origins =
     AllZip (λ place. IsOriginOf basis.layers place (key_steps table name))
     (wrapping_places wrapping) origins
