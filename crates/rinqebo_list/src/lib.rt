@@ -15,7 +15,7 @@ mod unused;
 mod values;
 
 pub use laws::law_unused;
-pub use lister::{Asking, ListedRows};
+pub use lister::{Lister, ListedRows};
 pub use origins::{Decider, OriginTeller};
 pub use progress::{Progress, Untold};
 pub use scripts::scripts_of;

@@ -19,7 +19,7 @@ use std::alloc::{AllocError, Global};
 
 /// What a list is told by.
 #[derive_where(Clone, Copy)]
-pub struct Asking<'l, 'c, F: Filters, S: Specs> {
+pub struct Lister<'l, 'c, F: Filters, S: Specs> {
     /// The profile on the platforms of the build.
     pub profile: &'l EvaluatableProfile<'c, F, S>,
     /// For what tests are run.
@@ -45,7 +45,7 @@ fn reported_platform(platform: BuildPlatform) -> Platform {
     }
 }
 
-impl<'l, 'c, F: Filters, S: Specs> Asking<'l, 'c, F, S> {
+impl<'l, 'c, F: Filters, S: Specs> Lister<'l, 'c, F, S> {
     /// The settings of a test that are told. It takes as much memory as they do, and loads nothing.
     pub fn rows_of<O: OriginTeller<'c>>(
         &self,

@@ -22,7 +22,7 @@ use crate::list_scripts::scripts_of_list;
 use nextest_config::{DefaultConfigWarnings, EarlyProfile, EvaluatableProfile, NextestRunMode};
 use nextest_filters::{NextestFilters, NextestTally};
 use rinqebo_findings::{config_with, report_of, warning_findings};
-use rinqebo_list::{Asking, ListedRows, Progress};
+use rinqebo_list::{Lister, ListedRows, Progress};
 use rinqebo_load::{Config, Failure, Session, chain_of_profile};
 use rinqebo_report::{Content, Report};
 use rinqebo_request::AskedSettings;
@@ -69,7 +69,7 @@ fn listed_rows<'c, P: Progress>(
         (map (query_in filter_holds profile) (all_tests (list_view session.now.tests))) profile
         rows.unused) }
 {
-    let asking = Asking {
+    let asking = Lister {
         profile,
         mode,
         asked,

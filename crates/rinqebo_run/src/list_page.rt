@@ -29,7 +29,7 @@ use crate::list_origins::{Origins, unused_origins};
 use crate::list_scripts::scripts_of_list;
 use nextest_config::{NextestRunMode, TestQuery};
 use nextest_filters::{NextestFilters, NextestTally};
-use rinqebo_list::{Asking, ListedRows, Progress, UnusedRules, unused_rules};
+use rinqebo_list::{Lister, ListedRows, Progress, UnusedRules, unused_rules};
 use rinqebo_load::{Config, Session, chain_of_profile};
 use rinqebo_report::{Colour, Content, Origin, Report, TestRows, render_list_end, render_listed};
 use rinqebo_request::AskedSettings;
@@ -38,7 +38,7 @@ use std::io::Write;
 use target_language::TargetSpecs;
 
 /// How the tests of a list are asked.
-type TestAsking<'l, 'c> = Asking<'l, 'c, NextestFilters, TargetSpecs>;
+type TestAsking<'l, 'c> = Lister<'l, 'c, NextestFilters, TargetSpecs>;
 
 /// What is asked of a list.
 #[derive(Clone, Copy)]
@@ -173,7 +173,7 @@ impl<'c> ListPage<'c, '_> {
             (O.contents out.old) (O.contents out.new))
             (O.contents out.old) (O.contents out.new)) }
     {
-        let asking = Asking {
+        let asking = Lister {
             profile: on,
             mode: self.list.mode,
             asked: self.list.settings,

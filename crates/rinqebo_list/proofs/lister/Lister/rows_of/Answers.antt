@@ -3,7 +3,7 @@ use Rattle.nextest_profiles.specs.Meaning.{profile_meaning}
 use Rattle.nextest_settings.specs.Queries.{query_in, setting_origin, setting_value}
 use Rattle.nextest_settings.specs.SettingsView.{origin_at, value_at}
 use Rattle.rinqebo_list.proofs.RowsMore.{told_alike}
-use Rattle.rinqebo_list.proofs.lister.Asking.rows_of.Goals as goal
+use Rattle.rinqebo_list.proofs.lister.Lister.rows_of.Goals as goal
 
 pub returns : goal.returns
 returns g c =

@@ -4,7 +4,7 @@ use Rattle.nextest_engines.specs.Engines.{test_view}
 use Rattle.nextest_profiles.specs.Meaning.{profile_meaning}
 use Rattle.nextest_settings.specs.Queries.{query_in}
 use Rattle.rinqebo_list.specs.Rows.{IsTestTold}
-use Rattle.rinqebo_list.proofs.lister.Asking.list.Given as goal
+use Rattle.rinqebo_list.proofs.lister.Lister.list.Given as goal
 
 -- the tests so far are told
 abbrev pub invariant-loop-query : goal.invariant-loop-query

@@ -7,7 +7,7 @@ use Rattle.nextest_settings.specs.Queries.{query_in}
 use Rattle.rinqebo_list.specs.Rows.{IsTestTold}
 use Rattle.rinqebo_list.proofs.Listing.{zip_mapped}
 use Rattle.rinqebo_list.proofs.RowsMore.{zip_more}
-use Rattle.rinqebo_list.proofs.lister.Asking.list.Goals as goal
+use Rattle.rinqebo_list.proofs.lister.Lister.list.Goals as goal
 
 pub loop-query-preserved : goal.loop-query-preserved
 loop-query-preserved g c =
