@@ -38,7 +38,7 @@ use std::io::Write;
 use target_language::TargetSpecs;
 
 /// How the tests of a list are asked.
-type TestAsking<'l, 'c> = Lister<'l, 'c, NextestFilters, TargetSpecs>;
+type TestLister<'l, 'c> = Lister<'l, 'c, NextestFilters, TargetSpecs>;
 
 /// What is asked of a list.
 #[derive(Clone, Copy)]
@@ -91,7 +91,7 @@ impl<'c> ListPage<'c, '_> {
     fn take_test(
         &self,
         alloc: Global,
-        asking: &TestAsking<'_, 'c>,
+        asking: &TestLister<'_, 'c>,
         query: &TestQuery<'_>,
         tally: &mut NextestTally,
         origins: &mut Origins<'_, '_, 'c>,
@@ -115,7 +115,7 @@ impl<'c> ListPage<'c, '_> {
     fn write_tests<O: Write, P: Progress>(
         &self,
         alloc: Global,
-        asking: &TestAsking<'_, 'c>,
+        asking: &TestLister<'_, 'c>,
         queries: &[TestQuery<'_>],
         origins: &mut Origins<'_, '_, 'c>,
         progress: &mut P,
