@@ -11,7 +11,7 @@ ghost use Rattle.rinqebo_resolve.specs.Endings.{IsAnswerTo, IsSilent, IsEndingFo
 use crate::asking::{Asked, LIST, parted};
 use crate::ending::Ending;
 use rinqebo_files::Gathered;
-use rinqebo_list::Untold;
+use rinqebo_rules::Untold;
 use rinqebo_load::{Failure, InputFault};
 use rinqebo_report::{Colour, Format, Report, render};
 use rinqebo_run::{Answer, answer_of};

@@ -1,3 +1,12 @@
 pub mod Results
 pub mod Zips
 mod ProfileOrigins
+pub mod Finding
+pub mod VerdictsOf
+pub mod ToldOf
+pub mod Items
+pub mod Listing
+pub mod NoneHold
+pub mod RowsMore
+pub mod ScriptRules
+pub mod Selecting

@@ -6,3 +6,14 @@ pub mod RuleAnswers
 pub mod Origins
 pub mod Trees
 pub mod ProfileOrigins
+pub mod VerdictsBy
+pub mod Verdicts
+pub mod Told
+pub mod SettingValues
+pub mod LeafValue
+pub mod ReportedEntries
+pub mod Selections
+pub mod Unused
+pub mod Settings
+pub mod Rows
+pub mod Scripts

@@ -7,7 +7,7 @@ use Rattle.nextest_filters.specs.declared.compiling.FieldMatcher.{FieldMatcher}
 use Rattle.nextest_rules.specs.Rules.{Compiled}
 use Rattle.nextest_settings.specs.Deciding.{QueryContext}
 use Rattle.nextest_settings.specs.Platforms.{runs_on}
-use Rattle.rule_verdicts.specs.declared.verdict.RuleFacts.{RuleFacts}
+use Rattle.rinqebo_rules.specs.declared.verdict.RuleFacts.{RuleFacts}
 use Rattle.rinqebo_rules.specs.Conditions.{told_condition, is_met_by, filter_matches, is_met, is_matched, asked_if}
 use Rattle.rinqebo_rules.specs.RuleViews.{Rule}
 use Rattle.rinqebo_rules.specs.SettingRules.{writes_it}

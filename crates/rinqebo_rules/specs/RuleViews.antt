@@ -2,7 +2,7 @@
 use Rattle.std.specs.Prelude.{option_map}
 use Rattle.filter_language.specs.declared.filterset.Filterset.{Filterset}
 use Rattle.nextest_filters.specs.declared.compiling.FieldMatcher.{FieldMatcher}
-use Rattle.rinqebo_values.specs.SettingValues.{told_value}
+use Rattle.rinqebo_rules.specs.SettingValues.{told_value}
 use Rattle.target_language.specs.declared.expression.TargetSpec.{TargetSpec}
 use Rattle.rinqebo_rules.specs.RulePlaces.{place_view}
 use Rattle.rinqebo_rules.specs.SettingRules.{RuleFor}

@@ -5,7 +5,7 @@ ghost use Rattle.rinqebo_rules.specs.RuleViews.{setting_rule_view};
 
 use crate::chain_rules::SettingRule;
 use crate::conditions::{Answers, Asking, answers_of};
-use rule_verdicts::RuleFacts;
+use crate::RuleFacts;
 
 /// What the conditions of a rule say.
 pub fn answers_to(rule: &SettingRule<'_>, asking: &Asking<'_, '_>) -> Answers

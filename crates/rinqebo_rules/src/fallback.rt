@@ -3,8 +3,8 @@ ghost use Rattle.std.specs.Prelude.{◌≡◌, IfOk, option_map};
 ghost use Rattle.nextest_inheritance.specs.View.{borrowed_view};
 ghost use Rattle.nextest_settings.specs.Chains.{fields_of};
 ghost use Rattle.nextest_settings.specs.Settings.{fallback_of};
-ghost use Rattle.rinqebo_values.specs.SettingValues.{told_value};
-ghost use Rattle.rinqebo_values.specs.Told.{told_of};
+ghost use Rattle.rinqebo_rules.specs.SettingValues.{told_value};
+ghost use Rattle.rinqebo_rules.specs.Told.{told_of};
 
 use nextest_config::{NextestRunMode, Setting};
 use nextest_settings::{SettingValue, fallback_of, fields_of};

@@ -37,7 +37,7 @@ use Rattle.rinqebo_load.specs.Sessions.{files_view, readings, IsLoadedFrom}
 use Rattle.rinqebo_rules.specs.SettingRules.{rules_for}
 use Rattle.rinqebo_run.specs.TellsReasons.{AreReasons, AreReasonsIn, configured_by, IfWhy, IsTestNamed, TellsReasons}
 use Rattle.rinqebo_load.specs.declared.session.Session.{Session}
-use Rattle.rinqebo_values.specs.Told.{told_of, value_view}
+use Rattle.rinqebo_rules.specs.Told.{told_of, value_view}
 
 -- what is told of the rules of a chain for a setting, and then of the fallback
 pub reasons_here : (layers : List FileLayer) (platforms : BuildPlatforms Platform) (test : TestName) (query : TestQuery) (s : Setting)

@@ -22,10 +22,10 @@ use Rattle.nextest_settings.specs.Profile.{Configured, EvaluatableModel}
 use Rattle.nextest_settings.specs.Queries.{query_in}
 use Rattle.nextest_tables.specs.FileTexts.{names_in, IsIn}
 use Rattle.nextest_tables.specs.Written.{Name}
-use Rattle.rinqebo_list.specs.Rows.{AreTestsTold}
-use Rattle.rinqebo_list.specs.Scripts.{AreScriptsTold}
-use Rattle.rinqebo_list.specs.Unused.{unused_among, AreUnusedIn}
-use Rattle.rinqebo_list.specs.declared.unused.UnusedRules.{UnusedRules}
+use Rattle.rinqebo_rules.specs.Rows.{AreTestsTold}
+use Rattle.rinqebo_rules.specs.Scripts.{AreScriptsTold}
+use Rattle.rinqebo_rules.specs.Unused.{unused_among, AreUnusedIn}
+use Rattle.rinqebo_rules.specs.declared.unused.UnusedRules.{UnusedRules}
 use Rattle.rinqebo_report.specs.declared.origin.Origin.{Origin}
 use Rattle.rinqebo_report.specs.declared.report.Content.{Content}
 use Rattle.rinqebo_report.specs.declared.report.ListScripts.{ListScripts}

@@ -21,10 +21,10 @@ use Rattle.nextest_tables.specs.Written.{Name}
 use Rattle.rinqebo_files.specs.declared.layers.Layer.{Layer as FileLayer}
 use Rattle.rinqebo_report.specs.declared.report.Rule.{Rule}
 use Rattle.rinqebo_request.specs.declared.request.TestName.{TestName}
-use Rattle.rule_verdicts.proofs.VerdictsOf.{verdicts-facts}
-use Rattle.rule_verdicts.specs.Verdicts.{facts_of, verdicts_of}
-use Rattle.rule_verdicts.specs.VerdictsBy.{verdicts_by}
-use Rattle.rule_verdicts.specs.declared.verdict.Verdict.{Verdict}
+use Rattle.rinqebo_rules.proofs.VerdictsOf.{verdicts-facts}
+use Rattle.rinqebo_rules.specs.Verdicts.{facts_of, verdicts_of}
+use Rattle.rinqebo_rules.specs.VerdictsBy.{verdicts_by}
+use Rattle.rinqebo_rules.specs.declared.verdict.Verdict.{Verdict}
 use Rattle.rinqebo_rules.specs.Conditions.{told_condition, is_met, asked_if}
 use Rattle.rinqebo_rules.specs.RuleAnswers.{answers_by, answers_told}
 use Rattle.rinqebo_run.specs.Reasons.{IsRuleTold, AreRulesTold, verdicts_here, AreRulesToldHere}

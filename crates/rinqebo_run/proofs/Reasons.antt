@@ -6,10 +6,10 @@ use Rattle.nextest_engines.specs.declared.queries.BuildPlatform.TheVariants.{Hos
 use Rattle.nextest_engines.specs.declared.queries.BuildPlatforms.{BuildPlatforms}
 use Rattle.nextest_settings.specs.Deciding.{filter_holds}
 use Rattle.nextest_settings.specs.Platforms.{spec_holds, specs_hold, by_platform, runs_on}
-use Rattle.rule_verdicts.proofs.VerdictsOf.{verdicts-facts}
-use Rattle.rule_verdicts.specs.Verdicts.{facts_of}
-use Rattle.rule_verdicts.specs.VerdictsBy.{verdict_by, decides_by, verdicts_by}
-use Rattle.rule_verdicts.specs.declared.verdict.RuleFacts.{RuleFacts}
+use Rattle.rinqebo_rules.proofs.VerdictsOf.{verdicts-facts}
+use Rattle.rinqebo_rules.specs.Verdicts.{facts_of}
+use Rattle.rinqebo_rules.specs.VerdictsBy.{verdict_by, decides_by, verdicts_by}
+use Rattle.rinqebo_rules.specs.declared.verdict.RuleFacts.{RuleFacts}
 use Rattle.rinqebo_rules.specs.Conditions.{told_answer, told_condition, told_filter, is_met_by, is_met, is_matched, asked_if}
 use Rattle.rinqebo_rules.specs.RuleAnswers.{asked_query, facts_told}
 use Rattle.rinqebo_run.specs.Reasons.{rule_here, verdicts_here}

@@ -21,7 +21,7 @@ use Rattle.nextest_settings.specs.Queries.{query_in}
 use Rattle.nextest_tables.specs.FileTexts.{names_in, IsIn}
 use Rattle.nextest_tables.specs.Written.{Name}
 use Rattle.rinqebo_files.specs.declared.files.Gathered.{Gathered}
-use Rattle.rinqebo_list.specs.Rows.{AreTestsTold, IsTestTold}
+use Rattle.rinqebo_rules.specs.Rows.{AreTestsTold, IsTestTold}
 use Rattle.rinqebo_report.specs.Pages.{content_runs, count_runs, list_runs, listed_runs, unused_runs}
 use Rattle.rinqebo_report.specs.Pieces.{painted, page_text}
 use Rattle.rinqebo_report.specs.Rendered.{rendered}

@@ -11,7 +11,7 @@ use Rattle.nextest_sources.specs.Inputs.{sources_in}
 use Rattle.nextest_tables.specs.FileTexts.{names_in, IsIn}
 use Rattle.nextest_tables.specs.Written.{Name}
 use Rattle.rinqebo_files.specs.declared.files.Gathered.{Gathered}
-use Rattle.rinqebo_list.specs.Rows.{AreTestsTold}
+use Rattle.rinqebo_rules.specs.Rows.{AreTestsTold}
 use Rattle.rinqebo_report.specs.Pages.{listed_runs}
 use Rattle.rinqebo_report.specs.Pieces.{page_text}
 use Rattle.rinqebo_report.specs.declared.format.Format.TheVariants as formats

@@ -37,7 +37,7 @@ use Rattle.rinqebo_run.specs.Listed.{IsProfileOn}
 use Rattle.rinqebo_run.specs.TellsReasons.{configured_by}
 use Rattle.rinqebo_load.specs.Meant.{config_meant}
 use Rattle.rinqebo_load.specs.Sessions.{files_view, readings}
-use Rattle.rinqebo_values.specs.Told.{told_of, value_view}
+use Rattle.rinqebo_rules.specs.Told.{told_of, value_view}
 use Rattle.rinqebo_request.specs.declared.request.TestName.{TestName}
 use Rattle.rinqebo_load.specs.declared.session.Session.{Session}
 

@@ -15,9 +15,9 @@ use Rattle.nextest_sources.specs.Inputs.{sources_in}
 use Rattle.nextest_tables.specs.FileTexts.{names_in, IsIn}
 use Rattle.nextest_tables.specs.Written.{Name}
 use Rattle.rinqebo_files.specs.declared.layers.Layer.{Layer}
-use Rattle.rinqebo_list.specs.Rows.{AreTestsTold}
-use Rattle.rinqebo_list.specs.Scripts.{AreScriptsTold}
-use Rattle.rinqebo_list.specs.Unused.{unused_among}
+use Rattle.rinqebo_rules.specs.Rows.{AreTestsTold}
+use Rattle.rinqebo_rules.specs.Scripts.{AreScriptsTold}
+use Rattle.rinqebo_rules.specs.Unused.{unused_among}
 use Rattle.rinqebo_report.specs.declared.origin.Origin.{Origin}
 use Rattle.rinqebo_report.specs.declared.report.Content.{Content}
 use Rattle.rinqebo_report.specs.declared.report.Content.TheVariants as contents

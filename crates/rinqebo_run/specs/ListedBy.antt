@@ -18,7 +18,7 @@ use Rattle.target_language.specs.Expressions.{spec_view}
 use Rattle.target_language.specs.declared.expression.TargetSpec.{TargetSpec}
 use Rattle.test_lists.specs.ListView.{list_view}
 use Rattle.rinqebo_run.specs.Listed.{AreTestsOf}
-use Rattle.rinqebo_list.specs.declared.unused.UnusedRules.{UnusedRules}
+use Rattle.rinqebo_rules.specs.declared.unused.UnusedRules.{UnusedRules}
 use Rattle.rinqebo_rules.specs.RulePlaces.{Place, id_place, script_place}
 use Rattle.rinqebo_load.specs.Sessions.{readings}
 use Rattle.rinqebo_load.specs.declared.session.Session.{Session}

@@ -10,10 +10,10 @@ use Rattle.rinqebo_files.specs.declared.layers.Layer.{Layer}
 use Rattle.rinqebo_report.specs.declared.report.Rule.{Rule}
 use Rattle.rinqebo_report.specs.declared.report.Verdict as report
 use Rattle.rinqebo_report.specs.declared.report.Verdict.TheVariants as told
-use Rattle.rinqebo_values.specs.Told.{value_view}
-use Rattle.rule_verdicts.specs.Verdicts.{verdicts_of}
-use Rattle.rule_verdicts.specs.declared.verdict.Verdict.{Verdict}
-use Rattle.rule_verdicts.specs.declared.verdict.Verdict.TheVariants as verdicts
+use Rattle.rinqebo_rules.specs.Told.{value_view}
+use Rattle.rinqebo_rules.specs.Verdicts.{verdicts_of}
+use Rattle.rinqebo_rules.specs.declared.verdict.Verdict.{Verdict}
+use Rattle.rinqebo_rules.specs.declared.verdict.Verdict.TheVariants as verdicts
 use Rattle.rinqebo_rules.specs.Conditions.{is_met_by}
 use Rattle.rinqebo_rules.specs.Origins.{IsOriginOf}
 use Rattle.rinqebo_rules.specs.RuleAnswers.{answers_by, asked_query}

@@ -8,8 +8,8 @@ use Rattle.nextest_profiles.specs.Profiles.{IsChainAndDefault}
 use Rattle.nextest_tables.specs.FileTexts.{names_in, IsIn}
 use Rattle.nextest_tables.specs.Written.{Name}
 use Rattle.nextest_tree.specs.Node.{Node}
-use Rattle.rinqebo_entries.specs.LeafValue.{is_tellable}
-use Rattle.rinqebo_entries.specs.Reporting.{IsEntryOf}
+use Rattle.rinqebo_rules.specs.LeafValue.{is_tellable}
+use Rattle.rinqebo_rules.specs.ReportedEntries.{IsEntryOf}
 use Rattle.rinqebo_rules.specs.Trees.{trees_of}
 use Rattle.rinqebo_report.specs.declared.origin.Place.{Place}
 use Rattle.rinqebo_report.specs.declared.report.Content.{Content}

@@ -28,7 +28,7 @@ use Rattle.rinqebo_run.specs.Reasons.{AreRulesTold}
 use Rattle.rinqebo_load.specs.Sessions.{files_view, readings}
 use Rattle.rinqebo_rules.specs.SettingRules.{rules_for}
 use Rattle.rinqebo_load.specs.declared.session.Session.{Session}
-use Rattle.rinqebo_values.specs.Told.{told_of, value_view}
+use Rattle.rinqebo_rules.specs.Told.{told_of, value_view}
 
 -- The rules of a setting are told for a test of a name: each override of a profile, in order, or
 -- for a run wrapper each script rule, with what comes of it on the platforms of a build, and then

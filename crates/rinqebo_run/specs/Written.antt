@@ -12,7 +12,7 @@ use Rattle.nextest_profiles.specs.Meaning.{configured_meaning}
 use Rattle.nextest_settings.specs.Deciding.{QueryContext}
 use Rattle.nextest_settings.specs.Profile.{EvaluatableModel}
 use Rattle.nextest_tables.specs.Written.{Name}
-use Rattle.rinqebo_list.specs.Rows.{IsTestTold}
+use Rattle.rinqebo_rules.specs.Rows.{IsTestTold}
 use Rattle.rinqebo_findings.specs.Reports.{IsReportOf}
 use Rattle.rinqebo_report.specs.Pages.{listed_runs}
 use Rattle.rinqebo_report.specs.Pieces.{page_text}

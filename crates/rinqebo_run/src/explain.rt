@@ -30,7 +30,7 @@ use rinqebo_load::{Failure, Session, chain_of_profile};
 use rinqebo_report::{Content, Origin, Platform, Report, SettingRow, TestRows};
 use rinqebo_request::{SettingKey, TestName};
 use rinqebo_rules::{RuleKind, RulePlace, built_in, profile_grounds, query_of};
-use rinqebo_values::reported_if_set;
+use rinqebo_rules::reported_if_set;
 use std::alloc::{AllocError, Global};
 
 /// What a row's settings are told with: the layers, the chain of the profile, and the id of the
@@ -111,7 +111,7 @@ fn origins_of(
 }
 
 /// A setting of a row.
-#[tactic(auto, using(rinqebo_values::proofs::ToldOf::told_by_kind))]
+#[tactic(auto, using(rinqebo_rules::proofs::ToldOf::told_by_kind))]
 fn setting_row(
     alloc: Global,
     grounds: &Grounds<'_, '_>,

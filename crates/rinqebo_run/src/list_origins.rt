@@ -6,7 +6,7 @@ ghost use Rattle.rinqebo_rules.specs.RulePlaces.{place_view};
 ghost use Rattle.rinqebo_run.specs.ListedBy.{places_of};
 
 use rinqebo_files::Layer;
-use rinqebo_list::{Decider, OriginTeller, UnusedRules};
+use rinqebo_rules::{Decider, OriginTeller, UnusedRules};
 use rinqebo_report::{Origin, Written};
 use rinqebo_request::SettingKey;
 use rinqebo_rules::{RulePlace, built_in, profile_grounds};

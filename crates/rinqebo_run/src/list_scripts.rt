@@ -6,11 +6,11 @@ ghost use Rattle.nextest_filters.specs.Engine.{filter_holds, filter_holds_binary
 ghost use Rattle.nextest_profiles.specs.Meaning.{profile_meaning};
 ghost use Rattle.test_lists.specs.ListView.{list_view};
 ghost use Rattle.test_lists.specs.Lists.{all_binaries, all_tests};
-ghost use Rattle.rinqebo_list.specs.Scripts.{AreScriptsTold};
+ghost use Rattle.rinqebo_rules.specs.Scripts.{AreScriptsTold};
 
 use crate::list::Profile;
 use nextest_filters::NextestTally;
-use rinqebo_list::scripts_of;
+use rinqebo_rules::scripts_of;
 use rinqebo_load::Session;
 use rinqebo_report::ListScripts;
 use std::alloc::{AllocError, Global};

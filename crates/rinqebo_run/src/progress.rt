@@ -1,5 +1,5 @@
 //! A line on a terminal that says how far a list is.
-use rinqebo_list::Progress;
+use rinqebo_rules::Progress;
 use std::io::Write;
 
 /// After how many tests the line is written anew.

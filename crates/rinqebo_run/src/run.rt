@@ -31,7 +31,7 @@ use crate::unset::add_unset;
 use crate::why::why;
 use config_shape::schema_page;
 use rinqebo_files::{GatherFault, Gathered};
-use rinqebo_list::Progress;
+use rinqebo_rules::Progress;
 use rinqebo_load::{Failure, Session};
 use rinqebo_report::{Colour, Content, Format, Report, render, render_findings};
 use rinqebo_request::{ParseStop, Question, Request};

@@ -18,7 +18,7 @@ ghost use Rattle.rinqebo_findings.specs.Failures.{IsFailureAbout};
 ghost use Rattle.rinqebo_findings.specs.Reports.{IsReportOf};
 ghost use Rattle.rinqebo_rules.specs.RuleViews.{setting_rule_view};
 ghost use Rattle.rinqebo_run.specs.TellsReasons.{AreReasons, AreReasonsIn, IfWhy, IsTestNamed, TellsReasons};
-ghost use Rattle.rinqebo_values.specs.Told.{told_of, value_view};
+ghost use Rattle.rinqebo_rules.specs.Told.{told_of, value_view};
 ghost use Rattle.target_language.specs.declared.expression.TargetSpec.{TargetSpec};
 
 use crate::asked::asked_of;
@@ -34,8 +34,8 @@ use rinqebo_rules::{
     Asking, SettingRule, answers_to, default_filter, facts_of, fallback_of_chain, profile_grounds,
     query_of, rules_for,
 };
-use rinqebo_values::reported_if_set;
-use rule_verdicts::{RuleFacts, verdicts_of};
+use rinqebo_rules::reported_if_set;
+use rinqebo_rules::{RuleFacts, verdicts_of};
 use std::alloc::{AllocError, Global};
 
 /// A condition, with its text.
@@ -53,15 +53,15 @@ fn condition(
 }
 
 /// A verdict, as it is reported.
-fn reported_verdict(verdict: rule_verdicts::Verdict) -> Verdict
+fn reported_verdict(verdict: rinqebo_rules::Verdict) -> Verdict
     ensures { result ≡ told_verdict verdict }
 {
     match verdict {
-        rule_verdicts::Verdict::PlatformNo => Verdict::PlatformNo,
-        rule_verdicts::Verdict::FilterNo => Verdict::FilterNo,
-        rule_verdicts::Verdict::SetsNothing => Verdict::SetsNothing,
-        rule_verdicts::Verdict::DecidedBefore => Verdict::DecidedBefore,
-        rule_verdicts::Verdict::Decides => Verdict::Decides,
+        rinqebo_rules::Verdict::PlatformNo => Verdict::PlatformNo,
+        rinqebo_rules::Verdict::FilterNo => Verdict::FilterNo,
+        rinqebo_rules::Verdict::SetsNothing => Verdict::SetsNothing,
+        rinqebo_rules::Verdict::DecidedBefore => Verdict::DecidedBefore,
+        rinqebo_rules::Verdict::Decides => Verdict::Decides,
     }
 }
 
@@ -71,7 +71,7 @@ fn reported_rule(
     layers: &[Layer],
     rule: &SettingRule<'_>,
     asking: &Asking<'_, '_>,
-    verdict: rule_verdicts::Verdict,
+    verdict: rinqebo_rules::Verdict,
 ) -> Result<Rule, AllocError>
     ensures { let view = setting_rule_view rule.now in
         IfOk result
@@ -111,7 +111,7 @@ fn all_verdicts(
     alloc: Global,
     rules: &[SettingRule<'_>],
     asking: &Asking<'_, '_>,
-) -> Result<Vec<rule_verdicts::Verdict>, AllocError>
+) -> Result<Vec<rinqebo_rules::Verdict>, AllocError>
     ensures { IfOk result (λ verdicts. verdicts.items
         ≡ verdicts_here asking.now (map setting_rule_view rules.now)) }
 {
@@ -124,7 +124,7 @@ fn rules_with_verdicts(
     alloc: Global,
     layers: &[Layer],
     rules: &[SettingRule<'_>],
-    verdicts: &[rule_verdicts::Verdict],
+    verdicts: &[rinqebo_rules::Verdict],
     asking: &Asking<'_, '_>,
 ) -> Result<Vec<Rule>, AllocError>
     ensures { verdicts.now ≡ verdicts_here asking.now (map setting_rule_view rules.now)

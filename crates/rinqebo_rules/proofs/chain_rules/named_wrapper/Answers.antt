@@ -1,6 +1,6 @@
 use Rattle.std.proofs.Common.{ap, option_map}
 use Rattle.nextest_settings.specs.declared.setting.Setting.TheVariants as at
-use Rattle.rinqebo_values.specs.Told.{told_of}
+use Rattle.rinqebo_rules.specs.Told.{told_of}
 use Rattle.rinqebo_rules.proofs.chain_rules.named_wrapper.Goals as goal
 
 pub returns-in-Some : goal.returns-in-Some

@@ -1,7 +1,7 @@
 use Rattle.std.proofs.Common.{◌∙◌, ap, option_map}
 use Rattle.nextest_settings.specs.Settings.{sets}
 use Rattle.nextest_settings.specs.SettingValues.{by_kind}
-use Rattle.rinqebo_values.proofs.ToldOf.{told_by_kind}
+use Rattle.rinqebo_rules.proofs.ToldOf.{told_by_kind}
 use Rattle.rinqebo_rules.specs.RulePlaces.{id_place}
 use Rattle.rinqebo_rules.proofs.chain_rules.override_rule.Goals as goal
 

@@ -4,7 +4,7 @@ use Rattle.nextest_settings.specs.Chains.{fields_of}
 use Rattle.nextest_settings.specs.Settings.{fallback_of}
 use Rattle.nextest_settings.specs.SettingValues.{by_kind}
 use Rattle.nextest_settings.specs.View.{fields_ref_view}
-use Rattle.rinqebo_values.proofs.ToldOf.{told_by_kind}
+use Rattle.rinqebo_rules.proofs.ToldOf.{told_by_kind}
 use Rattle.rinqebo_rules.proofs.fallback.fallback_of_chain.Goals as goal
 
 pub returns : goal.returns

@@ -5,8 +5,8 @@ use Rattle.nextest_filters.specs.Compiling.{names_of}
 use Rattle.nextest_filters.specs.Engine.{filter_holds}
 use Rattle.nextest_profiles.specs.Meaning.{profile_meaning}
 use Rattle.nextest_settings.specs.Queries.{query_in}
-use Rattle.rinqebo_list.specs.Rows.{AreTestsTold}
-use Rattle.rinqebo_list.specs.Unused.{AreUnusedIn}
+use Rattle.rinqebo_rules.specs.Rows.{AreTestsTold}
+use Rattle.rinqebo_rules.specs.Unused.{AreUnusedIn}
 use Rattle.rinqebo_run.proofs.list.listed_rows.Goals as goal
 
 pub returns-clause-tests : goal.returns-clause-tests

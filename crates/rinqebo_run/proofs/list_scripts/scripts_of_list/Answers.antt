@@ -4,7 +4,7 @@ use Rattle.nextest_engines.specs.Engines.{binary_view, test_view}
 use Rattle.nextest_filters.specs.Compiling.{names_of}
 use Rattle.nextest_filters.specs.Engine.{filter_holds, filter_holds_binary}
 use Rattle.nextest_profiles.specs.Meaning.{profile_meaning}
-use Rattle.rinqebo_list.specs.Scripts.{AreScriptsTold}
+use Rattle.rinqebo_rules.specs.Scripts.{AreScriptsTold}
 use Rattle.test_lists.specs.ListView.{list_view}
 use Rattle.test_lists.specs.Lists.{all_binaries}
 use Rattle.rinqebo_run.proofs.list_scripts.scripts_of_list.Goals as goal

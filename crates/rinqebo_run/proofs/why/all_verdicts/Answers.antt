@@ -1,5 +1,5 @@
 use Rattle.std.proofs.Common.{◌∙◌, ap, false, map}
-use Rattle.rule_verdicts.specs.VerdictsBy.{verdicts_by}
+use Rattle.rinqebo_rules.specs.VerdictsBy.{verdicts_by}
 use Rattle.rinqebo_rules.proofs.Results.{ok_same}
 use Rattle.rinqebo_run.proofs.Reasons.{told_verdicts}
 use Rattle.rinqebo_rules.specs.RuleViews.{setting_rule_view}

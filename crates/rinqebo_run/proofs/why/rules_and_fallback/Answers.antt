@@ -5,7 +5,7 @@ use Rattle.nextest_settings.specs.Settings.{fallback_of}
 use Rattle.rinqebo_rules.specs.Conditions.{default_filter_here}
 use Rattle.rinqebo_rules.specs.RuleViews.{setting_rule_view}
 use Rattle.rinqebo_rules.specs.SettingRules.{rules_for}
-use Rattle.rinqebo_values.specs.Told.{told_of}
+use Rattle.rinqebo_rules.specs.Told.{told_of}
 use Rattle.rinqebo_run.proofs.Gathering.{reasons_here}
 use Rattle.rinqebo_run.proofs.why.rules_and_fallback.Goals as goal
 

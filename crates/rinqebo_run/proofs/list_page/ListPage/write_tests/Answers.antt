@@ -7,9 +7,9 @@ use Rattle.nextest_filters.specs.Compiling.{names_of}
 use Rattle.nextest_filters.specs.Engine.{filter_holds}
 use Rattle.nextest_profiles.specs.Meaning.{profile_meaning}
 use Rattle.nextest_settings.specs.Queries.{query_in}
-use Rattle.rinqebo_list.specs.Rows.{IsTestTold}
-use Rattle.rinqebo_list.proofs.Listing.{zip_mapped}
-use Rattle.rinqebo_list.proofs.RowsMore.{zip_more}
+use Rattle.rinqebo_rules.specs.Rows.{IsTestTold}
+use Rattle.rinqebo_rules.proofs.Listing.{zip_mapped}
+use Rattle.rinqebo_rules.proofs.RowsMore.{zip_more}
 use Rattle.rinqebo_run.specs.declared.list_fault.ListFault.TheVariants as faults
 use Rattle.rinqebo_run.proofs.Writing.{first_so_far, one_more, passed_stop}
 use Rattle.rinqebo_run.proofs.list_page.ListPage.write_tests.Goals as goal

@@ -7,7 +7,7 @@ use Rattle.nextest_filters.specs.Compiling.{names_of}
 use Rattle.nextest_filters.specs.Engine.{filter_holds}
 use Rattle.nextest_profiles.specs.Meaning.{profile_meaning}
 use Rattle.nextest_settings.specs.Queries.{query_in}
-use Rattle.rinqebo_list.specs.Rows.{IsTestTold}
+use Rattle.rinqebo_rules.specs.Rows.{IsTestTold}
 use Rattle.rinqebo_run.specs.Begun.{tests_text}
 use Rattle.rinqebo_run.proofs.list_page.ListPage.write_tests.Given as goal
 

@@ -1,2 +1,0 @@
-pub mod LeafValue
-pub mod Reporting

@@ -1,5 +1,0 @@
-pub mod Listing
-pub mod NoneHold
-pub mod RowsMore
-pub mod ScriptRules
-pub mod Selecting

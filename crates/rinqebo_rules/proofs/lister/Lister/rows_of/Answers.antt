@@ -1,0 +1,21 @@
+use Rattle.nextest_engines.specs.Engines.{test_view}
+use Rattle.nextest_profiles.specs.Meaning.{profile_meaning}
+use Rattle.nextest_settings.specs.Queries.{query_in, setting_origin, setting_value}
+use Rattle.nextest_settings.specs.SettingsView.{origin_at, value_at}
+use Rattle.rinqebo_rules.proofs.RowsMore.{told_alike}
+use Rattle.rinqebo_rules.proofs.lister.Lister.rows_of.Goals as goal
+
+pub returns : goal.returns
+returns g c =
+    let self = c.args.self.now in
+    let profile = profile_meaning g.F.Filters.meaning self.profile.now in
+    let query = query_in g.F.Filters.holds profile (test_view c.args.query.now) in
+    let settings = c.settings_with_source_for-settings.result in
+    let are = c.settings_with_source_for-settings.ensures.settings in
+    record {
+      binary = c.in_ok-from_str.ensures.ok;
+      name = c.in_ok-from_str-2.ensures.ok;
+      settings_told = told_alike (value_at settings) (setting_value query self.mode profile) (origin_at settings)
+          (setting_origin query self.mode profile) self.mode self.asked.now c.in_ok-rows_of.field-0.items
+          are.values are.origins c.in_ok-rows_of.ensures;
+    }

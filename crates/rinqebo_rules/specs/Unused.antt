@@ -1,0 +1,31 @@
+-- Rules that hold for none of some tests.
+use Rattle.std.specs.Prelude.{◌≡◌, ℕ, List, Bool, false, map, not, Some, filter, slice_get}
+use Rattle.std.specs.List.{list_any}
+use Rattle.nextest_rules.specs.View.{id_view, script_rule_id_view}
+use Rattle.nextest_settings.specs.Deciding.{QueryContext, rule_holds}
+use Rattle.nextest_settings.specs.Platforms.{EvaluatedRule}
+use Rattle.nextest_settings.specs.Profile.{EvaluatableModel}
+use Rattle.rinqebo_rules.specs.declared.unused.UnusedRules.{UnusedRules}
+
+-- whether a rule holds for some of the tests
+abbrev pub is_used : {M W : Type 0} → List (QueryContext M) → EvaluatedRule M W → Bool
+is_used tests rule = list_any (λ test. rule_holds test rule) tests
+
+-- the rules that hold for none of the tests, in their order
+abbrev pub unused_among : {M W : Type 0} → List (QueryContext M) → List (EvaluatedRule M W)
+    → List (EvaluatedRule M W)
+unused_among tests rules = filter (λ rule. not (is_used tests rule)) rules
+
+-- A rule holds for none of the tests.
+abbrev pub HoldsForNone : {M W : Type 0} → List (QueryContext M) → EvaluatedRule M W → Type 0
+HoldsForNone {M} tests rule =
+    (n : ℕ) (test : QueryContext M) → slice_get tests n ≡ Some test → rule_holds test rule ≡ false
+
+-- Ids are those of the rules of a profile that hold for none of the tests, and of no others: of its
+-- overrides in order, and of its script rules in order.
+pub record AreUnusedIn {M : Type 0} (tests : List (QueryContext M)) (profile : EvaluatableModel M)
+    (unused : UnusedRules) : Type 0 where
+  pub overrides : map (λ id. id_view id.now) unused.overrides.items
+      ≡ map (λ rule. rule.writes.id) (unused_among tests profile.overrides)
+  pub script_rules : map (λ id. script_rule_id_view id.now) unused.script_rules.items
+      ≡ map (λ rule. rule.writes.id) (unused_among tests profile.script_rules)

@@ -1,0 +1,97 @@
+//! Lists what a profile gives to tests, one test after another.
+ghost use Rattle.std.specs.Prelude.{◌≡◌, IfOk, map};
+ghost use Rattle.nextest_engines.specs.Engines.{test_view};
+ghost use Rattle.nextest_profiles.specs.Meaning.{profile_meaning};
+ghost use Rattle.nextest_settings.specs.Queries.{query_in};
+ghost use Rattle.rinqebo_rules.specs.Rows.{AreTestsTold, IsTestTold};
+ghost use Rattle.rinqebo_rules.specs.Unused.{AreUnusedIn};
+
+use crate::origins::OriginTeller;
+use crate::progress::Progress;
+use crate::rows::rows_of;
+use crate::unused::{UnusedRules, unused_rules};
+use nextest_elements::NextestRunMode;
+use nextest_engines::{BuildPlatform, Filters, Specs, TestQuery};
+use nextest_profiles::EvaluatableProfile;
+use rinqebo_report::{Platform, TestRows};
+use rinqebo_request::AskedSettings;
+use std::alloc::{AllocError, Global};
+
+/// What a list is told by.
+#[derive_where(Clone, Copy)]
+pub struct Lister<'l, 'c, F: Filters, S: Specs> {
+    /// The profile on the platforms of the build.
+    pub profile: &'l EvaluatableProfile<'c, F, S>,
+    /// For what tests are run.
+    pub mode: NextestRunMode,
+    /// Which settings are told.
+    pub asked: &'l AskedSettings,
+}
+
+/// What is told of the tests of a list.
+#[derive(Drop)]
+pub struct ListedRows<'c> {
+    /// The settings of each test, in order.
+    pub tests: Vec<TestRows>,
+    /// The rules of the profile that hold for no test.
+    pub unused: UnusedRules<'c>,
+}
+
+/// For what a binary is built, as it is reported.
+fn reported_platform(platform: BuildPlatform) -> Platform {
+    match platform {
+        BuildPlatform::Host => Platform::Host,
+        BuildPlatform::Target => Platform::Target,
+    }
+}
+
+impl<'l, 'c, F: Filters, S: Specs> Lister<'l, 'c, F, S> {
+    /// The settings of a test that are told. It takes as much memory as they do, and loads nothing.
+    pub fn rows_of<O: OriginTeller<'c>>(
+        &self,
+        alloc: Global,
+        query: &TestQuery<'_>,
+        tally: &mut F::Tally,
+        teller: &mut O,
+    ) -> Result<TestRows, AllocError>
+        ensures { let profile = profile_meaning F.meaning self.now.profile.now in
+            IfOk result (IsTestTold (query_in F.holds profile (test_view query.now)) self.now.mode
+            profile self.now.asked.now (test_view query.now)) }
+    {
+        let settings = self
+            .profile
+            .settings_with_source_for(self.mode, query, tally);
+        Ok(TestRows {
+            binary: String::from_str(alloc, query.binary_query.binary_id)?,
+            name: String::from_str(alloc, query.test_name)?,
+            platform: reported_platform(query.binary_query.platform),
+            settings: rows_of(alloc, &settings, self.asked, self.mode, teller)?,
+        })
+    }
+
+    /// The rows of tests, one test after another, and the rules of the profile that hold for none.
+    /// After each test it is told how far the list is.
+    pub fn list<O: OriginTeller<'c>, P: Progress>(
+        &self,
+        alloc: Global,
+        queries: &[TestQuery<'_>],
+        tally: &mut F::Tally,
+        teller: &mut O,
+        progress: &mut P,
+    ) -> Result<ListedRows<'c>, AllocError>
+        ensures tests { let profile = profile_meaning F.meaning self.now.profile.now in
+            IfOk result (λ listed. AreTestsTold F.holds self.now.mode profile self.now.asked.now
+            (map test_view queries.now) listed.tests.items) }
+        ensures unused { let profile = profile_meaning F.meaning self.now.profile.now in
+            IfOk result (λ listed. AreUnusedIn
+            (map (query_in F.holds profile) (map test_view queries.now)) profile listed.unused) }
+    {
+        let mut tests = Vec::new(alloc);
+        for query in queries {
+            tests.push(self.rows_of(alloc, query, tally, teller)?)?;
+            progress.asked(tests.len(), queries.len());
+        }
+        let unused = unused_rules(alloc, self.profile, queries, tally)?;
+        Ok(ListedRows { tests, unused })
+    }
+}

@@ -1,0 +1,242 @@
+//! How the values of settings are reported.
+ghost use Rattle.std.specs.Prelude.{◌≡◌, ◌++◌, IfOk, OnOk, map, option_map, string_bytes};
+ghost use Rattle.rinqebo_rules.specs.SettingValues.{told_value};
+ghost use Rattle.rinqebo_rules.specs.Told.{ToldScalar, ToldValue, scalar_view, field_view, value_view, told_count, one, one_if, one_if_true, retry_fields, is_plain, told_fixed, told_retries, told_slow, told_leak, told_threads};
+
+use nextest_config::{
+    LeakTimeout, RetryPolicy, SlowTimeout, TestGroup, TestPriority, ThreadsRequired,
+};
+use nextest_settings::SettingValue;
+use rinqebo_report::{Field, Scalar, Value};
+use std::alloc::{AllocError, Global};
+
+/// A number as one of TOML. Files write no greater one.
+fn count(number: u64) -> Scalar
+    ensures { scalar_view result ≡ told_count number }
+{
+    Scalar::Integer(i64::try_from(number).unwrap_or(i64::MAX))
+}
+
+/// A text as a value.
+fn text_value(text: String) -> Value
+    ensures { value_view result ≡ ToldValue.scalar (ToldScalar.text (string_bytes text)) }
+{
+    Value::Scalar(Scalar::Text(text))
+}
+
+/// Adds a member of a table.
+fn add_field(
+    alloc: Global,
+    fields: &mut Vec<Field>,
+    key: &str,
+    value: Scalar,
+) -> Result<(), AllocError>
+    ensures { OnOk result (map field_view fields.new.items
+        ≡ map field_view fields.old.items ++ one key.now (scalar_view value)) }
+{
+    let key = String::from_str(alloc, key)?;
+    fields.push(Field { key, value })?;
+    Ok(())
+}
+
+/// Adds a duration that may be absent.
+fn add_duration(
+    alloc: Global,
+    fields: &mut Vec<Field>,
+    key: &str,
+    duration: Option<u128>,
+) -> Result<(), AllocError>
+    ensures { OnOk result (map field_view fields.new.items
+        ≡ map field_view fields.old.items ++ one_if key.now ToldScalar.duration duration) }
+{
+    match duration {
+        Some(duration) => add_field(alloc, fields, key, Scalar::Duration(duration)),
+        None => Ok(()),
+    }
+}
+
+/// Adds a count that may be absent.
+fn add_count(
+    alloc: Global,
+    fields: &mut Vec<Field>,
+    key: &str,
+    number: Option<u64>,
+) -> Result<(), AllocError>
+    ensures { OnOk result (map field_view fields.new.items
+        ≡ map field_view fields.old.items ++ one_if key.now told_count number) }
+{
+    match number {
+        Some(number) => add_field(alloc, fields, key, count(number)),
+        None => Ok(()),
+    }
+}
+
+/// Adds that something is so, or nothing.
+fn add_if_true(
+    alloc: Global,
+    fields: &mut Vec<Field>,
+    key: &str,
+    is_so: bool,
+) -> Result<(), AllocError>
+    ensures { OnOk result (map field_view fields.new.items
+        ≡ map field_view fields.old.items ++ one_if_true key.now is_so) }
+{
+    if is_so {
+        add_field(alloc, fields, key, Scalar::Boolean(true))
+    } else {
+        Ok(())
+    }
+}
+
+/// How many threads a test takes.
+fn threads_value(alloc: Global, threads: ThreadsRequired) -> Result<Scalar, AllocError>
+    ensures { IfOk result (λ scalar. scalar_view scalar ≡ told_threads threads) }
+{
+    match threads {
+        ThreadsRequired::Count(number) => Ok(count(number)),
+        ThreadsRequired::NumCpus | ThreadsRequired::NumTestThreads => {
+            Ok(Scalar::Text(threads.to_string(alloc)?))
+        }
+    }
+}
+
+/// Copies of arguments.
+fn arguments_value(alloc: Global, arguments: &[String]) -> Result<Value, AllocError>
+    ensures { IfOk result (λ value. value_view value
+        ≡ ToldValue.texts (map string_bytes arguments.now)) }
+{
+    let mut texts = Vec::new(alloc);
+    for argument in arguments {
+        texts.push(argument.clone()?)?;
+    }
+    Ok(Value::Texts(texts))
+}
+
+/// The table of a retry policy.
+fn retry_table(
+    alloc: Global,
+    backoff: &str,
+    count: u32,
+    delay: u128,
+    jitter: bool,
+    max_delay: Option<u128>,
+) -> Result<Value, AllocError>
+    ensures { IfOk result (λ value. value_view value
+        ≡ ToldValue.table (retry_fields backoff.now count delay jitter max_delay)) }
+{
+    let mut fields = Vec::new(alloc);
+    let backoff = String::from_str(alloc, backoff)?;
+    add_field(alloc, &mut fields, "backoff", Scalar::Text(backoff))?;
+    add_field(
+        alloc,
+        &mut fields,
+        "count",
+        Scalar::Integer(i64::from(count)),
+    )?;
+    add_field(alloc, &mut fields, "delay", Scalar::Duration(delay))?;
+    add_if_true(alloc, &mut fields, "jitter", jitter)?;
+    add_duration(alloc, &mut fields, "max-delay", max_delay)?;
+    Ok(Value::Table(fields))
+}
+
+/// Whether a retry policy has neither delay nor jitter.
+fn is_plain(delay: u128, jitter: bool) -> bool
+    ensures { result ≡ is_plain delay jitter }
+{
+    delay == 0 && !jitter
+}
+
+/// A fixed retry policy: a count where it has neither delay nor jitter.
+fn fixed_value(alloc: Global, count: u32, delay: u128, jitter: bool) -> Result<Value, AllocError>
+    ensures { IfOk result (λ value. value_view value ≡ told_fixed count delay jitter) }
+{
+    if is_plain(delay, jitter) {
+        return Ok(Value::Scalar(Scalar::Integer(i64::from(count))));
+    }
+    retry_table(alloc, "fixed", count, delay, jitter, None)
+}
+
+/// A retry policy.
+fn retries_value(alloc: Global, retries: RetryPolicy) -> Result<Value, AllocError>
+    ensures { IfOk result (λ value. value_view value ≡ told_retries retries) }
+{
+    match retries {
+        RetryPolicy::Fixed {
+            count,
+            delay,
+            jitter,
+        } => fixed_value(alloc, count, delay, jitter),
+        RetryPolicy::Exponential {
+            count,
+            delay,
+            jitter,
+            max_delay,
+        } => retry_table(alloc, "exponential", count, delay, jitter, max_delay),
+    }
+}
+
+/// The table of a slow timeout.
+fn slow_timeout_value(alloc: Global, slow: SlowTimeout) -> Result<Value, AllocError>
+    ensures { IfOk result (λ value. value_view value ≡ told_slow slow) }
+{
+    let mut fields = Vec::new(alloc);
+    let on_timeout = slow.on_timeout.to_string(alloc)?;
+    add_field(alloc, &mut fields, "period", Scalar::Duration(slow.period))?;
+    add_count(alloc, &mut fields, "terminate-after", slow.terminate_after)?;
+    let grace_period = Scalar::Duration(slow.grace_period);
+    add_field(alloc, &mut fields, "grace-period", grace_period)?;
+    add_field(alloc, &mut fields, "on-timeout", Scalar::Text(on_timeout))?;
+    Ok(Value::Table(fields))
+}
+
+/// The table of a leak timeout.
+fn leak_timeout_value(alloc: Global, leak: LeakTimeout) -> Result<Value, AllocError>
+    ensures { IfOk result (λ value. value_view value ≡ told_leak leak) }
+{
+    let mut fields = Vec::new(alloc);
+    let result = leak.result.to_string(alloc)?;
+    add_field(alloc, &mut fields, "period", Scalar::Duration(leak.period))?;
+    add_field(alloc, &mut fields, "result", Scalar::Text(result))?;
+    Ok(Value::Table(fields))
+}
+
+/// A value, as it is reported.
+#[tactic(auto, unfolding(nextest_elements::specs::TestGroup::global_text))]
+pub fn reported(alloc: Global, value: SettingValue<'_>) -> Result<Value, AllocError>
+    ensures { IfOk result (λ told. value_view told ≡ told_value value.entry) }
+{
+    match value {
+        SettingValue::Priority(TestPriority(priority)) => {
+            Ok(Value::Scalar(Scalar::Integer(i64::from(priority))))
+        }
+        SettingValue::Threads(threads) => Ok(Value::Scalar(threads_value(alloc, threads)?)),
+        SettingValue::Wrapper(id) => Ok(text_value(id.to_string(alloc)?)),
+        SettingValue::Arguments(arguments) => arguments_value(alloc, arguments),
+        SettingValue::Retries(retries) => retries_value(alloc, retries),
+        SettingValue::FlakyResult(result) => Ok(text_value(result.to_string(alloc)?)),
+        SettingValue::SlowTimeout(slow) => slow_timeout_value(alloc, slow),
+        SettingValue::LeakTimeout(leak) => leak_timeout_value(alloc, leak),
+        SettingValue::Group(group) => Ok(text_value(group.to_string(alloc)?)),
+        SettingValue::GlobalGroup => {
+            Ok(text_value(String::from_str(alloc, TestGroup::GLOBAL_STR)?))
+        }
+        SettingValue::Output(display) => Ok(text_value(display.to_string(alloc)?)),
+        SettingValue::IsStored(is_stored) => Ok(Value::Scalar(Scalar::Boolean(is_stored))),
+        SettingValue::Skipped(policy) => Ok(text_value(policy.to_string(alloc)?)),
+        SettingValue::FlakyFailStatus(status) => Ok(text_value(status.to_string(alloc)?)),
+    }
+}
+
+/// A value that may be absent, as it is reported.
+pub fn reported_if_set(
+    alloc: Global,
+    value: Option<SettingValue<'_>>,
+) -> Result<Option<Value>, AllocError>
+    ensures { IfOk result (λ told. option_map value_view told
+        ≡ option_map told_value value.entry) }
+{
+    match value {
+        Some(value) => Ok(Some(reported(alloc, value)?)),
+        None => Ok(None),
+    }
+}

@@ -1,8 +1,0 @@
-use Rattle.std.proofs.Common.{◌≡◌, ◌++◌, drop, false}
-use Rattle.rule_verdicts.specs.VerdictsBy.{verdicts_by}
-use Rattle.rule_verdicts.proofs.verdict.verdicts_of.Given as goal
-
-abbrev pub invariant-loop-rule : goal.invariant-loop-rule
-invariant-loop-rule l =
-    l.verdicts.items ++ verdicts_by l.is_decided (drop l.rule-index l.rules)
-    ≡ verdicts_by false l.rules

@@ -1,2 +1,0 @@
-pub mod VerdictsBy
-pub mod Verdicts
