@@ -6,7 +6,7 @@ use Rattle.std.proofs.Math.Dec.{eqb-suc-zero}
 use Rattle.std.proofs.lemmas.Option.{none-some, same_Some}
 use Rattle.std.proofs.Math.Seq.{take-length}
 use Rattle.std.proofs.lemmas.List.{length-take-le}
-use Rattle.config_places.specs.declared.step.Step.{Step}
+use Rattle.nextest_places.specs.declared.step.Step.{Step}
 use Rattle.nextest_spans.specs.declared.item.Item.{Item}
 use Rattle.config_spans.specs.Paths.{IsEndedBy, LeadsTo, PathStep, at_root, inner_steps, path_step, through}
 

@@ -1,7 +1,7 @@
 -- The paths of items.
 use Rattle.std.specs.Prelude.{◌≡◌, ◌≤◌, ◌⊎◌, ℕ, List, [], ◌∷◌, ◌++◌, length, map, take, slice_get, Option, Some, None, string_bytes}
-use Rattle.config_places.specs.declared.step.Step.{Step}
-use Rattle.config_places.specs.declared.step.Step.TheVariants as steps
+use Rattle.nextest_places.specs.declared.step.Step.{Step}
+use Rattle.nextest_places.specs.declared.step.Step.TheVariants as steps
 use Rattle.nextest_spans.specs.declared.item.Item.{Item}
 use Rattle.nextest_spans.specs.declared.item.Role.{Role}
 use Rattle.nextest_spans.specs.declared.item.Role.TheVariants as role

@@ -5,18 +5,18 @@ use Rattle.toml.specs.Data.{Data, at, get, table}
 use Rattle.toml.specs.Parse.{parse_document}
 use Rattle.toml.specs.View.{view}
 use Rattle.toml.specs.declared.value.Value.{Value}
-use Rattle.config_places.specs.Place.{IsPlaceOfPath}
-use Rattle.config_places.specs.declared.place.Lines.{Lines}
-use Rattle.config_places.specs.declared.step.Step.{Step}
-use Rattle.config_places.specs.declared.step.Step.TheVariants as steps
+use Rattle.nextest_places.specs.Place.{IsPlaceOfPath}
+use Rattle.nextest_places.specs.declared.place.Lines.{Lines}
+use Rattle.nextest_places.specs.declared.step.Step.{Step}
+use Rattle.nextest_places.specs.declared.step.Step.TheVariants as steps
 use Rattle.nextest_spans.specs.Nodes.{ReadsAs}
 use Rattle.nextest_spans.specs.Tree.{AreItems}
 use Rattle.nextest_spans.specs.declared.item.Item.{Item}
 use Rattle.nextest_spans.specs.declared.item.Role.{Role}
 use Rattle.nextest_spans.specs.declared.item.Role.TheVariants as role
 use Rattle.nextest_spans.specs.declared.token.Span.{Span}
-use Rattle.text_positions.specs.Positions.{position_of}
-use Rattle.text_positions.specs.declared.position.ColumnUnit.TheVariants.{Char}
+use Rattle.nextest_positions.specs.Positions.{position_of}
+use Rattle.nextest_positions.specs.declared.position.ColumnUnit.TheVariants.{Char}
 use Rattle.config_spans.specs.Paths.{IsAtPath, path_step}
 use Rattle.config_spans.specs.declared.spans.PathSpan.{PathSpan}
 

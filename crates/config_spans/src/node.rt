@@ -4,7 +4,7 @@ ghost use Rattle.nextest_spans.specs.Nodes.{node_view};
 ghost use Rattle.toml.specs.View.{view};
 ghost use Rattle.config_spans.specs.Spans.{data_at, data_into};
 
-use config_places::Step;
+use nextest_places::Step;
 use toml::Value;
 
 /// What a step leads to.

@@ -3,7 +3,7 @@ ghost use Rattle.std.specs.Prelude.{◌≡◌, List, ◌∷◌, [], map, IfSome,
 ghost use Rattle.std.specs.Bool.{OnTrue};
 ghost use Rattle.config_spans.specs.Paths.{IsAtPath, IsEndedBy, LeadsTo, PathStep, inner_steps, key, own_steps, path_step, position};
 
-use config_places::Step;
+use nextest_places::Step;
 use nextest_spans::{Item, Role};
 
 /// How many steps stand before the last one of a path, if that is this key.

@@ -1,14 +1,14 @@
 //! Paths of a text with their lines and bytes.
 ghost use Rattle.std.specs.Prelude.{◌≡◌, List, ℕ, Some, IfOk, IfSome, MatchOption};
 ghost use Rattle.toml.specs.View.{view};
-ghost use Rattle.config_places.specs.Place.{HasNoPlace};
+ghost use Rattle.nextest_places.specs.Place.{HasNoPlace};
 ghost use Rattle.config_spans.specs.Spans.{IsDocumentOf, IsKept, IsKeyOf, IsPathSpan, IsValueOf, root_view};
 ghost use Rattle.config_spans.specs.Spans as spec;
 
 use crate::lines::is_on_lines;
 use crate::node::node_at;
 use crate::path::is_at;
-use config_places::{Lines, Places, Step};
+use nextest_places::{Lines, Places, Step};
 use nextest_spans::{Item, Role, Span, items_of, reads_as};
 use std::alloc::{AllocError, Global};
 use std::marker::Model;

@@ -6,8 +6,8 @@ use Rattle.std.proofs.lemmas.Bool.{cases_Bool, or_cases, not-true, and_parts, tr
 use Rattle.std.proofs.lemmas.List.{map-append}
 use Rattle.std.proofs.lemmas.Slice.Eq.{bytes_eq-Decides}
 use Rattle.nextest_documents.specs.Shown.{Path}
-use Rattle.config_places.specs.Order.{AllBefore, IsBefore, IsOrder}
-use Rattle.config_places.specs.Standing.{is_among, stands_in}
+use Rattle.nextest_places.specs.Order.{AllBefore, IsBefore, IsOrder}
+use Rattle.nextest_places.specs.Standing.{is_among, stands_in}
 use Rattle.nextest_tree.specs.Schema.{is_one_of}
 use Rattle.nextest_sources.specs.Inputs.{SourceText}
 use Rattle.nextest_tables.specs.Written.{Name}

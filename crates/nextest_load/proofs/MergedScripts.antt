@@ -11,7 +11,7 @@ use Rattle.nextest_documents.specs.Merge.{over, merged}
 use Rattle.nextest_documents.specs.Shown.{node_at, kind_of}
 use Rattle.nextest_documents.specs.Text.{tree_of}
 use Rattle.nextest_rules.specs.Rules.{at_name}
-use Rattle.config_places.specs.Standing.{has_id, stands_in}
+use Rattle.nextest_places.specs.Standing.{has_id, stands_in}
 use Rattle.nextest_scripts.specs.ScriptId.{script_text}
 use Rattle.nextest_scripts.specs.declared.script_id.ScriptId.{ScriptId}
 use Rattle.nextest_sources.specs.Inputs.{SourceText}

@@ -5,8 +5,8 @@ use Rattle.std.specs.BTreeMap.{BTreeMap, get_by_text}
 use Rattle.std.specs.List.{AllByRecursion}
 use Rattle.std.specs.Str.{bytes_eq}
 use Rattle.std.specs.declared.alloc.Global.{Global}
-use Rattle.config_places.specs.Order.{IsOrder}
-use Rattle.config_places.specs.Standing.{ids_view}
+use Rattle.nextest_places.specs.Order.{IsOrder}
+use Rattle.nextest_places.specs.Standing.{ids_view}
 use Rattle.nextest_scripts.specs.ScriptId.{script_text}
 use Rattle.nextest_scripts.specs.ScriptTexts.{SetupScriptText, WrapperScriptText, setup_script_view, wrapper_script_view}
 use Rattle.nextest_scripts.specs.declared.script_id.ScriptId.{ScriptId}

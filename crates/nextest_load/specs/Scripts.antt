@@ -5,8 +5,8 @@ use Rattle.std.specs.List.{AllByRecursion}
 use Rattle.std.specs.Option.{option_or}
 use Rattle.nextest_documents.specs.Shown.{Path}
 use Rattle.nextest_rules.specs.Rules.{at_name}
-use Rattle.config_places.specs.Order.{IsBefore}
-use Rattle.config_places.specs.Standing.{stands_in}
+use Rattle.nextest_places.specs.Order.{IsBefore}
+use Rattle.nextest_places.specs.Standing.{stands_in}
 use Rattle.nextest_sources.specs.Inputs.{SourceText}
 use Rattle.nextest_tables.specs.FileTexts.{names_in}
 use Rattle.nextest_tables.specs.Scripts.{FileScripts, AreFileScripts}

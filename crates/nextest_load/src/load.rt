@@ -14,8 +14,8 @@ ghost use Rattle.nextest_load.specs.Steps.{one_input_steps, input_steps, load_st
 ghost use Rattle.nextest_load.specs.Trees.{tree_in, own_tree, merged_tree};
 ghost use Rattle.nextest_rules.specs.Known.{known_names, sets_of};
 ghost use Rattle.nextest_rules.specs.KnownView.{known_view, features_view};
-ghost use Rattle.config_places.specs.Order.{IsOrder};
-ghost use Rattle.config_places.specs.Standing.{ids_view};
+ghost use Rattle.nextest_places.specs.Order.{IsOrder};
+ghost use Rattle.nextest_places.specs.Standing.{ids_view};
 ghost use Rattle.nextest_sources.specs.Endings.{Ran, ending};
 ghost use Rattle.nextest_sources.specs.Inputs.{SourceText, inputs_view, sources_in, source_texts_of};
 ghost use Rattle.nextest_sources.specs.InputsView.{input_view};

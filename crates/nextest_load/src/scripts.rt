@@ -3,8 +3,8 @@ ghost use Rattle.std.specs.Prelude.{◌≡◌, ◌++◌, [], List, IfOk, OnOk, S
 ghost use Rattle.std.specs.BTreeMap.{get_by_text};
 ghost use Rattle.std.specs.Option.{option_or};
 ghost use Rattle.nextest_documents.specs.Text.{tree_of};
-ghost use Rattle.config_places.specs.Order.{IsOrder};
-ghost use Rattle.config_places.specs.Standing.{ids_view};
+ghost use Rattle.nextest_places.specs.Order.{IsOrder};
+ghost use Rattle.nextest_places.specs.Standing.{ids_view};
 ghost use Rattle.nextest_scripts.specs.ScriptId.{script_text};
 ghost use Rattle.nextest_tree.specs.View.{tree_view};
 ghost use Rattle.nextest_rules.specs.Rules.{at_name};
@@ -17,7 +17,7 @@ ghost use Rattle.nextest_sources.specs.Inputs.{SourceText};
 ghost use Rattle.nextest_tables.specs.Scripts.{AreFileScripts};
 
 use crate::loaded_config::ScriptConfig;
-use config_places::ids_in_order;
+use nextest_places::ids_in_order;
 use indexmap::IndexMap;
 use nextest_scripts::{ScriptId, SetupScriptConfig};
 use nextest_tables::ScriptsTable;

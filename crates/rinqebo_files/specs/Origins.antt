@@ -2,9 +2,9 @@
 use Rattle.std.specs.Prelude.{◌≡◌, ◌≢◌, ℕ, List, Option, None, Some, option_map, slice_get, string_bytes}
 use Rattle.std.specs.List.{AllByRecursion}
 use Rattle.std.specs.Option.{option_and_then}
-use Rattle.config_places.specs.Place.{HasNoPlace, IsPlaceOfPath}
-use Rattle.config_places.specs.declared.place.Lines.{Lines}
-use Rattle.config_places.specs.declared.step.Step.{Step}
+use Rattle.nextest_places.specs.Place.{HasNoPlace, IsPlaceOfPath}
+use Rattle.nextest_places.specs.declared.place.Lines.{Lines}
+use Rattle.nextest_places.specs.declared.step.Step.{Step}
 use Rattle.nextest_sources.specs.Sources.{Source, SourceKind, tool_file, organisation_file, explicit_file, discovered_file}
 use Rattle.rinqebo_report.specs.declared.origin.Lines.{Lines as ToldLines}
 use Rattle.rinqebo_report.specs.declared.origin.Place.{Place}

@@ -8,7 +8,7 @@ ghost use Rattle.rinqebo_files.specs.Origins.{HasNoFile, IsFileAt, told_file, to
 
 use crate::document::{NoDocument, read_document};
 use crate::files::Gathered;
-use config_places::Places;
+use nextest_places::Places;
 use nextest_config::{
     ConfigPath, ConfigSource, ConfigSourceKind, FileInput, IdentifierOwner, ReadOutcome,
     ToolConfigFile, Tree,

@@ -2,7 +2,7 @@
 ghost use Rattle.rinqebo_files.specs.Origins.{AreLinesAt, IsPathPlace};
 
 use crate::layers::Layer;
-use config_places::Step;
+use nextest_places::Step;
 use nextest_config::Tree;
 use rinqebo_report::{Lines, Place};
 use std::alloc::{AllocError, Global};

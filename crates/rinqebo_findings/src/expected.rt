@@ -1,7 +1,7 @@
 //! What the shape of a file wants at a path, in words.
 use crate::shapes::shape_at;
-use config_places::Step;
-use config_shape::{Pattern, Shape, TextShape, file_shape};
+use nextest_places::Step;
+use nextest_shape::{Pattern, Shape, TextShape, file_shape};
 use nextest_config::ElementCause;
 use std::alloc::{AllocError, Global};
 

@@ -1,10 +1,10 @@
 //! Filters and platforms that are refused, with the part that is wrong.
 use crate::refused::Refused;
-use config_places::Step;
+use nextest_places::Step;
 use nextest_config::{
     ConfigCompileError, ConfigCompileErrorKind, ConfigCompileSection, Refusal, Tree,
 };
-use nextest_filters::{FaultKind, fault_words};
+use filter_engine::{FaultKind, fault_words};
 use rinqebo_files::{host_text, profile_table, rule_table, target_text, text_at};
 use rinqebo_report::{Expression, Span};
 use std::alloc::{AllocError, Global};

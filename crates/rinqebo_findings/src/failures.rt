@@ -4,7 +4,7 @@ ghost use Rattle.rinqebo_findings.specs.Failures.{IsLoadFailure, IsProfileFailur
 
 use crate::findings::{SourceAt, finding_at, warning_findings};
 use crate::report::{report_of, report_of_refusal};
-use config_places::Step;
+use nextest_places::Step;
 use nextest_config::run::ResolveFault;
 use nextest_config::{ConfigParseError, DefaultConfigWarnings, ProfileNotFound};
 use rinqebo_load::{Failure, Session};

@@ -1,6 +1,6 @@
 //! What stands at a path of a file, in words.
 use crate::findings::SourceAt;
-use config_places::Step;
+use nextest_places::Step;
 use nextest_config::Tree;
 
 /// What stands at a key, a name or a position below a tree.

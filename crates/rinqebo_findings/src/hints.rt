@@ -1,7 +1,7 @@
 //! Hints of findings: which known name, or key of the same table, a wrong one most likely means.
 use crate::shapes::shape_at;
-use config_places::Step;
-use config_shape::{Shape, TextShape, file_shape, keys_of};
+use nextest_places::Step;
+use nextest_shape::{Shape, TextShape, file_shape, keys_of};
 use rinqebo_request::name_hint;
 use std::alloc::{AllocError, Global};
 use std::collections::BTreeSet;

@@ -2,8 +2,8 @@
 use crate::findings::SourceAt;
 use crate::refused_values::{Fault, is_at_fault};
 use crate::ways::ways_of;
-use config_places::Step;
-use config_shape::{Shape, file_shape};
+use nextest_places::Step;
+use nextest_shape::{Shape, file_shape};
 use nextest_config::Tree;
 use std::alloc::{AllocError, Global};
 

@@ -8,7 +8,7 @@ use crate::paths::spelled_path;
 use crate::refused::Refused;
 use crate::refused_values::Fault;
 use crate::unknown_names::{add_script_errors, add_unknown_group};
-use config_places::Step;
+use nextest_places::Step;
 use nextest_config::{
     ConfigCompileError, ConfigCompileSection, ConfigExperimental, ConfigParseError,
     ConfigParseErrorKind, ConfigPath, CustomTestGroup, ElementCause, ElementFault,

@@ -1,7 +1,7 @@
 //! The findings of a refused source.
 use crate::findings::{SourceAt, finding, finding_at};
 use crate::paths::path_text;
-use config_places::Step;
+use nextest_places::Step;
 use rinqebo_files::{Layer, path_place};
 use rinqebo_report::{Finding, Level, Place};
 use std::alloc::{AllocError, Global};

@@ -1,6 +1,6 @@
 //! What the shape of a file wants at a path.
-use config_places::Step;
-use config_shape::{Field, Shape};
+use nextest_places::Step;
+use nextest_shape::{Field, Shape};
 
 /// The key of a step to a key.
 pub fn key_of<'s>(step: Step<'s>) -> Option<&'s str> {

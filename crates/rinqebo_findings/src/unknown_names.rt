@@ -1,7 +1,7 @@
 //! Findings of rules that name groups and scripts which they may not.
 use crate::hints::known_hint;
 use crate::refused::Refused;
-use config_places::Step;
+use nextest_places::Step;
 use nextest_config::{ProfileScriptErrors, Tree, UnknownTestGroupError};
 use rinqebo_files::profile_table;
 use std::alloc::AllocError;

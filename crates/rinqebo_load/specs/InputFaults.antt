@@ -3,13 +3,13 @@ use Rattle.std.specs.Prelude.{◌≡◌, ◌⊎◌, ℕ, List, Option, None, Som
 use Rattle.std.specs.declared.alloc.Global.{Global}
 use Rattle.rinqebo_files.specs.declared.files.Gathered.{Gathered}
 use Rattle.rinqebo_request.specs.declared.request.Request.{Request}
-use Rattle.session_forms.specs.Machines.{IsMachineRefused, IsMetadataFault, IsTargetRefused}
-use Rattle.session_forms.specs.declared.machines.EngineFault.{EngineFault}
-use Rattle.test_lists.specs.Demands.{not_json}
-use Rattle.test_lists.specs.Faults.{fault_view}
-use Rattle.test_lists.specs.ListView.{list_view}
-use Rattle.test_lists.specs.Reading.{IsFaultIn}
-use Rattle.test_lists.specs.declared.list.ListedTests.{ListedTests}
+use Rattle.rinqebo_forms.specs.Machines.{IsMachineRefused, IsMetadataFault, IsTargetRefused}
+use Rattle.rinqebo_forms.specs.declared.machines.EngineFault.{EngineFault}
+use Rattle.nextest_lists.specs.Demands.{not_json}
+use Rattle.nextest_lists.specs.Faults.{fault_view}
+use Rattle.nextest_lists.specs.ListView.{list_view}
+use Rattle.nextest_lists.specs.Reading.{IsFaultIn}
+use Rattle.nextest_lists.specs.declared.list.ListedTests.{ListedTests}
 use Rattle.rinqebo_load.specs.Machines.{machine_of}
 use Rattle.rinqebo_load.specs.Triples.{IsListFor, host_for, target_for}
 use Rattle.rinqebo_load.specs.declared.fault.InputFault.{InputFault}

@@ -2,12 +2,12 @@
 use Rattle.std.specs.Prelude.{ℕ, List, Option, String, option_map, string_bytes}
 use Rattle.std.specs.declared.alloc.Global.{Global}
 use Rattle.nextest_engines.specs.declared.queries.BuildPlatforms.{BuildPlatforms}
-use Rattle.target_platforms.specs.declared.Platform.{Platform}
+use Rattle.platform_table.specs.declared.Platform.{Platform}
 use Rattle.rinqebo_files.specs.declared.files.Gathered.{Gathered}
 use Rattle.rinqebo_request.specs.declared.request.EngineOptions.{EngineOptions}
-use Rattle.session_forms.specs.Machines.{ArePlatformsFor as AreOfMachines}
-use Rattle.session_forms.specs.Requests.{MachineText}
-use Rattle.test_lists.specs.Lists.{TestList}
+use Rattle.rinqebo_forms.specs.Machines.{ArePlatformsFor as AreOfMachines}
+use Rattle.rinqebo_forms.specs.Requests.{MachineText}
+use Rattle.nextest_lists.specs.Lists.{TestList}
 use Rattle.rinqebo_load.specs.Triples.{host_for, target_for}
 
 -- the machine of a triple, with what the compiler prints for it, where that is given

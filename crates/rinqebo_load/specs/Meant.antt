@@ -1,8 +1,8 @@
 -- What the files of a session mean.
-use Rattle.nextest_filters.specs.Engine.{Filter}
+use Rattle.filter_engine.specs.Engine.{Filter}
 use Rattle.nextest_load.specs.Config.{ConfigModel, config_of}
 use Rattle.nextest_sources.specs.Inputs.{sources_in}
-use Rattle.target_language.specs.Expressions.{Spec}
+use Rattle.platform_language.specs.Expressions.{Spec}
 use Rattle.rinqebo_load.specs.Sessions.{files_view, readings}
 use Rattle.rinqebo_load.specs.declared.session.Session.{Session}
 

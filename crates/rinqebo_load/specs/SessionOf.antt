@@ -4,8 +4,8 @@ use Rattle.rinqebo_files.specs.Features.{AreFeaturesOf}
 use Rattle.rinqebo_files.specs.Layers.{layer_view, layers_read}
 use Rattle.rinqebo_files.specs.declared.files.Gathered.{Gathered}
 use Rattle.rinqebo_request.specs.declared.request.Request.{Request}
-use Rattle.session_forms.specs.Machines.{AreFiltersFor}
-use Rattle.test_lists.specs.ListView.{list_view}
+use Rattle.rinqebo_forms.specs.Machines.{AreFiltersFor}
+use Rattle.nextest_lists.specs.ListView.{list_view}
 use Rattle.rinqebo_load.specs.Machines.{ArePlatformsFor}
 use Rattle.rinqebo_load.specs.Triples.{IsListFor, host_for, target_for}
 use Rattle.rinqebo_load.specs.declared.session.Session.{Session}

@@ -4,10 +4,10 @@ use Rattle.filter_language.specs.Filtersets.{marks_view}
 use Rattle.filter_language.specs.Leaves.{leaves}
 use Rattle.filter_language.specs.declared.filterset.Filterset.{Filterset}
 use Rattle.nextest_engines.specs.Readings.{Readings}
-use Rattle.nextest_filters.specs.Engine.{Filter, read_filter, everything, filter_holds, filter_holds_binary}
-use Rattle.nextest_filters.specs.declared.engine.NextestFilters.{NextestFilters}
-use Rattle.nextest_filters.specs.Compiling.{names_of}
-use Rattle.nextest_filters.specs.declared.compiling.FieldMatcher.{FieldMatcher}
+use Rattle.filter_engine.specs.Engine.{Filter, read_filter, everything, filter_holds, filter_holds_binary}
+use Rattle.filter_engine.specs.declared.engine.NextestFilters.{NextestFilters}
+use Rattle.filter_engine.specs.Compiling.{names_of}
+use Rattle.filter_engine.specs.declared.compiling.FieldMatcher.{FieldMatcher}
 use Rattle.nextest_load.specs.Accepted.{IsAccepted}
 use Rattle.nextest_load.specs.Config.{config_of}
 use Rattle.nextest_load.specs.Load.{Loaded}
@@ -18,12 +18,12 @@ use Rattle.nextest_sources.specs.Endings.{IsMemory}
 use Rattle.nextest_sources.specs.Inputs.{LoadInputs, sources_in}
 use Rattle.nextest_sources.specs.Sources.{file_view, tool_file_view}
 use Rattle.nextest_sources.specs.declared.error.ConfigParseError.{ConfigParseError}
-use Rattle.target_language.specs.Expressions.{Spec, spec_view}
-use Rattle.target_language.specs.Messages.{spec_read}
-use Rattle.target_language.specs.Values.{spec_value}
-use Rattle.target_language.specs.declared.expression.TargetSpec.{TargetSpec}
-use Rattle.target_platforms.specs.Platforms.{platform_view}
-use Rattle.target_platforms.specs.declared.Platform.{Platform}
+use Rattle.platform_language.specs.Expressions.{Spec, spec_view}
+use Rattle.platform_language.specs.Messages.{spec_read}
+use Rattle.platform_language.specs.Values.{spec_value}
+use Rattle.platform_language.specs.declared.expression.TargetSpec.{TargetSpec}
+use Rattle.platform_table.specs.Platforms.{platform_view}
+use Rattle.platform_table.specs.declared.Platform.{Platform}
 use Rattle.rinqebo_files.specs.declared.files.Gathered.{Gathered}
 
 -- the files of a load, as they were read

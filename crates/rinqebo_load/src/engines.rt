@@ -1,18 +1,18 @@
 //! The languages of filters and platforms, as a request has them.
 ghost use Rattle.std.specs.Prelude.{IfErr, IfOk, option_map, string_bytes};
-ghost use Rattle.session_forms.specs.Machines.{AreFiltersFor, ArePlatformsFor, IsMachineRefused, IsMetadataFault, IsPlatformBy, IsTargetFor};
+ghost use Rattle.rinqebo_forms.specs.Machines.{AreFiltersFor, ArePlatformsFor, IsMachineRefused, IsMetadataFault, IsPlatformBy, IsTargetFor};
 ghost use Rattle.rinqebo_load.specs.InputFaults.{IsBuildFault, IsEngineFault, IsTargetFault, OfEngine};
 ghost use Rattle.rinqebo_load.specs.Machines.{machine_of};
 
 use crate::fault::{InputFault, Subject, TripleSource};
 use crate::triples::Triples;
 use nextest_config::BuildPlatforms;
-use nextest_filters::NextestFilters;
+use filter_engine::NextestFilters;
 use rinqebo_files::Gathered;
 use rinqebo_request::{FileOption, ListFile, NamedFile, Request};
-use session_forms::{EngineFault, filters_of, platform_of};
+use rinqebo_forms::{EngineFault, filters_of, platform_of};
 use std::alloc::{AllocError, Global};
-use target_platforms::Platform;
+use platform_table::Platform;
 
 /// The language of filters, and the platforms of a build.
 #[derive(Drop)]

@@ -15,15 +15,15 @@ use nextest_config::{
     ConfigExperimental, ConfigFileSelection, ConfigParseError, ConfigPath, DefaultConfigWarnings,
     FileInput, LoadedConfig, ParseContext, ReadOutcome, ToolConfigFile,
 };
-use nextest_filters::NextestFilters;
+use filter_engine::NextestFilters;
 use nextest_sources::ConfigInputs;
 use rinqebo_files::{Gathered, Layer, features_of, layers_of};
 use rinqebo_report::SourceKind;
 use rinqebo_request::{ListFile, ProfileSource, Request};
 use std::alloc::{AllocError, Global};
 use std::collections::BTreeSet;
-use target_language::TargetSpecs;
-use test_lists::ListedTests;
+use platform_language::TargetSpecs;
+use nextest_lists::ListedTests;
 
 /// A loaded configuration.
 pub type Config = LoadedConfig<NextestFilters, TargetSpecs>;

@@ -1,6 +1,6 @@
 //! The list of tests that a run is about, and the triples of its build.
 ghost use Rattle.std.specs.Prelude.{◌≡◌, IfErr, IfOk, option_map, string_bytes};
-ghost use Rattle.test_lists.specs.ListView.{list_view};
+ghost use Rattle.nextest_lists.specs.ListView.{list_view};
 ghost use Rattle.rinqebo_load.specs.InputFaults.{IsListFault, NamesList};
 ghost use Rattle.rinqebo_load.specs.Triples.{host_for, host_source, target_for, target_source, IsListFor};
 
@@ -8,7 +8,7 @@ use crate::fault::{InputFault, TripleSource};
 use rinqebo_files::Gathered;
 use rinqebo_request::{EngineOptions, FileOption, HOST, NamedFile};
 use std::alloc::{AllocError, Global};
-use test_lists::{ListFault, ListedTests, tests_of};
+use nextest_lists::{ListFault, ListedTests, tests_of};
 
 /// The triples of a build.
 #[derive(Drop)]

@@ -17,7 +17,7 @@ use Rattle.rinqebo_load.specs.declared.failure.Failure.{Failure}
 use Rattle.rinqebo_load.specs.declared.failure.Failure.TheVariants as failures
 use Rattle.rinqebo_load.specs.declared.session.Session.{Session}
 use Rattle.rinqebo_run.proofs.Refused.{failure_told}
-use Rattle.session_forms.specs.Runs.{RunText}
+use Rattle.rinqebo_forms.specs.Runs.{RunText}
 use Rattle.rinqebo_resolve.specs.Asking.{AskedText, AreFilesOf, AsksForAll, IsRequestFor, asked_of}
 use Rattle.rinqebo_session.specs.declared.status.TheConstants.{DONE}
 use Rattle.rinqebo_resolve.specs.Endings.{IsAnswerTo, IsAnswerOf, IsEndingFor, IsEndingIn, IsEndingOf, IsResolved, IsSilent, TellsFailure, TellsOutcome, ending_status, ending_text}

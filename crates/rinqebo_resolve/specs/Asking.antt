@@ -13,8 +13,8 @@ use Rattle.rinqebo_request.specs.declared.request.Question.TheVariants as questi
 use Rattle.rinqebo_request.specs.declared.request.Request.{Request}
 use Rattle.rinqebo_load.specs.Sessions.{files_view}
 use Rattle.rinqebo_session.specs.Loading.{files_of, is_on}
-use Rattle.session_forms.specs.Runs.{RunText}
-use Rattle.session_forms.specs.declared.request.Switches.{Switches}
+use Rattle.rinqebo_forms.specs.Runs.{RunText}
+use Rattle.rinqebo_forms.specs.declared.request.Switches.{Switches}
 use Rattle.rinqebo_resolve.specs.declared.asking.Asked.{Asked}
 
 -- What is asked of files: a profile and a mode, the triples of the machines, and features.

@@ -13,7 +13,7 @@ use Rattle.rinqebo_run.specs.declared.answer.Answer.{Answer}
 use Rattle.rinqebo_load.specs.declared.failure.Failure.{Failure}
 use Rattle.rinqebo_load.specs.declared.failure.Failure.TheVariants as failures
 use Rattle.rinqebo_session.specs.declared.status.TheConstants.{DONE, REFUSED, SMALL, NOT_TEXT, MEMORY, NOT_UNDERSTOOD, NO_ENGINES, NO_PROFILE}
-use Rattle.session_forms.specs.Runs.{RunText, run_of}
+use Rattle.rinqebo_forms.specs.Runs.{RunText, run_of}
 use Rattle.rinqebo_resolve.specs.Asking.{AskedText, AreFilesOf, IsRequestFor, asked_of}
 use Rattle.rinqebo_resolve.specs.declared.ending.Ending.{Ending}
 use Rattle.rinqebo_resolve.specs.declared.ending.Ending.TheVariants as ends

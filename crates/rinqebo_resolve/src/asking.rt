@@ -1,8 +1,8 @@
 //! A run as the program is asked for it: a request, and the files as they were read.
 ghost use Rattle.std.specs.Prelude.{◌≡◌, IfOk, option_and_then, option_map, string_bytes};
 ghost use Rattle.nextest_settings.specs.Settings.{settings};
-ghost use Rattle.session_forms.specs.Requests.{machine_view};
-ghost use Rattle.session_forms.specs.Runs.{run_view};
+ghost use Rattle.rinqebo_forms.specs.Requests.{machine_view};
+ghost use Rattle.rinqebo_forms.specs.Runs.{run_view};
 ghost use Rattle.rinqebo_resolve.specs.Asking.{AreEnginesFor, AreFilesOf, AsksForAll, IsRequestFor, asked_of, asked_view};
 
 use nextest_config::{NextestRunMode, Setting};
@@ -13,7 +13,7 @@ use rinqebo_request::{
     Request,
 };
 use rinqebo_session::features_of;
-use session_forms::{LoadRequest, Machine, RunRequest, Switches};
+use rinqebo_forms::{LoadRequest, Machine, RunRequest, Switches};
 use std::alloc::{AllocError, Global};
 
 /// What messages call the list of tests: the member of a request that has it.

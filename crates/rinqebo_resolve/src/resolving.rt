@@ -1,6 +1,6 @@
 //! A request for a whole run, answered.
 ghost use Rattle.std.specs.Prelude.{◌≡◌, IfOk, string_bytes, take};
-ghost use Rattle.session_forms.specs.Runs.{run_view};
+ghost use Rattle.rinqebo_forms.specs.Runs.{run_view};
 ghost use Rattle.rinqebo_report.specs.Rendered.{rendered};
 ghost use Rattle.rinqebo_report.specs.declared.format.Format.TheVariants.{Json};
 ghost use Rattle.rinqebo_report.specs.declared.piece.Colour.TheVariants.{Plain};
@@ -15,7 +15,7 @@ use rinqebo_rules::Untold;
 use rinqebo_load::{Failure, InputFault};
 use rinqebo_report::{Colour, Format, Report, render};
 use rinqebo_run::{Answer, answer_of};
-use session_forms::{RequestFault, RunRequest};
+use rinqebo_forms::{RequestFault, RunRequest};
 use std::alloc::{AllocError, Global};
 
 /// The document of a report.

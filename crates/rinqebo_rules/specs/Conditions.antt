@@ -4,20 +4,20 @@ use Rattle.filter_language.specs.Filtersets.{marks_view}
 use Rattle.filter_language.specs.declared.filterset.Filterset.{Filterset}
 use Rattle.nextest_engines.specs.Engines.{Test, test_view}
 use Rattle.nextest_engines.specs.declared.queries.BuildPlatforms.{BuildPlatforms}
-use Rattle.nextest_filters.specs.Compiling.{names_of}
-use Rattle.nextest_filters.specs.Engine.{filter_holds}
-use Rattle.nextest_filters.specs.declared.compiling.FieldMatcher.{FieldMatcher}
+use Rattle.filter_engine.specs.Compiling.{names_of}
+use Rattle.filter_engine.specs.Engine.{filter_holds}
+use Rattle.filter_engine.specs.declared.compiling.FieldMatcher.{FieldMatcher}
 use Rattle.nextest_load.specs.Config.{ConfigModel}
 use Rattle.nextest_settings.specs.Chains.{overrides_of, nearest_filter, match_all_filter}
 use Rattle.nextest_settings.specs.Platforms.{runs_on, rule_on, default_filter_of}
 use Rattle.nextest_tables.specs.Written.{Name}
 use Rattle.rinqebo_report.specs.declared.report.ConditionAnswer.{ConditionAnswer}
 use Rattle.rinqebo_report.specs.declared.report.ConditionAnswer.TheVariants as says
-use Rattle.target_language.specs.Expressions.{spec_view}
-use Rattle.target_language.specs.Values.{spec_value}
-use Rattle.target_language.specs.declared.expression.TargetSpec.{TargetSpec}
-use Rattle.target_platforms.specs.Platforms.{platform_view}
-use Rattle.target_platforms.specs.declared.Platform.{Platform}
+use Rattle.platform_language.specs.Expressions.{spec_view}
+use Rattle.platform_language.specs.Values.{spec_value}
+use Rattle.platform_language.specs.declared.expression.TargetSpec.{TargetSpec}
+use Rattle.platform_table.specs.Platforms.{platform_view}
+use Rattle.platform_table.specs.declared.Platform.{Platform}
 use Rattle.rinqebo_rules.specs.declared.conditions.Asking.{Asking}
 
 -- an answer that may be unknown, as it is told

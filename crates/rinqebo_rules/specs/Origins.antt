@@ -1,7 +1,7 @@
 -- Where values and rules are written, as it is told.
 use Rattle.std.specs.Prelude.{◌≡◌, ℕ, List, [], ◌∷◌, ◌++◌, Option, None, Some, codes, map, string_bytes}
-use Rattle.config_places.specs.declared.step.Step.{Step}
-use Rattle.config_places.specs.declared.step.Step.TheVariants as steps
+use Rattle.nextest_places.specs.declared.step.Step.{Step}
+use Rattle.nextest_places.specs.declared.step.Step.TheVariants as steps
 use Rattle.nextest_tables.specs.Written.{Name}
 use Rattle.rinqebo_files.specs.Origins.{HasNoFile, IsFileAt, IsPathPlace}
 use Rattle.rinqebo_files.specs.declared.layers.Layer.{Layer}

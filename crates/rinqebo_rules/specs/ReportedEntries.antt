@@ -1,9 +1,9 @@
 -- Leaves as they are reported.
 use Rattle.std.specs.Prelude.{◌≡◌, ◌<◌, ℕ, List, Option, None, Some, string_bytes}
-use Rattle.config_grounds.specs.Entries.{Leaf, dotted}
-use Rattle.config_grounds.specs.Sections.{Region, of_profile, beside}
-use Rattle.config_places.specs.declared.step.Step.{Step}
-use Rattle.config_places.specs.declared.step.Step.TheVariants as steps
+use Rattle.nextest_grounds.specs.Entries.{Leaf, dotted}
+use Rattle.nextest_grounds.specs.Sections.{Region, of_profile, beside}
+use Rattle.nextest_places.specs.declared.step.Step.{Step}
+use Rattle.nextest_places.specs.declared.step.Step.TheVariants as steps
 use Rattle.rinqebo_rules.specs.LeafValue.{IsValueOf}
 use Rattle.rinqebo_report.specs.declared.origin.Origin.{Origin}
 use Rattle.rinqebo_report.specs.declared.origin.Origin.TheVariants as origins

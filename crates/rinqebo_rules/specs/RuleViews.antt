@@ -1,9 +1,9 @@
 -- What contracts see of rules as code holds them.
 use Rattle.std.specs.Prelude.{option_map}
 use Rattle.filter_language.specs.declared.filterset.Filterset.{Filterset}
-use Rattle.nextest_filters.specs.declared.compiling.FieldMatcher.{FieldMatcher}
+use Rattle.filter_engine.specs.declared.compiling.FieldMatcher.{FieldMatcher}
 use Rattle.rinqebo_rules.specs.SettingValues.{told_value}
-use Rattle.target_language.specs.declared.expression.TargetSpec.{TargetSpec}
+use Rattle.platform_language.specs.declared.expression.TargetSpec.{TargetSpec}
 use Rattle.rinqebo_rules.specs.RulePlaces.{place_view}
 use Rattle.rinqebo_rules.specs.SettingRules.{RuleFor}
 use Rattle.rinqebo_rules.specs.declared.chain_rules.SettingRule.{SettingRule}

@@ -13,11 +13,11 @@ use crate::rule_places::RulePlace;
 use nextest_config::{
     CompiledOverride, CompiledProfileScripts, NextestRunMode, PlatformSpecs, Setting,
 };
-use nextest_filters::NextestFilters;
+use filter_engine::NextestFilters;
 use nextest_settings::{SettingValue, SettingValues, rules_of};
 use rinqebo_load::Config;
 use std::alloc::{AllocError, Global};
-use target_language::TargetSpecs;
+use platform_language::TargetSpecs;
 
 /// An override of a configuration.
 type Override = CompiledOverride<NextestFilters, TargetSpecs>;

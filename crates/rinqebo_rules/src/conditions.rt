@@ -7,14 +7,14 @@ ghost use Rattle.rinqebo_rules.specs.Conditions.{told_condition, is_met_by, told
 use nextest_config::{
     BuildPlatform, BuildPlatforms, EvalContext, Filters, PlatformSpecs, Specs, TestQuery,
 };
-use nextest_filters::{NextestFilters, NextestTally};
+use filter_engine::{NextestFilters, NextestTally};
 use nextest_settings::{default_filter_of, evaluate_overrides, nearest_filter, rules_of};
 use rinqebo_load::Config;
 use rinqebo_report::ConditionAnswer;
 use rinqebo_request::TestName;
 use std::alloc::{AllocError, Global};
-use target_language::TargetSpecs;
-use target_platforms::Platform;
+use platform_language::TargetSpecs;
+use platform_table::Platform;
 
 /// A filter that was read.
 pub type Filter = <NextestFilters as Filters>::Expr;

@@ -1,15 +1,15 @@
 //! Leaves of a configuration as they are reported.
 ghost use Rattle.std.specs.Prelude.{◌≡◌, ◌++◌, Some, false, IfOk, MatchOption, map, option_map};
-ghost use Rattle.config_grounds.specs.Entries.{leaf_view};
-ghost use Rattle.config_grounds.specs.Layers.{keys_view};
-ghost use Rattle.config_grounds.specs.Sections.{base_path, section_view};
+ghost use Rattle.nextest_grounds.specs.Entries.{leaf_view};
+ghost use Rattle.nextest_grounds.specs.Layers.{keys_view};
+ghost use Rattle.nextest_grounds.specs.Sections.{base_path, section_view};
 ghost use Rattle.nextest_tree.specs.View.{tree_view};
 ghost use Rattle.rinqebo_rules.specs.LeafValue.{is_tellable};
 ghost use Rattle.rinqebo_rules.specs.ReportedEntries.{step_key, profile_of, IsOriginOf, IsEntryOf};
 
 use crate::leaf_value::told_value;
-use config_grounds::{Entry, Section, key_text};
-use config_places::Step;
+use nextest_grounds::{Entry, Section, key_text};
+use nextest_places::Step;
 use rinqebo_report::{Origin, Part, Place, Written};
 use std::alloc::{AllocError, Global};
 

@@ -6,8 +6,8 @@ use Rattle.nextest_engines.specs.Engines.{test_view}
 use Rattle.nextest_engines.specs.declared.queries.BuildPlatform.{BuildPlatform}
 use Rattle.nextest_engines.specs.declared.queries.BuildPlatforms.{BuildPlatforms}
 use Rattle.nextest_engines.specs.declared.queries.TestQuery.{TestQuery}
-use Rattle.nextest_filters.specs.Compiling.{names_of}
-use Rattle.nextest_filters.specs.declared.compiling.FieldMatcher.{FieldMatcher}
+use Rattle.filter_engine.specs.Compiling.{names_of}
+use Rattle.filter_engine.specs.declared.compiling.FieldMatcher.{FieldMatcher}
 use Rattle.nextest_inheritance.specs.Parents.{with_default}
 use Rattle.nextest_load.specs.Load.{Loaded}
 use Rattle.nextest_settings.specs.Chains.{fields_of, overrides_of, script_rules_of}
@@ -25,9 +25,9 @@ use Rattle.rinqebo_report.specs.declared.report.TestId.{TestId}
 use Rattle.rinqebo_report.specs.declared.report.Verdict.TheVariants as told
 use Rattle.rinqebo_request.specs.Keys.{key_text}
 use Rattle.rinqebo_request.specs.declared.request.TestName.{TestName}
-use Rattle.target_language.specs.Expressions.{spec_view}
-use Rattle.target_language.specs.declared.expression.TargetSpec.{TargetSpec}
-use Rattle.target_platforms.specs.declared.Platform.{Platform}
+use Rattle.platform_language.specs.Expressions.{spec_view}
+use Rattle.platform_language.specs.declared.expression.TargetSpec.{TargetSpec}
+use Rattle.platform_table.specs.declared.Platform.{Platform}
 use Rattle.rinqebo_run.proofs.Meant.{reasons_of_texts}
 use Rattle.rinqebo_load.specs.Accepted.{AreAccepted}
 use Rattle.rinqebo_rules.specs.Conditions.{is_met_by, filter_matches, default_filter_here}

@@ -7,8 +7,8 @@ use Rattle.nextest_config.specs.RunView.{refusal_view, run_view}
 use Rattle.nextest_config.specs.declared.run.fault.ResolveFault.{ResolveFault}
 use Rattle.nextest_config.specs.declared.run.fault.ResolveFault.TheVariants as faults
 use Rattle.nextest_engines.specs.Engines.{Test}
-use Rattle.nextest_filters.specs.declared.compiling.FieldMatcher.{FieldMatcher}
-use Rattle.nextest_filters.specs.declared.engine.NextestFilters.{NextestFilters}
+use Rattle.filter_engine.specs.declared.compiling.FieldMatcher.{FieldMatcher}
+use Rattle.filter_engine.specs.declared.engine.NextestFilters.{NextestFilters}
 use Rattle.nextest_load.specs.Accepted.{IsAccepted}
 use Rattle.nextest_load.specs.Config.{config_of}
 use Rattle.nextest_load.specs.Load.{Loaded}
@@ -39,8 +39,8 @@ use Rattle.rinqebo_run.specs.Statuses.{failure_status}
 use Rattle.rinqebo_load.specs.declared.failure.Failure.{Failure}
 use Rattle.rinqebo_load.specs.declared.failure.Failure.TheVariants as failures
 use Rattle.rinqebo_load.specs.declared.session.Session.{Session}
-use Rattle.target_language.specs.declared.expression.TargetSpec.{TargetSpec}
-use Rattle.target_platforms.specs.declared.Platform.{Platform}
+use Rattle.platform_language.specs.declared.expression.TargetSpec.{TargetSpec}
+use Rattle.platform_table.specs.declared.Platform.{Platform}
 
 -- the failure of a load that was refused
 pub load_failure : (session : Session) (profile : Name) (error : ConfigParseError) (failure : Failure)

@@ -10,10 +10,10 @@ use Rattle.nextest_config.specs.declared.run.Inputs.{Inputs}
 use Rattle.nextest_config.specs.declared.run.row.TestRow.{TestRow}
 use Rattle.nextest_engines.specs.Engines.{Test, test_view}
 use Rattle.nextest_engines.specs.declared.queries.TestQuery.{TestQuery}
-use Rattle.nextest_filters.specs.Compiling.{names_of}
-use Rattle.nextest_filters.specs.Engine.{filter_holds}
-use Rattle.nextest_filters.specs.declared.compiling.FieldMatcher.{FieldMatcher}
-use Rattle.nextest_filters.specs.declared.engine.NextestFilters.{NextestFilters}
+use Rattle.filter_engine.specs.Compiling.{names_of}
+use Rattle.filter_engine.specs.Engine.{filter_holds}
+use Rattle.filter_engine.specs.declared.compiling.FieldMatcher.{FieldMatcher}
+use Rattle.filter_engine.specs.declared.engine.NextestFilters.{NextestFilters}
 use Rattle.nextest_inheritance.specs.Parents.{parents_in}
 use Rattle.nextest_load.specs.Config.{config_parents}
 use Rattle.nextest_load.specs.Load.{Loaded}
@@ -30,9 +30,9 @@ use Rattle.nextest_tables.specs.Written.{Name}
 use Rattle.rinqebo_files.specs.declared.layers.Layer.{Layer}
 use Rattle.rinqebo_report.specs.declared.report.Content.{Content}
 use Rattle.rinqebo_report.specs.declared.report.Report.{Report}
-use Rattle.target_language.specs.Expressions.{spec_view}
-use Rattle.target_language.specs.declared.expression.TargetSpec.{TargetSpec}
-use Rattle.target_platforms.specs.declared.Platform.{Platform}
+use Rattle.platform_language.specs.Expressions.{spec_view}
+use Rattle.platform_language.specs.declared.expression.TargetSpec.{TargetSpec}
+use Rattle.platform_table.specs.declared.Platform.{Platform}
 use Rattle.rinqebo_run.proofs.Listing.{given_means}
 use Rattle.rinqebo_run.specs.Explained.{Asks, AreRowsOf, AreSettingsTold, IfExplained, IsTestTold, IsWrapping, Explains, wrapping_id}
 use Rattle.rinqebo_run.specs.Listed.{IsProfileOn}

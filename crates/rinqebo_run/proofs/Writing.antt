@@ -10,9 +10,9 @@ use Rattle.filter_language.specs.declared.filterset.Filterset.{Filterset}
 use Rattle.nextest_elements.specs.declared.run_mode.NextestRunMode.{NextestRunMode}
 use Rattle.nextest_engines.specs.Engines.{Test, test_view}
 use Rattle.nextest_engines.specs.declared.queries.TestQuery.{TestQuery}
-use Rattle.nextest_filters.specs.Compiling.{names_of}
-use Rattle.nextest_filters.specs.Engine.{Filter, filter_holds}
-use Rattle.nextest_filters.specs.declared.compiling.FieldMatcher.{FieldMatcher}
+use Rattle.filter_engine.specs.Compiling.{names_of}
+use Rattle.filter_engine.specs.Engine.{Filter, filter_holds}
+use Rattle.filter_engine.specs.declared.compiling.FieldMatcher.{FieldMatcher}
 use Rattle.nextest_load.specs.Config.{ConfigModel}
 use Rattle.nextest_load.specs.Load.{Loaded}
 use Rattle.nextest_profiles.specs.Meaning.{profile_meaning}
@@ -37,10 +37,10 @@ use Rattle.rinqebo_request.specs.declared.request.AskedSettings.{AskedSettings}
 use Rattle.rinqebo_request.specs.declared.request.Question.{Question}
 use Rattle.rinqebo_request.specs.declared.request.Question.TheVariants as questions
 use Rattle.rinqebo_request.specs.declared.request.Request.{Request}
-use Rattle.target_language.specs.Expressions.{Spec, spec_view}
-use Rattle.target_language.specs.declared.expression.TargetSpec.{TargetSpec}
-use Rattle.test_lists.specs.ListView.{list_view}
-use Rattle.test_lists.specs.Lists.{all_tests}
+use Rattle.platform_language.specs.Expressions.{Spec, spec_view}
+use Rattle.platform_language.specs.declared.expression.TargetSpec.{TargetSpec}
+use Rattle.nextest_lists.specs.ListView.{list_view}
+use Rattle.nextest_lists.specs.Lists.{all_tests}
 use Rattle.rinqebo_run.proofs.Listing.{given_means, tells_tests, zip_mapped}
 use Rattle.rinqebo_run.proofs.Refused.{failure_told}
 use Rattle.rinqebo_run.proofs.Statuses.{failed_silent, failed_status}

@@ -22,8 +22,8 @@ use Rattle.rinqebo_request.specs.declared.request.AskedSettings.{AskedSettings}
 use Rattle.rinqebo_request.specs.declared.request.Question.{Question}
 use Rattle.rinqebo_request.specs.declared.request.Question.TheVariants as questions
 use Rattle.rinqebo_request.specs.declared.request.Request.{Request}
-use Rattle.test_lists.specs.ListView.{list_view}
-use Rattle.test_lists.specs.Lists.{all_tests}
+use Rattle.nextest_lists.specs.ListView.{list_view}
+use Rattle.nextest_lists.specs.Lists.{all_tests}
 use Rattle.rinqebo_load.specs.Accepted.{AreAccepted}
 use Rattle.rinqebo_run.specs.Listed.{IsProfileOn}
 use Rattle.rinqebo_load.specs.SessionOf.{IsSessionOf}

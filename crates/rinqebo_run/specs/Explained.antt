@@ -6,7 +6,7 @@ use Rattle.nextest_config.specs.Headline.{Request, Row, Run, Resolves}
 use Rattle.nextest_elements.specs.declared.run_mode.NextestRunMode.{NextestRunMode}
 use Rattle.nextest_engines.specs.Engines.{Test}
 use Rattle.nextest_inheritance.specs.Parents.{parents_in}
-use Rattle.nextest_filters.specs.Engine.{Filter}
+use Rattle.filter_engine.specs.Engine.{Filter}
 use Rattle.nextest_load.specs.Config.{ScriptTables, config_parents}
 use Rattle.nextest_load.specs.Scripts.{AreScriptsOf}
 use Rattle.nextest_profiles.specs.Profiles.{IsChainAndDefault}
@@ -28,7 +28,7 @@ use Rattle.rinqebo_report.specs.declared.report.Content.TheVariants as contents
 use Rattle.rinqebo_report.specs.declared.report.Report.{Report}
 use Rattle.rinqebo_report.specs.declared.report.SettingRow.{SettingRow}
 use Rattle.rinqebo_report.specs.declared.report.TestRows.{TestRows}
-use Rattle.target_platforms.specs.declared.Platform.{Platform}
+use Rattle.platform_table.specs.declared.Platform.{Platform}
 use Rattle.rinqebo_request.specs.Keys.{key_name, key_table, key_text}
 use Rattle.rinqebo_rules.specs.Origins.{IsOriginOf, key_steps}
 use Rattle.rinqebo_rules.specs.ProfileOrigins.{AreProfileOrigins}

@@ -3,8 +3,8 @@ use Rattle.std.specs.Prelude.{◌++◌, List, map, string_bytes}
 use Rattle.filter_language.specs.Filtersets.{marks_view}
 use Rattle.filter_language.specs.declared.filterset.Filterset.{Filterset}
 use Rattle.nextest_elements.specs.declared.run_mode.NextestRunMode.{NextestRunMode}
-use Rattle.nextest_filters.specs.Compiling.{names_of}
-use Rattle.nextest_filters.specs.declared.compiling.FieldMatcher.{FieldMatcher}
+use Rattle.filter_engine.specs.Compiling.{names_of}
+use Rattle.filter_engine.specs.declared.compiling.FieldMatcher.{FieldMatcher}
 use Rattle.nextest_load.specs.Load.{Loaded}
 use Rattle.nextest_profiles.specs.Meaning.{configured_meaning}
 use Rattle.nextest_rules.specs.View.{id_view, script_rule_id_view}
@@ -14,9 +14,9 @@ use Rattle.rinqebo_report.specs.declared.origin.Origin.{Origin}
 use Rattle.rinqebo_report.specs.declared.report.ListScripts.{ListScripts}
 use Rattle.rinqebo_report.specs.declared.report.TestRows.{TestRows}
 use Rattle.rinqebo_request.specs.declared.request.AskedSettings.{AskedSettings}
-use Rattle.target_language.specs.Expressions.{spec_view}
-use Rattle.target_language.specs.declared.expression.TargetSpec.{TargetSpec}
-use Rattle.test_lists.specs.ListView.{list_view}
+use Rattle.platform_language.specs.Expressions.{spec_view}
+use Rattle.platform_language.specs.declared.expression.TargetSpec.{TargetSpec}
+use Rattle.nextest_lists.specs.ListView.{list_view}
 use Rattle.rinqebo_run.specs.Listed.{AreTestsOf}
 use Rattle.rinqebo_rules.specs.declared.unused.UnusedRules.{UnusedRules}
 use Rattle.rinqebo_rules.specs.RulePlaces.{Place, id_place, script_place}

@@ -1,7 +1,7 @@
 -- What is told of the leaves of a configuration.
 use Rattle.std.specs.Prelude.{◌≡◌, ℕ, List, [], ◌∷◌, Bool, filter}
 use Rattle.std.specs.List.{AllZip}
-use Rattle.config_grounds.specs.Entries.{AreEntries, Leaf}
+use Rattle.nextest_grounds.specs.Entries.{AreEntries, Leaf}
 use Rattle.nextest_inheritance.specs.Parents.{Parents, parents_in}
 use Rattle.nextest_load.specs.Config.{config_parents}
 use Rattle.nextest_profiles.specs.Profiles.{IsChainAndDefault}

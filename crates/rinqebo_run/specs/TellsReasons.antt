@@ -2,7 +2,7 @@
 use Rattle.std.specs.Prelude.{◌≡◌, ℕ, List, [], ◌∷◌, ◌++◌, Bool, Option, option_map, string_bytes}
 use Rattle.nextest_engines.specs.Engines.{Test}
 use Rattle.nextest_engines.specs.declared.queries.BuildPlatforms.{BuildPlatforms}
-use Rattle.nextest_filters.specs.Engine.{Filter}
+use Rattle.filter_engine.specs.Engine.{Filter}
 use Rattle.nextest_load.specs.Config.{ScriptTables, config_of}
 use Rattle.nextest_load.specs.Scripts.{AreScriptsOf}
 use Rattle.nextest_profiles.specs.Profiles.{IsProfileOf}
@@ -22,7 +22,7 @@ use Rattle.rinqebo_report.specs.declared.report.TestId.{TestId}
 use Rattle.rinqebo_report.specs.declared.report.Verdict.TheVariants as told
 use Rattle.rinqebo_request.specs.Keys.{key_text}
 use Rattle.rinqebo_request.specs.declared.request.TestName.{TestName}
-use Rattle.target_language.specs.Expressions.{Spec}
+use Rattle.platform_language.specs.Expressions.{Spec}
 use Rattle.rinqebo_load.specs.Accepted.{AreAccepted}
 use Rattle.rinqebo_run.specs.Reasons.{AreRulesTold}
 use Rattle.rinqebo_load.specs.Sessions.{files_view, readings}

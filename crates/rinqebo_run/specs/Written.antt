@@ -5,8 +5,8 @@ use Rattle.filter_language.specs.Filtersets.{marks_view}
 use Rattle.filter_language.specs.declared.filterset.Filterset.{Filterset}
 use Rattle.nextest_elements.specs.declared.run_mode.NextestRunMode.{NextestRunMode}
 use Rattle.nextest_engines.specs.Engines.{Test}
-use Rattle.nextest_filters.specs.Compiling.{names_of}
-use Rattle.nextest_filters.specs.declared.compiling.FieldMatcher.{FieldMatcher}
+use Rattle.filter_engine.specs.Compiling.{names_of}
+use Rattle.filter_engine.specs.declared.compiling.FieldMatcher.{FieldMatcher}
 use Rattle.nextest_load.specs.Load.{Loaded}
 use Rattle.nextest_profiles.specs.Meaning.{configured_meaning}
 use Rattle.nextest_settings.specs.Deciding.{QueryContext}
@@ -24,10 +24,10 @@ use Rattle.rinqebo_report.specs.declared.report.TestRows.{TestRows}
 use Rattle.rinqebo_request.specs.declared.request.AskedSettings.{AskedSettings}
 use Rattle.rinqebo_request.specs.declared.request.Question.{Question}
 use Rattle.rinqebo_request.specs.declared.request.Question.TheVariants as questions
-use Rattle.target_language.specs.Expressions.{spec_view}
-use Rattle.target_language.specs.declared.expression.TargetSpec.{TargetSpec}
-use Rattle.test_lists.specs.ListView.{list_view}
-use Rattle.test_lists.specs.Lists.{all_tests}
+use Rattle.platform_language.specs.Expressions.{spec_view}
+use Rattle.platform_language.specs.declared.expression.TargetSpec.{TargetSpec}
+use Rattle.nextest_lists.specs.ListView.{list_view}
+use Rattle.nextest_lists.specs.Lists.{all_tests}
 use Rattle.rinqebo_run.specs.Begun.{AreFirstOf}
 use Rattle.rinqebo_run.specs.Listed.{TellsTests}
 use Rattle.rinqebo_run.specs.ListedBy.{read_by}

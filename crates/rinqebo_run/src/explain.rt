@@ -5,8 +5,8 @@ ghost use Rattle.filter_language.specs.Filtersets.{marks_view};
 ghost use Rattle.nextest_config.specs.Headline.{Row};
 ghost use Rattle.nextest_config.specs.RowView.{origin_view, row_view};
 ghost use Rattle.nextest_engines.specs.Engines.{test_view};
-ghost use Rattle.nextest_filters.specs.Compiling.{names_of};
-ghost use Rattle.nextest_filters.specs.Engine.{filter_holds};
+ghost use Rattle.filter_engine.specs.Compiling.{names_of};
+ghost use Rattle.filter_engine.specs.Engine.{filter_holds};
 ghost use Rattle.nextest_inheritance.specs.View.{borrowed_view};
 ghost use Rattle.nextest_profiles.specs.Meaning.{profile_meaning};
 ghost use Rattle.nextest_settings.specs.Queries.{query_in};
@@ -23,7 +23,7 @@ use nextest_config::{
     BuildPlatform, DefaultConfigWarnings, NextestRunMode, ScriptRuleId, Setting, SettingSource,
     TestQuery,
 };
-use nextest_filters::NextestTally;
+use filter_engine::NextestTally;
 use rinqebo_files::Layer;
 use rinqebo_findings::{config_with, failure_of_run, report_of};
 use rinqebo_load::{Failure, Session, chain_of_profile};

@@ -1,13 +1,13 @@
 //! The settings of each test of a list, the rules that hold for none, and the scripts of the list.
 ghost use Rattle.std.specs.Prelude.{IfErr, IfOk, map};
 ghost use Rattle.filter_language.specs.Filtersets.{marks_view};
-ghost use Rattle.nextest_filters.specs.Compiling.{names_of};
-ghost use Rattle.nextest_filters.specs.Engine.{filter_holds};
+ghost use Rattle.filter_engine.specs.Compiling.{names_of};
+ghost use Rattle.filter_engine.specs.Engine.{filter_holds};
 ghost use Rattle.nextest_profiles.specs.Meaning.{profile_meaning};
 ghost use Rattle.nextest_settings.specs.Queries.{query_in};
 ghost use Rattle.nextest_tables.specs.FileTexts.{names_in, IsIn};
-ghost use Rattle.test_lists.specs.ListView.{list_view};
-ghost use Rattle.test_lists.specs.Lists.{all_tests};
+ghost use Rattle.nextest_lists.specs.ListView.{list_view};
+ghost use Rattle.nextest_lists.specs.Lists.{all_tests};
 ghost use Rattle.rinqebo_rules.specs.Rows.{AreTestsTold};
 ghost use Rattle.rinqebo_rules.specs.Unused.{AreUnusedIn};
 ghost use Rattle.rinqebo_rules.specs.Conditions.{is_met_by};
@@ -20,14 +20,14 @@ use crate::asked::asked_of;
 use crate::list_origins::{Origins, unused_origins};
 use crate::list_scripts::scripts_of_list;
 use nextest_config::{DefaultConfigWarnings, EarlyProfile, EvaluatableProfile, NextestRunMode};
-use nextest_filters::{NextestFilters, NextestTally};
+use filter_engine::{NextestFilters, NextestTally};
 use rinqebo_findings::{config_with, report_of, warning_findings};
 use rinqebo_rules::{Lister, ListedRows, Progress};
 use rinqebo_load::{Config, Failure, Session, chain_of_profile};
 use rinqebo_report::{Content, Report};
 use rinqebo_request::AskedSettings;
 use std::alloc::{AllocError, Global};
-use target_language::TargetSpecs;
+use platform_language::TargetSpecs;
 
 /// A profile on the platforms of a build.
 pub type Profile<'c> = EvaluatableProfile<'c, NextestFilters, TargetSpecs>;

@@ -1,15 +1,15 @@
 //! The scripts of a list: the setup scripts that its tests enable, and what wraps its binaries.
 ghost use Rattle.std.specs.Prelude.{IfOk};
 ghost use Rattle.filter_language.specs.Filtersets.{marks_view};
-ghost use Rattle.nextest_filters.specs.Compiling.{names_of};
-ghost use Rattle.nextest_filters.specs.Engine.{filter_holds, filter_holds_binary};
+ghost use Rattle.filter_engine.specs.Compiling.{names_of};
+ghost use Rattle.filter_engine.specs.Engine.{filter_holds, filter_holds_binary};
 ghost use Rattle.nextest_profiles.specs.Meaning.{profile_meaning};
-ghost use Rattle.test_lists.specs.ListView.{list_view};
-ghost use Rattle.test_lists.specs.Lists.{all_binaries, all_tests};
+ghost use Rattle.nextest_lists.specs.ListView.{list_view};
+ghost use Rattle.nextest_lists.specs.Lists.{all_binaries, all_tests};
 ghost use Rattle.rinqebo_rules.specs.Scripts.{AreScriptsTold};
 
 use crate::list::Profile;
-use nextest_filters::NextestTally;
+use filter_engine::NextestTally;
 use rinqebo_rules::scripts_of;
 use rinqebo_load::Session;
 use rinqebo_report::ListScripts;

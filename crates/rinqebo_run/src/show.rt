@@ -1,7 +1,7 @@
 //! The leaves of a configuration, and what writes each.
 ghost use Rattle.std.specs.Prelude.{◌≡◌, false, IfErr, IfOk, MatchOption, map};
-ghost use Rattle.config_grounds.specs.Entries.{leaf_view};
-ghost use Rattle.config_grounds.specs.Layers.{keys_view};
+ghost use Rattle.nextest_grounds.specs.Entries.{leaf_view};
+ghost use Rattle.nextest_grounds.specs.Layers.{keys_view};
 ghost use Rattle.nextest_inheritance.specs.Parents.{parents_in};
 ghost use Rattle.nextest_load.specs.Config.{config_parents};
 ghost use Rattle.nextest_tables.specs.FileTexts.{names_in, IsIn};
@@ -15,7 +15,7 @@ use crate::answer::Answer;
 use crate::asked::asked_of;
 use crate::idle::findings_on;
 use crate::status::Status;
-use config_grounds::{Entry as Leaf, entries_of};
+use nextest_grounds::{Entry as Leaf, entries_of};
 use nextest_config::{DefaultConfigWarnings, NextestRunMode};
 use rinqebo_rules::{reported_entry, steps_of};
 use rinqebo_files::{Layer, path_place};

@@ -1,6 +1,6 @@
 //! The note of `show-config` where nothing is set under its keys.
 use crate::answer::Answer;
-use config_shape::{Shape, file_shape, keys_of};
+use nextest_shape::{Shape, file_shape, keys_of};
 use nextest_config::NextestRunMode;
 use rinqebo_report::{Content, Format, Report};
 use rinqebo_request::{Question, Request, all_keys, text_hint};

@@ -1,7 +1,7 @@
 //! The rules of a setting, and what comes of each.
 ghost use Rattle.std.specs.Prelude.{◌≡◌, IfErr, IfOk, List, map, option_map};
 ghost use Rattle.filter_language.specs.declared.filterset.Filterset.{Filterset};
-ghost use Rattle.nextest_filters.specs.declared.compiling.FieldMatcher.{FieldMatcher};
+ghost use Rattle.filter_engine.specs.declared.compiling.FieldMatcher.{FieldMatcher};
 ghost use Rattle.nextest_inheritance.specs.Parents.{with_default};
 ghost use Rattle.nextest_inheritance.specs.View.{borrowed_view};
 ghost use Rattle.nextest_settings.specs.Chains.{fields_of};
@@ -19,7 +19,7 @@ ghost use Rattle.rinqebo_findings.specs.Reports.{IsReportOf};
 ghost use Rattle.rinqebo_rules.specs.RuleViews.{setting_rule_view};
 ghost use Rattle.rinqebo_run.specs.TellsReasons.{AreReasons, AreReasonsIn, IfWhy, IsTestNamed, TellsReasons};
 ghost use Rattle.rinqebo_rules.specs.Told.{told_of, value_view};
-ghost use Rattle.target_language.specs.declared.expression.TargetSpec.{TargetSpec};
+ghost use Rattle.platform_language.specs.declared.expression.TargetSpec.{TargetSpec};
 
 use crate::asked::asked_of;
 use crate::explain::reported_platform;

@@ -1,6 +1,6 @@
 -- Why a request that is understood gives no configuration.
 use Rattle.std.proofs.Common.{◌≡◌, ℕ, List, Some, Result, Ok, Err, IfErr}
-use Rattle.session_forms.specs.Requests.{RequestText, request_of}
+use Rattle.rinqebo_forms.specs.Requests.{RequestText, request_of}
 use Rattle.rinqebo_session.specs.Loading.{IsFailureBy, IsFailureOf}
 use Rattle.rinqebo_session.specs.declared.failure.Failure.{Failure}
 use Rattle.rinqebo_session.specs.declared.failure.Failure.TheVariants as failures

@@ -6,22 +6,22 @@ use Rattle.nextest_config.specs.ConfigView.{KeptConfig, loaded_by}
 use Rattle.nextest_elements.specs.declared.experimental.ConfigExperimental.{ConfigExperimental}
 use Rattle.nextest_elements.specs.declared.experimental.ConfigExperimental.TheVariants.{SetupScripts, WrapperScripts}
 use Rattle.nextest_engines.specs.Readings.{Readings}
-use Rattle.nextest_filters.specs.Engine.{Filter}
-use Rattle.nextest_filters.specs.declared.compiling.FieldMatcher.{FieldMatcher}
-use Rattle.nextest_filters.specs.declared.engine.NextestFilters.{NextestFilters}
+use Rattle.filter_engine.specs.Engine.{Filter}
+use Rattle.filter_engine.specs.declared.compiling.FieldMatcher.{FieldMatcher}
+use Rattle.filter_engine.specs.declared.engine.NextestFilters.{NextestFilters}
 use Rattle.nextest_load.specs.Load.{IsLoad}
 use Rattle.nextest_rules.specs.Definitions.{Features}
 use Rattle.nextest_sources.specs.Inputs.{LoadInputs}
 use Rattle.nextest_sources.specs.Warnings.{Warning}
 use Rattle.nextest_sources.specs.declared.error.ConfigParseError.{ConfigParseError}
-use Rattle.target_language.specs.Expressions.{Spec, spec_view}
-use Rattle.target_language.specs.declared.expression.TargetSpec.{TargetSpec}
-use Rattle.target_platforms.specs.declared.Platform.{Platform}
-use Rattle.session_forms.specs.Machines.{AreFiltersFor, IsMetadataFault, ArePlatformsFor, IsBuildRefused}
-use Rattle.session_forms.specs.Requests.{RequestText, request_of}
-use Rattle.session_forms.specs.declared.fault.RequestFault.TheVariants.{Memory as request_memory}
-use Rattle.session_forms.specs.declared.machines.EngineFault.{EngineFault}
-use Rattle.session_forms.specs.declared.request.Switches.{Switches}
+use Rattle.platform_language.specs.Expressions.{Spec, spec_view}
+use Rattle.platform_language.specs.declared.expression.TargetSpec.{TargetSpec}
+use Rattle.platform_table.specs.declared.Platform.{Platform}
+use Rattle.rinqebo_forms.specs.Machines.{AreFiltersFor, IsMetadataFault, ArePlatformsFor, IsBuildRefused}
+use Rattle.rinqebo_forms.specs.Requests.{RequestText, request_of}
+use Rattle.rinqebo_forms.specs.declared.fault.RequestFault.TheVariants.{Memory as request_memory}
+use Rattle.rinqebo_forms.specs.declared.machines.EngineFault.{EngineFault}
+use Rattle.rinqebo_forms.specs.declared.request.Switches.{Switches}
 use Rattle.rinqebo_session.specs.Readings.{filter_meaning, readings}
 use Rattle.rinqebo_session.specs.declared.failure.Failure.{Failure}
 use Rattle.rinqebo_session.specs.declared.failure.Failure.TheVariants as failures

@@ -12,7 +12,7 @@ use Rattle.nextest_profiles.specs.Meaning.{configured_meaning, profile_meaning}
 use Rattle.nextest_settings.specs.Profile.{profile_of, profile_on}
 use Rattle.nextest_tables.specs.FileTexts.{names_in, IsIn}
 use Rattle.nextest_tables.specs.Written.{Name}
-use Rattle.target_language.specs.Expressions.{spec_view}
+use Rattle.platform_language.specs.Expressions.{spec_view}
 use Rattle.rinqebo_session.specs.Readings.{filter_meaning, holds_on}
 use Rattle.rinqebo_session.specs.declared.failure.Failure.{Failure}
 use Rattle.rinqebo_session.specs.declared.failure.OpenFailure.{OpenFailure}

@@ -4,15 +4,15 @@ use Rattle.filter_language.specs.Filtersets.{marks_view}
 use Rattle.filter_language.specs.Leaves.{leaves}
 use Rattle.filter_language.specs.declared.filterset.Filterset.{Filterset}
 use Rattle.nextest_engines.specs.Readings.{Readings}
-use Rattle.nextest_filters.specs.Engine.{Filter, read_filter, everything, filter_holds, filter_holds_binary}
-use Rattle.nextest_filters.specs.declared.engine.NextestFilters.{NextestFilters}
-use Rattle.nextest_filters.specs.Compiling.{names_of}
-use Rattle.nextest_filters.specs.declared.compiling.FieldMatcher.{FieldMatcher}
-use Rattle.target_language.specs.Expressions.{Spec}
-use Rattle.target_language.specs.Messages.{spec_read}
-use Rattle.target_language.specs.Values.{spec_value}
-use Rattle.target_platforms.specs.Platforms.{platform_view}
-use Rattle.target_platforms.specs.declared.Platform.{Platform}
+use Rattle.filter_engine.specs.Engine.{Filter, read_filter, everything, filter_holds, filter_holds_binary}
+use Rattle.filter_engine.specs.declared.engine.NextestFilters.{NextestFilters}
+use Rattle.filter_engine.specs.Compiling.{names_of}
+use Rattle.filter_engine.specs.declared.compiling.FieldMatcher.{FieldMatcher}
+use Rattle.platform_language.specs.Expressions.{Spec}
+use Rattle.platform_language.specs.Messages.{spec_read}
+use Rattle.platform_language.specs.Values.{spec_value}
+use Rattle.platform_table.specs.Platforms.{platform_view}
+use Rattle.platform_table.specs.declared.Platform.{Platform}
 
 -- what a filter means
 abbrev pub filter_meaning : Filterset FieldMatcher → Filter

@@ -1,10 +1,10 @@
 -- The numbers of failures.
 use Rattle.std.specs.Prelude.{ℕ, is_some, if◌then◌else◌}
 use Rattle.nextest_sources.specs.Errors.{source_of}
-use Rattle.session_forms.specs.declared.fault.RequestFault.{RequestFault}
-use Rattle.session_forms.specs.declared.fault.RequestFault.TheVariants as requests
-use Rattle.session_forms.specs.declared.machines.EngineFault.{EngineFault}
-use Rattle.session_forms.specs.declared.machines.EngineFault.TheVariants as engines
+use Rattle.rinqebo_forms.specs.declared.fault.RequestFault.{RequestFault}
+use Rattle.rinqebo_forms.specs.declared.fault.RequestFault.TheVariants as requests
+use Rattle.rinqebo_forms.specs.declared.machines.EngineFault.{EngineFault}
+use Rattle.rinqebo_forms.specs.declared.machines.EngineFault.TheVariants as engines
 use Rattle.rinqebo_session.specs.declared.failure.Failure.{Failure}
 use Rattle.rinqebo_session.specs.declared.failure.Failure.TheVariants as failures
 use Rattle.rinqebo_session.specs.declared.failure.OpenFailure.{OpenFailure}

@@ -6,7 +6,7 @@ use crate::status::{
     MEMORY, NO_ENGINES, NO_PROFILE, NOT_LOADED, NOT_TEXT, NOT_UNDERSTOOD, REFUSED,
 };
 use nextest_config::{ConfigParseError, ProfileError, ProfileNotFound};
-use session_forms::{EngineFault, RequestFault};
+use rinqebo_forms::{EngineFault, RequestFault};
 use std::alloc::AllocError;
 use thiserror::Error;
 

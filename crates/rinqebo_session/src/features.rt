@@ -5,7 +5,7 @@ ghost use Rattle.nextest_rules.specs.KnownView.{features_view};
 ghost use Rattle.rinqebo_session.specs.Loading.{is_on};
 
 use nextest_config::ConfigExperimental;
-use session_forms::Switches;
+use rinqebo_forms::Switches;
 use std::alloc::{AllocError, Global};
 use std::collections::BTreeSet;
 

@@ -2,7 +2,7 @@
 ghost use Rattle.std.specs.Prelude.{◌≡◌, IfErr, IfOk, option_map};
 ghost use Rattle.nextest_sources.specs.Sources.{file_view};
 ghost use Rattle.nextest_rules.specs.KnownView.{features_view};
-ghost use Rattle.session_forms.specs.Requests.{request_view};
+ghost use Rattle.rinqebo_forms.specs.Requests.{request_view};
 ghost use Rattle.rinqebo_session.specs.Loading.{LoadsBy, IsLoadedBy, IsFailureBy, IsLoadedFrom, IsFailureOf};
 ghost use Rattle.rinqebo_session.specs.Readings.{readings};
 
@@ -12,12 +12,12 @@ use nextest_config::{
     BuildPlatforms, ConfigExperimental, ConfigFileSelection, ConfigParseError,
     DefaultConfigWarnings, NextestConfig, ParseContext,
 };
-use nextest_filters::NextestFilters;
-use session_forms::{LoadRequest, filters_of, platforms_of};
+use filter_engine::NextestFilters;
+use rinqebo_forms::{LoadRequest, filters_of, platforms_of};
 use std::alloc::Global;
 use std::collections::BTreeSet;
-use target_language::TargetSpecs;
-use target_platforms::Platform;
+use platform_language::TargetSpecs;
+use platform_table::Platform;
 
 /// A configuration whose filters and platforms are written in nextest's languages.
 pub type Config = NextestConfig<NextestFilters, TargetSpecs>;

@@ -5,7 +5,7 @@ ghost use Rattle.nextest_scripts.specs.ScriptId.{script_text};
 ghost use Rattle.rinqebo_session.specs.Answering.{Answers, AnswersTest};
 ghost use Rattle.rinqebo_session.specs.Opening.{group_entry, IsOpened, IsNotOpened, IsProfileIn, IsOpenedIn};
 ghost use Rattle.nextest_engines.specs.Engines.{test_view};
-ghost use Rattle.nextest_filters.specs.Engine.{filter_holds};
+ghost use Rattle.filter_engine.specs.Engine.{filter_holds};
 ghost use Rattle.rinqebo_session.specs.Readings.{filter_meaning};
 ghost use Rattle.rinqebo_session.specs.Texts.{MayNotOpenFor, profile_status, name_at, text_at, IsTextCopied};
 
@@ -21,10 +21,10 @@ use nextest_config::{
     CustomTestGroup, EvaluatableProfile, Filters, ScriptId, TestGroupConfig, TestThreads,
     WrapperScriptConfig,
 };
-use nextest_filters::{NextestFilters, NextestTally};
+use filter_engine::{NextestFilters, NextestTally};
 use std::alloc::{AllocError, Global};
 use std::collections::BTreeMap;
-use target_language::TargetSpecs;
+use platform_language::TargetSpecs;
 
 /// A group that a configuration defines.
 #[derive(Clone, Copy, Debug, Drop)]

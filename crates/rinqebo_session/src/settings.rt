@@ -3,19 +3,19 @@ ghost use Rattle.std.specs.Prelude.{◌≡◌, option_map, position};
 ghost use Rattle.std.specs.Str.{bytes_eq};
 ghost use Rattle.nextest_scripts.specs.ScriptId.{script_text};
 ghost use Rattle.nextest_settings.specs.SettingsView.{value_at};
-ghost use Rattle.session_forms.specs.Numbers.{flag_number};
+ghost use Rattle.rinqebo_forms.specs.Numbers.{flag_number};
 ghost use Rattle.rinqebo_session.specs.Answering.{group_index, wrapper_index, threads_at, AreNumbersOf};
 
 use crate::profile::Group;
 use crate::status::DONE;
 use nextest_config::{ScriptId, TestGroup, TestSettings, TestThreads};
-use nextest_filters::NextestFilters;
-use session_forms::{
+use filter_engine::NextestFilters;
+use rinqebo_forms::{
     Duration, GroupThreads, LeakNumbers, RetryNumbers, SlowNumbers, ThreadNumbers, flag_number,
     flaky_number, group_threads, leak_numbers, output_number, report_number, retry_numbers,
     slow_numbers, status_number, thread_numbers,
 };
-use target_language::TargetSpecs;
+use platform_language::TargetSpecs;
 
 /// No name: the global group, or no wrapper.
 pub const NO_NAME: usize = 18446744073709551615;

@@ -1,5 +1,5 @@
 //! Metadata of a workspace that is refused.
-use package_graph::{MetadataFault, PackageGraph, Place, Wanted};
+use filter_packages::{MetadataFault, PackageGraph, Place, Wanted};
 use std::test::Fail;
 
 /// Why the metadata is refused, if it is.

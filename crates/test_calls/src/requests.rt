@@ -1,5 +1,5 @@
 //! Requests of the library that are not understood: what is expected, and where.
-use session_forms::LoadRequest;
+use rinqebo_forms::LoadRequest;
 use std::alloc::{AllocError, Global};
 use std::test::Fail;
 

@@ -2,8 +2,8 @@
 use nextest_engines::{SpecFault, Specs};
 use std::alloc::{AllocError, Global};
 use std::test::Fail;
-use target_language::TargetSpecs;
-use target_platforms::Platform;
+use platform_language::TargetSpecs;
+use platform_table::Platform;
 
 /// The value of a spec on a platform as it prints, or the message that refuses its text.
 fn answer<S: Specs>(

@@ -5,12 +5,12 @@ use nextest_config::{
     BinaryQuery, BuildPlatform, BuildPlatforms, DefaultConfigWarnings, NextestRunMode,
     ParseContext, Setting, TestQuery,
 };
-use nextest_filters::{NextestFilters, NextestTally, PackageGraph};
+use filter_engine::{NextestFilters, NextestTally, PackageGraph};
 use std::alloc::{AllocError, Global};
 use std::collections::BTreeSet;
 use std::test::Fail;
-use target_language::TargetSpecs;
-use target_platforms::Platform;
+use platform_language::TargetSpecs;
+use platform_table::Platform;
 
 /// Three members, of which `api` depends on `core`, and `cli` on none.
 const METADATA: &str = r#"{

@@ -19,7 +19,7 @@
 use crate::escapes::{Escapes, push_escaped, unescaped};
 use crate::row::{RowError, name_of};
 use nextest_engines::{BinaryQuery, BuildPlatform, FiltersetKind, TestQuery};
-use nextest_filters::{
+use filter_engine::{
     FieldMatcher, Filterset, FiltersetFault, NextestFilters, PackageGraph, ParseFault,
 };
 use std::alloc::{AllocError, Global};

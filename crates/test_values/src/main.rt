@@ -22,12 +22,12 @@ mod row;
 mod schema;
 mod value;
 
-use nextest_filters::NextestFilters;
+use filter_engine::NextestFilters;
 use row::RowError;
 use std::alloc::Global;
 use std::io;
 use std::process::ExitCode;
-use target_platforms::TargetRow;
+use platform_table::TargetRow;
 
 /// What the rows of a line are about.
 #[derive(Clone, Copy)]

@@ -7,7 +7,7 @@
 //! The row prints the first and the last line of the place, with a tab between them, or `none`.
 use crate::escapes::{Escapes, unescaped};
 use crate::row::RowError;
-use config_places::{Places, Step};
+use nextest_places::{Places, Step};
 use std::alloc::Global;
 
 /// The place of a row's path in its text.

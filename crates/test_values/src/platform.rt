@@ -17,8 +17,8 @@
 use crate::escapes::{Escapes, push_escaped, unescaped};
 use crate::row::{RowError, name_of};
 use std::alloc::{AllocError, Global};
-use target_language::{FaultKind, TargetSpec, TargetSpecError, TargetSpecFault};
-use target_platforms::{Platform, PlatformFault, TargetRow};
+use platform_language::{FaultKind, TargetSpec, TargetSpecError, TargetSpecFault};
+use platform_table::{Platform, PlatformFault, TargetRow};
 
 /// What is printed for a row, if it defines no triple.
 pub fn answer_to<'a>(

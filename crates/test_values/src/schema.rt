@@ -6,7 +6,7 @@
 //! | `keys` and the parts of a path, with a space before each | the keys that the table there knows, with a space between them, or `none` |
 //! | `page` | the whole page of the schema |
 use crate::row::RowError;
-use config_shape::{Shape, file_shape, json_schema, keys_of, schema_page};
+use nextest_shape::{Shape, file_shape, json_schema, keys_of, schema_page};
 use std::alloc::Global;
 
 /// What the shape of a file says of a row's place.

@@ -2,7 +2,7 @@ use Rattle.std.proofs.Common.{◌≡◌, ◌<◌, [], ◌∷◌, suc, length, So
 use Rattle.std.specs.List.{slice_get}
 use Rattle.std.proofs.lemmas.Option.{slice_get_read}
 use Rattle.std.proofs.lemmas.Slice.Eq.{bytes_eq-Decides}
-use Rattle.config_places.specs.declared.step.Step.TheVariants.{Key}
+use Rattle.nextest_places.specs.declared.step.Step.TheVariants.{Key}
 use Rattle.config_spans.specs.Paths.{IsEndedBy, key}
 use Rattle.config_spans.proofs.Climbing.{ended}
 use Rattle.config_spans.proofs.path.before_key.Goals as goal

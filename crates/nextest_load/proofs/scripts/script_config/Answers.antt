@@ -2,7 +2,7 @@ use Rattle.std.proofs.Common.{◌≡◌, ◌++◌, map, string_bytes, Global, Is
 use Rattle.std.specs.Option.{option_or}
 use Rattle.std.proofs.lemmas.List.{map-append}
 use Rattle.nextest_rules.specs.Rules.{at_name}
-use Rattle.config_places.specs.Standing.{ids_view}
+use Rattle.nextest_places.specs.Standing.{ids_view}
 use Rattle.nextest_scripts.specs.ScriptTexts.{setup_script_view, wrapper_script_view}
 use Rattle.nextest_tables.specs.Written.{Name}
 use Rattle.nextest_tree.specs.Schema.{is_one_of}

@@ -1,4 +1,4 @@
-use Rattle.session_forms.specs.Runs.{run_view}
+use Rattle.rinqebo_forms.specs.Runs.{run_view}
 use Rattle.rinqebo_resolve.proofs.Telling.{ended_of}
 use Rattle.rinqebo_resolve.proofs.resolving.ending_of.Goals as goal
 

@@ -1,12 +1,12 @@
 use Rattle.std.proofs.Common.{◌∙◌, IfOk, ap, map, subst}
 use Rattle.filter_language.specs.Filtersets.{marks_view}
 use Rattle.nextest_engines.specs.Engines.{binary_view, test_view}
-use Rattle.nextest_filters.specs.Compiling.{names_of}
-use Rattle.nextest_filters.specs.Engine.{filter_holds, filter_holds_binary}
+use Rattle.filter_engine.specs.Compiling.{names_of}
+use Rattle.filter_engine.specs.Engine.{filter_holds, filter_holds_binary}
 use Rattle.nextest_profiles.specs.Meaning.{profile_meaning}
 use Rattle.rinqebo_rules.specs.Scripts.{AreScriptsTold}
-use Rattle.test_lists.specs.ListView.{list_view}
-use Rattle.test_lists.specs.Lists.{all_binaries}
+use Rattle.nextest_lists.specs.ListView.{list_view}
+use Rattle.nextest_lists.specs.Lists.{all_binaries}
 use Rattle.rinqebo_run.proofs.list_scripts.scripts_of_list.Goals as goal
 
 pub returns : goal.returns

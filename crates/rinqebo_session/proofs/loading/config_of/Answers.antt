@@ -6,7 +6,7 @@ use Rattle.nextest_sources.specs.Sources.{InputFile, file_view, tool_file_view}
 use Rattle.nextest_sources.specs.Warnings.{Warning}
 use Rattle.nextest_sources.specs.WarningsView.{warnings_view}
 use Rattle.nextest_sources.specs.declared.sources.ToolConfigFile.{ToolConfigFile}
-use Rattle.target_language.specs.Expressions.{spec_view}
+use Rattle.platform_language.specs.Expressions.{spec_view}
 use Rattle.rinqebo_session.specs.Readings.{filter_meaning, readings}
 use Rattle.rinqebo_session.proofs.loading.config_of.Goals as goal
 

@@ -1,5 +1,5 @@
 use Rattle.std.proofs.Common.{◌∷◌, ◌++◌, [], sym, subst}
-use Rattle.config_places.specs.Standing.{ids_view}
+use Rattle.nextest_places.specs.Standing.{ids_view}
 use Rattle.nextest_load.specs.ScriptNames.{AreIdsOf}
 use Rattle.nextest_load.specs.Scripts.{sections_at, setup_path, old_setup_path, wrapper_path}
 use Rattle.nextest_load.proofs.Defining.{ids_with_last}

@@ -1,15 +1,15 @@
 use Rattle.std.proofs.Common.{◌≡◌, arith, inl, length, subst}
 use Rattle.filter_language.specs.Filtersets.{marks_view}
-use Rattle.nextest_filters.specs.Compiling.{names_of}
-use Rattle.nextest_filters.specs.Engine.{filter_holds}
+use Rattle.filter_engine.specs.Compiling.{names_of}
+use Rattle.filter_engine.specs.Engine.{filter_holds}
 use Rattle.nextest_profiles.specs.Meaning.{profile_meaning}
 use Rattle.rinqebo_run.proofs.Listing.{listed_here}
 use Rattle.rinqebo_run.proofs.Writing.{all_first, first_here, passed_stop, stops_at_end, stops_so, whole_page}
 use Rattle.rinqebo_run.specs.Begun.{AreFirstWritten}
 use Rattle.rinqebo_run.specs.Written.{AreFirstBy}
 use Rattle.rinqebo_run.specs.declared.list_fault.ListFault.TheVariants as faults
-use Rattle.test_lists.specs.ListView.{list_view}
-use Rattle.test_lists.specs.Lists.{all_tests}
+use Rattle.nextest_lists.specs.ListView.{list_view}
+use Rattle.nextest_lists.specs.Lists.{all_tests}
 use Rattle.rinqebo_run.proofs.list_page.ListPage.write.Goals as goal
 
 pub profile_on-requires : goal.profile_on-requires

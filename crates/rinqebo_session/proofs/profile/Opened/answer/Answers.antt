@@ -1,10 +1,10 @@
 use Rattle.std.proofs.Common.{◌∙◌, ap, subst}
 use Rattle.nextest_engines.specs.Engines.{test_view}
-use Rattle.nextest_filters.specs.Engine.{filter_holds}
+use Rattle.filter_engine.specs.Engine.{filter_holds}
 use Rattle.nextest_profiles.specs.Meaning.{profile_meaning}
 use Rattle.nextest_settings.specs.Queries.{query_in, setting_value}
 use Rattle.nextest_settings.specs.SettingsView.{value_at}
-use Rattle.session_forms.specs.Numbers.{flag_number}
+use Rattle.rinqebo_forms.specs.Numbers.{flag_number}
 use Rattle.rinqebo_session.specs.Answering.{AreNumbersOf}
 use Rattle.rinqebo_session.specs.Readings.{filter_meaning}
 use Rattle.rinqebo_session.proofs.Numbering.{numbers_by}

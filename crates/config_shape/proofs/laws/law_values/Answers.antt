@@ -1,5 +1,0 @@
-use Rattle.config_shape.proofs.MildTables.{file_mild}
-use Rattle.config_shape.proofs.laws.law_values.Goals as goal
-
-pub returns : goal.returns
-returns c = λ file sorted accepted. file_mild.mild _ file sorted accepted

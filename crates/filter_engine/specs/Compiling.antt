@@ -1,0 +1,43 @@
+-- What predicates ask of fields, as the names that have it.
+use Rattle.std.specs.Prelude.{ℕ, Bool, List, Option, None, Some, Result}
+use Rattle.std.specs.Result.{result_map_both}
+use Rattle.filter_language.specs.declared.matchers.PatternFault.{PatternFault}
+use Rattle.filter_language.specs.declared.words.Field.{Field}
+use Rattle.filter_language.specs.declared.words.Field.TheVariants.{TestName, Package, Deps, Rdeps, BinaryId, BinaryName, Kind, Group}
+use Rattle.filter_language.specs.declared.words.Sign.{Sign}
+use Rattle.filter_matchers.specs.Matches.{question_of}
+use Rattle.filter_packages.specs.declared.graph.PackageGraph.{PackageGraph}
+use Rattle.filter_packages.specs.GraphView.{graph_view, has_member}
+use Rattle.filter_engine.specs.declared.compiling.FieldMatcher.{FieldMatcher}
+use Rattle.filter_engine.specs.declared.compiling.FieldMatcher.TheVariants.{Name, Members}
+use Rattle.filter_engine.specs.declared.engine.NextestFilters.{NextestFilters}
+use Rattle.filter_engine.specs.Members.{is_dependency, is_dependent}
+use Rattle.filter_engine.specs.Names.{question_in, asks}
+
+-- The names that a matcher in memory accepts.
+abbrev pub names_of : FieldMatcher → List ℕ → Bool
+names_of (Name pattern) = asks (question_of pattern.matcher)
+names_of (Members members) = has_member members
+
+-- The names of a field of which a pattern is asked: of `deps` and `rdeps` those of the members in
+-- their set.
+abbrev pub sought_with : PackageGraph → Field → (List ℕ → Bool) → List ℕ → Bool
+sought_with graph TestName accepts = accepts
+sought_with graph Package accepts = accepts
+sought_with graph Deps accepts = is_dependency (graph_view graph) accepts
+sought_with graph Rdeps accepts = is_dependent (graph_view graph) accepts
+sought_with graph BinaryId accepts = accepts
+sought_with graph BinaryName accepts = accepts
+sought_with graph Kind accepts = accepts
+sought_with graph Group accepts = accepts
+
+abbrev pub sought : Option PackageGraph → Field → (List ℕ → Bool) → List ℕ → Bool
+sought None field accepts = accepts
+sought (Some graph) field accepts = sought_with graph field accepts
+
+-- The names that a text asks for behind a sign, where a field is asked, or why it asks for none.
+abbrev pub compiled_in : NextestFilters → Field → Sign → List ℕ
+    → Result (List ℕ → Bool) PatternFault
+compiled_in engine field sign text =
+    result_map_both (λ question. sought engine.graph field (asks question)) (λ fault. fault)
+    (question_in sign text)

@@ -1,0 +1,132 @@
+//! What predicates ask of fields.
+ghost use Rattle.std.specs.Prelude.{◌≡◌, List, ℕ, Bool, is_some, IfOk};
+ghost use Rattle.filter_matchers.specs.Matches.{question_of};
+ghost use Rattle.filter_packages.specs.GraphView.{graph_view};
+ghost use Rattle.filter_engine.specs.Compiling.{names_of, sought_with, sought, compiled_in};
+ghost use Rattle.filter_engine.specs.Engine.{is_among};
+ghost use Rattle.filter_engine.specs.Members.{is_dependency, is_dependent};
+ghost use Rattle.filter_engine.specs.Names.{asks};
+
+use crate::engine::NextestFilters;
+use crate::names::NamePattern;
+use filter_language::{Field, Matchers, PatternFault, Sign};
+use nextest_engines::NameMatcher as NameTest;
+use filter_packages::{MemberSet, PackageGraph};
+use std::alloc::{AllocError, Global};
+
+/// What a predicate asks of the name that a field has.
+#[derive(Drop)]
+pub enum FieldMatcher {
+    /// That a pattern matches it.
+    Name(NamePattern),
+    /// That a member of the workspace in a set has it.
+    Members(MemberSet),
+}
+
+/// The members that a member with a matching name reaches.
+#[tactic(auto, using(crate::proofs::Members::dependencies_are))]
+fn dependencies(
+    alloc: Global,
+    graph: &PackageGraph,
+    pattern: &NamePattern,
+) -> Result<FieldMatcher, AllocError>
+    ensures { IfOk result (λ matcher. names_of matcher
+        ≡ is_dependency (graph_view graph.now) (asks (question_of pattern.now.matcher))) }
+{
+    let members = graph.dependencies_of(alloc, pattern)?;
+    Ok(FieldMatcher::Members(members))
+}
+
+/// The members that reach a member with a matching name.
+#[tactic(auto, using(crate::proofs::Members::dependents_are))]
+fn dependents(
+    alloc: Global,
+    graph: &PackageGraph,
+    pattern: &NamePattern,
+) -> Result<FieldMatcher, AllocError>
+    ensures { IfOk result (λ matcher. names_of matcher
+        ≡ is_dependent (graph_view graph.now) (asks (question_of pattern.now.matcher))) }
+{
+    let members = graph.dependents_of(alloc, pattern)?;
+    Ok(FieldMatcher::Members(members))
+}
+
+/// What a pattern asks of a field, where there is a package graph.
+fn field_matcher(
+    alloc: Global,
+    graph: &PackageGraph,
+    field: Field,
+    pattern: NamePattern,
+) -> Result<FieldMatcher, AllocError>
+    ensures { IfOk result (λ matcher. names_of matcher
+        ≡ sought_with graph.now field (asks (question_of pattern.matcher))) }
+{
+    match field {
+        Field::Deps => dependencies(alloc, graph, &pattern),
+        Field::Rdeps => dependents(alloc, graph, &pattern),
+        Field::TestName
+        | Field::Package
+        | Field::BinaryId
+        | Field::BinaryName
+        | Field::Kind
+        | Field::Group => Ok(FieldMatcher::Name(pattern)),
+    }
+}
+
+impl NextestFilters {
+    /// What a pattern asks of a field.
+    #[tactic(auto, using(crate::proofs::Sought::sought_known, crate::proofs::Sought::sought_unknown))]
+    fn matcher(
+        &self,
+        alloc: Global,
+        field: Field,
+        pattern: NamePattern,
+    ) -> Result<FieldMatcher, AllocError>
+        ensures { IfOk result (λ matcher. names_of matcher
+            ≡ sought self.now.graph field (asks (question_of pattern.matcher))) }
+    {
+        match &self.graph {
+            Some(graph) => field_matcher(alloc, graph, field, pattern),
+            None => Ok(FieldMatcher::Name(pattern)),
+        }
+    }
+}
+
+impl Matchers for NextestFilters {
+    type Matcher = FieldMatcher;
+
+    ghost Meaning = { List ℕ → Bool };
+
+    ghost meaning = { names_of };
+
+    ghost accepts = { is_among };
+
+    ghost compiled = { compiled_in };
+
+    ghost knows_packages = { λ engine. is_some engine.graph };
+
+    #[tactic(auto, using(crate::proofs::Sought::compiled_ok, crate::proofs::Sought::compiled_err))]
+    fn compile(
+        &self,
+        alloc: Global,
+        field: Field,
+        sign: Sign,
+        text: &str,
+    ) -> Result<Result<FieldMatcher, PatternFault>, AllocError> {
+        match NamePattern::compile(alloc, sign, text)? {
+            Ok(pattern) => Ok(Ok(self.matcher(alloc, field, pattern)?)),
+            Err(fault) => Ok(Err(fault)),
+        }
+    }
+
+    fn is_match(matcher: &FieldMatcher, name: &str) -> bool {
+        match matcher {
+            FieldMatcher::Name(pattern) => pattern.is_match(name),
+            FieldMatcher::Members(members) => members.contains(name),
+        }
+    }
+
+    fn has_package_graph(&self) -> bool {
+        self.graph.is_some()
+    }
+}

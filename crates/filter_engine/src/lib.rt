@@ -1,0 +1,20 @@
+//! The engine of nextest's filter language: what it asks of names, and of the packages of a workspace.
+//!
+//! A [`Filterset`] is read from a text for a kind, and says of a test or of a binary whether it
+//! matches. [`NextestFilters`] is the engine that a configuration reads its filters with. With a
+//! package graph it answers `deps` and `rdeps`, and without one it refuses them.
+#![tactic(auto)]
+
+mod compiling;
+mod engine;
+mod names;
+mod words;
+
+pub use compiling::FieldMatcher;
+pub use engine::{NextestFilters, NextestTally};
+pub use filter_language::{
+    Ban, FaultKind, Filterset, FiltersetFault, ParseFault, PatternFault, Span,
+};
+pub use names::NamePattern;
+pub use filter_packages::{MetadataFault, PackageGraph};
+pub use words::fault_words;

@@ -1,0 +1,103 @@
+//! What is asked of a name, by equality, as a part or by a pattern.
+ghost use Rattle.std.specs.Prelude.{◌≡◌, ◌<◌, ◌≤◌, ◌↔◌, List, ℕ, IfOk, OnOk, IsTrue, Err};
+ghost use Rattle.filter_matchers.specs.Globs.{IsGlob, IsPlain};
+ghost use Rattle.filter_matchers.specs.GlobDecisions.{glob_takes, writes_glob};
+ghost use Rattle.filter_matchers.specs.GlobSizes.{glob_size};
+ghost use Rattle.filter_matchers.specs.RegexTexts.{IsRegex};
+ghost use Rattle.filter_matchers.specs.RegexSizes.{most_states, regex_size};
+ghost use Rattle.filter_matchers.specs.Matches as asked;
+ghost use Rattle.filter_matchers.specs.Matches.{Matches, question_of};
+
+use crate::glob::{GlobFault, GlobMatcher};
+use crate::part_matcher::PartMatcher;
+use crate::regex_matcher::{RegexFault, RegexMatcher};
+use std::alloc::{AllocError, Global};
+
+/// What a filter asks of a name.
+#[derive(Drop)]
+pub enum NameMatcher {
+    /// The name is this text.
+    Equal(String),
+    /// The text is a part of the name.
+    Contains(PartMatcher),
+    /// The glob takes the whole name.
+    Glob(GlobMatcher),
+    /// The regular expression has a match somewhere in the name.
+    Regex(RegexMatcher),
+}
+
+impl NameMatcher {
+    /// Asks for a name that is this text.
+    pub fn equal(alloc: Global, text: &str) -> Result<NameMatcher, AllocError>
+        ensures { IfOk result (λ matcher. question_of matcher ≡ asked.equal text.now) }
+    {
+        Ok(NameMatcher::Equal(String::from_str(alloc, text)?))
+    }
+
+    /// Asks for a name of which this text is a part.
+    pub fn contains(alloc: Global, text: &str) -> Result<NameMatcher, AllocError>
+        ensures { IfOk result (λ matcher. question_of matcher ≡ asked.contains text.now) }
+    {
+        Ok(NameMatcher::Contains(PartMatcher::new(alloc, text)?))
+    }
+
+    /// Asks for a name that the glob of this text takes.
+    ///
+    /// # Errors
+    ///
+    /// [`GlobFault::Malformed`] where the text writes no glob, [`GlobFault::TooLarge`] where its
+    /// automaton may take more than 16,384 states, and [`GlobFault::Memory`] where memory ran out.
+    pub fn glob(alloc: Global, text: &str) -> Result<NameMatcher, GlobFault>
+        ensures asks { IfOk result (λ matcher. question_of matcher ≡ asked.glob text.now) }
+        ensures written { OnOk result (IsGlob text.now) }
+        ensures small { OnOk result (glob_size text.now ≤ most_states) }
+        ensures malformed { result ≡ Err GlobFault.Malformed → IsGlob text.now → ⊥ }
+        ensures large { result ≡ Err GlobFault.TooLarge
+            → IsGlob text.now × (most_states < glob_size text.now) }
+    {
+        Ok(NameMatcher::Glob(GlobMatcher::parse(alloc, text)?))
+    }
+
+    /// Asks for a name in which the regular expression of this text has a match.
+    ///
+    /// # Errors
+    ///
+    /// [`RegexFault::Malformed`] where the text writes no regular expression,
+    /// [`RegexFault::TooLarge`] where its automaton may take more than 16,384 states, and
+    /// [`RegexFault::Memory`] where memory ran out.
+    pub fn regex(alloc: Global, text: &str) -> Result<NameMatcher, RegexFault>
+        ensures asks { IfOk result (λ matcher. question_of matcher ≡ asked.regex text.now) }
+        ensures written { OnOk result (IsRegex text.now) }
+        ensures small { OnOk result (regex_size text.now ≤ most_states) }
+        ensures malformed { result ≡ Err RegexFault.Malformed → IsRegex text.now → ⊥ }
+        ensures large { result ≡ Err RegexFault.TooLarge
+            → IsRegex text.now × (most_states < regex_size text.now) }
+    {
+        Ok(NameMatcher::Regex(RegexMatcher::parse(alloc, text)?))
+    }
+
+    /// Whether a name has what is asked.
+    pub fn is_match(&self, name: &str) -> bool
+        ensures { IsTrue result ↔ Matches (question_of self.now) name.now }
+    {
+        match self {
+            NameMatcher::Equal(text) => text.as_str() == name,
+            NameMatcher::Contains(part) => part.has_match(name),
+            NameMatcher::Glob(glob) => glob.has_match(name),
+            NameMatcher::Regex(regex) => regex.has_match(name),
+        }
+    }
+}
+
+/// A law: a glob of no special byte takes the name that equals it.
+pub fn law_plain_glob()
+    ensures { (text name : List ℕ) → IsPlain text
+        → Matches (asked.glob text) name ↔ Matches (asked.equal text) name }
+{}
+
+/// A law: functions decide which texts write globs, and which names these take.
+pub fn law_decided_globs()
+    ensures written { (text : List ℕ) → IsTrue (writes_glob text) ↔ IsGlob text }
+    ensures taken { (text name : List ℕ)
+        → IsTrue (glob_takes text name) ↔ Matches (asked.glob text) name }
+{}

@@ -1,0 +1,178 @@
+//! The parts of the metadata from which a graph is made.
+ghost use Rattle.std.specs.Prelude.{◌≡◌, map, flat_map, position, Ok};
+ghost use Rattle.std.specs.Result.{result_map_both};
+ghost use Rattle.std.specs.Str.{bytes_eq};
+ghost use Rattle.serde_json.specs.View.{view};
+ghost use Rattle.filter_packages.specs.Metadata.{package_ids, package_names, package_of, member_at, members_of, edge_at, node_at, edges_of, text_under};
+ghost use Rattle.filter_packages.specs.Names.{names_view, ids_view};
+ghost use Rattle.filter_packages.specs.Results.{Reads, and_then, each};
+
+use crate::edges::Edge;
+use crate::fault::{MetadataFault, Place};
+use json_fields::Field;
+use serde_json::Value;
+use std::alloc::Global;
+
+/// The text under a key.
+fn text_under<'v>(value: &'v Value, key: &str, place: Place) -> Result<&'v str, MetadataFault>
+    ensures { result_map_both (λ text. text.now) (λ e. e) result
+        ≡ text_under key.now place (view value.now) }
+{
+    Ok(Field::under(value, key, place).text()?)
+}
+
+/// The ids of packages.
+#[tactic(auto, using(crate::proofs::Gathering::seen_start, crate::proofs::Gathering::seen_all))]
+pub fn package_ids(alloc: Global, packages: &[Value]) -> Result<Vec<&str>, MetadataFault>
+    ensures { Reads (λ ids. ids_view ids.items) result (package_ids (map view packages.now)) }
+{
+    let mut ids = Vec::new(alloc);
+    for (place, package) in packages.iter().enumerate() {
+        let id = text_under(package, "id", Place::PackageId(place))?;
+        ids.push(id)?;
+    }
+    Ok(ids)
+}
+
+/// The names of packages.
+#[tactic(auto, using(crate::proofs::Gathering::seen_start, crate::proofs::Gathering::seen_all))]
+pub fn package_names(alloc: Global, packages: &[Value]) -> Result<Vec<String>, MetadataFault>
+    ensures { Reads (λ names. names_view names.items) result
+        (package_names (map view packages.now)) }
+{
+    let mut names = Vec::new(alloc);
+    for (place, package) in packages.iter().enumerate() {
+        let name = text_under(package, "name", Place::PackageName(place))?;
+        names.push(String::from_str(alloc, name)?)?;
+    }
+    Ok(names)
+}
+
+/// The first place of an id, if it is there.
+fn place_of(ids: &[&str], id: &str) -> Option<usize>
+    ensures { result ≡ position (λ other. bytes_eq other.now id.now) ids.now }
+{
+    ids.iter().position(|other| *other == id)
+}
+
+/// The package of an id, by its place.
+fn package_of(ids: &[&str], id: &str, place: Place) -> Result<usize, MetadataFault>
+    ensures { result ≡ package_of (ids_view ids.now) place id.now }
+{
+    place_of(ids, id).ok_or(MetadataFault::UnknownPackage(place))
+}
+
+/// A member of the workspace, by the place of its package.
+fn member_at(ids: &[&str], place: usize, value: &Value) -> Result<usize, MetadataFault>
+    ensures { result ≡ member_at (ids_view ids.now) place (view value.now) }
+{
+    let place = Place::WorkspaceMember(place);
+    let id = Field {
+        found: Some(value),
+        place,
+    };
+    package_of(ids, id.text()?, place)
+}
+
+/// The members that a list of ids names.
+#[tactic(auto, using(crate::proofs::Gathering::seen_start, crate::proofs::Gathering::seen_step, crate::proofs::Gathering::seen_all))]
+fn member_list(alloc: Global, ids: &[&str], values: &[Value]) -> Result<Vec<usize>, MetadataFault>
+    ensures { Reads (λ members. members.items) result
+        (each (member_at (ids_view ids.now)) (map view values.now)) }
+{
+    let mut members = Vec::new(alloc);
+    for (place, value) in values.iter().enumerate() {
+        let member = member_at(ids, place, value)?;
+        members.push(member)?;
+    }
+    Ok(members)
+}
+
+/// The members of the workspace.
+pub fn members_of(
+    alloc: Global,
+    ids: &[&str],
+    metadata: &Value,
+) -> Result<Vec<usize>, MetadataFault>
+    ensures { Reads (λ members. members.items) result
+        (members_of (ids_view ids.now) (view metadata.now)) }
+{
+    let values = Field::under(metadata, "workspace_members", Place::WorkspaceMembers).list()?;
+    member_list(alloc, ids, values)
+}
+
+/// A dependency of a package.
+fn edge_at(
+    ids: &[&str],
+    node: usize,
+    from: usize,
+    place: usize,
+    value: &Value,
+) -> Result<Edge, MetadataFault>
+    ensures { result ≡ edge_at (ids_view ids.now) node from place (view value.now) }
+{
+    let place = Place::Dependency(node, place);
+    let id = text_under(value, "pkg", place)?;
+    let to = package_of(ids, id, place)?;
+    Ok(Edge { from, to })
+}
+
+/// The dependencies of a package.
+#[tactic(auto, using(crate::proofs::Gathering::seen_start, crate::proofs::Gathering::seen_step, crate::proofs::Gathering::seen_all))]
+fn edge_list(
+    alloc: Global,
+    ids: &[&str],
+    node: usize,
+    from: usize,
+    values: &[Value],
+) -> Result<Vec<Edge>, MetadataFault>
+    ensures { Reads (λ edges. edges.items) result
+        (each (edge_at (ids_view ids.now) node from) (map view values.now)) }
+{
+    let mut edges = Vec::new(alloc);
+    for (place, value) in values.iter().enumerate() {
+        let edge = edge_at(ids, node, from, place, value)?;
+        edges.push(edge)?;
+    }
+    Ok(edges)
+}
+
+/// The dependencies that a node lists.
+fn node_at(
+    alloc: Global,
+    ids: &[&str],
+    place: usize,
+    value: &Value,
+) -> Result<Vec<Edge>, MetadataFault>
+    ensures { Reads (λ edges. edges.items) result
+        (node_at (ids_view ids.now) place (view value.now)) }
+{
+    let id = text_under(value, "id", Place::NodeId(place))?;
+    let from = package_of(ids, id, Place::NodeId(place))?;
+    let values = Field::under(value, "deps", Place::Dependencies(place)).list()?;
+    edge_list(alloc, ids, place, from, values)
+}
+
+/// The dependencies that some nodes list.
+fn node_list(alloc: Global, ids: &[&str], nodes: &[Value]) -> Result<Vec<Edge>, MetadataFault>
+    ensures { Reads (λ edges. edges.items) result
+        (and_then (each (node_at (ids_view ids.now)) (map view nodes.now))
+        (λ lists. Ok (flat_map (λ edges. edges) lists))) }
+{
+    let mut edges = Vec::new(alloc);
+    for (place, node) in nodes.iter().enumerate() {
+        let listed = node_at(alloc, ids, place, node)?;
+        edges.extend_from_slice(&listed)?;
+    }
+    Ok(edges)
+}
+
+/// The dependencies of all packages.
+pub fn edges_of(alloc: Global, ids: &[&str], metadata: &Value) -> Result<Vec<Edge>, MetadataFault>
+    ensures { Reads (λ edges. edges.items) result
+        (edges_of (ids_view ids.now) (view metadata.now)) }
+{
+    let resolve = Field::under(metadata, "resolve", Place::Resolve).object()?;
+    let nodes = Field::under(resolve, "nodes", Place::Nodes).list()?;
+    node_list(alloc, ids, nodes)
+}

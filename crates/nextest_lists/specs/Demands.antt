@@ -1,0 +1,176 @@
+-- What has to stand where in a list of tests, and what is wrong where it does not.
+use Rattle.std.specs.Prelude.{ℕ, List, [], ◌∷◌, ◌++◌, Option, None, Some, is_some, option_map, option_and_then, unwrap_or, codes, flat_map, if◌then◌else◌}
+use Rattle.std.specs.List.{slice_get}
+use Rattle.std.specs.Option.{option_or}
+use Rattle.std.specs.Str.{bytes_eq}
+use Rattle.nextest_engines.specs.declared.queries.BuildPlatform.{BuildPlatform}
+use Rattle.nextest_engines.specs.declared.queries.BuildPlatform.TheVariants.{Host, Target}
+use Rattle.serde_json.specs.Data.{Data, null, string, Members, no_members, member}
+use Rattle.serde_json.specs.Find.{get, as_object}
+use Rattle.json_fields.specs.Parts.{a_list, fits, kind_of, under}
+use Rattle.json_fields.specs.declared.kind.Kind.{Kind}
+use Rattle.json_fields.specs.declared.kind.Wanted.{Wanted}
+use Rattle.json_fields.specs.declared.kind.Wanted.TheVariants as kinds
+use Rattle.nextest_lists.specs.declared.place.Place.{Place}
+use Rattle.nextest_lists.specs.declared.place.Place.TheVariants as places
+
+-- what a place has to hold: a value of a kind, or the name of a platform
+pub data Expected : Type 0 where
+  of_kind : Wanted → Expected
+  a_platform : Expected
+
+-- A demand: a place, by the keys that lead to it, what stands there, and what has to.
+pub record Demand : Type 0 where
+  pub place : List ℕ
+  pub found : Option Data
+  pub expected : Expected
+
+-- What is wrong with a text: it is no JSON, or at a place something is missing or is of another kind
+-- than is wanted, or names no platform.
+pub data Fault : Type 0 where
+  not_json : Fault
+  misfit : (place : List ℕ) → (expected : Wanted) → (given : Option Kind) → Fault
+  unknown_platform : (place given : List ℕ) → Fault
+
+-- the platform of a name
+abbrev pub platform_of : List ℕ → Option BuildPlatform
+platform_of name =
+    if bytes_eq name (codes "host") then Some Host
+    else (if bytes_eq name (codes "target") then Some Target else None)
+
+-- what is wrong with a value that has to be of a kind
+abbrev pub kind_fault : List ℕ → Wanted → Option Data → Option Fault
+kind_fault place kind found =
+    if fits kind found then None else Some (misfit place kind (option_map kind_of found))
+
+-- what is wrong with a text that has to name a platform
+abbrev pub name_fault : List ℕ → List ℕ → Option Fault
+name_fault place name =
+    if is_some (platform_of name) then None else Some (unknown_platform place name)
+
+-- what is wrong with a value that has to be the name of a platform
+abbrev pub platform_fault : List ℕ → Option Data → Option Fault
+platform_fault place (Some (string name)) = name_fault place name
+platform_fault place found = kind_fault place kinds.Text found
+
+-- what is wrong with what stands at a place
+abbrev pub fault_at : List ℕ → Option Data → Expected → Option Fault
+fault_at place found (of_kind kind) = kind_fault place kind found
+fault_at place found a_platform = platform_fault place found
+
+-- the fault of a demand, where it is not met
+abbrev pub fault_of : Demand → Option Fault
+fault_of demand = fault_at demand.place demand.found demand.expected
+
+-- the fault of the first demand that is not met
+abbrev pub first_fault : List Demand → Option Fault
+first_fault [] = None
+first_fault (demand ∷ demands) = option_or (fault_of demand) (first_fault demands)
+
+-- the place of the suite of an id
+abbrev pub suite_place : List ℕ → List ℕ
+suite_place id = codes "rust-suites." ++ id
+
+-- the place of what the suite of an id has at a key
+abbrev pub member_place : List ℕ → List ℕ → List ℕ
+member_place id key = suite_place id ++ codes "." ++ key
+
+-- the keys that lead to a place, with dots between them
+abbrev pub place_text : Place → List ℕ
+place_text (places.Platforms keys) = codes "rust-build-meta.platforms." ++ keys.now
+place_text places.Suites = codes "rust-suites"
+place_text (places.Suite id) = suite_place id.now
+place_text (places.Member id key) = member_place id.now key.now
+
+-- ---- the platforms of the build
+
+-- a value that is there and is not null
+abbrev pub if_given : Data → Option Data
+if_given null = None
+if_given d = Some d
+
+-- the platforms of the build, where a list has them
+abbrev pub platforms_in : Data → Option Data
+platforms_in document =
+    option_and_then (λ meta. option_and_then if_given (get (codes "platforms") meta))
+    (get (codes "rust-build-meta") document)
+
+-- the triple of a platform
+abbrev pub triple_in : Option Data → Option Data
+triple_in found = option_and_then (get (codes "triple"))
+    (option_and_then (get (codes "platform")) found)
+
+-- the first of the targets, if they are a list that has one
+abbrev pub first_target : Data → Option Data
+first_target platforms =
+    option_and_then (λ targets. slice_get targets 0) (under a_list (codes "targets") platforms)
+
+-- a value is demanded below the platforms of the build
+abbrev pub platforms_demand : List ℕ → Option Data → Wanted → Demand
+platforms_demand keys found kind = record {
+  place = codes "rust-build-meta.platforms." ++ keys;
+  found = found;
+  expected = of_kind kind;
+}
+
+-- the triple of a target is a text
+abbrev pub target_demands : Data → List Demand
+target_demands target = platforms_demand (codes "targets.0.platform.triple")
+    (triple_in (Some target)) kinds.Text ∷ []
+
+-- the first target has a triple, if there is a target
+abbrev pub first_target_demands : Option Data → List Demand
+first_target_demands found = unwrap_or (option_map target_demands found) []
+
+-- the host has a triple, the targets are a list, and the first one has a triple, if there is one
+abbrev pub platforms_demands : Data → List Demand
+platforms_demands platforms =
+    platforms_demand (codes "host.platform.triple") (triple_in (get (codes "host") platforms))
+    kinds.Text
+    ∷ platforms_demand (codes "targets") (get (codes "targets") platforms) kinds.List
+    ∷ first_target_demands (first_target platforms)
+
+-- what is demanded of the platforms of the build: nothing, where a list has none
+abbrev pub build_demands : Data → List Demand
+build_demands document = unwrap_or (option_map platforms_demands (platforms_in document)) []
+
+-- ---- suites
+
+-- the members of an object, each with its key
+abbrev pub listed : Members → List (List ℕ × Data)
+listed no_members = []
+listed (member key value members) = (key, value) ∷ listed members
+
+-- the members of an object that may be absent
+abbrev pub members_in : Option Data → List (List ℕ × Data)
+members_in found = unwrap_or (option_map listed (option_and_then as_object found)) []
+
+-- what a suite has at a key is demanded
+abbrev pub member_demand : List ℕ → Data → List ℕ → Expected → Demand
+member_demand id suite key expected =
+    record { place = member_place id key; found = get key suite; expected = expected }
+
+-- a suite is an object, and has the names and ids of its package and its binary, the kind of its
+-- target, a platform, and its tests
+abbrev pub suite_demands : List ℕ × Data → List Demand
+suite_demands (id, suite) =
+    record { place = suite_place id; found = Some suite; expected = of_kind kinds.Object }
+    ∷ member_demand id suite (codes "package-name") (of_kind kinds.Text)
+    ∷ member_demand id suite (codes "package-id") (of_kind kinds.Text)
+    ∷ member_demand id suite (codes "binary-id") (of_kind kinds.Text)
+    ∷ member_demand id suite (codes "binary-name") (of_kind kinds.Text)
+    ∷ member_demand id suite (codes "kind") (of_kind kinds.Text)
+    ∷ member_demand id suite (codes "build-platform") a_platform
+    ∷ member_demand id suite (codes "testcases") (of_kind kinds.Object)
+    ∷ []
+
+-- the suites are an object, and each of them is what a suite has to be
+abbrev pub suites_demands : Option Data → List Demand
+suites_demands found =
+    record { place = codes "rust-suites"; found = found; expected = of_kind kinds.Object }
+    ∷ flat_map suite_demands (members_in found)
+
+-- What is demanded of a list of tests, in order: first of the platforms of the build, then of the
+-- suites.
+abbrev pub demands : Data → List Demand
+demands document = build_demands document ++ suites_demands (get (codes "rust-suites") document)

@@ -1,0 +1,42 @@
+-- What contracts see of lists.
+use Rattle.std.specs.Prelude.{map, option_map, string_bytes}
+use Rattle.nextest_engines.specs.Engines.{Binary}
+use Rattle.nextest_lists.specs.Lists.{Listed, Triples, TestList}
+use Rattle.nextest_lists.specs.declared.list.ListedBinary.{ListedBinary}
+use Rattle.nextest_lists.specs.declared.list.ListedTests.{ListedTests}
+use Rattle.nextest_lists.specs.declared.platforms.Triples.{Triples as FoundTriples}
+
+-- what filters see of a binary of a list
+abbrev pub binary_view : ListedBinary → Binary
+binary_view b = record {
+  package_id = string_bytes b.package_id;
+  binary_id = string_bytes b.id;
+  kind = string_bytes b.kind;
+  binary_name = string_bytes b.name;
+  platform = b.platform;
+}
+
+-- a binary of a list
+abbrev pub listed_view : ListedBinary → Listed
+listed_view b = record {
+  binary = binary_view b;
+  package_name = string_bytes b.package_name;
+  tests = map string_bytes b.tests.items;
+}
+
+-- triples that were found
+abbrev pub triples_view : FoundTriples → Triples
+triples_view t = record {
+  host = option_map (λ text. text.now) t.host;
+  target = option_map (λ text. text.now) t.target;
+}
+
+-- a list
+abbrev pub list_view : ListedTests → TestList
+list_view list = record {
+  triples = record {
+    host = option_map string_bytes list.host;
+    target = option_map string_bytes list.target;
+  };
+  binaries = map listed_view list.binaries.items;
+}

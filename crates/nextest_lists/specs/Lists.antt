@@ -1,0 +1,75 @@
+-- Lists of tests, and what a document says of them.
+use Rattle.std.specs.Prelude.{◌≡◌, ℕ, List, map, Option, None, Some, MatchOption, option_map, codes, flat_map}
+use Rattle.std.specs.List.{AllZip}
+use Rattle.nextest_engines.specs.Engines.{Binary, Test}
+use Rattle.serde_json.specs.Data.{Data, string, object, Members}
+use Rattle.serde_json.specs.Find.{get}
+use Rattle.nextest_lists.specs.Demands.{first_target, listed, platform_of, platforms_in, triple_in}
+
+-- A binary of a list: what filters see of it, the name of its package, and the names of its tests.
+pub record Listed : Type 0 where
+  pub binary : Binary
+  pub package_name : List ℕ
+  pub tests : List (List ℕ)
+
+-- the triples of a build: that of the host, and that of the target, where they are known
+pub record Triples : Type 0 where
+  pub host : Option (List ℕ)
+  pub target : Option (List ℕ)
+
+-- A list of tests: the triples of the build, and the binaries.
+pub record TestList : Type 0 where
+  pub triples : Triples
+  pub binaries : List Listed
+
+-- the tests of a binary
+abbrev pub tests_in : Listed → List Test
+tests_in b = map (λ name. record { binary = b.binary; name = name }) b.tests
+
+-- the tests of a list, in order
+abbrev pub all_tests : TestList → List Test
+all_tests list = flat_map tests_in list.binaries
+
+-- the binaries of a list, in order
+abbrev pub all_binaries : TestList → List Binary
+all_binaries list = map (λ b. b.binary) list.binaries
+
+-- the keys of an object
+abbrev pub keys : Members → List (List ℕ)
+keys members = map (λ m. m.0) (listed members)
+
+-- the values of an object
+abbrev pub values : Members → List Data
+values members = map (λ m. m.1) (listed members)
+
+-- A suite is that of a binary: it says each thing of the binary, and its tests are the keys of its
+-- test cases.
+pub record IsSuiteOf (suite : Data) (b : Listed) : Type 0 where
+  pub package_name : get (codes "package-name") suite ≡ Some (string b.package_name)
+  pub package_id : get (codes "package-id") suite ≡ Some (string b.binary.package_id)
+  pub binary_id : get (codes "binary-id") suite ≡ Some (string b.binary.binary_id)
+  pub binary_name : get (codes "binary-name") suite ≡ Some (string b.binary.binary_name)
+  pub kind : get (codes "kind") suite ≡ Some (string b.binary.kind)
+  pub platform_name : List ℕ
+  pub platform_stands : get (codes "build-platform") suite ≡ Some (string platform_name)
+  pub platform : platform_of platform_name ≡ Some b.binary.platform
+  pub cases : Members
+  pub cases_stand : get (codes "testcases") suite ≡ Some (object cases)
+  pub tests : b.tests ≡ keys cases
+
+-- Triples are those that the platforms of a build have: of the host, and of the first target.
+pub record AreTriplesIn (platforms : Data) (triples : Triples) : Type 0 where
+  pub host : triple_in (get (codes "host") platforms) ≡ option_map string triples.host
+  pub target : triple_in (first_target platforms) ≡ option_map string triples.target
+
+-- Triples are those that a document says: none, where it has no platforms of the build.
+abbrev pub AreTriples : Data → Triples → Type 0
+AreTriples document triples = MatchOption (platforms_in document)
+    (triples ≡ record { host = None; target = None }) (λ p. AreTriplesIn p triples)
+
+-- A list is what a document says: the triples of the build, and a binary for each suite, in order.
+pub record IsListOf (document : Data) (list : TestList) : Type 0 where
+  pub triples : AreTriples document list.triples
+  pub suites : Members
+  pub suites_stand : get (codes "rust-suites") document ≡ Some (object suites)
+  pub binaries : AllZip IsSuiteOf (values suites) list.binaries

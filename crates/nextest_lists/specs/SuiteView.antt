@@ -1,0 +1,18 @@
+-- What contracts see of suites.
+use Rattle.serde_json.specs.View.{members_view}
+use Rattle.nextest_lists.specs.Lists.{Listed, keys}
+use Rattle.nextest_lists.specs.declared.suites.Suite.{Suite}
+
+-- the binary that a suite says
+abbrev pub suite_view : Suite → Listed
+suite_view suite = record {
+  binary = record {
+    package_id = suite.package_id.now;
+    binary_id = suite.binary_id.now;
+    kind = suite.kind.now;
+    binary_name = suite.binary_name.now;
+    platform = suite.platform;
+  };
+  package_name = suite.package_name.now;
+  tests = keys (members_view suite.cases.now.entries);
+}

@@ -1,0 +1,104 @@
+//! Lists of tests.
+ghost use Rattle.std.specs.Prelude.{◌≡◌, ◌++◌, IfOk, map, string_bytes};
+ghost use Rattle.nextest_engines.specs.Engines.{binary_view as query_view, test_view};
+ghost use Rattle.nextest_lists.specs.Lists.{all_binaries, all_tests, tests_in};
+ghost use Rattle.nextest_lists.specs.ListView.{binary_view, list_view, listed_view};
+
+use nextest_engines::{BinaryQuery, BuildPlatform, TestQuery};
+use std::alloc::{AllocError, Global};
+
+/// A binary of a list, and its tests.
+#[derive(Debug, Drop)]
+pub struct ListedBinary {
+    /// The name of its package.
+    pub package_name: String,
+    /// The id of its package, as cargo writes it.
+    pub package_id: String,
+    /// Its id, as nextest writes it.
+    pub id: String,
+    /// The name of its target.
+    pub name: String,
+    /// The kind of its target.
+    pub kind: String,
+    /// For which of the platforms of the build it is built.
+    pub platform: BuildPlatform,
+    /// The names of its tests, in the order of their bytes.
+    pub tests: Vec<String>,
+}
+
+impl ListedBinary {
+    /// The binary, as filters see it.
+    pub fn binary_query(&self) -> BinaryQuery<'_>
+        ensures { query_view result ≡ binary_view self.now }
+    {
+        BinaryQuery {
+            package_id: &self.package_id,
+            binary_id: &self.id,
+            kind: &self.kind,
+            binary_name: &self.name,
+            platform: self.platform,
+        }
+    }
+
+    /// A test of the binary, as filters see it.
+    pub fn query<'a>(&'a self, test: &'a str) -> TestQuery<'a>
+        ensures { test_view result ≡ record { binary = binary_view self.now; name = test.now } }
+    {
+        TestQuery {
+            binary_query: self.binary_query(),
+            test_name: test,
+        }
+    }
+}
+
+/// The tests of a list, by the binaries in which they are, and the triples that it is of.
+#[derive(Debug, Drop)]
+pub struct ListedTests {
+    /// The triple of the machine that builds, if the list has the platforms of the build.
+    pub host: Option<String>,
+    /// The triple that is built for, if the list has one: the first, where there are several.
+    pub target: Option<String>,
+    /// The binaries, in the order of the keys at which they stand.
+    pub binaries: Vec<ListedBinary>,
+}
+
+/// Some tests, and then those of a binary.
+fn with_tests<'a>(
+    found: Vec<TestQuery<'a>>,
+    binary: &'a ListedBinary,
+) -> Result<Vec<TestQuery<'a>>, AllocError>
+    ensures { IfOk result (λ more. map test_view more.items
+        ≡ map test_view found.entry.items ++ tests_in (listed_view binary.now)) }
+{
+    let mut found = found;
+    for test in &binary.tests {
+        found.push(binary.query(test.as_str()))?;
+    }
+    Ok(found)
+}
+
+impl ListedTests {
+    /// The tests of all binaries, in order, as filters see them.
+    pub fn queries(&self, alloc: Global) -> Result<Vec<TestQuery<'_>>, AllocError>
+        ensures { IfOk result (λ queries. map test_view queries.items
+            ≡ all_tests (list_view self.now)) }
+    {
+        let mut queries = Vec::new(alloc);
+        for binary in &self.binaries {
+            queries = with_tests(queries, binary)?;
+        }
+        Ok(queries)
+    }
+
+    /// All binaries, in order, as filters see them. Some may have no tests.
+    pub fn binary_queries(&self, alloc: Global) -> Result<Vec<BinaryQuery<'_>>, AllocError>
+        ensures { IfOk result (λ queries. map query_view queries.items
+            ≡ all_binaries (list_view self.now)) }
+    {
+        let mut queries = Vec::new(alloc);
+        for binary in &self.binaries {
+            queries.push(binary.binary_query())?;
+        }
+        Ok(queries)
+    }
+}

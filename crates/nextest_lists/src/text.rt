@@ -1,0 +1,76 @@
+//! Reading a list of tests.
+ghost use Rattle.std.specs.Prelude.{◌≡◌, None, IfOk, IfErr, IfSome, option_map, string_bytes};
+ghost use Rattle.serde_json.specs.Errors.{IsMemory};
+ghost use Rattle.serde_json.specs.View.{view};
+ghost use Rattle.nextest_lists.specs.Demands.{demands, first_fault, not_json};
+ghost use Rattle.nextest_lists.specs.Faults.{fault_view, TellsFirst};
+ghost use Rattle.nextest_lists.specs.Lists.{IsListOf};
+ghost use Rattle.nextest_lists.specs.ListView.{list_view};
+ghost use Rattle.nextest_lists.specs.Reading.{IsListIn, IsFaultIn};
+
+use crate::fault::ListFault;
+use crate::list::ListedTests;
+use crate::platforms::triples_of;
+use crate::suites::binaries_of;
+use serde_json::{Error, Value};
+use std::alloc::{AllocError, Global};
+
+/// A copy of a text, if there is one.
+fn copied(alloc: Global, text: Option<&str>) -> Result<Option<String>, AllocError>
+    ensures { IfOk result (λ copy. option_map string_bytes copy
+        ≡ option_map (λ text. text.now) text.entry) }
+{
+    match text {
+        Some(text) => Ok(Some(String::from_str(alloc, text)?)),
+        None => Ok(None),
+    }
+}
+
+/// The tests that a document lists.
+fn tests_in(alloc: Global, document: &Value) -> Result<ListedTests, ListFault>
+    ensures ok { IfOk result (λ list. IsListOf (view document.now) (list_view list)) }
+    ensures met { IfOk result (λ _. first_fault (demands (view document.now)) ≡ None) }
+    ensures err { IfErr result (TellsFirst (demands (view document.now))) }
+{
+    let triples = triples_of(alloc, document)?;
+    let binaries = binaries_of(alloc, document)?;
+    Ok(ListedTests {
+        host: copied(alloc, triples.host)?,
+        target: copied(alloc, triples.target)?,
+        binaries,
+    })
+}
+
+/// That a text is not read as JSON.
+fn fault_of(error: &Error) -> ListFault
+    ensures { IfSome (fault_view result) (λ fault. (¬ IsMemory error.now) × (fault ≡ not_json)) }
+{
+    if error.is_memory() {
+        return ListFault::Memory;
+    }
+    ListFault::NotJson {
+        line: error.line(),
+        column: error.column(),
+    }
+}
+
+/// The tests of the JSON that `cargo nextest list --message-format json` writes.
+///
+/// Suites and test cases are in the order of the bytes of their keys. Of several targets the first
+/// one counts. What a list of tests is not made of may have any shape.
+///
+/// # Errors
+///
+/// The text is no JSON, or the first fault in this order: the triple of the host, the targets and
+/// the triple of the first one, where `rust-build-meta` has `platforms` that are not null;
+/// `rust-suites`; of each suite its shape, `package-name`, `package-id`, `binary-id`, `binary-name`,
+/// `kind`, `build-platform`, `testcases`. [`ListFault::Memory`] where there was none.
+pub fn tests_of(alloc: Global, text: &str) -> Result<ListedTests, ListFault>
+    ensures tests { IfOk result (λ list. IsListIn text.now (list_view list)) }
+    ensures fault { IfErr result (λ fault. IfSome (fault_view fault) (IsFaultIn text.now)) }
+{
+    match Value::from_str(alloc, text) {
+        Ok(document) => tests_in(alloc, &document),
+        Err(error) => Err(fault_of(&error)),
+    }
+}

@@ -1,0 +1,47 @@
+//! What is read of a list, and the faults of what is not.
+ghost use Rattle.std.specs.Prelude.{◌≡◌, Some, IfOk, IfErr};
+ghost use Rattle.serde_json.specs.Data.{string, object};
+ghost use Rattle.serde_json.specs.View.{members_view};
+ghost use Rattle.json_fields.specs.Fields.{found_at};
+ghost use Rattle.json_fields.specs.declared.kind.Wanted.TheVariants.{Text, Object};
+ghost use Rattle.nextest_lists.specs.Faults.{IsRead, Tells, demand_at};
+
+use crate::fault::ListFault;
+use crate::place::Place;
+use json_fields::{Field, Misfit};
+use serde_json::{Map, Value};
+use std::alloc::Global;
+
+/// What was read, or the fault of a misfit, with the keys that lead to its place.
+pub fn or_fault<T>(alloc: Global, read: Result<T, Misfit<Place<'_>>>) -> Result<T, ListFault>
+    ensures { IsRead read.entry result }
+{
+    match read {
+        Ok(value) => Ok(value),
+        Err(misfit) => Err(ListFault::Misfit(Misfit {
+            place: misfit.place.text(alloc)?,
+            wanted: misfit.wanted,
+            given: misfit.given,
+        })),
+    }
+}
+
+/// The text at a place.
+pub fn text_at<'v>(alloc: Global, field: Field<'v, Place<'_>>) -> Result<&'v str, ListFault>
+    ensures ok { IfOk result (λ text. found_at field.entry ≡ Some (string text.now)) }
+    ensures err { IfErr result (Tells (demand_at field.entry Text)) }
+{
+    or_fault(alloc, field.text())
+}
+
+/// The members of the object at a place.
+pub fn members_at<'v>(
+    alloc: Global,
+    field: Field<'v, Place<'_>>,
+) -> Result<&'v Map<String, Value>, ListFault>
+    ensures ok { IfOk result (λ members.
+        found_at field.entry ≡ Some (object (members_view members.now.entries))) }
+    ensures err { IfErr result (Tells (demand_at field.entry Object)) }
+{
+    or_fault(alloc, field.members())
+}

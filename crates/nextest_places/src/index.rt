@@ -1,0 +1,82 @@
+//! An index of a document's text: which lines bring what stands at its paths.
+ghost use Rattle.std.specs.Prelude.{◌≡◌, IfOk, MatchOption};
+ghost use Rattle.nextest_places.specs.Entries.{IsWaiting, found, scan, waits};
+ghost use Rattle.nextest_places.specs.Index.{IsIndex, first_with, lines_in};
+ghost use Rattle.nextest_places.specs.Lines.{line_count};
+ghost use Rattle.nextest_places.specs.Marks.{fresh};
+ghost use Rattle.nextest_places.specs.Search.{IsDocument};
+
+use crate::entry::{Cursor, Entry, turned};
+use crate::fronts::{Front, Fronts, fronts_behind};
+use crate::id_lines::Wanted;
+use crate::place::Lines;
+use crate::step::{Step, has_path};
+use crate::walk::entries_of;
+use std::alloc::{AllocError, Global};
+
+/// Which lines of a document's text bring what stands at its paths.
+#[derive(Drop)]
+pub(crate) struct Index {
+    /// Its expressions in order, as far as they were read one by one.
+    pub(crate) entries: Vec<Entry>,
+    /// The documents that end behind these, but the last one.
+    pub(crate) fronts: Vec<Front>,
+    /// The lines behind them, which may be none.
+    pub(crate) rest: Lines,
+}
+
+impl Index {
+    /// The index of a text that is a document.
+    pub(crate) fn of(alloc: Global, text: &str) -> Result<Index, AllocError>
+        requires { IsDocument text.now (line_count text.now) }
+        ensures { IfOk result (IsIndex text.now) }
+    {
+        let (entries, low) = entries_of(alloc, text, &mut Wanted::All)?;
+        let (fronts, rest) = fronts_behind(alloc, &Fronts::of(alloc, text)?, low)?;
+        Ok(Index {
+            entries,
+            fronts,
+            rest,
+        })
+    }
+
+    /// The lines that bring what stands at a path of the document.
+    pub(crate) fn lines_of(&self, path: &[Step]) -> Lines
+        ensures { result ≡ lines_in self.now path.now }
+    {
+        match lines_by_entries(&self.entries, path) {
+            Some(lines) => lines,
+            None => lines_by_fronts(&self.fronts, path).unwrap_or(self.rest),
+        }
+    }
+}
+
+/// The lines of the entry that brings what stands at a path, if one does.
+fn lines_by_entries(entries: &[Entry], path: &[Step]) -> Option<Lines>
+    ensures { let outcome = scan entries.now (waits (fresh path.now)) in
+        MatchOption result (IsWaiting outcome) (λ lines. outcome ≡ found lines) }
+{
+    let mut cursor = Cursor {
+        entered: 0,
+        count: 0,
+    };
+    for entry in entries {
+        match turned(cursor, entry, path) {
+            Some(next) => cursor = next,
+            None => return Some(entry.lines),
+        }
+    }
+    None
+}
+
+/// The lines of the first front that has a path, if one does.
+pub(crate) fn lines_by_fronts(fronts: &[Front], path: &[Step]) -> Option<Lines>
+    ensures { result ≡ first_with path.now fronts.now }
+{
+    for front in fronts {
+        if has_path(&front.document, path) {
+            return Some(front.lines);
+        }
+    }
+    None
+}

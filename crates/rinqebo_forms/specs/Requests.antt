@@ -1,0 +1,183 @@
+-- What a request in JSON says.
+use Rattle.std.specs.Prelude.{ℕ, List, [], ◌∷◌, Option, None, Some, codes, option_and_then, option_map, map, string_bytes, if◌then◌else◌}
+use Rattle.std.specs.Str.{bytes_eq}
+use Rattle.serde_json.specs.Data.{Data}
+use Rattle.serde_json.specs.Read.{read}
+use Rattle.nextest_sources.specs.Sources.{Outcome, text, not_found, not_a_directory, failed, InputFile, file_view, ToolFile, tool_file_view}
+use Rattle.nextest_texts.specs.Identifier.{is_part}
+use Rattle.serde_json.specs.Find.{as_bool, as_null, as_str}
+use Rattle.json_fields.specs.Parts.{a_list, an_object, optional_object, optional_text, under}
+use Rattle.rinqebo_forms.specs.declared.outcome.OutcomeKind.{OutcomeKind}
+use Rattle.rinqebo_forms.specs.declared.outcome.OutcomeKind.TheVariants as outcomes
+use Rattle.rinqebo_forms.specs.declared.request.Machine.{Machine}
+use Rattle.rinqebo_forms.specs.declared.request.Switches.{Switches}
+use Rattle.rinqebo_forms.specs.declared.request.LoadRequest.{LoadRequest}
+
+-- A machine: its triple, and what the compiler prints for it, if that is given.
+pub record MachineText : Type 0 where
+  pub triple : List ℕ
+  pub cfg : Option (List ℕ)
+
+-- What a session is made of, as texts.
+pub record RequestText : Type 0 where
+  pub root : List ℕ
+  pub shared : InputFile
+  pub config_file : Option InputFile
+  pub organisation_file : Option InputFile
+  pub tools : List ToolFile
+  pub features : Switches
+  pub metadata : Option (List ℕ)
+  pub host : MachineText
+  pub target : Option MachineText
+
+-- what contracts see of a machine
+abbrev pub machine_view : Machine → MachineText
+machine_view m = record { triple = string_bytes m.triple; cfg = option_map string_bytes m.cfg }
+
+-- what contracts see of a request
+abbrev pub request_view : LoadRequest → RequestText
+request_view r = record {
+  root = string_bytes r.paths.workspace_root;
+  shared = file_view r.paths.shared;
+  config_file = option_map file_view r.config_file;
+  organisation_file = option_map file_view r.organisation_file;
+  tools = map tool_file_view r.tools.items;
+  features = r.features;
+  metadata = option_map string_bytes r.metadata;
+  host = machine_view r.host;
+  target = option_map machine_view r.target;
+}
+
+-- ---- parts of a request
+
+-- what came of reading a file, by the word that stands for it
+abbrev pub kind_of : List ℕ → Option OutcomeKind
+kind_of word =
+    if bytes_eq word (codes "text") then Some outcomes.Text
+    else (if bytes_eq word (codes "not-found") then Some outcomes.NotFound
+    else (if bytes_eq word (codes "not-a-directory") then Some outcomes.NotADirectory
+    else (if bytes_eq word (codes "failed") then Some outcomes.Failed else None)))
+
+-- the same of the word under a key
+abbrev pub kind_at : List ℕ → Data → Option OutcomeKind
+kind_at key value = option_and_then kind_of (under as_str key value)
+
+-- what came of reading a file, where its `text` is what such an outcome has: its text, or the message
+-- of a failure, or else `null`
+abbrev pub outcome_of : OutcomeKind → Data → Option Outcome
+outcome_of outcomes.Text value = option_map text (under as_str (codes "text") value)
+outcome_of outcomes.NotFound value =
+    option_map (λ nothing. not_found) (under as_null (codes "text") value)
+outcome_of outcomes.NotADirectory value =
+    option_map (λ nothing. not_a_directory) (under as_null (codes "text") value)
+outcome_of outcomes.Failed value = option_map failed (under as_str (codes "text") value)
+
+-- what came of reading the file that an object says, by `outcome` and `text`
+abbrev pub outcome_in : Data → Option Outcome
+outcome_in value =
+    option_and_then (λ kind. outcome_of kind value) (kind_at (codes "outcome") value)
+
+-- the file that an object says, by `path`, `outcome` and `text`
+abbrev pub file_in : Data → Option InputFile
+file_in value =
+    option_and_then (λ path. option_map (λ outcome. record { path = path; outcome = outcome })
+    (outcome_in value)) (under as_str (codes "path") value)
+
+-- the file of an object, or none where there is no object
+abbrev pub file_if : Option Data → Option (Option InputFile)
+file_if None = Some None
+file_if (Some value) = option_map Some (file_in value)
+
+-- the file that a user named in place of the repository's own: the object under `config-file`, or none
+-- where `null` stands there
+abbrev pub config_file_in : Data → Option (Option InputFile)
+config_file_in value = option_and_then file_if (under optional_object (codes "config-file") value)
+
+-- the organisation's file: the object under `organisation-config-file`, or none where `null` stands
+-- there
+abbrev pub organisation_file_in : Data → Option (Option InputFile)
+organisation_file_in value =
+    option_and_then file_if (under optional_object (codes "organisation-config-file") value)
+
+-- the name of a tool that an object says
+abbrev pub tool_name_in : Data → Option (List ℕ)
+tool_name_in value =
+    option_and_then (λ name. if is_part name then Some name else None)
+    (under as_str (codes "tool") value)
+
+-- the file of a tool that an object says
+abbrev pub tool_in : Data → Option ToolFile
+tool_in value =
+    option_and_then (λ tool. option_map (λ file. record { tool = tool; file = file })
+    (file_in value)) (tool_name_in value)
+
+-- what each element says, if each says something
+unfoldable pub all_said : {A B : Type 0} → (A → Option B) → List A → Option (List B)
+all_said f [] = Some []
+all_said f (x ∷ xs) = option_and_then (λ y. option_map (λ ys. y ∷ ys) (all_said f xs)) (f x)
+
+-- the files of tools that a list says
+abbrev pub tools_in : List Data → Option (List ToolFile)
+tools_in values = all_said tool_in values
+
+-- the machine that an object says, by `triple` and `cfg`
+abbrev pub machine_in : Data → Option MachineText
+machine_in value =
+    option_and_then (λ triple. option_map (λ cfg. record { triple = triple; cfg = cfg })
+    (under optional_text (codes "cfg") value)) (under as_str (codes "triple") value)
+
+-- the machine of an object, or none where there is no object
+abbrev pub machine_if : Option Data → Option (Option MachineText)
+machine_if None = Some None
+machine_if (Some value) = option_map Some (machine_in value)
+
+-- the machine that is built for: the object under `target`, or none where `null` stands there
+abbrev pub target_in : Data → Option (Option MachineText)
+target_in value = option_and_then machine_if (under optional_object (codes "target") value)
+
+-- the features that an object switches on
+abbrev pub switches_in : Data → Option Switches
+switches_in value =
+    option_and_then (λ setup. option_map (λ wrapper. record {
+      setup_scripts = setup;
+      wrapper_scripts = wrapper;
+    }) (under as_bool (codes "wrapper-scripts") value))
+    (under as_bool (codes "setup-scripts") value)
+
+-- ---- the request
+
+-- what a value says: its `root`, `file`, `config-file`, `organisation-config-file`, `tools`,
+-- `features`, `metadata`, `host` and `target`
+unfoldable pub request_in : Data → Option RequestText
+request_in value =
+    option_and_then (λ root.
+    option_and_then (λ shared.
+    option_and_then (λ config_file.
+    option_and_then (λ organisation_file.
+    option_and_then (λ tools.
+    option_and_then (λ features.
+    option_and_then (λ metadata.
+    option_and_then (λ host.
+    option_map (λ target. record {
+      root = root;
+      shared = shared;
+      config_file = config_file;
+      organisation_file = organisation_file;
+      tools = tools;
+      features = features;
+      metadata = metadata;
+      host = host;
+      target = target;
+    }) (target_in value))
+    (option_and_then machine_in (under an_object (codes "host") value)))
+    (under optional_text (codes "metadata") value))
+    (option_and_then switches_in (under an_object (codes "features") value)))
+    (option_and_then tools_in (under a_list (codes "tools") value)))
+    (organisation_file_in value))
+    (config_file_in value))
+    (option_and_then file_in (under an_object (codes "file") value)))
+    (under as_str (codes "root") value)
+
+-- what a text says in JSON
+abbrev pub request_of : List ℕ → Option RequestText
+request_of t = option_and_then request_in (read t)

@@ -1,0 +1,57 @@
+-- What a request for a whole run says.
+use Rattle.std.specs.Prelude.{ℕ, List, Option, None, Some, codes, option_and_then, option_map, string_bytes, if◌then◌else◌}
+use Rattle.std.specs.Str.{bytes_eq}
+use Rattle.serde_json.specs.Data.{Data}
+use Rattle.serde_json.specs.Read.{read}
+use Rattle.nextest_elements.specs.declared.run_mode.NextestRunMode.{NextestRunMode}
+use Rattle.nextest_elements.specs.declared.run_mode.NextestRunMode.TheVariants.{Test, Benchmark}
+use Rattle.serde_json.specs.Find.{as_str}
+use Rattle.json_fields.specs.Parts.{under}
+use Rattle.rinqebo_forms.specs.Requests.{RequestText, request_in, request_view}
+use Rattle.rinqebo_forms.specs.declared.run_request.RunRequest.{RunRequest}
+
+-- What a run is asked: what is loaded, for which profile and mode, and what lists the tests.
+pub record RunText : Type 0 where
+  pub load : RequestText
+  pub profile : List ℕ
+  pub mode : NextestRunMode
+  pub list : List ℕ
+
+-- what contracts see of a request for a run
+abbrev pub run_view : RunRequest → RunText
+run_view r = record {
+  load = request_view r.load;
+  profile = string_bytes r.profile;
+  mode = r.mode;
+  list = string_bytes r.list;
+}
+
+-- the mode of a word
+abbrev pub mode_of : List ℕ → Option NextestRunMode
+mode_of word =
+    if bytes_eq word (codes "test") then Some Test
+    else (if bytes_eq word (codes "benchmark") then Some Benchmark else None)
+
+-- the mode whose word stands under a key
+abbrev pub mode_at : List ℕ → Data → Option NextestRunMode
+mode_at key value = option_and_then mode_of (under as_str key value)
+
+-- what a value says: its `profile`, `mode` and `list`, and what a session would be loaded from
+unfoldable pub run_in : Data → Option RunText
+run_in value =
+    option_and_then (λ profile.
+    option_and_then (λ mode.
+    option_and_then (λ list.
+    option_map (λ load. record {
+      load = load;
+      profile = profile;
+      mode = mode;
+      list = list;
+    }) (request_in value))
+    (under as_str (codes "list") value))
+    (mode_at (codes "mode") value))
+    (under as_str (codes "profile") value)
+
+-- what a text says of a run in JSON
+abbrev pub run_of : List ℕ → Option RunText
+run_of t = option_and_then run_in (read t)

@@ -1,0 +1,154 @@
+//! Why a request is not understood.
+use json_fields::{Field, Misfit};
+use serde_json::Value;
+use std::alloc::{AllocError, AllocFailed};
+use std::fmt;
+use thiserror::Error;
+
+/// What a part of a request stands in.
+#[derive(Clone, Copy, Debug, PartialEq, Eq, Drop)]
+pub enum Holder {
+    /// The request itself.
+    Request,
+    /// The repository's own file.
+    File,
+    /// The file that a user named in its place.
+    ConfigFile,
+    /// The organisation's file.
+    OrganisationConfigFile,
+    /// The file of a tool, by its place.
+    Tool(usize),
+    /// The experimental features.
+    Features,
+    /// The machine that builds.
+    Host,
+    /// The machine that is built for.
+    Target,
+}
+
+impl fmt::Display for Holder {
+    fn fmt<W: fmt::Write>(&self, f: &mut fmt::Formatter<W>) -> fmt::Result {
+        match self {
+            Holder::Request => Ok(()),
+            Holder::File => f.write_str("file."),
+            Holder::ConfigFile => f.write_str("config-file."),
+            Holder::OrganisationConfigFile => f.write_str("organisation-config-file."),
+            Holder::Tool(place) => write!(f, "tools[{place}]."),
+            Holder::Features => f.write_str("features."),
+            Holder::Host => f.write_str("host."),
+            Holder::Target => f.write_str("target."),
+        }
+    }
+}
+
+impl Holder {
+    ghost use Rattle.std.specs.Prelude.{◌≡◌};
+
+    /// The place of a key that it has.
+    pub fn at(self, key: &'static str) -> Place
+        ensures { result.key.now ≡ key.now }
+    {
+        Place { holder: self, key }
+    }
+}
+
+/// A part of a request: what stands under a key.
+#[derive(Clone, Copy, Debug, PartialEq, Eq, Drop)]
+pub struct Place {
+    /// What has the key.
+    pub holder: Holder,
+    /// The key.
+    pub key: &'static str,
+}
+
+impl fmt::Display for Place {
+    fn fmt<W: fmt::Write>(&self, f: &mut fmt::Formatter<W>) -> fmt::Result {
+        write!(f, "{}{}", self.holder, self.key)
+    }
+}
+
+impl Place {
+    ghost use Rattle.std.specs.Prelude.{◌≡◌};
+    ghost use Rattle.serde_json.specs.Find.{get};
+    ghost use Rattle.serde_json.specs.View.{view};
+    ghost use Rattle.json_fields.specs.Fields.{found_at};
+
+    /// What stands at the place, by the value of its holder.
+    pub(crate) fn of(self, value: &Value) -> Field<'_, Place>
+        ensures { found_at result ≡ get self.key.now (view value.now) }
+    {
+        Field::under(value, self.key, self)
+    }
+}
+
+/// What is to stand at a place.
+#[derive(Clone, Copy, Debug, PartialEq, Eq, Drop)]
+pub enum Wanted {
+    /// A JSON value of a kind.
+    Value(json_fields::Wanted),
+    /// The name of a tool.
+    ToolName,
+    /// What came of reading a file.
+    Outcome,
+    /// For what tests are run.
+    Mode,
+}
+
+impl fmt::Display for Wanted {
+    fn fmt<W: fmt::Write>(&self, f: &mut fmt::Formatter<W>) -> fmt::Result {
+        match self {
+            Wanted::Value(wanted) => write!(f, "{wanted}"),
+            Wanted::ToolName => f.write_str("the name of a tool"),
+            Wanted::Outcome => f.write_str("text, not-found, not-a-directory or failed"),
+            Wanted::Mode => f.write_str("test or benchmark"),
+        }
+    }
+}
+
+/// Why a request is not understood.
+#[derive(Clone, Copy, Debug, PartialEq, Eq, Drop, Error)]
+pub enum RequestFault {
+    /// The text is no JSON.
+    #[error("the request is no JSON")]
+    NotJson,
+    /// Something else stands at the place, or nothing.
+    #[error("expected {0} at `{1}`")]
+    Expected(Wanted, Place),
+    /// Want of memory.
+    #[error("out of memory")]
+    Memory,
+}
+
+impl From<Misfit<Place>> for RequestFault {
+    ghost use Rattle.std.specs.Prelude.{◌≡◌};
+    ghost use Rattle.rinqebo_forms.specs.declared.fault.RequestFault.TheVariants.{Expected};
+    ghost use Rattle.rinqebo_forms.specs.declared.fault.Wanted.TheVariants.{Value};
+
+    ghost from_gives = { λ misfit fault. fault ≡ Expected (Value misfit.wanted) misfit.place };
+
+    fn from(misfit: Misfit<Place>) -> Self {
+        RequestFault::Expected(Wanted::Value(misfit.wanted), misfit.place)
+    }
+}
+
+impl From<AllocError> for RequestFault {
+    ghost use Rattle.std.specs.Prelude.{◌≡◌};
+    ghost use Rattle.rinqebo_forms.specs.declared.fault.RequestFault.TheVariants.{Memory};
+
+    ghost from_gives = { λ _ e. e ≡ Memory };
+
+    fn from(_error: AllocError) -> Self {
+        RequestFault::Memory
+    }
+}
+
+impl<T: Drop> From<AllocFailed<T>> for RequestFault {
+    ghost use Rattle.std.specs.Prelude.{◌≡◌};
+    ghost use Rattle.rinqebo_forms.specs.declared.fault.RequestFault.TheVariants.{Memory};
+
+    ghost from_gives = { λ _ e. e ≡ Memory };
+
+    fn from(_error: AllocFailed<T>) -> Self {
+        RequestFault::Memory
+    }
+}

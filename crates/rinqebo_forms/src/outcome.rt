@@ -1,0 +1,84 @@
+//! What came of reading a file, as a request says it.
+ghost use Rattle.std.specs.Prelude.{◌≡◌};
+ghost use Rattle.serde_json.specs.View.{view};
+ghost use Rattle.nextest_sources.specs.Sources.{outcome_view};
+ghost use Rattle.rinqebo_forms.specs.Reading.{Reads};
+ghost use Rattle.rinqebo_forms.specs.Requests.{kind_at, kind_of, outcome_in, outcome_of};
+
+use crate::fault::{Holder, Place, RequestFault, Wanted};
+use crate::values::string_at;
+use nextest_sources::ReadOutcome;
+use serde_json::Value;
+use std::alloc::Global;
+
+/// What came of reading a file, without its text.
+#[derive(Clone, Copy, Debug, PartialEq, Eq)]
+pub enum OutcomeKind {
+    /// Its text.
+    Text,
+    /// There is no such file.
+    NotFound,
+    /// A part of its path that should be a directory is none.
+    NotADirectory,
+    /// Anything else, with a message.
+    Failed,
+}
+
+/// The kind of outcome of a word.
+fn kind_of(word: &str) -> Option<OutcomeKind>
+    ensures { result ≡ kind_of word.now }
+{
+    if word == "text" {
+        Some(OutcomeKind::Text)
+    } else if word == "not-found" {
+        Some(OutcomeKind::NotFound)
+    } else if word == "not-a-directory" {
+        Some(OutcomeKind::NotADirectory)
+    } else if word == "failed" {
+        Some(OutcomeKind::Failed)
+    } else {
+        None
+    }
+}
+
+/// The kind of outcome whose word stands at a place.
+fn kind_at(value: &Value, place: Place) -> Result<OutcomeKind, RequestFault>
+    ensures { Reads (λ kind. kind) result (kind_at place.key.now (view value.now)) }
+{
+    match kind_of(place.of(value).text()?) {
+        Some(kind) => Ok(kind),
+        None => Err(RequestFault::Expected(Wanted::Outcome, place)),
+    }
+}
+
+/// The outcome of a kind, with the text that it has under `text`.
+fn outcome_of(
+    alloc: Global,
+    kind: OutcomeKind,
+    value: &Value,
+    holder: Holder,
+) -> Result<ReadOutcome, RequestFault>
+    ensures { Reads outcome_view result (outcome_of kind (view value.now)) }
+{
+    let place = holder.at("text");
+    match kind {
+        OutcomeKind::Text => Ok(ReadOutcome::Text(string_at(alloc, value, place)?)),
+        OutcomeKind::NotFound => {
+            place.of(value).null()?;
+            Ok(ReadOutcome::NotFound)
+        }
+        OutcomeKind::NotADirectory => {
+            place.of(value).null()?;
+            Ok(ReadOutcome::NotADirectory)
+        }
+        OutcomeKind::Failed => Ok(ReadOutcome::Failed(string_at(alloc, value, place)?)),
+    }
+}
+
+/// What came of reading the file that an object says.
+pub fn outcome_in(alloc: Global, value: &Value, holder: Holder) -> Result<ReadOutcome, RequestFault>
+    ensures { Reads outcome_view result (outcome_in (view value.now)) }
+{
+    let place = holder.at("outcome");
+    outcome_of(alloc, kind_at(value, place)?, value, holder)
+}

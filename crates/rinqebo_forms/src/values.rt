@@ -1,0 +1,33 @@
+//! Copies of the texts of a JSON value.
+ghost use Rattle.std.specs.Prelude.{option_map, string_bytes};
+ghost use Rattle.serde_json.specs.Find.{as_str};
+ghost use Rattle.serde_json.specs.View.{view};
+ghost use Rattle.json_fields.specs.Parts.{optional_text, under};
+ghost use Rattle.rinqebo_forms.specs.Reading.{Reads};
+
+use crate::fault::{Place, RequestFault};
+use serde_json::Value;
+use std::alloc::Global;
+
+/// A copy of the text at a place.
+pub fn string_at(alloc: Global, value: &Value, place: Place) -> Result<String, RequestFault>
+    ensures { Reads string_bytes result (under as_str place.key.now (view value.now)) }
+{
+    let text = place.of(value).text()?;
+    Ok(String::from_str(alloc, text)?)
+}
+
+/// A copy of the text at a place, or nothing where `null` stands there.
+pub fn optional_string_at(
+    alloc: Global,
+    value: &Value,
+    place: Place,
+) -> Result<Option<String>, RequestFault>
+    ensures { Reads (λ text. option_map string_bytes text) result
+        (under optional_text place.key.now (view value.now)) }
+{
+    match place.of(value).optional_text()? {
+        Some(text) => Ok(Some(String::from_str(alloc, text)?)),
+        None => Ok(None),
+    }
+}

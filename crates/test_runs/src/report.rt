@@ -1,0 +1,124 @@
+//! What is printed of a run.
+use crate::case::Setup;
+use nextest_config::ReadOutcome;
+use nextest_files::FileReader;
+use rinqebo_files::gather;
+use rinqebo_request::{Command, parse};
+use rinqebo_run::{perform, print_schema, refuse_gathering, refuse_words};
+use test_cases::{Case, text_of};
+use std::alloc::{AllocError, Global};
+use std::io::{self, ErrorKind, Write};
+
+/// The standard output of a run, which takes so many bytes and is then closed.
+#[derive(Drop)]
+struct Output {
+    taken: Vec<u8>,
+    room: usize,
+}
+
+impl Write for Output {
+    fn write(&mut self, buf: &[u8]) -> io::Result<usize> {
+        let count = buf.len().min(self.room);
+        if count == 0 {
+            return Err(io::Error::from(ErrorKind::BrokenPipe));
+        }
+        self.room -= count;
+        self.taken.write(&buf[..count])
+    }
+
+    fn flush(&mut self) -> io::Result<()> {
+        Ok(())
+    }
+}
+
+/// Runs over the files of a case, and answers the status.
+fn run(
+    alloc: Global,
+    case: &Case<'_>,
+    setup: &Setup<'_>,
+    words: &[String],
+    out: &mut Output,
+    err: &mut Vec<u8>,
+) -> Result<u8, AllocError> {
+    let request = match parse(alloc, words, &setup.environment) {
+        Ok(Command::Answer(request)) => request,
+        Ok(Command::Schema) => return Ok(print_schema(alloc, out, err)),
+        Err(stop) => return Ok(refuse_words(&stop, out, err)),
+    };
+    let input = if request.reads_input() {
+        case.files.read(alloc, "-")?
+    } else {
+        ReadOutcome::NotFound
+    };
+    match gather(alloc, &request, &setup.environment, input, &case.files) {
+        Ok(gathered) => Ok(perform(alloc, &request, &gathered, out, err)),
+        Err(fault) => Ok(refuse_gathering(alloc, &fault, err)),
+    }
+}
+
+/// The case's name, the words, the status, and what was written to the two streams.
+pub fn report_of(
+    alloc: Global,
+    case: &Case<'_>,
+    setup: &Setup<'_>,
+    words: &str,
+) -> Result<String, AllocError> {
+    let mut out = Output {
+        taken: Vec::new(alloc),
+        room: setup.output_room,
+    };
+    let mut err = Vec::new(alloc);
+    let status = run(
+        alloc,
+        case,
+        setup,
+        &words_of(alloc, words)?,
+        &mut out,
+        &mut err,
+    )?;
+    let name = case.name;
+    let mut report = format!(in alloc; "case {name}\nrun {words}\nstatus {status}\n")?;
+    add_text(&mut report, "stdout\n", text_of(alloc, out.taken)?.as_str())?;
+    add_text(&mut report, "stderr\n", text_of(alloc, err)?.as_str())?;
+    Ok(report)
+}
+
+/// The words of a line, parted by one space, with the program's name before them.
+fn words_of(alloc: Global, line: &str) -> Result<Vec<String>, AllocError> {
+    let mut words = Vec::new(alloc);
+    words.push(String::from_str(alloc, "rinqebo")?)?;
+    for word in line.split(' ') {
+        if !word.is_empty() {
+            words.push(String::from_str(alloc, word)?)?;
+        }
+    }
+    Ok(words)
+}
+
+/// Adds a line behind two spaces, with `\e` for each escape, and `\r` for each return.
+fn add_line(report: &mut String, line: &str) -> Result<(), AllocError> {
+    report.push_str("  ")?;
+    for c in line.chars() {
+        match c {
+            '\u{1b}' => report.push_str("\\e")?,
+            '\r' => report.push_str("\\r")?,
+            c => report.push(c)?,
+        }
+    }
+    report.push_str("\n")
+}
+
+/// Adds all lines of a text below a heading, unless there are none.
+fn add_text(report: &mut String, heading: &str, text: &str) -> Result<(), AllocError> {
+    if text.is_empty() {
+        return Ok(());
+    }
+    report.push_str(heading)?;
+    for line in text.strip_suffix("\n").unwrap_or(text).split('\n') {
+        add_line(report, line)?;
+    }
+    if !text.ends_with("\n") {
+        report.push_str("without a newline at the end\n")?;
+    }
+    Ok(())
+}
