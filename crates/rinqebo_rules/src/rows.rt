@@ -12,7 +12,7 @@ use nextest_engines::{Filters, Specs};
 use nextest_settings::{Setting, SettingSource, SettingValues};
 use rinqebo_report::SettingRow;
 use rinqebo_request::{AskedSettings, SettingKey};
-use rinqebo_rules::reported_if_set;
+use crate::reported_if_set;
 use std::alloc::{AllocError, Global};
 
 /// Whether a rule decides a setting of a test.
@@ -59,7 +59,7 @@ fn decider_of<'c, F: Filters, S: Specs>(
 }
 
 /// The row of a setting.
-#[tactic(auto, using(rinqebo_rules::proofs::ToldOf::told_by_kind))]
+#[tactic(auto, using(crate::proofs::ToldOf::told_by_kind))]
 fn setting_row<'c, F: Filters, S: Specs, O: OriginTeller<'c>>(
     alloc: Global,
     settings: &SourcedSettings<'c, F, S>,
