@@ -3,8 +3,8 @@ ghost use Rattle.std.specs.Bool.{OnTrue};
 ghost use Rattle.config_spans.specs.Spans.{IsOnLines};
 
 use nextest_places::Lines;
-use nextest_spans::Span;
 use nextest_positions::{ColumnUnit, position_at};
+use nextest_spans::Span;
 
 /// Whether some bytes of a text are whole characters that lie in some of its lines.
 pub(crate) fn is_on_lines(text: &str, lines: Lines, span: Span) -> bool

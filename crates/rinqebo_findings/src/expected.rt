@@ -1,8 +1,8 @@
 //! What the shape of a file wants at a path, in words.
 use crate::shapes::shape_at;
+use nextest_config::ElementCause;
 use nextest_places::Step;
 use nextest_shape::{Pattern, Shape, TextShape, file_shape};
-use nextest_config::ElementCause;
 use std::alloc::{AllocError, Global};
 
 /// A whole number in its range, in words.

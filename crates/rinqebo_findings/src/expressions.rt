@@ -1,10 +1,10 @@
 //! Filters and platforms that are refused, with the part that is wrong.
 use crate::refused::Refused;
-use nextest_places::Step;
+use filter_engine::{FaultKind, fault_words};
 use nextest_config::{
     ConfigCompileError, ConfigCompileErrorKind, ConfigCompileSection, Refusal, Tree,
 };
-use filter_engine::{FaultKind, fault_words};
+use nextest_places::Step;
 use rinqebo_files::{host_text, profile_table, rule_table, target_text, text_at};
 use rinqebo_report::{Expression, Span};
 use std::alloc::{AllocError, Global};
@@ -143,7 +143,12 @@ fn add_texts(
     add_host(refused, section, host_parse_error)?;
     add_target(refused, section, target_parse_error)?;
     add_filter(refused, section, "filter", filter_parse_error)?;
-    add_filter(refused, section, "default-filter", default_filter_parse_error)
+    add_filter(
+        refused,
+        section,
+        "default-filter",
+        default_filter_parse_error,
+    )
 }
 
 /// Adds what is wrong with the refused texts of a section of a profile.

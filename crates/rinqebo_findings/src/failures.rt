@@ -4,9 +4,9 @@ ghost use Rattle.rinqebo_findings.specs.Failures.{IsLoadFailure, IsProfileFailur
 
 use crate::findings::{SourceAt, finding_at, warning_findings};
 use crate::report::{report_of, report_of_refusal};
-use nextest_places::Step;
 use nextest_config::run::ResolveFault;
 use nextest_config::{ConfigParseError, DefaultConfigWarnings, ProfileNotFound};
+use nextest_places::Step;
 use rinqebo_load::{Failure, Session};
 use rinqebo_report::{Content, Finding, Level};
 use rinqebo_request::text_hint;

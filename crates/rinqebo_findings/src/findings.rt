@@ -2,8 +2,8 @@
 use crate::hints::key_hint;
 use crate::paths::{path_text, spelled_path};
 use crate::refused_values::Fault;
-use nextest_places::Step;
 use nextest_config::{ConfigSource, ConfigWarning, DefaultConfigWarnings, Tree};
+use nextest_places::Step;
 use rinqebo_files::{Layer, NoDocument, path_place, place_of};
 use rinqebo_report::{Finding, Level, Place};
 use std::alloc::{AllocError, Global};

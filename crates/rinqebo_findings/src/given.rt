@@ -1,7 +1,7 @@
 //! What stands at a path of a file, in words.
 use crate::findings::SourceAt;
-use nextest_places::Step;
 use nextest_config::Tree;
+use nextest_places::Step;
 
 /// What stands at a key, a name or a position below a tree.
 fn below<'t>(tree: &'t Tree, step: Step<'_>) -> Option<&'t Tree> {

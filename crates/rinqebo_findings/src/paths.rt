@@ -2,9 +2,9 @@
 use crate::findings::SourceAt;
 use crate::refused_values::{Fault, is_at_fault};
 use crate::ways::ways_of;
+use nextest_config::Tree;
 use nextest_places::Step;
 use nextest_shape::{Shape, file_shape};
-use nextest_config::Tree;
 use std::alloc::{AllocError, Global};
 
 /// A path as findings show it: its keys and positions with dots between them.

@@ -8,12 +8,12 @@ use crate::paths::spelled_path;
 use crate::refused::Refused;
 use crate::refused_values::Fault;
 use crate::unknown_names::{add_script_errors, add_unknown_group};
-use nextest_places::Step;
 use nextest_config::{
     ConfigCompileError, ConfigCompileSection, ConfigExperimental, ConfigParseError,
-    ConfigParseErrorKind, ConfigPath, CustomTestGroup, ElementCause, ElementFault,
-    IdentifierOwner, InheritsError, ReadOutcome, ScriptId, ToolName, Tree, UnknownTestGroupError,
+    ConfigParseErrorKind, ConfigPath, CustomTestGroup, ElementCause, ElementFault, IdentifierOwner,
+    InheritsError, ReadOutcome, ScriptId, ToolName, Tree, UnknownTestGroupError,
 };
+use nextest_places::Step;
 use rinqebo_files::{Layer, place_at};
 use rinqebo_load::Session;
 use rinqebo_report::{Finding, Lines};

@@ -1,8 +1,8 @@
 //! Findings of rules that name groups and scripts which they may not.
 use crate::hints::known_hint;
 use crate::refused::Refused;
-use nextest_places::Step;
 use nextest_config::{ProfileScriptErrors, Tree, UnknownTestGroupError};
+use nextest_places::Step;
 use rinqebo_files::profile_table;
 use std::alloc::AllocError;
 use std::collections::BTreeSet;

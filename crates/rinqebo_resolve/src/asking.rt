@@ -7,13 +7,13 @@ ghost use Rattle.rinqebo_resolve.specs.Asking.{AreEnginesFor, AreFilesOf, AsksFo
 
 use nextest_config::{NextestRunMode, Setting};
 use rinqebo_files::Gathered;
+use rinqebo_forms::{LoadRequest, Machine, RunRequest, Switches};
 use rinqebo_report::{Colour, Format};
 use rinqebo_request::{
     AskedSettings, ConfigFile, EngineOptions, FileOptions, ListFile, ProfileSource, Question,
     Request,
 };
 use rinqebo_session::features_of;
-use rinqebo_forms::{LoadRequest, Machine, RunRequest, Switches};
 use std::alloc::{AllocError, Global};
 
 /// What messages call the list of tests: the member of a request that has it.

@@ -11,11 +11,11 @@ ghost use Rattle.rinqebo_resolve.specs.Endings.{IsAnswerTo, IsSilent, IsEndingFo
 use crate::asking::{Asked, LIST, parted};
 use crate::ending::Ending;
 use rinqebo_files::Gathered;
-use rinqebo_rules::Untold;
+use rinqebo_forms::{RequestFault, RunRequest};
 use rinqebo_load::{Failure, InputFault};
 use rinqebo_report::{Colour, Format, Report, render};
+use rinqebo_rules::Untold;
 use rinqebo_run::{Answer, answer_of};
-use rinqebo_forms::{RequestFault, RunRequest};
 use std::alloc::{AllocError, Global};
 
 /// The document of a report.

@@ -10,14 +10,14 @@ ghost use Rattle.rinqebo_rules.specs.RuleViews.{setting_rule_view};
 
 use crate::conditions::Filter;
 use crate::rule_places::RulePlace;
+use filter_engine::NextestFilters;
 use nextest_config::{
     CompiledOverride, CompiledProfileScripts, NextestRunMode, PlatformSpecs, Setting,
 };
-use filter_engine::NextestFilters;
 use nextest_settings::{SettingValue, SettingValues, rules_of};
+use platform_language::TargetSpecs;
 use rinqebo_load::Config;
 use std::alloc::{AllocError, Global};
-use platform_language::TargetSpecs;
 
 /// An override of a configuration.
 type Override = CompiledOverride<NextestFilters, TargetSpecs>;

@@ -4,17 +4,17 @@ ghost use Rattle.nextest_inheritance.specs.View.{borrowed_view};
 ghost use Rattle.nextest_settings.specs.Platforms.{runs_on};
 ghost use Rattle.rinqebo_rules.specs.Conditions.{told_condition, is_met_by, told_host, told_target, told_filter, is_met, is_matched, asked_if, default_filter_here};
 
+use filter_engine::{NextestFilters, NextestTally};
 use nextest_config::{
     BuildPlatform, BuildPlatforms, EvalContext, Filters, PlatformSpecs, Specs, TestQuery,
 };
-use filter_engine::{NextestFilters, NextestTally};
 use nextest_settings::{default_filter_of, evaluate_overrides, nearest_filter, rules_of};
+use platform_language::TargetSpecs;
+use platform_table::Platform;
 use rinqebo_load::Config;
 use rinqebo_report::ConditionAnswer;
 use rinqebo_request::TestName;
 use std::alloc::{AllocError, Global};
-use platform_language::TargetSpecs;
-use platform_table::Platform;
 
 /// A filter that was read.
 pub type Filter = <NextestFilters as Filters>::Expr;

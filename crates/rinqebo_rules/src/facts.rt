@@ -3,9 +3,9 @@ ghost use Rattle.std.specs.Prelude.{◌≡◌};
 ghost use Rattle.rinqebo_rules.specs.RuleAnswers.{answers_told, facts_told};
 ghost use Rattle.rinqebo_rules.specs.RuleViews.{setting_rule_view};
 
+use crate::RuleFacts;
 use crate::chain_rules::SettingRule;
 use crate::conditions::{Answers, Asking, answers_of};
-use crate::RuleFacts;
 
 /// What the conditions of a rule say.
 pub fn answers_to(rule: &SettingRule<'_>, asking: &Asking<'_, '_>) -> Answers

@@ -9,9 +9,9 @@ ghost use Rattle.rinqebo_rules.specs.Trees.{trees_of};
 
 use crate::rule_places::setting_path;
 use crate::trees::trees_of;
+use nextest_config::Tree;
 use nextest_grounds::{Grounds, grounds_of};
 use nextest_places::Step;
-use nextest_config::Tree;
 use rinqebo_files::{Layer, path_place};
 use rinqebo_report::{Origin, Part, Written};
 use rinqebo_request::SettingKey;

@@ -31,7 +31,7 @@ pub use facts::{answers_to, facts_of};
 pub use fallback::fallback_of_chain;
 pub use grounds::{built_in, idle_grounds, profile_grounds};
 pub use leaf_value::told_value;
-pub use lister::{Lister, ListedRows};
+pub use lister::{ListedRows, Lister};
 pub use origins::{Decider, OriginTeller};
 pub use progress::{Progress, Untold};
 pub use reported_entries::{reported_entry, steps_of};

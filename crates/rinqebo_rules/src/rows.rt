@@ -6,13 +6,13 @@ ghost use Rattle.nextest_settings.specs.SettingsView.{origin_at, value_at};
 ghost use Rattle.rinqebo_rules.specs.Settings.{is_by_rule, told_settings, IsSettingTold};
 
 use crate::origins::{Decider, OriginTeller};
+use crate::reported_if_set;
 use crate::values::SourcedSettings;
 use nextest_elements::NextestRunMode;
 use nextest_engines::{Filters, Specs};
 use nextest_settings::{Setting, SettingSource, SettingValues};
 use rinqebo_report::SettingRow;
 use rinqebo_request::{AskedSettings, SettingKey};
-use crate::reported_if_set;
 use std::alloc::{AllocError, Global};
 
 /// Whether a rule decides a setting of a test.

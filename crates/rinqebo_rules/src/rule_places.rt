@@ -5,8 +5,8 @@ ghost use Rattle.nextest_rules.specs.View.{id_view, script_rule_id_view};
 ghost use Rattle.rinqebo_rules.specs.Origins.{PathStep, IsOriginOf, key_steps, profile_steps, step_view};
 ghost use Rattle.rinqebo_rules.specs.RulePlaces.{list_of, part_of, place_view, id_place, script_place};
 
-use nextest_places::Step;
 use nextest_config::{ConfigSource, OverrideId, ScriptRuleId, Tree};
+use nextest_places::Step;
 use rinqebo_files::{Layer, path_place, place_of, rule_at};
 use rinqebo_report::{Origin, Part, Written};
 use rinqebo_request::SettingKey;

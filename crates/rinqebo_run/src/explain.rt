@@ -18,19 +18,18 @@ ghost use Rattle.rinqebo_findings.specs.Reports.{IsReportOf};
 use crate::asked::asked_of;
 use crate::idle::findings_on;
 use crate::list::{Profile, profile_on};
+use filter_engine::NextestTally;
 use nextest_config::run::{PlainSource, TestRow, resolve};
 use nextest_config::{
     BuildPlatform, DefaultConfigWarnings, NextestRunMode, ScriptRuleId, Setting, SettingSource,
     TestQuery,
 };
-use filter_engine::NextestTally;
 use rinqebo_files::Layer;
 use rinqebo_findings::{config_with, failure_of_run, report_of};
 use rinqebo_load::{Failure, Session, chain_of_profile};
 use rinqebo_report::{Content, Origin, Platform, Report, SettingRow, TestRows};
 use rinqebo_request::{SettingKey, TestName};
-use rinqebo_rules::{RuleKind, RulePlace, built_in, profile_grounds, query_of};
-use rinqebo_rules::reported_if_set;
+use rinqebo_rules::{RuleKind, RulePlace, built_in, profile_grounds, query_of, reported_if_set};
 use std::alloc::{AllocError, Global};
 
 /// What a row's settings are told with: the layers, the chain of the profile, and the id of the

@@ -19,15 +19,15 @@ ghost use Rattle.rinqebo_findings.specs.Reports.{IsReportOf};
 use crate::asked::asked_of;
 use crate::list_origins::{Origins, unused_origins};
 use crate::list_scripts::scripts_of_list;
-use nextest_config::{DefaultConfigWarnings, EarlyProfile, EvaluatableProfile, NextestRunMode};
 use filter_engine::{NextestFilters, NextestTally};
+use nextest_config::{DefaultConfigWarnings, EarlyProfile, EvaluatableProfile, NextestRunMode};
+use platform_language::TargetSpecs;
 use rinqebo_findings::{config_with, report_of, warning_findings};
-use rinqebo_rules::{Lister, ListedRows, Progress};
 use rinqebo_load::{Config, Failure, Session, chain_of_profile};
 use rinqebo_report::{Content, Report};
 use rinqebo_request::AskedSettings;
+use rinqebo_rules::{ListedRows, Lister, Progress};
 use std::alloc::{AllocError, Global};
-use platform_language::TargetSpecs;
 
 /// A profile on the platforms of a build.
 pub type Profile<'c> = EvaluatableProfile<'c, NextestFilters, TargetSpecs>;

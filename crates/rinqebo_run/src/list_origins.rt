@@ -6,10 +6,9 @@ ghost use Rattle.rinqebo_rules.specs.RulePlaces.{place_view};
 ghost use Rattle.rinqebo_run.specs.ListedBy.{places_of};
 
 use rinqebo_files::Layer;
-use rinqebo_rules::{Decider, OriginTeller, UnusedRules};
 use rinqebo_report::{Origin, Written};
 use rinqebo_request::SettingKey;
-use rinqebo_rules::{RulePlace, built_in, profile_grounds};
+use rinqebo_rules::{Decider, OriginTeller, RulePlace, UnusedRules, built_in, profile_grounds};
 use std::alloc::{AllocError, Global};
 
 /// Whether two places are of one rule.

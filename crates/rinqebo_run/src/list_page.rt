@@ -27,15 +27,15 @@ use crate::list::{Profile, profile_on};
 use crate::list_fault::ListFault;
 use crate::list_origins::{Origins, unused_origins};
 use crate::list_scripts::scripts_of_list;
-use nextest_config::{NextestRunMode, TestQuery};
 use filter_engine::{NextestFilters, NextestTally};
-use rinqebo_rules::{Lister, ListedRows, Progress, UnusedRules, unused_rules};
+use nextest_config::{NextestRunMode, TestQuery};
+use platform_language::TargetSpecs;
 use rinqebo_load::{Config, Session, chain_of_profile};
 use rinqebo_report::{Colour, Content, Origin, Report, TestRows, render_list_end, render_listed};
 use rinqebo_request::AskedSettings;
+use rinqebo_rules::{ListedRows, Lister, Progress, UnusedRules, unused_rules};
 use std::alloc::{AllocError, Global};
 use std::io::Write;
-use platform_language::TargetSpecs;
 
 /// How the tests of a list are asked.
 type TestLister<'l, 'c> = Lister<'l, 'c, NextestFilters, TargetSpecs>;

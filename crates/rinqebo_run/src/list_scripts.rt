@@ -10,9 +10,9 @@ ghost use Rattle.rinqebo_rules.specs.Scripts.{AreScriptsTold};
 
 use crate::list::Profile;
 use filter_engine::NextestTally;
-use rinqebo_rules::scripts_of;
 use rinqebo_load::Session;
 use rinqebo_report::ListScripts;
+use rinqebo_rules::scripts_of;
 use std::alloc::{AllocError, Global};
 
 /// The scripts that a profile gives to the list of a session.

@@ -31,10 +31,10 @@ use crate::unset::add_unset;
 use crate::why::why;
 use nextest_shape::schema_page;
 use rinqebo_files::{GatherFault, Gathered};
-use rinqebo_rules::Progress;
 use rinqebo_load::{Failure, Session};
 use rinqebo_report::{Colour, Content, Format, Report, render, render_findings};
 use rinqebo_request::{ParseStop, Question, Request};
+use rinqebo_rules::Progress;
 use std::alloc::{AllocError, Global};
 use std::io::Write;
 

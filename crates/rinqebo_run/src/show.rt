@@ -15,14 +15,13 @@ use crate::answer::Answer;
 use crate::asked::asked_of;
 use crate::idle::findings_on;
 use crate::status::Status;
-use nextest_grounds::{Entry as Leaf, entries_of};
 use nextest_config::{DefaultConfigWarnings, NextestRunMode};
-use rinqebo_rules::{reported_entry, steps_of};
+use nextest_grounds::{Entry as Leaf, entries_of};
 use rinqebo_files::{Layer, path_place};
 use rinqebo_findings::{config_with, report_of};
 use rinqebo_load::{Config, Failure, Session, chain_of_profile};
 use rinqebo_report::{Content, Entry};
-use rinqebo_rules::trees_of;
+use rinqebo_rules::{reported_entry, steps_of, trees_of};
 use std::alloc::{AllocError, Global};
 
 /// A leaf as it is reported, with its place in the file of its layer. There is none where its value

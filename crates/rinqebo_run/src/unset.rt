@@ -1,7 +1,7 @@
 //! The note of `show-config` where nothing is set under its keys.
 use crate::answer::Answer;
-use nextest_shape::{Shape, file_shape, keys_of};
 use nextest_config::NextestRunMode;
+use nextest_shape::{Shape, file_shape, keys_of};
 use rinqebo_report::{Content, Format, Report};
 use rinqebo_request::{Question, Request, all_keys, text_hint};
 use std::alloc::{AllocError, Global};

@@ -31,11 +31,9 @@ use rinqebo_load::{Config, Failure, Session, chain_of_profile};
 use rinqebo_report::{Condition, ConditionAnswer, Content, Origin, Report, Rule, TestId, Verdict};
 use rinqebo_request::{SettingKey, TestName};
 use rinqebo_rules::{
-    Asking, SettingRule, answers_to, default_filter, facts_of, fallback_of_chain, profile_grounds,
-    query_of, rules_for,
+    Asking, RuleFacts, SettingRule, answers_to, default_filter, facts_of, fallback_of_chain,
+    profile_grounds, query_of, reported_if_set, rules_for, verdicts_of,
 };
-use rinqebo_rules::reported_if_set;
-use rinqebo_rules::{RuleFacts, verdicts_of};
 use std::alloc::{AllocError, Global};
 
 /// A condition, with its text.

@@ -16,15 +16,15 @@ use crate::session::Session;
 use crate::settings::{SettingNumbers, numbers_of};
 use crate::status::{DONE, UNKNOWN_NUMBER};
 use crate::test::{Asked, AskedTest};
+use filter_engine::{NextestFilters, NextestTally};
 use indexmap::IndexMap;
 use nextest_config::{
     CustomTestGroup, EvaluatableProfile, Filters, ScriptId, TestGroupConfig, TestThreads,
     WrapperScriptConfig,
 };
-use filter_engine::{NextestFilters, NextestTally};
+use platform_language::TargetSpecs;
 use std::alloc::{AllocError, Global};
 use std::collections::BTreeMap;
-use platform_language::TargetSpecs;
 
 /// A group that a configuration defines.
 #[derive(Clone, Copy, Debug, Drop)]
