@@ -1,5 +1,5 @@
 -- What the engine reads, and how it refuses.
-use Rattle.std.proofs.Common.{◌≡◌, ℕ, ◌+◌, ◌≤◌, List, length, Option, None, Some, Result, Ok, Err, IfSome, MatchOption, is_some, ap, ◌∙◌, subst, sym, arith}
+use Rattle.std.proofs.Common.{◌≡◌, ℕ, ◌+◌, ◌≤◌, List, length, Option, None, Some, Ok, Err, IfSome, MatchOption, is_some, ap, ◌∙◌, subst, arith}
 use Rattle.std.specs.Result.{result_map_both}
 use Rattle.nextest_engines.specs.Engines.{refusal_message, LiesIn, PointsInto}
 use Rattle.nextest_engines.specs.declared.queries.FiltersetKind.{FiltersetKind}

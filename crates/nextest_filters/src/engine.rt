@@ -116,12 +116,7 @@ impl Filters for NextestFilters {
 
     ghost leaves = { leaves };
 
-    #[tactic(auto, using(
-        crate::proofs::Readings::read_ok,
-        crate::proofs::Readings::read_err,
-        crate::proofs::Readings::points_into,
-        crate::proofs::Readings::first_fault
-    ))]
+    #[tactic(auto, using(crate::proofs::Readings::read_ok, crate::proofs::Readings::read_err, crate::proofs::Readings::points_into, crate::proofs::Readings::first_fault))]
     fn parse(
         &self,
         alloc: Global,
