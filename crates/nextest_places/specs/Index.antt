@@ -82,4 +82,5 @@ pub record IsKnown (text : List ℕ) (longest : Longest) : Type 0 where
   pub count : ℕ
   pub is : IsLongest text count (tree_view longest.document)
   pub index : IsIndex (first_lines count text) longest.index
-  pub whole : longest.is_whole ≡ (count == line_count text)
+  pub whole : longest.is_whole ≡ true → count ≡ line_count text
+  pub part : longest.is_whole ≡ false → count < line_count text

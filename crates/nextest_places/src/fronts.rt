@@ -92,10 +92,7 @@ fn document_of(alloc: Global, text: &str) -> Result<Option<Tree>, AllocError>
 
 /// The most first lines that are a document, with that document. They are the whole text, if that
 /// is one, and no lines at all are the empty document.
-pub(crate) fn longest_document(
-    alloc: Global,
-    fronts: &Fronts,
-) -> Result<(usize, Tree), AllocError>
+pub(crate) fn longest_document(alloc: Global, fronts: &Fronts) -> Result<(usize, Tree), AllocError>
     ensures { IfOk result (λ at. IsLongest fronts.now at.0 (tree_view at.1)) }
 {
     let total = fronts.count();

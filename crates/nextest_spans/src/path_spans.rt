@@ -1,8 +1,6 @@
 //! Paths of a text with their lines and bytes.
-ghost use Rattle.std.specs.Prelude.{◌≡◌, List, ℕ, None, Some, IfOk, IfSome, MatchOption};
+ghost use Rattle.std.specs.Prelude.{◌≡◌, List, ℕ, Some, IfOk, IfSome, MatchOption};
 ghost use Rattle.toml.specs.View.{view};
-ghost use Rattle.nextest_tree.specs.View.{tree_view};
-ghost use Rattle.nextest_documents.specs.Text.{tree_of};
 ghost use Rattle.nextest_places.specs.Place.{HasNoPlace};
 ghost use Rattle.nextest_spans.specs.Spans.{IsDocumentOf, IsKept, IsKeyOf, IsPathSpan, IsValueOf, root_view};
 ghost use Rattle.nextest_spans.specs.Spans as spec;
@@ -11,7 +9,6 @@ use crate::path_lines::is_on_lines;
 use crate::node_at::node_at;
 use crate::path::is_at;
 use nextest_places::{Lines, Places, Step};
-use nextest_tree::Tree;
 use crate::{Item, Role, Span, items_of, reads_as};
 use std::alloc::{AllocError, Global};
 use std::marker::Model;
@@ -20,7 +17,7 @@ use toml::{Value, table_from_str};
 /// Where the value at a path is written in a text.
 #[derive(Clone, Copy, Debug, PartialEq, Eq)]
 pub struct PathSpan {
-    /// The lines that define it.
+    /// The lines that bring it.
     pub lines: Lines,
     /// The bytes of the part of a key that leads to it, if one is on these lines.
     pub key: Option<Span>,
@@ -28,7 +25,7 @@ pub struct PathSpan {
     pub value: Option<Span>,
 }
 
-/// A text, with the spans of its paths.
+/// A text, of which it is known where what its paths lead to is written.
 #[derive(Drop)]
 pub struct PathSpans<'a> {
     text: &'a str,
@@ -57,24 +54,13 @@ impl<'a> PathSpans<'a> {
     {
         let items = items_of(alloc, text)?;
         let root = document_of(alloc, text)?;
-        let places = match &root {
-            Some(root) => Places::of_document(alloc, text, Tree::from_toml(alloc, root)?)?,
-            None => Places::of(alloc, text)?,
-        };
+        let places = Places::of(alloc, text)?;
         Ok(PathSpans {
             text,
             items,
             root,
             places,
         })
-    }
-
-    /// The tree of the text, if the text is a document.
-    pub fn document(&self) -> Option<&Tree>
-        ensures { MatchOption result (tree_of self.now ≡ None)
-            (λ tree. tree_of self.now ≡ Some (tree_view tree.now)) }
-    {
-        self.places.document()
     }
 
     /// The lines that define the value at a path, and on them the bytes of its key and its value.

@@ -7,8 +7,8 @@ ghost use Rattle.rinqebo_files.specs.Layers.{text_read};
 use nextest_config::{ReadOutcome, Tree};
 use nextest_documents::{DocumentFault, TextFault, tree_from_text};
 use nextest_places::Places;
-use std::alloc::{AllocError, Global};
 use nextest_spans::{ColumnUnit, Position, position_at};
+use std::alloc::{AllocError, Global};
 
 /// Why a text is not a TOML document.
 #[derive(Drop)]

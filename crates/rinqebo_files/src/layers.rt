@@ -7,11 +7,10 @@ ghost use Rattle.rinqebo_files.specs.Origins.{HasNoFile, IsFileAt, told_file, to
 
 use crate::document::{NoDocument, read_places};
 use crate::files::Gathered;
-use nextest_places::Places;
 use nextest_config::{
-    ConfigPath, ConfigSource, ConfigSourceKind, FileInput, IdentifierOwner,
-    ToolConfigFile, Tree,
+    ConfigPath, ConfigSource, ConfigSourceKind, FileInput, IdentifierOwner, ToolConfigFile, Tree,
 };
+use nextest_places::Places;
 use nextest_tables::default_tree;
 use rinqebo_report::{Source, SourceKind};
 use std::alloc::{AllocError, Global};

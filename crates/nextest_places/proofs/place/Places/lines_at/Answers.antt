@@ -8,8 +8,7 @@ pub returns-then-not-has_path : goal.returns-then-not-has_path
 returns-then-not-has_path c =
     let is = c.self.invariant in
     rw (← c.self.view_is)
-    (lacking c.args.path.now c.self.inside.text.now (sym c.is_empty.ensures ∙ c.if-is_empty.false) is.count
-    (tree_view c.self.inside.longest.document) is.is (sym c.has_path.ensures ∙ c.if-not-has_path.true))
+    (lacking c.args.path.now c.self.inside.text.now is.count (tree_view c.self.inside.longest.document) is.is (sym c.has_path.ensures ∙ c.if-not-has_path.true))
 
 pub returns : goal.returns
 returns c =
