@@ -1,14 +1,14 @@
-//! The lines of files that bring what stands at a path.
+//! The lines of files that define the value at a path.
 ghost use Rattle.rinqebo_files.specs.Origins.{AreLinesAt, IsPathPlace};
 
 use crate::layers::Layer;
-use nextest_places::Step;
 use nextest_config::Tree;
+use nextest_places::Step;
 use rinqebo_report::{Lines, Place};
 use std::alloc::{AllocError, Global};
 use std::collections::BTreeMap;
 
-/// The lines of a layer that bring what stands at a path, as they are reported.
+/// The lines of a layer that define the value at a path, as they are reported.
 fn lines_in(layer: &Layer, path: &[Step]) -> Option<Lines>
     ensures { AreLinesAt layer.now.places path.now result }
 {
@@ -19,7 +19,7 @@ fn lines_in(layer: &Layer, path: &[Step]) -> Option<Lines>
     })
 }
 
-/// The place of what stands at a path in the layer at a position.
+/// The place of the value at a path in the layer at a position.
 pub fn path_place(layers: &[Layer], source: usize, path: &[Step]) -> Place
     ensures { IsPathPlace layers.now source path.now result }
 {
@@ -145,9 +145,9 @@ fn earlier(one: Option<Lines>, other: Option<Lines>) -> Option<Lines> {
     }
 }
 
-/// The lines of a layer that bring what stands at a path that is told as text.
+/// The lines of a layer that define the value at a path that is spelled as text.
 fn spelled_lines(alloc: Global, layer: &Layer, path: &str) -> Result<Option<Lines>, AllocError> {
-    let Some(tree) = &layer.tree else {
+    let Some(tree) = layer.tree() else {
         return Ok(None);
     };
     let mut lines = None;
@@ -157,7 +157,7 @@ fn spelled_lines(alloc: Global, layer: &Layer, path: &str) -> Result<Option<Line
     Ok(lines)
 }
 
-/// The place of what stands at a path in the layer at a position, where the path is told as text:
+/// The place of the value at a path in the layer at a position, where the path is spelled as text:
 /// keys and positions with dots between them. Of several paths that are so spelled it is the first
 /// place.
 pub fn spelled_place(
