@@ -27,7 +27,11 @@ pub fn path_place(layers: &[Layer], source: usize, path: &[Step]) -> Place
         Some(layer) => lines_in(layer, path),
         None => None,
     };
-    Place { source, lines }
+    Place {
+        source,
+        lines,
+        range: None,
+    }
 }
 
 /// A way into a tree that a text begins to spell: its steps so far, what they lead to, and the part
@@ -170,7 +174,11 @@ pub fn spelled_place(
         Some(layer) => spelled_lines(alloc, layer, path)?,
         None => None,
     };
-    Ok(Place { source, lines })
+    Ok(Place {
+        source,
+        lines,
+        range: None,
+    })
 }
 
 /// The place of what stands at a path that is told as text, in the highest layer that writes it.
@@ -184,6 +192,7 @@ pub fn highest_place(
             return Ok(Some(Place {
                 source,
                 lines: Some(lines),
+                range: None,
             }));
         }
     }

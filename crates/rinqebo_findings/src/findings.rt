@@ -30,10 +30,7 @@ impl<'l, 't> SourceAt<'l, 't> {
 
     /// The place of the whole source.
     fn place(self) -> Option<Place> {
-        Some(Place {
-            source: self.position?,
-            lines: None,
-        })
+        Some(Place::in_source(self.position?))
     }
 
     /// The place of a path in the source.
