@@ -2,8 +2,8 @@
 ghost use Rattle.rinqebo_files.specs.Origins.{AreLinesAt, IsPathPlace};
 
 use crate::layers::Layer;
-use nextest_places::Step;
 use nextest_config::Tree;
+use nextest_places::Step;
 use rinqebo_report::{Lines, Place};
 use std::alloc::{AllocError, Global};
 use std::collections::BTreeMap;

@@ -4,10 +4,10 @@ ghost use Rattle.rinqebo_forms.specs.Machines.{AreFiltersFor, IsMetadataFault, I
 ghost use Rattle.rinqebo_forms.specs.Requests.{machine_view};
 
 use crate::request::{LoadRequest, Machine};
-use nextest_engines::BuildPlatforms;
 use filter_engine::{MetadataFault, NextestFilters, PackageGraph};
-use std::alloc::{AllocError, Global};
+use nextest_engines::BuildPlatforms;
 use platform_table::{Platform, PlatformFault};
+use std::alloc::{AllocError, Global};
 use thiserror::Error;
 
 /// Why there are no engines for a request.

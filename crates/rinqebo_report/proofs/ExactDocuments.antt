@@ -5,7 +5,7 @@ use Rattle.serde_json.specs.Data.{Data, null, number, array, no_items, Members, 
 use Rattle.serde_json.specs.Find.{of_integer}
 use Rattle.serde_json.specs.Read.{max_depth}
 use Rattle.serde_json.specs.Written.{has_float}
-use Rattle.rinqebo_report.specs.Document.{common_members, with_asked, with_content, document_data}
+use Rattle.rinqebo_report.specs.Document.{common_members, with_requested, with_content, document_data}
 use Rattle.rinqebo_report.specs.Documents.{count_data, text_data, optional_text_data, optional_count_data, list_data, pair_data, lines_data, scalar_data, value_data, optional_value_data, part_data, kind_data, origin_data, setting_data, test_data, test_id_data, entry_data, rule_data, tool_data, source_data, unreached_data, wrapper_data, place_source_data, place_lines_data, span_data, expression_data, expression_span_data, finding_data}
 use Rattle.rinqebo_report.specs.declared.finding.Expression.{Expression}
 use Rattle.rinqebo_report.specs.declared.finding.Finding.{Finding}
@@ -191,7 +191,7 @@ finding f =
     (and_member _ (place_source 1 f.place) (and_member _ (expression_span 0 f.expression) (no_more 1))))))))))))
 
 -- members with what was asked for, and with those of each page
-asked : {ms : Members} (command : List ℕ) (a : Asked) → AreExact 7 ms → AreExact 7 (with_asked command a ms)
+asked : {ms : Members} (command : List ℕ) (a : Asked) → AreExact 7 ms → AreExact 7 (with_requested command a ms)
 asked command a h =
     exact_put (codes "target") _ _ (optional_text 7 a.target)
     (exact_put (codes "profile") _ _ (text 7 a.profile)
