@@ -82,7 +82,7 @@ fn wrapping_origins<'c>(
     ensures same { origins.new ≡ origins.old }
     ensures told { IfOk result (λ told. AllZip (λ place. IsOriginOf origins.old.layers place
         (key_steps (option_map (λ table. table.now) key.table) key.key.now))
-        (wrapping_places (option_map (λ id. script_rule_id_view id.now) rule)) told.items) }
+        (wrapping_places (option_map (λ id. script_rule_id_view id.now) rule.entry)) told.items) }
 {
     match rule {
         Some(id) => origins.of(alloc, Some(RulePlace::of_script(id)), key),
@@ -100,9 +100,9 @@ fn origins_by<'c, F: Filters, S: Specs>(
 ) -> Result<Vec<Origin>, AllocError>
     ensures same { origins.new ≡ origins.old }
     ensures told { IfOk result (λ told. AreOriginsBy origins.old
-        (option_map (λ id. script_rule_id_view id.now) wrapping)
+        (option_map (λ id. script_rule_id_view id.now) wrapping.entry)
         (option_map (λ table. table.now) key.table) key.key.now
-        (option_map setting_source_view source) told.items) }
+        (option_map setting_source_view source.entry) told.items) }
 {
     match source {
         None => Ok(Vec::new(alloc)),

@@ -7,7 +7,7 @@ use Rattle.rinqebo_rules.proofs.origins.all_copied.Goals as goal
 
 pub loop-origin-preserved : goal.loop-origin-preserved
 loop-origin-preserved c =
-    zip_more IsCopyOf c.args.origins.now c.loop-origin.origin-index _ _ c.loop-origin-test.true refl _ _ _
+    zip_more IsCopyOf c.args.origins.now c.loop-origin.origin-index _ _ c.loop-origin-test.true c.origin-item.is _ _ _
     c.loop-origin.invariant c.in_ok-copied.ensures c.in_ok-push.ensures.items
 
 pub returns : goal.returns
