@@ -22,8 +22,8 @@ module _ (layers : List Layer) where
       → IsCopyOf (kinds.Written from) (kinds.Written copy) → IsWrittenAt layers at profile part rest from
       → IsWrittenAt layers at profile part rest copy
   written_copy at profile part rest from copy same is = record {
-    profile_told = same.1.0 ∙ is.profile_told;
-    part_told = same.1.1 ∙ is.part_told;
+    profile_told = same.1 ∙ is.profile_told;
+    part_told = same.2 ∙ is.part_told;
     path = is.path;
     spelled = is.spelled;
     place_told = subst (IsPathPlace layers at is.path) (sym same.0) is.place_told;

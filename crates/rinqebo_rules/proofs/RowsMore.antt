@@ -25,6 +25,13 @@ zip_more R xs i x d below same now new y before is more =
     ∙ ap (λ z. take i xs ++ z ∷ []) (sym same) in
     rw (taken, more) (all_zipped_more R (take i xs) now x y before is)
 
+-- one more of each of two lists, by what is the same as before
+pub zip_more_by : {A B X : Type 0} (R : X → A → B → Type 0) (before now : X) → now ≡ before → (xs : List A) (i : ℕ)
+    (x d : A) → i < length xs → x ≡ get_or xs i d → (rows new : List B) (y : B) → AllZip (R before) (take i xs) rows
+    → R now x y → new ≡ rows ++ y ∷ [] → AllZip (R before) (take (i + 1) xs) new
+zip_more_by R before now kept xs i x d below same rows new y told is more =
+    zip_more (R before) xs i x d below same rows new y told (subst (λ b. R b x y) kept is) more
+
 kept_front : {X : Type 0} (b : Bool) (y : X) (all front last : List X) → all ≡ front ++ last
     → cond b (y ∷ all) all ≡ cond b (y ∷ front) front ++ last
 kept_front true y all front last is = ap (λ more. y ∷ more) is

@@ -17,18 +17,18 @@ use rinqebo_report::{Platform, TestRows};
 use rinqebo_request::AskedSettings;
 use std::alloc::{AllocError, Global};
 
-/// What a list is told by.
+/// Lists the settings of tests.
 #[derive_where(Clone, Copy)]
 pub struct Lister<'l, 'c, F: Filters, S: Specs> {
     /// The profile on the platforms of the build.
     pub profile: &'l EvaluatableProfile<'c, F, S>,
     /// For what tests are run.
     pub mode: NextestRunMode,
-    /// Which settings are told.
+    /// Which settings are listed.
     pub asked: &'l AskedSettings,
 }
 
-/// What is told of the tests of a list.
+/// The tests of a list, and the rules that hold for none of them.
 #[derive(Drop)]
 pub struct ListedRows<'c> {
     /// The settings of each test, in order.
@@ -46,7 +46,7 @@ pub fn reported_platform(platform: BuildPlatform) -> Platform {
 }
 
 impl<'l, 'c, F: Filters, S: Specs> Lister<'l, 'c, F, S> {
-    /// The settings of a test that are told. It takes as much memory as they do, and loads nothing.
+    /// Returns the settings of a test. It takes as much memory as they do, and loads nothing.
     pub fn rows_of(
         &self,
         alloc: Global,
@@ -70,8 +70,8 @@ impl<'l, 'c, F: Filters, S: Specs> Lister<'l, 'c, F, S> {
         })
     }
 
-    /// The rows of tests, one test after another, and the rules of the profile that hold for none.
-    /// After each test it is told how far the list is.
+    /// Returns the rows of tests, one test after another, and the rules of the profile that hold for
+    /// none of them. It reports progress after each test.
     pub fn list<P: Progress>(
         &self,
         alloc: Global,

@@ -4,7 +4,7 @@ use Rattle.std.specs.List.{AllZip}
 use Rattle.nextest_settings.specs.SettingsView.{origin_at, value_at}
 use Rattle.rinqebo_rules.specs.TestOrigins.{wrapping_at}
 use Rattle.rinqebo_rules.specs.Settings.{IsSettingTold}
-use Rattle.rinqebo_rules.proofs.RowsMore.{zip_more}
+use Rattle.rinqebo_rules.proofs.RowsMore.{zip_more_by}
 use Rattle.rinqebo_rules.proofs.rows.these_rows.Goals as goal
 
 pub loop-setting-preserved : goal.loop-setting-preserved
@@ -13,10 +13,10 @@ loop-setting-preserved g c =
     let before = c.loop-setting.invariant in
     record {
       same = c.setting_row.ensures.same ∙ before.same;
-      told = zip_more (IsSettingTold c.args.origins.now (wrapping_at settings) (value_at settings) (origin_at settings)
-          c.args.mode) c.args.told.now c.loop-setting.setting-index _ _ c.loop-setting-test.true refl _ _ _ before.told
-          (subst (λ basis. IsSettingTold basis (wrapping_at settings) (value_at settings) (origin_at settings)
-          c.args.mode _ _) before.same c.in_ok-setting_row.ensures.told) c.in_ok-push.ensures.items;
+      told = zip_more_by (λ basis. IsSettingTold basis (wrapping_at settings) (value_at settings) (origin_at settings)
+          c.args.mode) c.args.origins.now c.loop-setting.origins before.same c.args.told.now c.loop-setting.setting-index
+          _ _ c.loop-setting-test.true refl _ _ _ before.told c.in_ok-setting_row.ensures.told
+          c.in_ok-push.ensures.items;
     }
 
 pub returns-clause-told : goal.returns-clause-told

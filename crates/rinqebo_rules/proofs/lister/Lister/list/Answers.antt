@@ -6,7 +6,7 @@ use Rattle.nextest_profiles.specs.Meaning.{profile_meaning}
 use Rattle.nextest_settings.specs.Queries.{query_in}
 use Rattle.rinqebo_rules.specs.Rows.{IsTestTold}
 use Rattle.rinqebo_rules.proofs.Listing.{zip_mapped}
-use Rattle.rinqebo_rules.proofs.RowsMore.{zip_more}
+use Rattle.rinqebo_rules.proofs.RowsMore.{zip_more_by}
 use Rattle.rinqebo_rules.proofs.lister.Lister.list.Goals as goal
 
 pub loop-query-preserved : goal.loop-query-preserved
@@ -17,11 +17,10 @@ loop-query-preserved g c =
     let before = c.loop-query.invariant in
     record {
       same = c.rows_of.ensures.same ∙ before.same;
-      told = zip_more (λ query. IsTestTold c.args.origins.now (query_in F.holds profile (test_view query)) self.mode
-          profile self.asked.now (test_view query)) c.args.queries.now c.loop-query.query-index _ _
-          c.loop-query-test.true refl _ _ _ before.told
-          (subst (λ basis. IsTestTold basis (query_in F.holds profile _) self.mode profile self.asked.now _ _)
-          before.same c.in_ok-rows_of.ensures.told) c.in_ok-push.ensures.items;
+      told = zip_more_by (λ basis query. IsTestTold basis (query_in F.holds profile (test_view query)) self.mode profile
+          self.asked.now (test_view query)) c.args.origins.now c.loop-query.origins before.same c.args.queries.now
+          c.loop-query.query-index _ _ c.loop-query-test.true refl _ _ _ before.told c.in_ok-rows_of.ensures.told
+          c.in_ok-push.ensures.items;
     }
 
 pub returns-clause-tests : goal.returns-clause-tests
