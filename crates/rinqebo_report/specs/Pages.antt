@@ -11,6 +11,7 @@ use Rattle.rinqebo_report.specs.declared.finding.Span.{Span}
 use Rattle.rinqebo_report.specs.declared.origin.Lines.{Lines}
 use Rattle.rinqebo_report.specs.declared.origin.Origin.{Origin}
 use Rattle.rinqebo_report.specs.declared.origin.Place.{Place}
+use Rattle.rinqebo_report.specs.declared.origin.Range.{Range}
 use Rattle.rinqebo_report.specs.declared.origin.Source.{Source}
 use Rattle.rinqebo_report.specs.declared.piece.Style.TheVariants as styles
 use Rattle.rinqebo_report.specs.declared.piece.Style.{Style}
@@ -34,7 +35,7 @@ use Rattle.rinqebo_report.specs.declared.report.Verdict.{Verdict}
 use Rattle.rinqebo_report.specs.declared.report.Verdict.TheVariants as verdicts
 use Rattle.rinqebo_report.specs.Advice.{message_with_advice}
 use Rattle.rinqebo_report.specs.Joined.{joined}
-use Rattle.rinqebo_report.specs.OriginText.{all_origins_text, origin_text, path_at}
+use Rattle.rinqebo_report.specs.OriginText.{all_origins_text, origin_text, path_at, position_text}
 use Rattle.rinqebo_report.specs.Pieces.{Run, styled, repeated, numbered, ending, shown_char}
 use Rattle.rinqebo_report.specs.TomlText.{value_text}
 
@@ -126,21 +127,21 @@ number_run verdicts.Fallback n = plain (codes "-")
 number_run _ n = numbered (n + 1)
 
 -- what is told of a condition: that it does not hold, or that it can't be told
-abbrev pub told_answer : ConditionAnswer → Option (List ℕ)
-told_answer answers.No = Some (codes ": no")
-told_answer answers.Unknown = Some (codes ": unknown")
-told_answer _ = None
+abbrev pub reported_answer : ConditionAnswer → Option (List ℕ)
+reported_answer answers.No = Some (codes ": no")
+reported_answer answers.Unknown = Some (codes ": unknown")
+reported_answer _ = None
 
 -- a line of a rule, if something is told there
-abbrev pub told_runs : List ℕ → List ℕ → Option (List ℕ) → List Run
-told_runs word text None = []
-told_runs word text (Some told) =
+abbrev pub reported_runs : List ℕ → List ℕ → Option (List ℕ) → List Run
+reported_runs word text None = []
+reported_runs word text (Some told) =
     plain (codes "     ") ∷ plain word ∷ plain (codes " ") ∷ plain text ∷ plain told ∷ ending ∷ []
 
 -- a condition, where it does not hold or can't be told
 abbrev pub condition_runs : List ℕ → Condition → List Run
 condition_runs word condition =
-    told_runs word (string_bytes condition.text) (told_answer condition.answer)
+    reported_runs word (string_bytes condition.text) (reported_answer condition.answer)
 
 -- what a rule writes is shown where it decides, or another one does so before it
 abbrev pub shows_value : Verdict → Bool
@@ -266,15 +267,22 @@ column_text None = []
 column_text (Some column) = codes ":" ++ decimal column
 
 -- a colon, the first of lines, and a column there
-abbrev pub spot_text : Option Lines → Option ℕ → List ℕ
-spot_text None column = []
-spot_text (Some lines) column = codes ":" ++ (decimal lines.first ++ column_text column)
+abbrev pub line_text : Option Lines → Option ℕ → List ℕ
+line_text None column = []
+line_text (Some lines) column = codes ":" ++ (decimal lines.first ++ column_text column)
+
+-- where in its file a finding is: where its range starts, or else the first of its lines, and a
+-- column there
+abbrev pub spot_text : Option Range → Option Lines → Option ℕ → List ℕ
+spot_text (Some range) lines column = position_text range.start
+spot_text None lines column = line_text lines column
 
 -- where a finding is, before what is told
 abbrev pub finding_place : List ℕ → List Source → Option Place → Option ℕ → List ℕ
 finding_place root sources None column = []
 finding_place root sources (Some place) column =
-    path_at root sources place.source ++ (spot_text place.lines column ++ codes ": ")
+    path_at root sources place.source
+    ++ (spot_text place.range place.lines column ++ codes ": ")
 
 -- the level of a finding, and its name in brackets
 abbrev pub level_text : Finding → List ℕ

@@ -3,7 +3,7 @@ pub mod Zips
 mod ProfileOrigins
 pub mod Finding
 pub mod VerdictsOf
-pub mod ToldOf
+pub mod ReportedOf
 pub mod Items
 pub mod Copies
 pub mod Listing

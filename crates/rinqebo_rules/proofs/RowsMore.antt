@@ -12,8 +12,8 @@ use Rattle.nextest_settings.specs.SourceView.{setting_source_view, MarksOrigin}
 use Rattle.nextest_settings.specs.declared.setting.Setting.{Setting}
 use Rattle.nextest_settings.specs.declared.source.SettingSource.{SettingSource}
 use Rattle.rinqebo_rules.specs.TestOrigins.{Basis}
-use Rattle.rinqebo_rules.specs.Settings.{IsSettingTold, told_settings}
-use Rattle.rinqebo_request.specs.declared.request.AskedSettings.{AskedSettings}
+use Rattle.rinqebo_rules.specs.Settings.{IsSettingReported, reported_settings}
+use Rattle.rinqebo_request.specs.declared.request.RequestedSettings.{RequestedSettings}
 use Rattle.rinqebo_report.specs.declared.report.SettingRow.{SettingRow}
 
 -- one more of each of two lists
@@ -65,17 +65,17 @@ filter_same p xs i x d below same now before fails =
     ∙ sym (filter-one p (take i xs) x) ∙ ap (filter p) (sym taken)
 
 -- rows tell the settings by whatever says the same of each
-pub told_alike : (basis : Basis) (one other : Option RuleId) (v w : (s : Setting) → Option (ValueOf s))
-    (o p : Setting → Option Origin) (mode : NextestRunMode) (asked : AskedSettings) (rows : List SettingRow)
+pub reported_alike : (basis : Basis) (one other : Option RuleId) (v w : (s : Setting) → Option (ValueOf s))
+    (o p : Setting → Option Origin) (mode : NextestRunMode) (asked : RequestedSettings) (rows : List SettingRow)
     → one ≡ other → ((s : Setting) → v s ≡ w s) → ((s : Setting) → o s ≡ p s)
-    → AllZip (IsSettingTold basis one v o mode) (told_settings asked o) rows
-    → AllZip (IsSettingTold basis other w p mode) (told_settings asked p) rows
-told_alike basis one other v w o p mode asked rows wrapping values origins told =
+    → AllZip (IsSettingReported basis one v o mode) (reported_settings asked o) rows
+    → AllZip (IsSettingReported basis other w p mode) (reported_settings asked p) rows
+reported_alike basis one other v w o p mode asked rows wrapping values origins told =
     let same_values : v ≡ w = λ i s. values s i in
     let same_origins : o ≡ p = λ i s. origins s i in
-    subst (λ v. AllZip (IsSettingTold basis other v p mode) (told_settings asked p) rows) same_values
-    (subst (λ o. AllZip (IsSettingTold basis other v o mode) (told_settings asked o) rows) same_origins
-    (subst (λ id. AllZip (IsSettingTold basis id v o mode) (told_settings asked o) rows) wrapping told))
+    subst (λ v. AllZip (IsSettingReported basis other v p mode) (reported_settings asked p) rows) same_values
+    (subst (λ o. AllZip (IsSettingReported basis other v o mode) (reported_settings asked o) rows) same_origins
+    (subst (λ id. AllZip (IsSettingReported basis id v o mode) (reported_settings asked o) rows) wrapping told))
 
 -- the id of what a rule writes is that of the rule
 pub wrapping_alike : {M : Type 0} (uses : Option ScriptRuleUse) (rule : Option (EvaluatedRule M ScriptRuleUse))

@@ -21,15 +21,15 @@ use Rattle.platform_table.specs.declared.Platform.{Platform}
 use Rattle.rinqebo_rules.specs.declared.conditions.Asking.{Asking}
 
 -- an answer that may be unknown, as it is told
-abbrev pub told_answer : Option Bool → ConditionAnswer
-told_answer (Some true) = says.Yes
-told_answer (Some false) = says.No
-told_answer None = says.Unknown
+abbrev pub reported_answer : Option Bool → ConditionAnswer
+reported_answer (Some true) = says.Yes
+reported_answer (Some false) = says.No
+reported_answer None = says.Unknown
 
 -- the answer of a condition that may be absent, as it is told
-abbrev pub told_condition : {X : Type 0} → (X → Option Bool) → Option X → ConditionAnswer
-told_condition answer None = says.Absent
-told_condition answer (Some condition) = told_answer (answer condition)
+abbrev pub reported_condition : {X : Type 0} → (X → Option Bool) → Option X → ConditionAnswer
+reported_condition answer None = says.Absent
+reported_condition answer (Some condition) = reported_answer (answer condition)
 
 -- whether a spec that was read is met by a platform, or none where that is unknown
 abbrev pub is_met_by : TargetSpec → Platform → Option Bool
@@ -41,18 +41,18 @@ filter_matches filter test default =
     filter_holds (marks_view names_of filter) test (marks_view names_of default)
 
 -- what the host says to a spec
-abbrev pub told_host : Asking → Option TargetSpec → ConditionAnswer
-told_host asking spec =
-    told_condition (λ s. is_met_by s asking.platforms.now.host) spec
+abbrev pub reported_host : Asking → Option TargetSpec → ConditionAnswer
+reported_host asking spec =
+    reported_condition (λ s. is_met_by s asking.platforms.now.host) spec
 
 -- what the platform says to a spec on which the binary of the test runs
-abbrev pub told_target : Asking → Option TargetSpec → ConditionAnswer
-told_target asking spec = told_condition
+abbrev pub reported_target : Asking → Option TargetSpec → ConditionAnswer
+reported_target asking spec = reported_condition
     (λ s. is_met_by s (runs_on asking.platforms.now asking.test.now.platform)) spec
 
 -- what a filter says of the test
-abbrev pub told_filter : Asking → Option (Filterset FieldMatcher) → ConditionAnswer
-told_filter asking filter = told_condition
+abbrev pub reported_filter : Asking → Option (Filterset FieldMatcher) → ConditionAnswer
+reported_filter asking filter = reported_condition
     (λ f. Some (filter_matches f (test_view asking.query.now) asking.default_filter.now)) filter
 
 -- An answer does not stand against a rule: one that is absent or unknown does not.
@@ -67,9 +67,9 @@ is_matched says.Absent = true
 is_matched answer = false
 
 -- A filter is asked where the platforms hold.
-abbrev pub asked_if : Bool → ConditionAnswer → ConditionAnswer
-asked_if true answer = answer
-asked_if false answer = says.Unasked
+abbrev pub requested_if : Bool → ConditionAnswer → ConditionAnswer
+requested_if true answer = answer
+requested_if false answer = says.Unrequested
 
 -- The default filter that counts for profiles of these names, on the platforms of a build.
 abbrev pub default_filter_here : BuildPlatforms Platform

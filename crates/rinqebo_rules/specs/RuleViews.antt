@@ -2,7 +2,7 @@
 use Rattle.std.specs.Prelude.{option_map}
 use Rattle.filter_language.specs.declared.filterset.Filterset.{Filterset}
 use Rattle.filter_engine.specs.declared.compiling.FieldMatcher.{FieldMatcher}
-use Rattle.rinqebo_rules.specs.SettingValues.{told_value}
+use Rattle.rinqebo_rules.specs.SettingValues.{reported_value}
 use Rattle.platform_language.specs.declared.expression.TargetSpec.{TargetSpec}
 use Rattle.rinqebo_rules.specs.RulePlaces.{place_view}
 use Rattle.rinqebo_rules.specs.SettingRules.{RuleFor}
@@ -18,5 +18,5 @@ setting_rule_view rule = record {
   host = rule.platforms.now.host;
   target = rule.platforms.now.target;
   filter = option_map (λ filter. filter.now) rule.filter;
-  writes = record { place = place_view rule.place; value = option_map told_value rule.value };
+  writes = record { place = place_view rule.place; value = option_map reported_value rule.value };
 }

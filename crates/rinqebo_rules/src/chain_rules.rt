@@ -4,7 +4,7 @@ ghost use Rattle.nextest_inheritance.specs.View.{borrowed_view};
 ghost use Rattle.nextest_rules.specs.View.{override_rule_view, script_rule_view};
 ghost use Rattle.nextest_settings.specs.Chains.{overrides_of, script_rules_of};
 ghost use Rattle.nextest_settings.specs.View.{override_ref_view, script_rule_ref_view};
-ghost use Rattle.rinqebo_rules.specs.SettingValues.{told_value};
+ghost use Rattle.rinqebo_rules.specs.SettingValues.{reported_value};
 ghost use Rattle.rinqebo_rules.specs.SettingRules.{for_setting, override_writes, wrapper_written, is_of_scripts, rules_for};
 ghost use Rattle.rinqebo_rules.specs.RuleViews.{setting_rule_view};
 
@@ -70,7 +70,7 @@ fn override_rules<'c>(
 
 /// The run wrapper that a script rule names.
 fn named_wrapper(rule: &ScriptRule) -> Option<SettingValue<'_>>
-    ensures { option_map told_value result
+    ensures { option_map reported_value result
         ≡ (wrapper_written (script_rule_view rule.now).writes).value }
 {
     match rule.run_wrapper() {

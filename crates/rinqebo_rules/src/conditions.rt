@@ -2,7 +2,7 @@
 ghost use Rattle.std.specs.Prelude.{◌≡◌, ◌&&◌, IfOk, option_map};
 ghost use Rattle.nextest_inheritance.specs.View.{borrowed_view};
 ghost use Rattle.nextest_settings.specs.Platforms.{runs_on};
-ghost use Rattle.rinqebo_rules.specs.Conditions.{told_condition, is_met_by, told_host, told_target, told_filter, is_met, is_matched, asked_if, default_filter_here};
+ghost use Rattle.rinqebo_rules.specs.Conditions.{reported_condition, is_met_by, reported_host, reported_target, reported_filter, is_met, is_matched, requested_if, default_filter_here};
 
 use filter_engine::{NextestFilters, NextestTally};
 use nextest_config::{
@@ -68,7 +68,7 @@ fn is_met(answer: ConditionAnswer) -> bool
 
 /// What a platform says to a spec.
 fn spec_answer(spec: &Option<<TargetSpecs as Specs>::Spec>, platform: &Platform) -> ConditionAnswer
-    ensures { result ≡ told_condition (λ s. is_met_by s platform.now) spec.now }
+    ensures { result ≡ reported_condition (λ s. is_met_by s platform.now) spec.now }
 {
     match spec {
         None => ConditionAnswer::Absent,
@@ -92,7 +92,7 @@ fn runs_on(platforms: &BuildPlatforms<Platform>, build: BuildPlatform) -> &Platf
 
 /// What a filter says of a test.
 fn filter_answer(filter: Option<&Filter>, asking: &Asking<'_, '_>) -> ConditionAnswer
-    ensures { result ≡ told_filter asking.now (option_map (λ filter. filter.now) filter.entry) }
+    ensures { result ≡ reported_filter asking.now (option_map (λ filter. filter.now) filter.entry) }
 {
     let Some(filter) = filter else {
         return ConditionAnswer::Absent;
@@ -114,10 +114,10 @@ pub fn answers_of(
     filter: Option<&Filter>,
     asking: &Asking<'_, '_>,
 ) -> Answers
-    ensures host { result.host ≡ told_host asking.now specs.now.host }
-    ensures target { result.target ≡ told_target asking.now specs.now.target }
-    ensures filter { result.filter ≡ asked_if (is_met result.host && is_met result.target)
-        (told_filter asking.now (option_map (λ filter. filter.now) filter.entry)) }
+    ensures host { result.host ≡ reported_host asking.now specs.now.host }
+    ensures target { result.target ≡ reported_target asking.now specs.now.target }
+    ensures filter { result.filter ≡ requested_if (is_met result.host && is_met result.target)
+        (reported_filter asking.now (option_map (λ filter. filter.now) filter.entry)) }
 {
     let host = spec_answer(&specs.host, &asking.platforms.host);
     let target = spec_answer(
@@ -127,7 +127,7 @@ pub fn answers_of(
     let filter = if is_met(host) && is_met(target) {
         filter_answer(filter, asking)
     } else {
-        ConditionAnswer::Unasked
+        ConditionAnswer::Unrequested
     };
     Answers {
         host,

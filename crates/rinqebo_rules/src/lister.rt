@@ -3,7 +3,7 @@ ghost use Rattle.std.specs.Prelude.{◌≡◌, IfOk, map};
 ghost use Rattle.nextest_engines.specs.Engines.{test_view};
 ghost use Rattle.nextest_profiles.specs.Meaning.{profile_meaning};
 ghost use Rattle.nextest_settings.specs.Queries.{query_in};
-ghost use Rattle.rinqebo_rules.specs.Rows.{AreTestsTold, IsTestTold};
+ghost use Rattle.rinqebo_rules.specs.Rows.{AreTestsReported, IsTestReported};
 ghost use Rattle.rinqebo_rules.specs.Unused.{AreUnusedIn};
 
 use crate::origins::Origins;
@@ -14,7 +14,7 @@ use nextest_elements::NextestRunMode;
 use nextest_engines::{BuildPlatform, Filters, Specs, TestQuery};
 use nextest_profiles::EvaluatableProfile;
 use rinqebo_report::{Platform, TestRows};
-use rinqebo_request::AskedSettings;
+use rinqebo_request::RequestedSettings;
 use std::alloc::{AllocError, Global};
 
 /// Lists the settings of tests.
@@ -25,7 +25,7 @@ pub struct Lister<'l, 'c, F: Filters, S: Specs> {
     /// For what tests are run.
     pub mode: NextestRunMode,
     /// Which settings are listed.
-    pub asked: &'l AskedSettings,
+    pub asked: &'l RequestedSettings,
 }
 
 /// The tests of a list, and the rules that hold for none of them.
@@ -56,7 +56,7 @@ impl<'l, 'c, F: Filters, S: Specs> Lister<'l, 'c, F, S> {
     ) -> Result<TestRows, AllocError>
         ensures same { origins.new ≡ origins.old }
         ensures told { let profile = profile_meaning F.meaning self.now.profile.now in
-            IfOk result (IsTestTold origins.old (query_in F.holds profile (test_view query.now))
+            IfOk result (IsTestReported origins.old (query_in F.holds profile (test_view query.now))
             self.now.mode profile self.now.asked.now (test_view query.now)) }
     {
         let settings = self
@@ -81,7 +81,7 @@ impl<'l, 'c, F: Filters, S: Specs> Lister<'l, 'c, F, S> {
         progress: &mut P,
     ) -> Result<ListedRows<'c>, AllocError>
         ensures tests { let profile = profile_meaning F.meaning self.now.profile.now in
-            IfOk result (λ listed. AreTestsTold origins.old F.holds self.now.mode profile
+            IfOk result (λ listed. AreTestsReported origins.old F.holds self.now.mode profile
             self.now.asked.now (map test_view queries.now) listed.tests.items) }
         ensures unused { let profile = profile_meaning F.meaning self.now.profile.now in
             IfOk result (λ listed. AreUnusedIn

@@ -10,45 +10,45 @@ use Rattle.rinqebo_rules.proofs.VerdictsOf.{verdicts-facts}
 use Rattle.rinqebo_rules.specs.Verdicts.{facts_of}
 use Rattle.rinqebo_rules.specs.VerdictsBy.{verdict_by, decides_by, verdicts_by}
 use Rattle.rinqebo_rules.specs.declared.verdict.RuleFacts.{RuleFacts}
-use Rattle.rinqebo_rules.specs.Conditions.{told_answer, told_condition, told_filter, is_met_by, is_met, is_matched, asked_if}
-use Rattle.rinqebo_rules.specs.RuleAnswers.{asked_query, facts_told}
+use Rattle.rinqebo_rules.specs.Conditions.{reported_answer, reported_condition, reported_filter, is_met_by, is_met, is_matched, requested_if}
+use Rattle.rinqebo_rules.specs.RuleAnswers.{requested_query, facts_reported}
 use Rattle.rinqebo_run.specs.Reasons.{rule_here, verdicts_here}
 use Rattle.rinqebo_rules.specs.RuleViews.{Rule}
 use Rattle.rinqebo_rules.specs.SettingRules.{writes_it}
 use Rattle.rinqebo_rules.specs.declared.conditions.Asking.{Asking}
 
 -- an answer counts as met where what is told of it does not stand against the rule
-met_told : (answer : Option Bool) → unwrap_or answer true ≡ is_met (told_answer answer)
-met_told None = refl
-met_told (Some true) = refl
-met_told (Some false) = refl
+met_reported : (answer : Option Bool) → unwrap_or answer true ≡ is_met (reported_answer answer)
+met_reported None = refl
+met_reported (Some true) = refl
+met_reported (Some false) = refl
 
 -- a spec holds where what is told of it does not stand against the rule
-spec_told : {K P : Type 0} (meets : K → P → Option Bool) (spec : Option K) (platform : P)
-    → spec_holds meets spec platform ≡ is_met (told_condition (λ s. meets s platform) spec)
-spec_told meets None platform = refl
-spec_told meets (Some spec) platform = met_told (meets spec platform)
+spec_reported : {K P : Type 0} (meets : K → P → Option Bool) (spec : Option K) (platform : P)
+    → spec_holds meets spec platform ≡ is_met (reported_condition (λ s. meets s platform) spec)
+spec_reported meets None platform = refl
+spec_reported meets (Some spec) platform = met_reported (meets spec platform)
 
-matched_told : (holds : Bool) → holds ≡ is_matched (told_answer (Some holds))
-matched_told true = refl
-matched_told false = refl
+matched_reported : (holds : Bool) → holds ≡ is_matched (reported_answer (Some holds))
+matched_reported true = refl
+matched_reported false = refl
 
 -- a filter holds where what is told of it matches
-filter_told : {M : Type 0} (matches : M → Bool) (filter : Option M)
-    → filter_holds matches filter ≡ is_matched (told_condition (λ m. Some (matches m)) filter)
-filter_told matches None = refl
-filter_told matches (Some m) = matched_told (matches m)
+filter_reported : {M : Type 0} (matches : M → Bool) (filter : Option M)
+    → filter_holds matches filter ≡ is_matched (reported_condition (λ m. Some (matches m)) filter)
+filter_reported matches None = refl
+filter_reported matches (Some m) = matched_reported (matches m)
 
 -- the specs of a rule hold where what is told of them does not stand against it
-specs_told : {K P : Type 0} (meets : K → P → Option Bool) (platforms : BuildPlatforms P) (build : BuildPlatform)
+specs_reported : {K P : Type 0} (meets : K → P → Option Bool) (platforms : BuildPlatforms P) (build : BuildPlatform)
     (host target : Option K)
     → specs_hold meets platforms build host target
-    ≡ (is_met (told_condition (λ s. meets s platforms.host) host)
-    && is_met (told_condition (λ s. meets s (runs_on platforms build)) target))
-specs_told meets platforms build host target =
-    ap (λ b. b && spec_holds meets target (runs_on platforms build)) (spec_told meets host platforms.host)
-    ∙ ap (λ b. is_met (told_condition (λ s. meets s platforms.host) host) && b)
-    (spec_told meets target (runs_on platforms build))
+    ≡ (is_met (reported_condition (λ s. meets s platforms.host) host)
+    && is_met (reported_condition (λ s. meets s (runs_on platforms build)) target))
+specs_reported meets platforms build host target =
+    ap (λ b. b && spec_holds meets target (runs_on platforms build)) (spec_reported meets host platforms.host)
+    ∙ ap (λ b. is_met (reported_condition (λ s. meets s platforms.host) host) && b)
+    (spec_reported meets target (runs_on platforms build))
 
 -- the answer for a platform, of answers for each
 for_platform : (f : BuildPlatform → Bool) (build : BuildPlatform) → by_platform (f Host) (f Target) build ≡ f build
@@ -91,28 +91,28 @@ same_verdicts d (f ∷ fs) (g ∷ gs) all =
 
 module _ (asking : Asking) where
   -- what is told of a rule gives it the verdict that comes of it
-  told_same : (rule : Rule)
-      → GiveSame (facts_told asking rule) (facts_of (asked_query asking) writes_it (rule_here asking rule))
-  told_same rule =
+  reported_same : (rule : Rule)
+      → GiveSame (facts_reported asking rule) (facts_of (requested_query asking) writes_it (rule_here asking rule))
+  reported_same rule =
       let platforms = asking.platforms.now in
       let build = asking.test.now.platform in
       record {
-        is_on = sym (specs_told is_met_by platforms build rule.host rule.target)
+        is_on = sym (specs_reported is_met_by platforms build rule.host rule.target)
             ∙ sym (for_platform (λ b. specs_hold is_met_by platforms b rule.host rule.target) build);
-        matches = λ on. ap (λ b. is_matched (asked_if b (told_filter asking rule.filter))) on
-            ∙ sym (filter_told (asked_query asking).matches rule.filter);
+        matches = λ on. ap (λ b. is_matched (requested_if b (reported_filter asking rule.filter))) on
+            ∙ sym (filter_reported (requested_query asking).matches rule.filter);
         writes = refl;
       }
 
   all_same : (rules : List Rule)
-      → AllZip GiveSame (map (facts_told asking) rules)
-      (map (facts_of (asked_query asking) writes_it) (map (rule_here asking) rules))
+      → AllZip GiveSame (map (facts_reported asking) rules)
+      (map (facts_of (requested_query asking) writes_it) (map (rule_here asking) rules))
   all_same [] = tt
-  all_same (rule ∷ rules) = (told_same rule, all_same rules)
+  all_same (rule ∷ rules) = (reported_same rule, all_same rules)
 
   -- the verdicts of what is told of rules are those that come of them
-  pub told_verdicts : (rules : List Rule)
-      → verdicts_by false (map (facts_told asking) rules) ≡ verdicts_here asking rules
-  told_verdicts rules =
+  pub reported_verdicts : (rules : List Rule)
+      → verdicts_by false (map (facts_reported asking) rules) ≡ verdicts_here asking rules
+  reported_verdicts rules =
       same_verdicts false _ _ (all_same rules)
-      ∙ sym (verdicts-facts (asked_query asking) writes_it (map (rule_here asking) rules))
+      ∙ sym (verdicts-facts (requested_query asking) writes_it (map (rule_here asking) rules))

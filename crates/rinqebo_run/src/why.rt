@@ -12,16 +12,16 @@ ghost use Rattle.nextest_tables.specs.Written.{Name};
 ghost use Rattle.rinqebo_report.specs.declared.report.Verdict.TheVariants as told;
 ghost use Rattle.rinqebo_request.specs.Keys.{key_text};
 ghost use Rattle.rinqebo_rules.specs.Conditions.{is_met_by, filter_matches};
-ghost use Rattle.rinqebo_run.specs.Reasons.{told_verdict, IsRuleTold, verdicts_here, AreRulesToldHere};
-ghost use Rattle.rinqebo_rules.specs.RuleAnswers.{answers_told, facts_told};
+ghost use Rattle.rinqebo_run.specs.Reasons.{page_verdict, IsRuleReported, verdicts_here, AreRulesReportedHere};
+ghost use Rattle.rinqebo_rules.specs.RuleAnswers.{answers_reported, facts_reported};
 ghost use Rattle.rinqebo_findings.specs.Failures.{IsFailureAbout};
 ghost use Rattle.rinqebo_findings.specs.Reports.{IsReportOf};
 ghost use Rattle.rinqebo_rules.specs.RuleViews.{setting_rule_view};
 ghost use Rattle.rinqebo_run.specs.TellsReasons.{AreReasons, AreReasonsIn, IfWhy, IsTestNamed, TellsReasons};
-ghost use Rattle.rinqebo_rules.specs.Told.{told_of, value_view};
+ghost use Rattle.rinqebo_rules.specs.Told.{reported_of, value_view};
 ghost use Rattle.platform_language.specs.declared.expression.TargetSpec.{TargetSpec};
 
-use crate::asked::asked_of;
+use crate::asked::requested_of;
 use crate::idle::findings_on;
 use nextest_config::{DefaultConfigWarnings, NextestRunMode, Setting};
 use rinqebo_files::{Layer, host_text, target_text, text_at};
@@ -51,7 +51,7 @@ fn condition(
 
 /// A verdict, as it is reported.
 fn reported_verdict(verdict: rinqebo_rules::Verdict) -> Verdict
-    ensures { result ≡ told_verdict verdict }
+    ensures { result ≡ page_verdict verdict }
 {
     match verdict {
         rinqebo_rules::Verdict::PlatformNo => Verdict::PlatformNo,
@@ -72,7 +72,7 @@ fn reported_rule(
 ) -> Result<Rule, AllocError>
     ensures { let view = setting_rule_view rule.now in
         IfOk result
-        (IsRuleTold layers.now view.writes (answers_told asking.now view) verdict) }
+        (IsRuleReported layers.now view.writes (answers_reported asking.now view) verdict) }
 {
     let table = rule.place.table(layers);
     let answers = answers_to(rule, asking);
@@ -94,7 +94,7 @@ fn all_facts(
     asking: &Asking<'_, '_>,
 ) -> Result<Vec<RuleFacts>, AllocError>
     ensures { IfOk result (λ facts. facts.items
-        ≡ map (facts_told asking.now) (map setting_rule_view rules.now)) }
+        ≡ map (facts_reported asking.now) (map setting_rule_view rules.now)) }
 {
     let mut facts = Vec::new(alloc);
     for rule in rules {
@@ -126,7 +126,7 @@ fn rules_with_verdicts(
 ) -> Result<Vec<Rule>, AllocError>
     ensures { verdicts.now ≡ verdicts_here asking.now (map setting_rule_view rules.now)
         → IfOk result (λ told.
-        AreRulesToldHere layers.now asking.now (map setting_rule_view rules.now) told.items) }
+        AreRulesReportedHere layers.now asking.now (map setting_rule_view rules.now) told.items) }
 {
     let mut reported = Vec::new(alloc);
     for (rule, verdict) in rules.iter().zip(verdicts) {
@@ -143,7 +143,7 @@ fn reported_rules(
     asking: &Asking<'_, '_>,
 ) -> Result<Vec<Rule>, AllocError>
     ensures { IfOk result (λ told.
-        AreRulesToldHere layers.now asking.now (map setting_rule_view rules.now) told.items) }
+        AreRulesReportedHere layers.now asking.now (map setting_rule_view rules.now) told.items) }
 {
     let verdicts = all_verdicts(alloc, rules, asking)?;
     rules_with_verdicts(alloc, layers, rules, &verdicts, asking)
@@ -174,7 +174,7 @@ fn fallback_rule(
 ) -> Result<Rule, AllocError>
     ensures verdict { IfOk result (λ rule. rule.verdict ≡ told.Fallback) }
     ensures value { IfOk result (λ rule. option_map value_view rule.value
-        ≡ option_map (told_of setting) (fallback_of
+        ≡ option_map (reported_of setting) (fallback_of
         (fields_of config.now.config.profiles (borrowed_view chain.now)) mode setting)) }
 {
     let key = SettingKey::of(setting, mode);
@@ -253,7 +253,7 @@ fn reasons<'c>(
         session.now.engines.platforms configured profile.now test.now setting rules)) }
 {
     let chain = chain_of_profile(alloc, config, profile)?;
-    let asked = asked_of(alloc, session, profile, &chain, test.mode)?;
+    let asked = requested_of(alloc, session, profile, &chain, test.mode)?;
     let named = named_test(alloc, test)?;
     let key = SettingKey::of(setting, test.mode).text(alloc)?;
     let rules = rules_and_fallback(alloc, session, config, &chain, test, setting)?;

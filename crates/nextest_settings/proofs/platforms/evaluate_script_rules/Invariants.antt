@@ -6,6 +6,7 @@ use Rattle.nextest_settings.proofs.platforms.evaluate_script_rules.Given as goal
 
 abbrev pub invariant-loop-rule : goal.invariant-loop-rule
 invariant-loop-rule g l =
-    map evaluated_script_rule_view l.evaluated.items
+    (map (λ e. e.rule) l.evaluated.items ≡ take l.rule-index l.rules)
+    × (map evaluated_script_rule_view l.evaluated.items
     ≡ map (rule_on (meets_by g.S.Specs) l.platforms)
-    (map script_rule_ref_view (take l.rule-index l.rules))
+    (map script_rule_ref_view (take l.rule-index l.rules)))

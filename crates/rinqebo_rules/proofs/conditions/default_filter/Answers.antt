@@ -11,7 +11,7 @@ returns c =
     let names = borrowed_view c.args.chain.now in
     let rules = ap (map override_ref_view) c.deref.ensures.value ∙ c.in_ok-rules.ensures.overrides
     ∙ ap (λ ls. overrides_of ls names) c.layers-layers.ensures in
-    let overrides = ap (map evaluated_override_view) c.deref-2.ensures.value ∙ c.in_ok-evaluated.ensures
+    let overrides = ap (map evaluated_override_view) c.deref-2.ensures.value ∙ c.in_ok-evaluated.ensures.on
     ∙ ap (map (rule_on is_met_by c.args.platforms.now)) rules in
     let nearest = c.nearest_filter-nearest.ensures ∙ ap (λ ls. nearest_filter ls names) c.layers-layers.ensures in
     ap (λ choice. choice.filter) (c.default_filter_of.ensures

@@ -1,7 +1,7 @@
 use Rattle.std.proofs.Common.{ℕ, All, List, Option, option_map, subst, sym}
 use Rattle.std.proofs.lemmas.List.Elements.{All-push}
 use Rattle.nextest_inheritance.specs.View.{borrowed_view}
-use Rattle.rinqebo_rules.proofs.Copies.{copies_at, copies_told}
+use Rattle.rinqebo_rules.proofs.Copies.{copies_at, copies_reported}
 use Rattle.rinqebo_rules.specs.KnownOrigins.{AreOriginsAt, IsKnown}
 use Rattle.rinqebo_rules.specs.RulePlaces.{Place, place_view}
 use Rattle.rinqebo_rules.specs.TestOrigins.{Basis}
@@ -13,7 +13,7 @@ returns-in-Some-clause-told c =
     let known : All (IsKnown basis) c.deref.result.now =
     subst (All (IsKnown basis)) (sym c.deref.ensures.value)
     (subst (λ b. All (IsKnown b) c.self.inside.known.items) c.self.view_is c.self.invariant) in
-    copies_told c.all_copied.result basis _ _ _ c.in-Some.origins.now c.all_copied.ensures
+    copies_reported c.all_copied.result basis _ _ _ c.in-Some.origins.now c.all_copied.ensures
     (c.in-Some.ensures basis known)
 
 pub invariant_of-self-2 : goal.invariant_of-self-2
