@@ -1,4 +1,4 @@
-use Rattle.std.proofs.Common.{◌≡◌, ℕ, All, List, Option, option_map, subst, sym}
+use Rattle.std.proofs.Common.{ℕ, All, List, Option, option_map, subst, sym}
 use Rattle.std.proofs.lemmas.List.Elements.{All-push}
 use Rattle.nextest_inheritance.specs.View.{borrowed_view}
 use Rattle.rinqebo_rules.proofs.Copies.{copies_at, copies_reported}
