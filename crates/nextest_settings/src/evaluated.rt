@@ -38,7 +38,7 @@ pub struct EvaluatedRules<'cfg, F: Filters, S: Specs> {
 
 impl<'cfg, F: Filters, S: Specs> ChainRules<'cfg, F, S> {
     /// These rules on the platforms of a build, over the default filter of the nearest profile, and
-    /// the filter that matches everything.
+    /// the filter that matches everything. Each of them is there, in its place.
     pub fn evaluate(
         &self,
         alloc: Global,
@@ -55,6 +55,10 @@ impl<'cfg, F: Filters, S: Specs> ChainRules<'cfg, F, S> {
             ≡ map (rule_on
             (meets_by S.Specs) platforms.now)
             (map script_rule_ref_view self.now.script_rules.items)) }
+        ensures same_overrides { IfOk result (λ rules.
+            map (λ e. e.rule) rules.overrides.items ≡ self.now.overrides.items) }
+        ensures same_script_rules { IfOk result (λ rules.
+            map (λ e. e.rule) rules.script_rules.items ≡ self.now.script_rules.items) }
         ensures default_filter { IfOk result (λ rules. filter_view rules.default_filter
             ≡ default_filter_of (map evaluated_override_view rules.overrides.items)
             (option_map filter_view nearest.entry) (match_all_filter match_all.now)) }

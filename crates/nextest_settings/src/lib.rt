@@ -33,9 +33,10 @@ pub use laws::{
     law_first_script_rule, law_rule_order,
 };
 pub use list_settings::ListSettings;
+pub use pass::matches_test;
 pub use platforms::{
     EvaluatedOverride, EvaluatedRule, EvaluatedScriptRule, evaluate_overrides,
-    evaluate_script_rules,
+    evaluate_script_rules, runs_on,
 };
 pub use setting::Setting;
 pub use setting_value::{SettingValue, SettingValues};

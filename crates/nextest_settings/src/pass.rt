@@ -14,8 +14,8 @@ use nextest_elements::NextestRunMode;
 use nextest_engines::{EvalContext, Filters, Specs, Tally, TestQuery};
 use rule_lists::{Query, Row, walk_rows};
 
-/// Whether a filter matches a test, if there is one.
-pub(crate) fn matches_test<F: Filters>(
+/// Whether a filter matches a test, if there is one. Then its number goes into the tally.
+pub fn matches_test<F: Filters>(
     filter: Option<&F::Expr>,
     number: usize,
     query: &TestQuery<'_>,

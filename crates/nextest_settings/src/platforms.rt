@@ -2,7 +2,7 @@
 ghost use Rattle.std.specs.Prelude.{◌≡◌, map, IfOk};
 ghost use Rattle.nextest_rules.specs.View.{override_rule_view, script_rule_view};
 ghost use Rattle.nextest_settings.specs.Engines.{meets_by};
-ghost use Rattle.nextest_settings.specs.Platforms.{spec_holds, specs_hold, rule_on};
+ghost use Rattle.nextest_settings.specs.Platforms.{runs_on, spec_holds, specs_hold, rule_on};
 ghost use Rattle.nextest_settings.specs.View.{override_ref_view, script_rule_ref_view, evaluated_override_view, evaluated_script_rule_view};
 
 use nextest_engines::{BuildPlatform, BuildPlatforms, Filters, Specs};
@@ -57,6 +57,17 @@ fn spec_holds<S: Specs>(spec: &Option<S::Spec>, platform: &S::Platform) -> bool
     }
 }
 
+/// The platform on which binaries run that are built for a platform: without a target, what is built
+/// for it runs on the host.
+pub fn runs_on<P>(platforms: &BuildPlatforms<P>, build: BuildPlatform) -> &P
+    ensures { result.now ≡ runs_on platforms.now build }
+{
+    match build {
+        BuildPlatform::Host => &platforms.host,
+        BuildPlatform::Target => platforms.target.as_ref().unwrap_or(&platforms.host),
+    }
+}
+
 /// Whether the platforms of a rule hold for binaries of a platform.
 fn platforms_hold<S: Specs>(
     specs: &PlatformSpecs<S>,
@@ -67,11 +78,8 @@ fn platforms_hold<S: Specs>(
         ≡ specs_hold (meets_by S.Specs) platforms.now
         build specs.now.host specs.now.target }
 {
-    let runs_on = match build {
-        BuildPlatform::Host => &platforms.host,
-        BuildPlatform::Target => platforms.target.as_ref().unwrap_or(&platforms.host),
-    };
-    spec_holds::<S>(&specs.host, &platforms.host) && spec_holds::<S>(&specs.target, runs_on)
+    spec_holds::<S>(&specs.host, &platforms.host)
+        && spec_holds::<S>(&specs.target, runs_on(platforms, build))
 }
 
 /// An override on the platforms of a build.
@@ -79,9 +87,10 @@ fn evaluate_override<'cfg, F: Filters, S: Specs>(
     rule: &'cfg CompiledOverride<F, S>,
     platforms: &BuildPlatforms<S::Platform>,
 ) -> EvaluatedOverride<'cfg, F, S>
-    ensures { evaluated_override_view result
+    ensures on { evaluated_override_view result
         ≡ rule_on (meets_by S.Specs) platforms.now
         (override_rule_view rule.now) }
+    ensures rule { result.rule ≡ rule }
 {
     EvaluatedRule {
         rule,
@@ -95,9 +104,10 @@ fn evaluate_script_rule<'cfg, F: Filters, S: Specs>(
     rule: &'cfg CompiledProfileScripts<F, S>,
     platforms: &BuildPlatforms<S::Platform>,
 ) -> EvaluatedScriptRule<'cfg, F, S>
-    ensures { evaluated_script_rule_view result
+    ensures on { evaluated_script_rule_view result
         ≡ rule_on (meets_by S.Specs) platforms.now
         (script_rule_view rule.now) }
+    ensures rule { result.rule ≡ rule }
 {
     EvaluatedRule {
         rule,
@@ -112,9 +122,10 @@ pub fn evaluate_overrides<'cfg, F: Filters, S: Specs>(
     rules: &[&'cfg CompiledOverride<F, S>],
     platforms: &BuildPlatforms<S::Platform>,
 ) -> Result<Vec<EvaluatedOverride<'cfg, F, S>>, AllocError>
-    ensures { IfOk result (λ evaluated. map evaluated_override_view evaluated.items
+    ensures on { IfOk result (λ evaluated. map evaluated_override_view evaluated.items
         ≡ map (rule_on (meets_by S.Specs) platforms.now)
         (map override_ref_view rules.now)) }
+    ensures rules { IfOk result (λ evaluated. map (λ e. e.rule) evaluated.items ≡ rules.now) }
 {
     let mut evaluated = Vec::with_capacity(alloc, rules.len())?;
     for rule in rules {
@@ -129,9 +140,10 @@ pub fn evaluate_script_rules<'cfg, F: Filters, S: Specs>(
     rules: &[&'cfg CompiledProfileScripts<F, S>],
     platforms: &BuildPlatforms<S::Platform>,
 ) -> Result<Vec<EvaluatedScriptRule<'cfg, F, S>>, AllocError>
-    ensures { IfOk result (λ evaluated. map evaluated_script_rule_view evaluated.items
+    ensures on { IfOk result (λ evaluated. map evaluated_script_rule_view evaluated.items
         ≡ map (rule_on (meets_by S.Specs) platforms.now)
         (map script_rule_ref_view rules.now)) }
+    ensures rules { IfOk result (λ evaluated. map (λ e. e.rule) evaluated.items ≡ rules.now) }
 {
     let mut evaluated = Vec::with_capacity(alloc, rules.len())?;
     for rule in rules {

@@ -1,4 +1,4 @@
-use Rattle.std.proofs.Common.{◌≡◌, map, take}
+use Rattle.std.proofs.Common.{◌≡◌, ◌×◌, map, take}
 use Rattle.nextest_settings.specs.Engines.{meets_by}
 use Rattle.nextest_settings.specs.Platforms.{rule_on}
 use Rattle.nextest_settings.specs.View.{override_ref_view, evaluated_override_view}
@@ -6,6 +6,7 @@ use Rattle.nextest_settings.proofs.platforms.evaluate_overrides.Given as goal
 
 abbrev pub invariant-loop-rule : goal.invariant-loop-rule
 invariant-loop-rule g l =
-    map evaluated_override_view l.evaluated.items
+    (map (λ e. e.rule) l.evaluated.items ≡ take l.rule-index l.rules)
+    × (map evaluated_override_view l.evaluated.items
     ≡ map (rule_on (meets_by g.S.Specs) l.platforms)
-    (map override_ref_view (take l.rule-index l.rules))
+    (map override_ref_view (take l.rule-index l.rules)))
