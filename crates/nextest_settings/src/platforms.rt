@@ -90,7 +90,7 @@ fn evaluate_override<'cfg, F: Filters, S: Specs>(
     ensures on { evaluated_override_view result
         ≡ rule_on (meets_by S.Specs) platforms.now
         (override_rule_view rule.now) }
-    ensures rule { result.rule ≡ rule }
+    ensures rule { result.rule ≡ rule.entry }
 {
     EvaluatedRule {
         rule,
@@ -107,7 +107,7 @@ fn evaluate_script_rule<'cfg, F: Filters, S: Specs>(
     ensures on { evaluated_script_rule_view result
         ≡ rule_on (meets_by S.Specs) platforms.now
         (script_rule_view rule.now) }
-    ensures rule { result.rule ≡ rule }
+    ensures rule { result.rule ≡ rule.entry }
 {
     EvaluatedRule {
         rule,

@@ -5,6 +5,7 @@ use Rattle.nextest_engines.specs.Engines.{test_view}
 use Rattle.nextest_engines.specs.declared.queries.BuildPlatform.{BuildPlatform}
 use Rattle.filter_engine.specs.declared.compiling.FieldMatcher.{FieldMatcher}
 use Rattle.nextest_rules.specs.Rules.{Compiled}
+use Rattle.nextest_settings.proofs.Held.{is_held}
 use Rattle.nextest_settings.specs.Deciding.{filter_holds, rule_holds}
 use Rattle.nextest_settings.specs.Platforms.{EvaluatedRule, is_on, runs_on}
 use Rattle.nextest_settings.specs.View.{evaluated_meaning}
@@ -14,6 +15,7 @@ use Rattle.rinqebo_rules.specs.Conditions.{told_answer, told_condition, told_by_
 use Rattle.rinqebo_rules.specs.RuleAnswers.{asked_query, judged}
 use Rattle.rinqebo_rules.specs.RuleViews.{setting_rule_view}
 use Rattle.rinqebo_rules.specs.SettingRules.{RuleValue, for_setting, on_setting}
+use Rattle.rinqebo_rules.specs.SettingValues.{told_value}
 use Rattle.rinqebo_rules.specs.declared.chain_rules.SettingRule.{SettingRule}
 use Rattle.rinqebo_rules.specs.declared.conditions.Asking.{Asking}
 
@@ -30,11 +32,6 @@ pub holds_meant : {E M W V : Type 0} (f : E → M) (h : W → V) (matches : M �
     ≡ rule_holds (record { platform = platform; matches = λ e. matches (f e) }) rule
 holds_meant f h matches platform rule =
     ap (λ b. is_on rule platform && b) (filter_meant f matches rule.filter)
-
--- what is made of a value is there where the value is
-pub made_where : {X Y : Type 0} (f : X → Y) (o : Option X) → is_some o ≡ is_some (option_map f o)
-made_where f None = refl
-made_where f (Some x) = refl
 
 -- what is known of a rule tells what its filter says
 filter_told : {M : Type 0} (matches : M → Bool) (on : Bool) (filter : Option M)
@@ -64,7 +61,7 @@ module _ {W : Type 0} (asking : Asking) (writes : W → RuleValue)
       → setting_rule_view held ≡ judged asking (for_setting writes rule) (on_setting writes on)
   rule_judged same_filter same_writes written on_there holds there host target filter =
       let writes_there : held.facts.writes ≡ is_some (writes on.writes).value =
-      there ∙ made_where _ held.value ∙ ap (λ w. is_some w.value) written
+      there ∙ sym (is_held told_value held.value) ∙ ap (λ w. is_some w.value) written
       ∙ ap (λ w. is_some (writes w).value) (sym same_writes) in
       let told = filter ∙ (λ i. told_by_facts (is_some (sym same_filter i)) (record {
         is_on = on_there i;
@@ -80,14 +77,14 @@ module _ {W : Type 0} (asking : Asking) (writes : W → RuleValue)
       }
 
 -- what is made of two things of each element, where the second is made of the first
-pub made_of_both : {X A B Y : Type 0} (F : A → B → Y) (f : X → A) (g : X → B) (h : A → B) (xs : List X) (as : List A)
-    → map f xs ≡ as → map g xs ≡ map h as → map (λ x. F (f x) (g x)) xs ≡ map (λ a. F a (h a)) as
+pub made_of_both : {X A B Z : Type 0} (F : A → B → Z) (f : X → A) (g : X → B) (h : A → B) (xs : List X) (ys : List A)
+    → map f xs ≡ ys → map g xs ≡ map h ys → map (λ x. F (f x) (g x)) xs ≡ map (λ y. F y (h y)) ys
 made_of_both F f g h [] [] first second = refl
-made_of_both F f g h [] (a ∷ as) first second = absurd cc
+made_of_both F f g h [] (y ∷ ys) first second = absurd cc
 made_of_both F f g h (x ∷ xs) [] first second = absurd cc
-made_of_both F f g h (x ∷ xs) (a ∷ as) first second =
-    let head : f x ≡ a = cc in
-    let tail : map f xs ≡ as = cc in
-    let beside : g x ≡ h a = cc in
-    let rest : map g xs ≡ map h as = cc in
-    λ i. F (head i) (beside i) ∷ made_of_both F f g h xs as tail rest i
+made_of_both F f g h (x ∷ xs) (y ∷ ys) first second =
+    let head : f x ≡ y = cc in
+    let tail : map f xs ≡ ys = cc in
+    let beside : g x ≡ h y = cc in
+    let rest : map g xs ≡ map h ys = cc in
+    λ i. F (head i) (beside i) ∷ made_of_both F f g h xs ys tail rest i

@@ -102,10 +102,7 @@ pub(crate) fn answers_of(
 {
     Answers {
         host: spec_answer(&specs.host, &asking.platforms.host),
-        target: spec_answer(
-            &specs.target,
-            runs_on(asking.platforms, asking.platform()),
-        ),
+        target: spec_answer(&specs.target, runs_on(asking.platforms, asking.platform())),
         filter: filter_answer(filter.is_some(), facts),
     }
 }

@@ -1,4 +1,4 @@
-use Rattle.std.proofs.Common.{◌≡◌, ◌×◌, map, take}
+use Rattle.std.proofs.Common.{◌≡◌, map, take}
 use Rattle.nextest_settings.specs.Engines.{meets_by}
 use Rattle.nextest_settings.specs.Platforms.{rule_on}
 use Rattle.nextest_settings.specs.View.{script_rule_ref_view, evaluated_script_rule_view}

@@ -1,6 +1,7 @@
-use Rattle.std.proofs.Common.{◌∙◌, ap, is_some, refl}
+use Rattle.std.proofs.Common.{◌∙◌, ap, is_some, refl, sym}
 use Rattle.filter_language.specs.Filtersets.{marks_view}
 use Rattle.nextest_engines.specs.Engines.{test_view}
+use Rattle.nextest_settings.proofs.Held.{is_held}
 use Rattle.nextest_settings.specs.Deciding.{rule_holds}
 use Rattle.nextest_settings.specs.Platforms.{is_on, runs_on}
 use Rattle.nextest_settings.specs.Queries.{test_query}
@@ -10,7 +11,7 @@ use Rattle.filter_engine.specs.Engine.{filter_holds}
 use Rattle.rinqebo_rules.specs.Conditions.{is_met_by, told_by_facts, told_condition}
 use Rattle.rinqebo_rules.specs.RulePlaces.{script_place}
 use Rattle.rinqebo_rules.specs.SettingRules.{wrapper_written}
-use Rattle.rinqebo_rules.proofs.Judged.{holds_meant, made_where, rule_judged}
+use Rattle.rinqebo_rules.proofs.Judged.{holds_meant, rule_judged}
 use Rattle.rinqebo_rules.proofs.chain_rules.script_rule.Goals as goal
 
 pub returns : goal.returns
@@ -37,4 +38,4 @@ returns c =
     ∙ ap (told_condition (λ s. is_met_by s (runs_on asking.platforms.now test.binary.platform)))
     (c.platforms.ensures.target ∙ ap (λ r. (script_rule_ref_view r).target) same))
     (c.answers_of.ensures.filter
-    ∙ ap (λ b. told_by_facts b _) (made_where (λ f. f.now) c.filter.result ∙ ap is_some filter))
+    ∙ ap (λ b. told_by_facts b _) (sym (is_held (λ f. f.now) c.filter.result) ∙ ap is_some filter))

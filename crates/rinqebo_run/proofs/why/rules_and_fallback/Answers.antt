@@ -18,10 +18,10 @@ returns c = λ configured name names same_config same_names.
     ∙ ap (λ g. default_filter_here platforms g (borrowed_view c.args.chain.now)) (sym same_config)
     ∙ ap (default_filter_here platforms configured.config) same_names in
     let written = rules_for c.args.setting mode
-        (overrides_of c.args.config.now.config.layers (borrowed_view c.args.chain.now))
-        (script_rules_of c.args.config.now.config.layers (borrowed_view c.args.chain.now)) in
+    (overrides_of c.args.config.now.config.layers (borrowed_view c.args.chain.now))
+    (script_rules_of c.args.config.now.config.layers (borrowed_view c.args.chain.now)) in
     let gathered = λ i. rules_for c.args.setting mode (overrides_of (layers i) (same_names i))
-        (script_rules_of (layers i) (same_names i)) in
+    (script_rules_of (layers i) (same_names i)) in
     let judged = ap (map setting_rule_view) c.deref-2.ensures.value
     ∙ c.in_ok-rules.ensures _ _ c.in_ok-on.ensures.overrides c.in_ok-on.ensures.script_rules in
     let profiles = ap (λ g. g.profiles) (sym same_config) in
