@@ -33,7 +33,7 @@ points_into text fault refusal fits says = in_text refusal.span says.1
   where
     in_text : (span : Option LabeledSpan) → MatchOption span ⊥ (IsSpanOf fault) → IfSome span (LiesIn text)
     in_text None is = absurd is
-    in_text (Some span) (start, (end, label)) = (omega (arith, start, end), omega (arith, start, end, fits))
+    in_text (Some span) (start, end, label) = (omega (arith, start, end), omega (arith, start, end, fits))
 
 -- A text has one first fault.
 pub first_fault : (engine : NextestFilters) (kind : FiltersetKind) (text : List ℕ) (fault : FiltersetFault)

@@ -10,8 +10,8 @@ ghost use Rattle.filter_engine.specs.Names.{asks};
 use crate::engine::NextestFilters;
 use crate::names::NamePattern;
 use filter_language::{Field, Matchers, PatternFault, Sign};
-use nextest_engines::NameMatcher as NameTest;
 use filter_packages::{MemberSet, PackageGraph};
+use nextest_engines::NameMatcher as NameTest;
 use std::alloc::{AllocError, Global};
 
 /// What a predicate asks of the name that a field has.

@@ -11,12 +11,12 @@ ghost use Rattle.filter_engine.specs.Refusals.{IsSpanOf, Says, SaysFirstFault};
 use crate::compiling::FieldMatcher;
 use crate::words::fault_words;
 use filter_language::{Filterset, FiltersetFault, ParseFault};
+use filter_packages::PackageGraph;
 use nextest_engines::history::RuleHistory;
 use nextest_engines::{
     BinaryQuery, EvalContext, FilterFault, Filters, FiltersetKind, LabeledSpan, Refusal, Tally,
     TestQuery,
 };
-use filter_packages::PackageGraph;
 use std::alloc::{AllocError, Global};
 
 /// The rules that were evaluated. It has no bytes.

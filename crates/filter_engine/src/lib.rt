@@ -15,6 +15,6 @@ pub use engine::{NextestFilters, NextestTally};
 pub use filter_language::{
     Ban, FaultKind, Filterset, FiltersetFault, ParseFault, PatternFault, Span,
 };
-pub use names::NamePattern;
 pub use filter_packages::{MetadataFault, PackageGraph};
+pub use names::NamePattern;
 pub use words::fault_words;

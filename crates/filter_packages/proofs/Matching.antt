@@ -15,7 +15,7 @@ unmarked_start zero p m = true≢false (sym m)
 unmarked_start (suc n) zero m = true≢false (sym m)
 unmarked_start (suc n) (suc p) m = unmarked_start n p m
 
--- a mark after a write is the one that was written, or stood there
+-- a mark after a write is the one that was written, or was there before
 marked_written : (marks : List Bool) (i p : ℕ) (b : Bool) → IsMarked (set marks i b) p
     → IsMarked marks p ⊎ ((p ≡ i) × (b ≡ true))
 marked_written [] i p b m = inl m

@@ -47,7 +47,7 @@ unmarked-set (false ∷ marks) zero h n = omega (arith, unmarked-cons false mark
 unmarked-set (m ∷ marks) (suc i) h n =
     omega (arith, unmarked-set marks i (omega arith) n, unmarked-cons m marks, unmarked-cons m (set marks i true))
 
--- a mark that is new stands where it was set
+-- a new mark is at the place where it was set
 set_keeps : (marks : List Bool) (i p : ℕ) → IsMarked marks p → IsMarked (set marks i true) p
 set_keeps [] i p h = h
 set_keeps (m ∷ marks) zero zero h = refl

@@ -4,19 +4,19 @@ use Rattle.std.specs.List.{slice_get}
 use Rattle.filter_packages.specs.declared.edges.Edge.{Edge}
 use Rattle.filter_packages.specs.Edges.{Reaches}
 
--- A graph of packages, each known by its place in the metadata's list: their names, the places of
+-- A graph of packages, each known by its index in the metadata's list: their names, the indices of
 -- the workspace's members, and the dependencies.
 pub record Graph : Type 0 where
   pub names : List (List ℕ)
   pub members : List ℕ
   pub edges : List Edge
 
--- the package at this place is a member, and has this name
+-- the package at this index is a member, and has this name
 abbrev pub IsMemberNamed : Graph → List ℕ → ℕ → Type 0
 IsMemberNamed graph name place =
     Contains graph.members place × (slice_get graph.names place ≡ Some name)
 
--- the package at this place is a member, and a test accepts its name
+-- the package at this index is a member, and a test accepts its name
 abbrev pub IsMatched : Graph → (List ℕ → Bool) → ℕ → Type 0
 IsMatched graph accepts place =
     (name : List ℕ) × IsMemberNamed graph name place × IsTrue (accepts name)

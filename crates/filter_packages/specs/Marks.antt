@@ -1,9 +1,9 @@
--- The packages that a search has marked, each by its place.
+-- The packages that a search has marked, each by its index.
 use Rattle.std.specs.Prelude.{◌≡◌, ◌<◌, ℕ, Bool, true, false, not, List, count_by, slice_index_or}
 use Rattle.filter_packages.specs.declared.edges.Edge.{Edge}
 use Rattle.filter_packages.specs.Edges.{Reaches, DependsOn}
 
--- the package at this place is marked
+-- the package at this index is marked
 abbrev pub IsMarked : List Bool → ℕ → Type 0
 IsMarked marks place = slice_index_or marks place false ≡ true
 
@@ -11,7 +11,7 @@ IsMarked marks place = slice_index_or marks place false ≡ true
 abbrev pub unmarked : List Bool → ℕ
 unmarked marks = count_by not marks
 
--- both ends of an edge are places below n
+-- both ends of an edge are indices below n
 abbrev pub IsBelow : ℕ → Edge → Type 0
 IsBelow n edge = (edge.from < n) × (edge.to < n)
 

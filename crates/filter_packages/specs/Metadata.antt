@@ -1,4 +1,4 @@
--- What the JSON of `cargo metadata` says: a graph, or the first fault.
+-- The graph in the JSON of `cargo metadata`, or the first fault.
 use Rattle.std.specs.Prelude.{ℕ, List, position, codes, flat_map, Result, Ok}
 use Rattle.std.specs.Option.{ok_or}
 use Rattle.std.specs.Str.{bytes_eq}
@@ -17,19 +17,19 @@ use Rattle.filter_packages.specs.Results.{and_then, each}
 
 -- ---- parts of a value
 
--- the text that a value is
+-- the string that a value is
 abbrev pub text_of : Place → Data → Result (List ℕ) MetadataFault
 text_of place value = ok_or (as_str value) (Expected wants.Text place)
 
--- the text under a key
+-- the string at a key
 abbrev pub text_under : List ℕ → Place → Data → Result (List ℕ) MetadataFault
 text_under key place value = ok_or (under as_str key value) (Expected wants.Text place)
 
--- the list under a key
+-- the values of the array at a key
 abbrev pub list_under : List ℕ → Place → Data → Result (List Data) MetadataFault
 list_under key place value = ok_or (under a_list key value) (Expected wants.List place)
 
--- the object under a key
+-- the object at a key
 abbrev pub object_under : List ℕ → Place → Data → Result Data MetadataFault
 object_under key place value = ok_or (under an_object key value) (Expected wants.Object place)
 
@@ -43,13 +43,13 @@ package_ids packages = each (λ place. text_under (codes "id") (PackageId place)
 abbrev pub package_names : List Data → Result (List (List ℕ)) MetadataFault
 package_names packages = each (λ place. text_under (codes "name") (PackageName place)) packages
 
--- the package of an id, by its place: the first that has it
+-- the index of the first package that has an id
 abbrev pub package_of : List (List ℕ) → Place → List ℕ → Result ℕ MetadataFault
 package_of ids place id = ok_or (position (λ other. bytes_eq other id) ids) (UnknownPackage place)
 
 -- ---- members
 
--- a member of the workspace, by the place of its package
+-- a member of the workspace, by the index of its package
 abbrev pub member_at : List (List ℕ) → ℕ → Data → Result ℕ MetadataFault
 member_at ids place value =
     and_then (text_of (WorkspaceMember place) value) (package_of ids (WorkspaceMember place))
@@ -86,7 +86,7 @@ edges_of ids metadata =
 
 -- ---- the graph
 
--- the graph that a value says
+-- the graph in a JSON value
 unfoldable pub graph_of : Data → Result Graph MetadataFault
 graph_of metadata =
     and_then (list_under (codes "packages") Packages metadata) (λ packages.
@@ -96,6 +96,6 @@ graph_of metadata =
     and_then (edges_of ids metadata) (λ edges.
     Ok (record { names = names; members = members; edges = edges }))))))
 
--- the graph that a text says
+-- the graph in a JSON text
 abbrev pub graph_of_text : List ℕ → Result Graph MetadataFault
 graph_of_text text = and_then (ok_or (read text) NotJson) graph_of

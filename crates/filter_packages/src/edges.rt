@@ -2,7 +2,7 @@
 ghost use Rattle.std.specs.Prelude.{◌≡◌};
 ghost use Rattle.filter_packages.specs.Edges.{oriented};
 
-/// A dependency, by the places of two packages in the metadata's list.
+/// A dependency, by the indices of two packages in the metadata's list.
 #[derive(Clone, Copy, Debug, PartialEq, Eq, Drop)]
 pub struct Edge {
     /// The package that depends on the other one.
@@ -21,7 +21,7 @@ pub enum Direction {
 }
 
 impl Edge {
-    /// The edge from the package at which a search comes to it.
+    /// Returns the edge, turned to start at the package from which a search follows it.
     pub fn oriented(self, direction: Direction) -> Edge
         ensures { result ≡ oriented direction self }
     {

@@ -1,10 +1,11 @@
-//! Why metadata says no graph.
+//! Faults of metadata.
 use json_fields::{Misfit, Wanted};
 use std::alloc::{AllocError, AllocFailed};
 use std::fmt;
 use thiserror::Error;
 
-/// A place in the metadata.
+/// The path of a value in the metadata. Packages, members, nodes and dependencies are given by
+/// their indices.
 #[derive(Clone, Copy, Debug, PartialEq, Eq, Drop)]
 pub enum Place {
     /// The packages.
@@ -17,7 +18,7 @@ pub enum Place {
     WorkspaceMembers,
     /// A member of the workspace.
     WorkspaceMember(usize),
-    /// What the dependencies were resolved to.
+    /// The graph of resolved dependencies.
     Resolve,
     /// The nodes of packages.
     Nodes,
@@ -25,7 +26,7 @@ pub enum Place {
     NodeId(usize),
     /// The dependencies of a node.
     Dependencies(usize),
-    /// The id of a dependency, by its node and its place there.
+    /// The id of a dependency, by its node and its index there.
     Dependency(usize, usize),
 }
 
@@ -48,19 +49,19 @@ impl fmt::Display for Place {
     }
 }
 
-/// Why metadata says no graph.
+/// Why no graph can be read from metadata.
 #[derive(Clone, Copy, Debug, PartialEq, Eq, Drop, Error)]
 pub enum MetadataFault {
-    /// The text is no JSON.
+    /// The text isn't JSON.
     #[error("the metadata is no JSON")]
     NotJson,
-    /// The value at the place is of another kind, or missing.
+    /// The value at the path isn't of the type that is wanted, or is missing.
     #[error("expected {0} at `{1}`")]
     Expected(Wanted, Place),
-    /// The text at the place is the id of no package.
+    /// The string at the path isn't the id of any package.
     #[error("no package has the id at `{0}`")]
     UnknownPackage(Place),
-    /// There was no memory.
+    /// An allocation failed.
     #[error("out of memory")]
     Memory,
 }

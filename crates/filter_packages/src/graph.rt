@@ -34,16 +34,16 @@ impl PackageGraph {
     ghost use Rattle.filter_packages.specs.Metadata.{graph_of, graph_of_text};
     ghost use Rattle.filter_packages.specs.Results.{Reads};
 
-    /// The graph in the JSON that `cargo metadata --format-version 1` writes.
+    /// Reads the graph from the JSON that `cargo metadata --format-version 1` prints.
     ///
-    /// An id stands for the first package that has it. What a graph isn't made of may have any
-    /// shape.
+    /// If several packages have the same id, it is the id of the first one. Members that the graph
+    /// doesn't need are ignored.
     ///
     /// # Errors
     ///
-    /// The first fault in this order: the text is no JSON; the list of packages; their ids; their
-    /// names; the members of the workspace; the nodes of `resolve`, of each its id and then its
-    /// dependencies. [`MetadataFault::Memory`] where there was none.
+    /// Returns the first fault in this order: the text isn't JSON; the list of packages; their ids;
+    /// their names; the members of the workspace; the nodes of `resolve`, for each its id and then
+    /// its dependencies. Returns [`MetadataFault::Memory`] if an allocation fails.
     pub fn from_metadata(alloc: Global, text: &str) -> Result<PackageGraph, MetadataFault>
         ensures graph { IfOk result (λ graph. graph_of_text text.now ≡ Ok (graph_view graph)) }
         ensures fault { IfErr result (λ fault. fault ≢ Memory
@@ -56,7 +56,7 @@ impl PackageGraph {
         }
     }
 
-    /// The graph in a JSON value.
+    /// Reads the graph from a JSON value.
     #[tactic(auto, unfolding(crate::specs::Metadata::graph_of))]
     fn from_value(alloc: Global, metadata: &Value) -> Result<PackageGraph, MetadataFault>
         ensures { Reads graph_view result (graph_of (view metadata.now)) }
@@ -86,7 +86,7 @@ impl PackageGraph {
         Ok(marks)
     }
 
-    /// The names of the marked members.
+    /// Returns the names of the marked members.
     fn marked_members(&self, alloc: Global, marks: &[bool]) -> Result<MemberSet, AllocError>
         requires { length marks.now ≡ length self.now.names.items }
         ensures { IfOk result (λ set. (name : List ℕ) → IsTrue (has_member set name)
@@ -103,7 +103,7 @@ impl PackageGraph {
         Ok(MemberSet { names })
     }
 
-    /// The members that a search comes to from those whose name matches.
+    /// Returns the members that a search reaches from those whose name matches.
     fn found_from<M: NameMatcher>(
         &self,
         alloc: Global,
@@ -120,7 +120,8 @@ impl PackageGraph {
         self.marked_members(alloc, &marks)
     }
 
-    /// The members that some member with a matching name reaches, itself among them.
+    /// Returns the members whose name matches, and the members on which they depend, directly or
+    /// indirectly.
     pub fn dependencies_of<M: NameMatcher>(
         &self,
         alloc: Global,
@@ -132,7 +133,8 @@ impl PackageGraph {
         self.found_from(alloc, matcher, Direction::Dependencies)
     }
 
-    /// The members that reach some member with a matching name, itself among them.
+    /// Returns the members whose name matches, and the members that depend on them, directly or
+    /// indirectly.
     pub fn dependents_of<M: NameMatcher>(
         &self,
         alloc: Global,

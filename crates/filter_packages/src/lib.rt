@@ -1,4 +1,4 @@
-//! The graph of a workspace's packages, as `cargo metadata` writes it, and the sets of members that
+//! The graph of a workspace's packages, as `cargo metadata` prints it, and the sets of members that
 //! dependencies reach in it.
 #![tactic(auto)]
 

@@ -12,7 +12,7 @@ pub struct MemberSet {
 }
 
 impl MemberSet {
-    /// Whether a member of this name is in the set.
+    /// Returns whether a member of this name is in the set.
     pub fn contains(&self, name: &str) -> bool
         ensures { result ≡ has_member self.now name.now }
     {

@@ -1,4 +1,4 @@
-//! The parts of the metadata from which a graph is made.
+//! Reading the parts of the metadata from which a graph is made.
 ghost use Rattle.std.specs.Prelude.{◌≡◌, map, flat_map, position, Ok};
 ghost use Rattle.std.specs.Result.{result_map_both};
 ghost use Rattle.std.specs.Str.{bytes_eq};
@@ -13,7 +13,7 @@ use json_fields::Field;
 use serde_json::Value;
 use std::alloc::Global;
 
-/// The text under a key.
+/// Reads the string at a key.
 fn text_under<'v>(value: &'v Value, key: &str, place: Place) -> Result<&'v str, MetadataFault>
     ensures { result_map_both (λ text. text.now) (λ e. e) result
         ≡ text_under key.now place (view value.now) }
@@ -21,7 +21,7 @@ fn text_under<'v>(value: &'v Value, key: &str, place: Place) -> Result<&'v str, 
     Ok(Field::under(value, key, place).text()?)
 }
 
-/// The ids of packages.
+/// Reads the ids of packages.
 #[tactic(auto, using(crate::proofs::Gathering::seen_start, crate::proofs::Gathering::seen_all))]
 pub fn package_ids(alloc: Global, packages: &[Value]) -> Result<Vec<&str>, MetadataFault>
     ensures { Reads (λ ids. ids_view ids.items) result (package_ids (map view packages.now)) }
@@ -34,7 +34,7 @@ pub fn package_ids(alloc: Global, packages: &[Value]) -> Result<Vec<&str>, Metad
     Ok(ids)
 }
 
-/// The names of packages.
+/// Reads the names of packages.
 #[tactic(auto, using(crate::proofs::Gathering::seen_start, crate::proofs::Gathering::seen_all))]
 pub fn package_names(alloc: Global, packages: &[Value]) -> Result<Vec<String>, MetadataFault>
     ensures { Reads (λ names. names_view names.items) result
@@ -48,21 +48,21 @@ pub fn package_names(alloc: Global, packages: &[Value]) -> Result<Vec<String>, M
     Ok(names)
 }
 
-/// The first place of an id, if it is there.
+/// Returns the index of an id, if it is in the list: the first, if there are several.
 fn place_of(ids: &[&str], id: &str) -> Option<usize>
     ensures { result ≡ position (λ other. bytes_eq other.now id.now) ids.now }
 {
     ids.iter().position(|other| *other == id)
 }
 
-/// The package of an id, by its place.
+/// Returns the index of the first package that has an id.
 fn package_of(ids: &[&str], id: &str, place: Place) -> Result<usize, MetadataFault>
     ensures { result ≡ package_of (ids_view ids.now) place id.now }
 {
     place_of(ids, id).ok_or(MetadataFault::UnknownPackage(place))
 }
 
-/// A member of the workspace, by the place of its package.
+/// Reads a member of the workspace, and returns the index of its package.
 fn member_at(ids: &[&str], place: usize, value: &Value) -> Result<usize, MetadataFault>
     ensures { result ≡ member_at (ids_view ids.now) place (view value.now) }
 {
@@ -74,7 +74,7 @@ fn member_at(ids: &[&str], place: usize, value: &Value) -> Result<usize, Metadat
     package_of(ids, id.text()?, place)
 }
 
-/// The members that a list of ids names.
+/// Reads the members that a list of ids names.
 #[tactic(auto, using(crate::proofs::Gathering::seen_start, crate::proofs::Gathering::seen_step, crate::proofs::Gathering::seen_all))]
 fn member_list(alloc: Global, ids: &[&str], values: &[Value]) -> Result<Vec<usize>, MetadataFault>
     ensures { Reads (λ members. members.items) result
@@ -88,7 +88,7 @@ fn member_list(alloc: Global, ids: &[&str], values: &[Value]) -> Result<Vec<usiz
     Ok(members)
 }
 
-/// The members of the workspace.
+/// Reads the members of the workspace.
 pub fn members_of(
     alloc: Global,
     ids: &[&str],
@@ -101,7 +101,7 @@ pub fn members_of(
     member_list(alloc, ids, values)
 }
 
-/// A dependency of a package.
+/// Reads a dependency of a package.
 fn edge_at(
     ids: &[&str],
     node: usize,
@@ -117,7 +117,7 @@ fn edge_at(
     Ok(Edge { from, to })
 }
 
-/// The dependencies of a package.
+/// Reads the dependencies of a package.
 #[tactic(auto, using(crate::proofs::Gathering::seen_start, crate::proofs::Gathering::seen_step, crate::proofs::Gathering::seen_all))]
 fn edge_list(
     alloc: Global,
@@ -137,7 +137,7 @@ fn edge_list(
     Ok(edges)
 }
 
-/// The dependencies that a node lists.
+/// Reads the dependencies that a node lists.
 fn node_at(
     alloc: Global,
     ids: &[&str],
@@ -153,7 +153,7 @@ fn node_at(
     edge_list(alloc, ids, place, from, values)
 }
 
-/// The dependencies that some nodes list.
+/// Reads the dependencies that some nodes list.
 fn node_list(alloc: Global, ids: &[&str], nodes: &[Value]) -> Result<Vec<Edge>, MetadataFault>
     ensures { Reads (λ edges. edges.items) result
         (and_then (each (node_at (ids_view ids.now)) (map view nodes.now))
@@ -167,7 +167,7 @@ fn node_list(alloc: Global, ids: &[&str], nodes: &[Value]) -> Result<Vec<Edge>, 
     Ok(edges)
 }
 
-/// The dependencies of all packages.
+/// Reads the dependencies of all packages.
 pub fn edges_of(alloc: Global, ids: &[&str], metadata: &Value) -> Result<Vec<Edge>, MetadataFault>
     ensures { Reads (λ edges. edges.items) result
         (edges_of (ids_view ids.now) (view metadata.now)) }

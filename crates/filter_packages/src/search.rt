@@ -6,7 +6,7 @@ ghost use Rattle.filter_packages.specs.Marks.{IsMarked, unmarked, IsBelow, Keeps
 
 use crate::edges::{Direction, Edge};
 
-/// Marks the end of an edge whose start is marked, and says whether that mark is new.
+/// Marks the end of an edge whose start is marked, and returns whether that mark is new.
 fn follow(edge: Edge, marks: &mut Vec<bool>) -> bool
     requires { IsBelow (vec_len marks.old) edge }
     ensures length { vec_len marks.new ≡ vec_len marks.old }
@@ -21,7 +21,7 @@ fn follow(edge: Edge, marks: &mut Vec<bool>) -> bool
     is_new
 }
 
-/// Follows each edge once, and says whether there is a new mark.
+/// Follows each edge once, and returns whether there is a new mark.
 fn spread(edges: &[Edge], direction: Direction, marks: &mut Vec<bool>) -> bool
     requires { All (IsBelow (vec_len marks.old)) edges.now }
     ensures length { vec_len marks.new ≡ vec_len marks.old }
@@ -41,8 +41,7 @@ fn spread(edges: &[Edge], direction: Direction, marks: &mut Vec<bool>) -> bool
 
 /// Marks all packages that marked ones reach.
 ///
-/// The edges are followed again as long as that gives a new mark: as often as the longest way has
-/// edges, at most.
+/// Follows all edges again as long as there is a new mark.
 pub fn reach(edges: &[Edge], direction: Direction, marks: &mut Vec<bool>)
     requires { All (IsBelow (vec_len marks.old)) edges.now }
     ensures length { vec_len marks.new ≡ vec_len marks.old }

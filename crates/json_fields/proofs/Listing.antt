@@ -1,4 +1,4 @@
--- The values of a list as contracts see them.
+-- The values of an array, as contracts see them.
 use Rattle.std.proofs.Common.{◌≡◌, List, [], ◌∷◌, map, refl, ap}
 use Rattle.serde_json.specs.Data.{Data}
 use Rattle.serde_json.specs.View.{view, items_of, items_view}

@@ -1,4 +1,4 @@
--- What it is to read a field.
+-- Reading the value of a field.
 use Rattle.std.specs.Prelude.{◌≡◌, Option, None, Some, option_and_then, option_map, Result, MatchResult}
 use Rattle.serde_json.specs.Data.{Data}
 use Rattle.serde_json.specs.View.{view}
@@ -7,11 +7,11 @@ use Rattle.json_fields.specs.declared.field.Field.{Field}
 use Rattle.json_fields.specs.declared.field.Misfit.{Misfit}
 use Rattle.json_fields.specs.declared.kind.Wanted.{Wanted}
 
--- what stands at the place of a field
+-- the value of a field, if there is one
 abbrev pub found_at : {P : Type 0} → Field P → Option Data
 found_at field = option_map (λ value. view value.now) field.found
 
--- that something else is wanted at the place of a field
+-- the misfit of a field whose value isn't of the type that is wanted
 abbrev pub misfit_of : {P : Type 0} → Wanted → Field P → Misfit P
 misfit_of wanted field = record {
   place = field.place;
@@ -19,8 +19,9 @@ misfit_of wanted field = record {
   given = option_map kind_of (found_at field);
 }
 
--- What was read, seen in this way, is what the reading gives of what stands at the place; and only
--- where it gives nothing, the error says what is wanted there, and the kind of what is there.
+-- If a value is returned, it is, seen in this way, what the reading returns for the value of the
+-- field. An error is returned only if the reading returns nothing. It has the path of the field,
+-- the type that is wanted, and the kind of the value that was found.
 abbrev pub Reads : {A B P : Type 0} → (A → B) → (Data → Option B) → Wanted → Field P
     → Result A (Misfit P) → Type 0
 Reads seen reading wanted field result = MatchResult result

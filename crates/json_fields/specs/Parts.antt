@@ -21,7 +21,7 @@ abbrev pub listed : Items → List Data
 listed no_items = []
 listed (item d ds) = d ∷ listed ds
 
--- the values of a list, in order
+-- the values of an array, in order
 abbrev pub a_list : Data → Option (List Data)
 a_list value = option_map listed (as_array value)
 
@@ -29,20 +29,20 @@ a_list value = option_map listed (as_array value)
 abbrev pub an_object : Data → Option Data
 an_object value = option_map (λ _. value) (as_object value)
 
--- what such a reading gives of a value, or nothing where the value is `null`
+-- what a reading returns for a value, or `None` if the value is `null`
 abbrev pub unless_null : {A : Type 0} → (Data → Option A) → Data → Option (Option A)
 unless_null reading value =
     if is_some (as_null value) then Some None else option_map Some (reading value)
 
--- a text, or nothing where the value is `null`
+-- a string, or `None` if the value is `null`
 abbrev pub optional_text : Data → Option (Option (List ℕ))
 optional_text = unless_null as_str
 
--- an object, or nothing where the value is `null`
+-- an object, or `None` if the value is `null`
 abbrev pub optional_object : Data → Option (Option Data)
 optional_object = unless_null an_object
 
--- whether what stands at a place, if anything does, is what is wanted there
+-- whether there is a value, and it is of the type that is wanted
 abbrev pub fits : Wanted → Option Data → Bool
 fits wanted None = false
 fits wants.Null (Some value) = is_some (as_null value)
@@ -53,6 +53,6 @@ fits wants.List (Some value) = is_some (as_array value)
 fits wants.Object (Some value) = is_some (as_object value)
 fits wants.ObjectOrNull (Some value) = is_some (optional_object value)
 
--- what such a reading gives of what stands under a key
+-- what a reading returns for the value at a key
 abbrev pub under : {A : Type 0} → (Data → Option A) → List ℕ → Data → Option A
 under reading key value = option_and_then reading (get key value)

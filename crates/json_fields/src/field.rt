@@ -1,4 +1,4 @@
-//! Fields of JSON objects, each with its place.
+//! Fields of JSON objects, each with its path.
 ghost use Rattle.std.specs.Prelude.{◌≡◌, map, option_map};
 ghost use Rattle.std.specs.Option.{ok_or};
 ghost use Rattle.serde_json.specs.Find.{get, as_bool, as_null, as_object, as_str};
@@ -11,23 +11,23 @@ use crate::kind::{Kind, Wanted};
 use serde_json::{Map, Value};
 use std::fmt;
 
-/// What a document has at a place, if anything.
+/// The value at a path of a document, if there is one.
 #[derive(Clone, Copy)]
 pub struct Field<'v, P> {
-    /// What is there.
+    /// The value, if there is one.
     pub found: Option<&'v Value>,
-    /// The place.
+    /// The path.
     pub place: P,
 }
 
-/// Something other than what is wanted at a place, or nothing.
+/// A value that isn't of the type that is wanted at its path, or a missing value.
 #[derive(Clone, Copy, Debug, PartialEq, Eq, Drop)]
 pub struct Misfit<P> {
-    /// The place.
+    /// The path.
     pub place: P,
-    /// What has to stand there.
+    /// The type of value that is wanted.
     pub wanted: Wanted,
-    /// The kind of what is there, if anything is.
+    /// The kind of the value that was found, if there is one.
     pub given: Option<Kind>,
 }
 
@@ -40,7 +40,7 @@ impl<P: fmt::Display> fmt::Display for Misfit<P> {
     }
 }
 
-/// The values of a list.
+/// Returns the values of an array.
 #[tactic(auto, using(crate::proofs::Listing::listed_items))]
 fn values_of(value: &Value) -> Option<&[Value]>
     ensures { option_map (λ values. map view values.now) result ≡ a_list (view value.now) }
@@ -49,7 +49,8 @@ fn values_of(value: &Value) -> Option<&[Value]>
 }
 
 impl<'v, P: Copy> Field<'v, P> {
-    /// What a value has under a key, if it is an object that has the key.
+    /// Returns the field of a value at a key. The field has no value if the value isn't an object
+    /// or doesn't have the key.
     pub fn under(value: &'v Value, key: &str, place: P) -> Field<'v, P>
         ensures found { found_at result ≡ get key.now (view value.now) }
         ensures place { result.place ≡ place }
@@ -60,7 +61,7 @@ impl<'v, P: Copy> Field<'v, P> {
         }
     }
 
-    /// What was read, or that something else is wanted.
+    /// Returns the value that was read, or the misfit if there is none.
     fn wanted<T>(self, wanted: Wanted, read: Option<T>) -> Result<T, Misfit<P>>
         ensures { result ≡ ok_or read (misfit_of wanted self.entry) }
     {
@@ -74,7 +75,7 @@ impl<'v, P: Copy> Field<'v, P> {
         }
     }
 
-    /// The text that is there.
+    /// Reads a string.
     pub fn text(self) -> Result<&'v str, Misfit<P>>
         ensures { Reads (λ text. text.now) as_str wants.Text self.entry result }
     {
@@ -82,7 +83,7 @@ impl<'v, P: Copy> Field<'v, P> {
         self.wanted(Wanted::Text, read)
     }
 
-    /// The text that is there, or `None` for `null`.
+    /// Reads a string, or `None` for `null`.
     pub fn optional_text(self) -> Result<Option<&'v str>, Misfit<P>>
         ensures { Reads (option_map (λ text. text.now)) optional_text wants.TextOrNull self.entry
             result }
@@ -94,7 +95,7 @@ impl<'v, P: Copy> Field<'v, P> {
         self.wanted(Wanted::TextOrNull, read)
     }
 
-    /// Nothing, where `null` is there.
+    /// Reads `null`.
     pub fn null(self) -> Result<(), Misfit<P>>
         ensures { Reads (λ nothing. nothing) as_null wants.Null self.entry result }
     {
@@ -102,7 +103,7 @@ impl<'v, P: Copy> Field<'v, P> {
         self.wanted(Wanted::Null, read)
     }
 
-    /// The boolean that is there.
+    /// Reads a boolean.
     pub fn flag(self) -> Result<bool, Misfit<P>>
         ensures { Reads (λ flag. flag) as_bool wants.Flag self.entry result }
     {
@@ -110,7 +111,7 @@ impl<'v, P: Copy> Field<'v, P> {
         self.wanted(Wanted::Flag, read)
     }
 
-    /// The values of the list that is there.
+    /// Reads the values of an array.
     pub fn list(self) -> Result<&'v [Value], Misfit<P>>
         ensures { Reads (λ values. map view values.now) a_list wants.List self.entry result }
     {
@@ -118,7 +119,7 @@ impl<'v, P: Copy> Field<'v, P> {
         self.wanted(Wanted::List, read)
     }
 
-    /// The members of the object that is there.
+    /// Reads the members of an object.
     pub fn members(self) -> Result<&'v Map<String, Value>, Misfit<P>>
         ensures { Reads (λ found. members_view found.now.entries) as_object wants.Object self.entry
             result }
@@ -127,7 +128,7 @@ impl<'v, P: Copy> Field<'v, P> {
         self.wanted(Wanted::Object, read)
     }
 
-    /// The object that is there, as a value.
+    /// Reads an object, as a value.
     pub fn object(self) -> Result<&'v Value, Misfit<P>>
         ensures { Reads (λ found. view found.now) an_object wants.Object self.entry result }
     {
@@ -135,7 +136,7 @@ impl<'v, P: Copy> Field<'v, P> {
         self.wanted(Wanted::Object, read)
     }
 
-    /// The object that is there, as a value, or `None` for `null`.
+    /// Reads an object, as a value, or `None` for `null`.
     pub fn optional_object(self) -> Result<Option<&'v Value>, Misfit<P>>
         ensures { Reads (option_map (λ found. view found.now)) optional_object wants.ObjectOrNull
             self.entry result }

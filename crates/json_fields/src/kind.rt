@@ -1,4 +1,4 @@
-//! Kinds of JSON values, and what is wanted of a value.
+//! The kinds of JSON values, and the types of value that can be wanted.
 ghost use Rattle.std.specs.Prelude.{◌≡◌};
 ghost use Rattle.serde_json.specs.View.{view};
 ghost use Rattle.json_fields.specs.Parts.{kind_of};
@@ -15,16 +15,16 @@ pub enum Kind {
     Boolean,
     /// A number.
     Number,
-    /// A text.
+    /// A string.
     Text,
-    /// A list of values.
+    /// An array.
     List,
-    /// An object, which has values under keys.
+    /// An object.
     Object,
 }
 
 impl Kind {
-    /// The kind of a value.
+    /// Returns the kind of a value.
     pub fn of(value: &Value) -> Kind
         ensures { result ≡ kind_of (view value.now) }
     {
@@ -57,18 +57,18 @@ impl fmt::Display for Kind {
     }
 }
 
-/// What has to stand at a place.
+/// The type of value that is wanted at a path.
 #[derive(Clone, Copy, Debug, PartialEq, Eq, Drop)]
 pub enum Wanted {
     /// `null`.
     Null,
     /// `true` or `false`.
     Flag,
-    /// A text.
+    /// A string.
     Text,
-    /// A text or `null`.
+    /// A string or `null`.
     TextOrNull,
-    /// A list.
+    /// An array.
     List,
     /// An object.
     Object,

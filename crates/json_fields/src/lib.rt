@@ -1,5 +1,5 @@
-//! Fields of JSON objects: what stands at a place of a document is read as what is wanted there, or
-//! the error says what is there instead.
+//! Fields of JSON objects. A field is read as the type of value that is wanted at its path, or the
+//! error reports the kind of value that was found instead.
 #![tactic(auto)]
 
 mod field;

@@ -29,7 +29,7 @@ if_some_weaker : {X : Type 0} (o : Option X) (P Q : X → Type 0) → ((x : X) �
 if_some_weaker None P Q step is = is
 if_some_weaker (Some x) P Q step is = step x is
 
--- a fault that tells of the first demand of one list which is not met tells of that of another
+-- the fault of the first demand of one list that isn't met is that of another
 pub tells_first : (ds es : List Demand) (fault : ListFault)
     → ((f : Fault) → first_fault ds ≡ Some f → first_fault es ≡ Some f) → TellsFirst ds fault → TellsFirst es fault
 tells_first ds es fault step is =

@@ -1,4 +1,4 @@
--- What faults tell.
+-- What faults report.
 use Rattle.std.specs.Prelude.{◌≡◌, List, Option, None, Some, IfSome, Result, Ok, Err, MatchResult, string_bytes}
 use Rattle.json_fields.specs.Fields.{found_at}
 use Rattle.json_fields.specs.declared.field.Field.{Field}
@@ -9,7 +9,7 @@ use Rattle.nextest_lists.specs.declared.fault.ListFault.{ListFault}
 use Rattle.nextest_lists.specs.declared.fault.ListFault.TheVariants as faults
 use Rattle.nextest_lists.specs.declared.place.Place.{Place}
 
--- what a fault tells: nothing, for want of memory
+-- the fault that is reported, unless it is a failed allocation
 abbrev pub fault_view : ListFault → Option Fault
 fault_view (faults.NotJson line column) = Some not_json
 fault_view (faults.Misfit m) = Some (misfit (string_bytes m.place) m.wanted m.given)
@@ -17,15 +17,15 @@ fault_view (faults.UnknownPlatform place given) =
     Some (unknown_platform (string_bytes place) (string_bytes given))
 fault_view faults.Memory = None
 
--- a fault tells of a demand that is not met, unless it is want of memory
+-- a demand isn't met, and this is its fault, unless an allocation failed
 abbrev pub Tells : Demand → ListFault → Type 0
 Tells demand fault = IfSome (fault_view fault) (λ f. fault_of demand ≡ Some f)
 
--- a fault tells of the first demand that is not met, unless it is want of memory
+-- this is the fault of the first demand that isn't met, unless an allocation failed
 abbrev pub TellsFirst : List Demand → ListFault → Type 0
 TellsFirst demands fault = IfSome (fault_view fault) (λ f. first_fault demands ≡ Some f)
 
--- a value of a kind is demanded at the place of a field
+-- a value of a type is demanded at the path of a field
 abbrev pub demand_at : Field Place → Wanted → Demand
 demand_at field kind = record {
   place = place_text field.place;
@@ -37,7 +37,7 @@ demand_at field kind = record {
 abbrev pub misfit_fault : Misfit Place → Fault
 misfit_fault m = misfit (place_text m.place) m.wanted m.given
 
--- what was read is handed on; a misfit becomes its fault, unless that is want of memory
+-- a value is returned as it is, and a misfit as its fault, unless an allocation failed
 abbrev pub IsRead : {A : Type 0} → Result A (Misfit Place) → Result A ListFault → Type 0
 IsRead (Ok value) result = result ≡ Ok value
 IsRead (Err m) result = MatchResult result (λ _. ⊥)

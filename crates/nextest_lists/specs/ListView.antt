@@ -24,7 +24,7 @@ listed_view b = record {
   tests = map string_bytes b.tests.items;
 }
 
--- triples that were found
+-- the triples of a build
 abbrev pub triples_view : FoundTriples → Triples
 triples_view t = record {
   host = option_map (λ text. text.now) t.host;

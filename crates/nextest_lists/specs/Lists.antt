@@ -1,4 +1,4 @@
--- Lists of tests, and what a document says of them.
+-- Lists of tests, and the lists in documents.
 use Rattle.std.specs.Prelude.{◌≡◌, ℕ, List, map, Option, None, Some, MatchOption, option_map, codes, flat_map}
 use Rattle.std.specs.List.{AllZip}
 use Rattle.nextest_engines.specs.Engines.{Binary, Test}
@@ -12,7 +12,7 @@ pub record Listed : Type 0 where
   pub package_name : List ℕ
   pub tests : List (List ℕ)
 
--- the triples of a build: that of the host, and that of the target, where they are known
+-- the triples of a build: that of the host, and that of the target, if they are known
 pub record Triples : Type 0 where
   pub host : Option (List ℕ)
   pub target : Option (List ℕ)
@@ -42,8 +42,8 @@ keys members = map (λ m. m.0) (listed members)
 abbrev pub values : Members → List Data
 values members = map (λ m. m.1) (listed members)
 
--- A suite is that of a binary: it says each thing of the binary, and its tests are the keys of its
--- test cases.
+-- A suite describes a binary: it has each property of the binary at a key, and the names of the
+-- binary's tests are the keys of its test cases.
 pub record IsSuiteOf (suite : Data) (b : Listed) : Type 0 where
   pub package_name : get (codes "package-name") suite ≡ Some (string b.package_name)
   pub package_id : get (codes "package-id") suite ≡ Some (string b.binary.package_id)
@@ -51,25 +51,25 @@ pub record IsSuiteOf (suite : Data) (b : Listed) : Type 0 where
   pub binary_name : get (codes "binary-name") suite ≡ Some (string b.binary.binary_name)
   pub kind : get (codes "kind") suite ≡ Some (string b.binary.kind)
   pub platform_name : List ℕ
-  pub platform_stands : get (codes "build-platform") suite ≡ Some (string platform_name)
+  pub has_platform : get (codes "build-platform") suite ≡ Some (string platform_name)
   pub platform : platform_of platform_name ≡ Some b.binary.platform
   pub cases : Members
-  pub cases_stand : get (codes "testcases") suite ≡ Some (object cases)
+  pub has_cases : get (codes "testcases") suite ≡ Some (object cases)
   pub tests : b.tests ≡ keys cases
 
--- Triples are those that the platforms of a build have: of the host, and of the first target.
+-- Triples are those of the platforms of a build: of the host, and of the first target.
 pub record AreTriplesIn (platforms : Data) (triples : Triples) : Type 0 where
   pub host : triple_in (get (codes "host") platforms) ≡ option_map string triples.host
   pub target : triple_in (first_target platforms) ≡ option_map string triples.target
 
--- Triples are those that a document says: none, where it has no platforms of the build.
+-- Triples are those in a document: none, if it has no platforms of the build.
 abbrev pub AreTriples : Data → Triples → Type 0
 AreTriples document triples = MatchOption (platforms_in document)
     (triples ≡ record { host = None; target = None }) (λ p. AreTriplesIn p triples)
 
--- A list is what a document says: the triples of the build, and a binary for each suite, in order.
+-- A list is the one in a document: the triples of the build, and a binary for each suite, in order.
 pub record IsListOf (document : Data) (list : TestList) : Type 0 where
   pub triples : AreTriples document list.triples
   pub suites : Members
-  pub suites_stand : get (codes "rust-suites") document ≡ Some (object suites)
+  pub has_suites : get (codes "rust-suites") document ≡ Some (object suites)
   pub binaries : AllZip IsSuiteOf (values suites) list.binaries

@@ -3,7 +3,7 @@ use Rattle.serde_json.specs.View.{members_view}
 use Rattle.nextest_lists.specs.Lists.{Listed, keys}
 use Rattle.nextest_lists.specs.declared.suites.Suite.{Suite}
 
--- the binary that a suite says
+-- the binary that a suite describes
 abbrev pub suite_view : Suite → Listed
 suite_view suite = record {
   binary = record {

@@ -1,32 +1,32 @@
-//! Why a text is no list of tests.
+//! Faults of lists of tests.
 use json_fields::Misfit;
 use std::alloc::{AllocError, AllocFailed};
 use thiserror::Error;
 
-/// Why a text is no list of tests. A place is told by the keys that lead to it, with dots between
+/// Why no list of tests can be read from a text. A path is written as its keys, with dots between
 /// them.
 #[derive(Debug, Drop, Error)]
 pub enum ListFault {
-    /// The text is no JSON.
+    /// The text isn't JSON.
     #[error("line {line}, column {column}: no JSON")]
     NotJson {
-        /// The line at which it is none, from 1.
+        /// The line of the first error, from 1.
         line: usize,
         /// The column in that line, from 1.
         column: usize,
     },
-    /// Something else stands at a place than has to, or nothing.
+    /// The value at a path isn't of the type that is wanted, or is missing.
     #[error("{0}")]
     Misfit(Misfit<String>),
-    /// The text at a place says neither `host` nor `target`.
+    /// The string at a path is neither `host` nor `target`.
     #[error("`{place}` is `{given}`: expected `host` or `target`")]
     UnknownPlatform {
-        /// The place.
+        /// The path.
         place: String,
-        /// The text that stands there.
+        /// The string.
         given: String,
     },
-    /// A growth of memory was refused.
+    /// An allocation failed.
     #[error("out of memory")]
     Memory,
 }

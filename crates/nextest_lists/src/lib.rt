@@ -1,4 +1,4 @@
-//! The tests of a workspace, as `cargo nextest list --message-format json` writes them.
+//! The tests of a workspace, as `cargo nextest list --message-format json` prints them.
 #![tactic(auto)]
 
 mod fault;

@@ -12,22 +12,22 @@ use std::alloc::{AllocError, Global};
 pub struct ListedBinary {
     /// The name of its package.
     pub package_name: String,
-    /// The id of its package, as cargo writes it.
+    /// The id of its package, as cargo prints it.
     pub package_id: String,
-    /// Its id, as nextest writes it.
+    /// Its id, as nextest prints it.
     pub id: String,
     /// The name of its target.
     pub name: String,
     /// The kind of its target.
     pub kind: String,
-    /// For which of the platforms of the build it is built.
+    /// The platform that it is built for.
     pub platform: BuildPlatform,
     /// The names of its tests, in the order of their bytes.
     pub tests: Vec<String>,
 }
 
 impl ListedBinary {
-    /// The binary, as filters see it.
+    /// Returns the binary, as filters see it.
     pub fn binary_query(&self) -> BinaryQuery<'_>
         ensures { query_view result ≡ binary_view self.now }
     {
@@ -40,7 +40,7 @@ impl ListedBinary {
         }
     }
 
-    /// A test of the binary, as filters see it.
+    /// Returns a test of the binary, as filters see it.
     pub fn query<'a>(&'a self, test: &'a str) -> TestQuery<'a>
         ensures { test_view result ≡ record { binary = binary_view self.now; name = test.now } }
     {
@@ -51,18 +51,18 @@ impl ListedBinary {
     }
 }
 
-/// The tests of a list, by the binaries in which they are, and the triples that it is of.
+/// The tests of a list, by their binaries, and the triples of the build.
 #[derive(Debug, Drop)]
 pub struct ListedTests {
-    /// The triple of the machine that builds, if the list has the platforms of the build.
+    /// The triple of the host, if the list has the platforms of the build.
     pub host: Option<String>,
-    /// The triple that is built for, if the list has one: the first, where there are several.
+    /// The triple of the target, if the list has one: the first, if there are several.
     pub target: Option<String>,
-    /// The binaries, in the order of the keys at which they stand.
+    /// The binaries, in the order of their keys in the list.
     pub binaries: Vec<ListedBinary>,
 }
 
-/// Some tests, and then those of a binary.
+/// Adds the tests of a binary to some tests.
 fn with_tests<'a>(
     found: Vec<TestQuery<'a>>,
     binary: &'a ListedBinary,
@@ -78,7 +78,7 @@ fn with_tests<'a>(
 }
 
 impl ListedTests {
-    /// The tests of all binaries, in order, as filters see them.
+    /// Returns the tests of all binaries, in order, as filters see them.
     pub fn queries(&self, alloc: Global) -> Result<Vec<TestQuery<'_>>, AllocError>
         ensures { IfOk result (λ queries. map test_view queries.items
             ≡ all_tests (list_view self.now)) }
@@ -90,7 +90,7 @@ impl ListedTests {
         Ok(queries)
     }
 
-    /// All binaries, in order, as filters see them. Some may have no tests.
+    /// Returns all binaries, in order, as filters see them. Some may have no tests.
     pub fn binary_queries(&self, alloc: Global) -> Result<Vec<BinaryQuery<'_>>, AllocError>
         ensures { IfOk result (λ queries. map query_view queries.items
             ≡ all_binaries (list_view self.now)) }

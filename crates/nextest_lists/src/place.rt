@@ -1,23 +1,23 @@
-//! Places in a list of tests.
+//! Paths of values in a list of tests.
 ghost use Rattle.std.specs.Prelude.{◌≡◌, IfOk, string_bytes};
 ghost use Rattle.nextest_lists.specs.Demands.{member_place, place_text};
 
 use std::alloc::{AllocError, Global};
 
-/// A place in a list of tests.
+/// The path of a value in a list of tests.
 #[derive(Clone, Copy)]
 pub enum Place<'a> {
-    /// Below the platforms of the build.
+    /// A path below the platforms of the build.
     Platforms(&'a str),
     /// The suites.
     Suites,
-    /// The suite of an id.
+    /// The suite with an id.
     Suite(&'a str),
-    /// What the suite of an id has at a key.
+    /// The value at a key of the suite with an id.
     Member(&'a str, &'a str),
 }
 
-/// The place of what the suite of an id has at a key.
+/// Returns the path of the value at a key of the suite with an id.
 fn member_place(alloc: Global, id: &str, key: &str) -> Result<String, AllocError>
     ensures { IfOk result (λ text. string_bytes text ≡ member_place id.now key.now) }
 {
@@ -28,7 +28,7 @@ fn member_place(alloc: Global, id: &str, key: &str) -> Result<String, AllocError
 }
 
 impl Place<'_> {
-    /// The keys that lead to the place, with dots between them.
+    /// Returns the keys of the path, with dots between them.
     pub fn text(self, alloc: Global) -> Result<String, AllocError>
         ensures { IfOk result (λ text. string_bytes text ≡ place_text self.entry) }
     {

@@ -18,13 +18,13 @@ use std::alloc::Global;
 /// The triples of a build.
 #[derive(Clone, Copy)]
 pub struct Triples<'v> {
-    /// That of the machine that builds, if it is known.
+    /// The triple of the host, if it is known.
     pub host: Option<&'v str>,
-    /// The first one that is built for, if there is one.
+    /// The triple of the first target, if there is one.
     pub target: Option<&'v str>,
 }
 
-/// The platforms of a build, where a list has them.
+/// Returns the platforms of the build, if a list has them.
 fn platforms_in(document: &Value) -> Option<&Value>
     ensures { option_map (λ value. view value.now) result ≡ platforms_in (view document.now) }
 {
@@ -35,7 +35,7 @@ fn platforms_in(document: &Value) -> Option<&Value>
     Some(platforms)
 }
 
-/// The triple of a platform.
+/// Returns the triple of a platform, if it has one.
 fn triple_in(platform: Option<&Value>) -> Option<&Value>
     ensures { option_map (λ value. view value.now) result
         ≡ triple_in (option_map (λ value. view value.now) platform.entry) }
@@ -43,7 +43,7 @@ fn triple_in(platform: Option<&Value>) -> Option<&Value>
     platform?.get("platform")?.get("triple")
 }
 
-/// The triple of the first platform that is built for, if there is one.
+/// Reads the triple of the first target, if there is one.
 fn target_in(alloc: Global, targets: &[Value]) -> Result<Option<&str>, ListFault>
     ensures ok { IfOk result (λ target. triple_in (slice_get (map view targets.now) 0)
         ≡ option_map (λ text. string text.now) target) }
@@ -64,7 +64,7 @@ fn target_in(alloc: Global, targets: &[Value]) -> Result<Option<&str>, ListFault
     }
 }
 
-/// The triples of platforms.
+/// Reads the triples of platforms.
 fn triples_in<'v>(alloc: Global, platforms: &'v Value) -> Result<Triples<'v>, ListFault>
     ensures ok { IfOk result (λ triples.
         AreTriplesIn (view platforms.now) (triples_view triples)) }
@@ -84,7 +84,7 @@ fn triples_in<'v>(alloc: Global, platforms: &'v Value) -> Result<Triples<'v>, Li
     })
 }
 
-/// The triples of the build whose tests are listed.
+/// Reads the triples of the build whose tests are listed.
 pub fn triples_of(alloc: Global, document: &Value) -> Result<Triples<'_>, ListFault>
     ensures ok { IfOk result (λ triples. AreTriples (view document.now) (triples_view triples)) }
     ensures met { IfOk result (λ _. first_fault (build_demands (view document.now)) ≡ None) }

@@ -1,4 +1,4 @@
-//! The suites of a list: a binary each, with its tests.
+//! Reading the suites of a list: each is a binary, with its tests.
 ghost use Rattle.std.specs.Prelude.{◌≡◌, ℕ, List, None, Some, IfOk, IfErr, codes, flat_map, map, string_bytes};
 ghost use Rattle.std.specs.List.{AllZip};
 ghost use Rattle.serde_json.specs.Data.{string, object, Members};
@@ -20,7 +20,7 @@ use nextest_engines::BuildPlatform;
 use serde_json::{Map, Value};
 use std::alloc::{AllocError, Global};
 
-/// What a suite says.
+/// The properties of a suite.
 #[derive(Clone, Copy)]
 struct Suite<'v> {
     package_name: &'v str,
@@ -32,7 +32,7 @@ struct Suite<'v> {
     cases: &'v Map<String, Value>,
 }
 
-/// The platform of a name.
+/// Returns the platform with a name.
 fn platform_of(name: &str) -> Option<BuildPlatform>
     ensures { result ≡ platform_of name.now }
 {
@@ -45,7 +45,7 @@ fn platform_of(name: &str) -> Option<BuildPlatform>
     }
 }
 
-/// That a text names no platform.
+/// Returns the fault of a string that doesn't name a platform.
 fn unknown_platform(alloc: Global, place: Place<'_>, name: &str) -> Result<ListFault, AllocError>
     ensures { IfOk result (λ fault. fault_view fault
         ≡ Some (unknown_platform (place_text place.entry) name.now)) }
@@ -56,7 +56,7 @@ fn unknown_platform(alloc: Global, place: Place<'_>, name: &str) -> Result<ListF
     })
 }
 
-/// The text at a key of a suite.
+/// Reads the string at a key of a suite.
 fn member_text<'v>(
     alloc: Global,
     id: &str,
@@ -70,7 +70,7 @@ fn member_text<'v>(
     text_at(alloc, Field::under(suite, key, Place::Member(id, key)))
 }
 
-/// The platform of a suite.
+/// Reads the platform of a suite.
 fn platform_in(alloc: Global, id: &str, suite: &Value) -> Result<BuildPlatform, ListFault>
     ensures ok { IfOk result (λ platform. (name : List ℕ)
         × (get (codes "build-platform") (view suite.now) ≡ Some (string name))
@@ -85,7 +85,7 @@ fn platform_in(alloc: Global, id: &str, suite: &Value) -> Result<BuildPlatform, 
     }
 }
 
-/// What the suite of an id says.
+/// Reads the suite with an id.
 fn suite_of<'v>(alloc: Global, id: &str, suite: &'v Value) -> Result<Suite<'v>, ListFault>
     ensures ok { IfOk result (λ found. IsSuiteOf (view suite.now) (suite_view found)) }
     ensures met { IfOk result (λ _. first_fault (suite_demands (id.now, view suite.now)) ≡ None) }
@@ -110,7 +110,7 @@ fn suite_of<'v>(alloc: Global, id: &str, suite: &'v Value) -> Result<Suite<'v>, 
     })
 }
 
-/// The keys of an object.
+/// Returns the keys of an object.
 fn keys_of(alloc: Global, members: &Map<String, Value>) -> Result<Vec<String>, AllocError>
     ensures { IfOk result (λ names. map string_bytes names.items
         ≡ keys (members_view members.now.entries)) }
@@ -122,7 +122,7 @@ fn keys_of(alloc: Global, members: &Map<String, Value>) -> Result<Vec<String>, A
     Ok(names)
 }
 
-/// The binary of a suite.
+/// Returns the binary of a suite.
 fn binary_of(alloc: Global, suite: &Suite<'_>) -> Result<ListedBinary, AllocError>
     ensures { IfOk result (λ binary. listed_view binary ≡ suite_view suite.now) }
 {
@@ -137,7 +137,7 @@ fn binary_of(alloc: Global, suite: &Suite<'_>) -> Result<ListedBinary, AllocErro
     })
 }
 
-/// The binaries of suites.
+/// Reads the binaries of suites.
 fn binaries_in(alloc: Global, suites: &Map<String, Value>) -> Result<Vec<ListedBinary>, ListFault>
     ensures ok { IfOk result (λ binaries. AllZip IsSuiteOf
         (values (members_view suites.now.entries)) (map listed_view binaries.items)) }
@@ -154,7 +154,7 @@ fn binaries_in(alloc: Global, suites: &Map<String, Value>) -> Result<Vec<ListedB
     Ok(binaries)
 }
 
-/// The binaries of a list.
+/// Reads the binaries of a list.
 pub fn binaries_of(alloc: Global, document: &Value) -> Result<Vec<ListedBinary>, ListFault>
     ensures ok { IfOk result (λ binaries. (suites : Members)
         × (get (codes "rust-suites") (view document.now) ≡ Some (object suites))

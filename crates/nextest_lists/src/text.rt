@@ -15,7 +15,7 @@ use crate::suites::binaries_of;
 use serde_json::{Error, Value};
 use std::alloc::{AllocError, Global};
 
-/// A copy of a text, if there is one.
+/// Returns a copy of a string, if there is one.
 fn copied(alloc: Global, text: Option<&str>) -> Result<Option<String>, AllocError>
     ensures { IfOk result (λ copy. option_map string_bytes copy
         ≡ option_map (λ text. text.now) text.entry) }
@@ -26,7 +26,7 @@ fn copied(alloc: Global, text: Option<&str>) -> Result<Option<String>, AllocErro
     }
 }
 
-/// The tests that a document lists.
+/// Reads the tests that a document lists.
 fn tests_in(alloc: Global, document: &Value) -> Result<ListedTests, ListFault>
     ensures ok { IfOk result (λ list. IsListOf (view document.now) (list_view list)) }
     ensures met { IfOk result (λ _. first_fault (demands (view document.now)) ≡ None) }
@@ -41,7 +41,7 @@ fn tests_in(alloc: Global, document: &Value) -> Result<ListedTests, ListFault>
     })
 }
 
-/// That a text is not read as JSON.
+/// Returns the fault of a text that isn't JSON, or of a failed allocation.
 fn fault_of(error: &Error) -> ListFault
     ensures { IfSome (fault_view result) (λ fault. (¬ IsMemory error.now) × (fault ≡ not_json)) }
 {
@@ -54,17 +54,18 @@ fn fault_of(error: &Error) -> ListFault
     }
 }
 
-/// The tests of the JSON that `cargo nextest list --message-format json` writes.
+/// Reads the tests from the JSON that `cargo nextest list --message-format json` prints.
 ///
-/// Suites and test cases are in the order of the bytes of their keys. Of several targets the first
-/// one counts. What a list of tests is not made of may have any shape.
+/// Suites and test cases are in the order of the bytes of their keys. If there are several targets,
+/// the first one counts. Members that a list of tests doesn't need are ignored.
 ///
 /// # Errors
 ///
-/// The text is no JSON, or the first fault in this order: the triple of the host, the targets and
-/// the triple of the first one, where `rust-build-meta` has `platforms` that are not null;
-/// `rust-suites`; of each suite its shape, `package-name`, `package-id`, `binary-id`, `binary-name`,
-/// `kind`, `build-platform`, `testcases`. [`ListFault::Memory`] where there was none.
+/// Returns the first fault in this order: the text isn't JSON; the triple of the host, the targets
+/// and the triple of the first one, if `rust-build-meta` has `platforms` that aren't `null`;
+/// `rust-suites`; for each suite that it is an object, and its `package-name`, `package-id`,
+/// `binary-id`, `binary-name`, `kind`, `build-platform` and `testcases`. Returns
+/// [`ListFault::Memory`] if an allocation fails.
 pub fn tests_of(alloc: Global, text: &str) -> Result<ListedTests, ListFault>
     ensures tests { IfOk result (λ list. IsListIn text.now (list_view list)) }
     ensures fault { IfErr result (λ fault. IfSome (fault_view fault) (IsFaultIn text.now)) }

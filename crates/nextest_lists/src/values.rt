@@ -1,4 +1,4 @@
-//! What is read of a list, and the faults of what is not.
+//! Reading the values of a list, or the faults of values that can't be read.
 ghost use Rattle.std.specs.Prelude.{◌≡◌, Some, IfOk, IfErr};
 ghost use Rattle.serde_json.specs.Data.{string, object};
 ghost use Rattle.serde_json.specs.View.{members_view};
@@ -12,7 +12,7 @@ use json_fields::{Field, Misfit};
 use serde_json::{Map, Value};
 use std::alloc::Global;
 
-/// What was read, or the fault of a misfit, with the keys that lead to its place.
+/// Returns the value that was read, or the fault of the misfit, with the keys of its path.
 pub fn or_fault<T>(alloc: Global, read: Result<T, Misfit<Place<'_>>>) -> Result<T, ListFault>
     ensures { IsRead read.entry result }
 {
@@ -26,7 +26,7 @@ pub fn or_fault<T>(alloc: Global, read: Result<T, Misfit<Place<'_>>>) -> Result<
     }
 }
 
-/// The text at a place.
+/// Reads the string of a field.
 pub fn text_at<'v>(alloc: Global, field: Field<'v, Place<'_>>) -> Result<&'v str, ListFault>
     ensures ok { IfOk result (λ text. found_at field.entry ≡ Some (string text.now)) }
     ensures err { IfErr result (Tells (demand_at field.entry Text)) }
@@ -34,7 +34,7 @@ pub fn text_at<'v>(alloc: Global, field: Field<'v, Place<'_>>) -> Result<&'v str
     or_fault(alloc, field.text())
 }
 
-/// The members of the object at a place.
+/// Reads the members of the object of a field.
 pub fn members_at<'v>(
     alloc: Global,
     field: Field<'v, Place<'_>>,

@@ -53,7 +53,7 @@ pub none_yet : (text : List ℕ) (low : ℕ) → NoDocumentBetween text low (low
 none_yet text low n more less = absurd (omega (arith, more, less))
 
 module _ (path : List Step) (text : List ℕ) where
-  -- a front that brings what stands at the path
+  -- a front that defines the value at the path
   front_brings : (low : ℕ) (lines : Lines) → lines.first ≡ suc low → low < lines.last → IsDocument text low
       → is_there_by path text low ≡ false → is_there_by path text lines.last ≡ true
       → NoDocumentBetween text low lines.last → IsPlaceOfPath path text lines
@@ -142,9 +142,9 @@ whole_place path text n place has is =
 
 -- the place of a path of the longest front
 pub known_place : (path : List Step) → (length path == 0) ≡ false → (text : List ℕ) (longest : Longest)
-    → IsKnown text (Some longest) → has_path path (tree_view longest.document) ≡ true
+    → IsKnown text longest → has_path path (tree_view longest.document) ≡ true
     → IsPlaceOfPath path text (lines_in longest.index path)
 known_place path some text longest is has =
-    let whole : text_has path (first_lines is.0 text) ≡ true = rw is.1.is has in
-    whole_place path text is.0 (lines_in longest.index path) whole
-    (index_place path (first_lines is.0 text) some longest.index is.2 whole)
+    let whole : text_has path (first_lines is.count text) ≡ true = rw is.is.is has in
+    whole_place path text is.count (lines_in longest.index path) whole
+    (index_place path (first_lines is.count text) some longest.index is.index whole)

@@ -31,3 +31,4 @@ pub mod Values
 pub mod Walked
 pub mod Walking
 pub mod Words
+pub mod Wholes

@@ -1,5 +1,5 @@
 -- The place of a path, between two numbers of lines.
-use Rattle.std.proofs.Common.{◌≡◌, ℕ, zero, suc, ◌+◌, ◌<◌, ◌≤◌, true, false, ◌==◌, List, [], ◌∷◌, length, Some, None, refl, sym, ap, ◌∙◌, inl, inr, ◌⊎◌, arith, add-one}
+use Rattle.std.proofs.Common.{◌≡◌, ℕ, zero, suc, ◌+◌, ◌<◌, ◌≤◌, true, false, ◌==◌, List, [], ◌∷◌, Some, None, refl, sym, ap, ◌∙◌, inl, inr, ◌⊎◌, arith, add-one}
 use Rattle.std.proofs.lemmas.Bool.{cases_Bool, true≢false}
 use Rattle.std.specs.Option.{option_map_or}
 use Rattle.nextest_tree.specs.Node.{Node}
@@ -8,20 +8,14 @@ use Rattle.nextest_places.specs.Lines.{first_lines, line_count}
 use Rattle.nextest_places.specs.Search.{IsDocument, IsLongest, NoDocumentBetween}
 use Rattle.nextest_places.proofs.Sections.{all_lines, some_of}
 use Rattle.nextest_places.specs.declared.step.Step.{Step}
-use Rattle.nextest_places.specs.declared.step.Step.TheVariants.{Key, Position}
 use Rattle.nextest_places.specs.Path.{has_path}
 use Rattle.nextest_places.specs.Place.{HasNoPlace, IsPlaceOfPath, is_there_by}
-use Rattle.nextest_places.proofs.Keeping.{in_empty, there_later}
+use Rattle.nextest_places.proofs.Keeping.{there_later}
 
 pub cases_le : (m n : ℕ) → (m ≤ n) ⊎ (n < m)
 cases_le zero n = inl (omega arith)
 cases_le (suc m) zero = inr (omega arith)
 cases_le (suc m) (suc n) = elim (cases_le m n) [ inl h ↦ inl (omega arith) | inr h ↦ inr (omega arith) ]
-
-not_at_start : (path : List Step) → (length path == 0) ≡ false → (text : List ℕ) → is_there_by path text 0 ≡ false
-not_at_start [] some text = absurd (true≢false some)
-not_at_start (Key k ∷ path) some text = in_empty (Key k ∷ path)
-not_at_start (Position i ∷ path) some text = in_empty (Position i ∷ path)
 
 module _ (path : List Step) (text : List ℕ) where
   -- of lines that are a document
@@ -74,20 +68,10 @@ module _ (path : List Step) (text : List ℕ) where
     | inr h ↦ beyond n (omega arith) ∙ none (line_count text) (omega arith)
   ]
 
-  module _ (some : (length path == 0) ≡ false) where
-    without : NoDocumentBetween text 0 (suc (line_count text)) → (n : ℕ) → n ≤ line_count text
-        → is_there_by path text n ≡ false
-    without none zero h = not_at_start path some text
-    without none (suc n) h = untold (suc n) (none (suc n) (omega arith) (omega arith))
-
-    -- no first lines are a document
-    pub never : NoDocumentBetween text 0 (suc (line_count text)) → HasNoPlace path text
-    never none = inr (by_count (without none))
-
-    module _ (n : ℕ) (document : Node) (found : IsLongest text n document) where
-      -- the longest document lacks the path
-      pub lacking : has_path path document ≡ false → HasNoPlace path text
-      lacking lacks = inr (by_count (λ m within. elim (cases_le m n) [
-        | inl before ↦ not_before n document found.is lacks m before
-        | inr after ↦ untold m (found.longest m after (omega arith))
-      ]))
+  module _ (n : ℕ) (document : Node) (found : IsLongest text n document) where
+    -- the longest document lacks the path
+    pub lacking : has_path path document ≡ false → HasNoPlace path text
+    lacking lacks = inr (by_count (λ m within. elim (cases_le m n) [
+      | inl before ↦ not_before n document found.is lacks m before
+      | inr after ↦ untold m (found.longest m after (omega arith))
+    ]))

@@ -55,7 +55,7 @@ first_with path [] = None
 first_with path (front ∷ fronts) =
     if has_path path (tree_view front.document) then Some front.lines else first_with path fronts
 
--- the lines behind the entries that bring what stands at a path
+-- the lines behind the entries that define the value at a path
 abbrev pub lines_behind : List Front → Lines → List Step → Lines
 lines_behind fronts rest path = unwrap_or (first_with path fronts) rest
 
@@ -76,10 +76,11 @@ pub record IsIndex (text : List ℕ) (index : Index) : Type 0 where
   pub walked : IsWalked text index.entries.items low
   pub fronts : LeadToEnd text low index.fronts.items index.rest
 
--- What is known of a text is its longest front that is a document, with an index of it. Where no
--- line of the text is in a document nothing is known.
-abbrev pub IsKnown : List ℕ → Option Longest → Type 0
-IsKnown text None = NoDocumentBetween text 0 (suc (line_count text))
-IsKnown text (Some longest) =
-    (n : ℕ) × IsLongest text n (tree_view longest.document)
-    × IsIndex (first_lines n text) longest.index
+-- What is known of a text is its longest front that is a document, with an index of it, and whether
+-- it is the whole text.
+pub record IsKnown (text : List ℕ) (longest : Longest) : Type 0 where
+  pub count : ℕ
+  pub is : IsLongest text count (tree_view longest.document)
+  pub index : IsIndex (first_lines count text) longest.index
+  pub whole : longest.is_whole ≡ true → count ≡ line_count text
+  pub part : longest.is_whole ≡ false → count < line_count text

@@ -13,9 +13,8 @@ NoDocumentBetween text low high =
 abbrev pub IsDocument : List ℕ → ℕ → Type 0
 IsDocument text n = is_some (tree_of (first_lines n text)) ≡ true
 
--- Some number of a text's lines is a document, this is its node, and no greater number is one.
+-- Some first lines of a text are a document, this is its node, and no more lines are one.
 pub record IsLongest (text : List ℕ) (n : ℕ) (document : Node) : Type 0 where
-  pub above : 0 < n
   pub within : n ≤ line_count text
   pub is : tree_of (first_lines n text) ≡ Some document
   pub longest : NoDocumentBetween text n (suc (line_count text))

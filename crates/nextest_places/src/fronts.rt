@@ -1,15 +1,16 @@
 //! The first lines of a text.
-ghost use Rattle.std.specs.Prelude.{◌≡◌, ◌<◌, ◌≤◌, List, ℕ, suc, IfOk, MatchOption, length, option_map};
+ghost use Rattle.std.specs.Prelude.{◌≡◌, ◌<◌, ◌≤◌, List, ℕ, IfOk, length, option_map};
 ghost use Rattle.nextest_tree.specs.View.{tree_view};
 ghost use Rattle.nextest_documents.specs.Text.{tree_of};
 ghost use Rattle.nextest_places.specs.Lines.{first_lines, line_count, line_ends};
-ghost use Rattle.nextest_places.specs.Search.{IsLongest, NoDocumentBetween};
+ghost use Rattle.nextest_places.specs.Search.{IsLongest};
 ghost use Rattle.nextest_places.specs.Index.{LeadToEnd};
 
 use crate::place::Lines;
 use nextest_documents::{TextFault, tree_from_text};
 use nextest_tree::Tree;
 use std::alloc::{AllocError, Global};
+use std::collections::BTreeMap;
 use std::marker::Model;
 
 /// A text, with where each of its lines ends.
@@ -89,23 +90,19 @@ fn document_of(alloc: Global, text: &str) -> Result<Option<Tree>, AllocError>
     }
 }
 
-/// The most lines that are a document, with that document. It is the whole text, if that is one.
-pub(crate) fn longest_document(
-    alloc: Global,
-    fronts: &Fronts,
-) -> Result<Option<(usize, Tree)>, AllocError>
-    ensures { let high = suc (line_count fronts.now) in
-        IfOk result (λ found. MatchOption found (NoDocumentBetween fronts.now 0 high)
-        (λ at. IsLongest fronts.now at.0 (tree_view at.1))) }
+/// The most first lines that are a document, with that document. They are the whole text, if that
+/// is one, and no lines at all are the empty document.
+pub(crate) fn longest_document(alloc: Global, fronts: &Fronts) -> Result<(usize, Tree), AllocError>
+    ensures { IfOk result (λ at. IsLongest fronts.now at.0 (tree_view at.1)) }
 {
     let total = fronts.count();
     'down: for back in 0..total {
         let count = total - back;
         if let Some(document) = document_of(alloc, fronts.front(count))? {
-            return Ok(Some((count, document)));
+            return Ok((count, document));
         }
     }
-    Ok(None)
+    Ok((0, Tree::Table(BTreeMap::new(alloc))))
 }
 
 /// The first lines of a text that are a document, with that document.

@@ -1,5 +1,7 @@
 //! The places of paths in a text.
-ghost use Rattle.std.specs.Prelude.{◌≡◌, List, ℕ, IfOk, MatchOption};
+ghost use Rattle.std.specs.Prelude.{◌≡◌, List, ℕ, IfOk, MatchOption, None, Some};
+ghost use Rattle.nextest_tree.specs.View.{tree_view};
+ghost use Rattle.nextest_documents.specs.Text.{tree_of};
 ghost use Rattle.nextest_places.specs.Index.{IsKnown};
 ghost use Rattle.nextest_places.specs.Place.{HasNoPlace, IsPlaceOfPath};
 
@@ -24,9 +26,11 @@ pub struct Lines {
 pub(crate) struct Longest {
     pub(crate) document: Tree,
     pub(crate) index: Index,
+    /// Whether it is the whole text.
+    pub(crate) is_whole: bool,
 }
 
-/// The places of the paths of a text: the lines that bring what stands at each.
+/// The places of the paths of a text: the lines that define the value at each.
 ///
 /// These are the last of the first lines that are the shortest document with the path, from the
 /// end of the document before it on: the whole of a value that goes over several lines, and of a
@@ -34,7 +38,7 @@ pub(crate) struct Longest {
 #[derive(Drop)]
 pub struct Places<'a> {
     text: &'a str,
-    longest: Option<Longest>,
+    longest: Longest,
 }
 
 impl<'a> Model for Places<'a> {
@@ -54,17 +58,49 @@ impl<'a> Places<'a> {
         ensures { IfOk result (λ places. places ≡ text.now) }
     {
         let fronts = Fronts::of(alloc, text)?;
-        let longest = match longest_document(alloc, &fronts)? {
-            Some((count, document)) => {
-                let index = Index::of(alloc, fronts.front(count))?;
-                Some(Longest { document, index })
-            }
-            None => None,
+        let (count, document) = longest_document(alloc, &fronts)?;
+        let index = Index::of(alloc, fronts.front(count))?;
+        let is_whole = count == fronts.count();
+        let longest = Longest {
+            document,
+            index,
+            is_whole,
         };
         Ok(Places { text, longest })
     }
 
-    /// The lines that bring what stands at a path. Nothing is read for it.
+    /// The places of a text that is a document, whose tree was read before. It is read only
+    /// expression by expression.
+    pub fn of_document(
+        alloc: Global,
+        text: &'a str,
+        document: Tree,
+    ) -> Result<Places<'a>, AllocError>
+        requires { tree_of text.now ≡ Some (tree_view document) }
+        ensures { IfOk result (λ places. places ≡ text.now) }
+    {
+        let index = Index::of(alloc, text)?;
+        let longest = Longest {
+            document,
+            index,
+            is_whole: true,
+        };
+        Ok(Places { text, longest })
+    }
+
+    /// The tree of the text, if the text is a document.
+    pub fn document(&self) -> Option<&Tree>
+        ensures { MatchOption result (tree_of self.now ≡ None)
+            (λ tree. tree_of self.now ≡ Some (tree_view tree.now)) }
+    {
+        if self.longest.is_whole {
+            Some(&self.longest.document)
+        } else {
+            None
+        }
+    }
+
+    /// The lines that define the value at a path. Nothing is read for it.
     pub fn lines_at(&self, path: &[Step]) -> Option<Lines>
         ensures { MatchOption result (HasNoPlace path.now self.now)
             (IsPlaceOfPath path.now self.now) }
@@ -72,10 +108,9 @@ impl<'a> Places<'a> {
         if path.is_empty() {
             return None;
         }
-        let longest = self.longest.as_ref()?;
-        if !has_path(&longest.document, path) {
+        if !has_path(&self.longest.document, path) {
             return None;
         }
-        Some(longest.index.lines_of(path))
+        Some(self.longest.index.lines_of(path))
     }
 }

@@ -9,3 +9,11 @@ pub mod Placed
 pub mod Rooted
 pub mod Turned
 pub mod Walk
+pub mod Rising
+pub mod Stepping
+pub mod PositionTurns
+pub mod Escapes
+pub mod PositionWalk
+mod Examples
+pub mod Reopened
+pub mod Climbing

@@ -4,3 +4,9 @@ pub mod Nodes
 pub mod Tokens
 pub mod Tree
 pub mod Turns
+pub mod Positions
+pub mod Offsets
+pub mod Pieces
+pub mod Law
+pub mod Paths
+pub mod Spans

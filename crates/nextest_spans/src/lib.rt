@@ -1,20 +1,34 @@
-//! Where the keys and values of a TOML text stand, by a scan that no fault stops.
+//! The spans of the keys and values of a TOML text, by a scan that no fault stops, the spans at a
+//! path, and positions in a text.
 #![tactic(auto)]
 
 mod cut;
 mod gap;
 mod item;
 mod items;
+mod law;
 mod lens;
 mod node;
+mod node_at;
+mod offsets;
+mod path;
+mod path_lines;
+mod path_spans;
+mod piece;
+mod position;
 mod reader;
 mod scan;
 mod sections;
 mod state;
+mod step;
 mod token;
 
 pub use item::{Item, KeyKind, Role, ValueKind};
 pub use items::items_of;
+pub use law::{law_offsets_reopen, law_positions, law_positions_rise};
 pub use node::{nodes_of, reads_as};
+pub use offsets::offsets_of;
+pub use path_spans::{PathSpan, PathSpans};
+pub use position::{ColumnUnit, Position, byte_at, position_at};
 pub use scan::tokens_of;
 pub use token::{Container, Span, Token, TokenKind};

@@ -27,7 +27,7 @@ points_into text fault refusal lies says = in_text refusal.span says.1
   where
     in_text : (span : Option LabeledSpan) → MatchOption span ⊥ (IsSpanOf fault) → IfSome span (SpanLiesIn text)
     in_text None is = absurd is
-    in_text (Some span) (start, (end, label)) =
+    in_text (Some span) (start, end, label) =
         (omega (arith, start, end, lies.0), omega (arith, end, lies.1))
 
 -- A text has one first fault.

@@ -11,8 +11,8 @@ use crate::expression::TargetSpec;
 use crate::fault::TargetSpecFault;
 use crate::spec::TargetSpecError;
 use nextest_engines::{LabeledSpan, Refusal, SpecFault, Specs};
-use std::alloc::{AllocError, Global};
 use platform_table::Platform;
+use std::alloc::{AllocError, Global};
 
 /// The engine of platforms. It has no state.
 #[derive(Clone, Copy, Debug)]

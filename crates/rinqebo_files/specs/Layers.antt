@@ -1,6 +1,7 @@
 -- The sources of a run: which files they are, their texts and their trees.
 use Rattle.std.specs.Prelude.{ℕ, List, ◌∷◌, ◌++◌, [], Option, Some, None, map, option_map, reverse, string_bytes}
 use Rattle.std.specs.Option.{option_map_or}
+use Rattle.nextest_documents.specs.Text.{tree_of}
 use Rattle.nextest_sources.specs.Sources.{Source, SourceKind, path_view, tool_file, organisation_file, explicit_file, discovered_file}
 use Rattle.nextest_sources.specs.declared.sources.FileInput.{FileInput}
 use Rattle.nextest_sources.specs.declared.sources.ReadOutcome.{ReadOutcome}
@@ -29,9 +30,14 @@ pub record LayerRead : Type 0 where
   pub text : Option (List ℕ)
   pub tree : Option Node
 
--- the tree of a layer, if it is a document
+-- the tree that a text is, if it is a document, or else the one that stands in for a text
+abbrev pub tree_by : Option (List ℕ) → Option Node → Option Node
+tree_by (Some text) defaults = tree_of text
+tree_by None defaults = defaults
+
+-- the tree of a layer's text, if it is a document, or of the defaults
 abbrev pub layer_tree : Layer → Option Node
-layer_tree layer = option_map tree_view layer.tree
+layer_tree layer = tree_by layer.places (option_map tree_view layer.defaults)
 
 -- a layer as code holds it
 abbrev pub layer_view : Layer → LayerRead

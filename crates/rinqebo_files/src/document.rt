@@ -1,13 +1,14 @@
-//! The tree of a file's text, or why the text is not a document.
+//! The tree and the places of a file's text, or why the text is not a document.
 ghost use Rattle.std.specs.Prelude.{◌≡◌, IfOk, option_map};
-ghost use Rattle.nextest_documents.specs.Text.{tree_of as document_of};
 ghost use Rattle.nextest_tree.specs.View.{tree_view};
 ghost use Rattle.rinqebo_files.specs.Features.{tree_read};
+ghost use Rattle.rinqebo_files.specs.Layers.{text_read};
 
 use nextest_config::{ReadOutcome, Tree};
 use nextest_documents::{DocumentFault, TextFault, tree_from_text};
+use nextest_places::Places;
+use nextest_spans::{ColumnUnit, Position, position_at};
 use std::alloc::{AllocError, Global};
-use nextest_positions::{ColumnUnit, Position, position_at};
 
 /// Why a text is not a TOML document.
 #[derive(Drop)]
@@ -34,26 +35,37 @@ impl NoDocument {
     }
 }
 
-/// Returns the tree of a text that is a document, or else why it is not one.
-fn read_text(alloc: Global, text: &str) -> Result<(Option<Tree>, Option<NoDocument>), AllocError>
-    ensures { IfOk result (λ read. option_map tree_view read.0 ≡ document_of text.now) }
+/// Returns the places in a text, with its tree, and why it is not a document, if it is not one. A
+/// text that is a document is parsed once.
+fn places_in<'t>(
+    alloc: Global,
+    text: &'t str,
+) -> Result<(Places<'t>, Option<NoDocument>), AllocError>
+    ensures { IfOk result (λ read. read.0 ≡ text.now) }
 {
     match tree_from_text(alloc, text) {
-        Ok(tree) => Ok((Some(tree), None)),
-        Err(TextFault::NotDocument(fault)) => Ok((None, Some(NoDocument::of(text, fault)))),
+        Ok(tree) => Ok((Places::of_document(alloc, text, tree)?, None)),
+        Err(TextFault::NotDocument(fault)) => Ok((
+            Places::of(alloc, text)?,
+            Some(NoDocument::of(text, fault)),
+        )),
         Err(TextFault::Memory) => Err(AllocError),
     }
 }
 
-/// Returns the tree of what was read, if it is a document, or else why its text is not one.
-pub fn read_document(
+/// Returns the places in the text that was read, if one was, with its tree, and why it is not a
+/// document, if it is not one.
+pub fn read_places<'t>(
     alloc: Global,
-    outcome: &ReadOutcome,
-) -> Result<(Option<Tree>, Option<NoDocument>), AllocError>
-    ensures { IfOk result (λ read. option_map tree_view read.0 ≡ tree_read outcome.now) }
+    outcome: &'t ReadOutcome,
+) -> Result<(Option<Places<'t>>, Option<NoDocument>), AllocError>
+    ensures { IfOk result (λ read. read.0 ≡ text_read outcome.entry.now) }
 {
     match outcome {
-        ReadOutcome::Text(text) => read_text(alloc, text.as_str()),
+        ReadOutcome::Text(text) => {
+            let (places, fault) = places_in(alloc, text.as_str())?;
+            Ok((Some(places), fault))
+        }
         ReadOutcome::NotFound | ReadOutcome::NotADirectory | ReadOutcome::Failed(_) => {
             Ok((None, None))
         }
@@ -64,6 +76,12 @@ pub fn read_document(
 pub fn tree_of(alloc: Global, outcome: &ReadOutcome) -> Result<Option<Tree>, AllocError>
     ensures { IfOk result (λ tree. option_map tree_view tree ≡ tree_read outcome.now) }
 {
-    let (tree, _) = read_document(alloc, outcome)?;
-    Ok(tree)
+    match outcome {
+        ReadOutcome::Text(text) => match tree_from_text(alloc, text.as_str()) {
+            Ok(tree) => Ok(Some(tree)),
+            Err(TextFault::NotDocument(_)) => Ok(None),
+            Err(TextFault::Memory) => Err(AllocError),
+        },
+        ReadOutcome::NotFound | ReadOutcome::NotADirectory | ReadOutcome::Failed(_) => Ok(None),
+    }
 }

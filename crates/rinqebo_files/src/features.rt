@@ -60,7 +60,7 @@ fn highest_tree<'l>(layers: &'l [Layer]) -> Option<&'l Tree>
         ≡ option_and_then layer_tree (slice_get layers.now (length layers.now - 1)) }
 {
     match layers.last() {
-        Some(layer) => layer.tree.as_ref(),
+        Some(layer) => layer.tree(),
         None => None,
     }
 }

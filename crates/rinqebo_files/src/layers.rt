@@ -2,17 +2,15 @@
 ghost use Rattle.std.specs.Prelude.{◌≡◌, ◌++◌, ◌↔◌, Some, IfOk, IsTrue, MatchOption, OnOk, map, option_map, reverse, string_bytes};
 ghost use Rattle.nextest_sources.specs.Sources.{source_kind_view, source_view};
 ghost use Rattle.nextest_tree.specs.View.{tree_view};
-ghost use Rattle.rinqebo_files.specs.Features.{tree_read};
-ghost use Rattle.rinqebo_files.specs.Layers.{default_layer, file_layer, layer_view, layers_read, organisation_layers, repository_layer, text_read, tool_layer};
+ghost use Rattle.rinqebo_files.specs.Layers.{default_layer, file_layer, layer_tree, layer_view, layers_read, organisation_layers, repository_layer, tool_layer};
 ghost use Rattle.rinqebo_files.specs.Origins.{HasNoFile, IsFileAt, told_file, told_kind};
 
-use crate::document::{NoDocument, read_document};
+use crate::document::{NoDocument, read_places};
 use crate::files::Gathered;
-use nextest_places::Places;
 use nextest_config::{
-    ConfigPath, ConfigSource, ConfigSourceKind, FileInput, IdentifierOwner, ReadOutcome,
-    ToolConfigFile, Tree,
+    ConfigPath, ConfigSource, ConfigSourceKind, FileInput, IdentifierOwner, ToolConfigFile, Tree,
 };
+use nextest_places::Places;
 use nextest_tables::default_tree;
 use rinqebo_report::{Source, SourceKind};
 use std::alloc::{AllocError, Global};
@@ -24,19 +22,21 @@ pub struct Layer<'t> {
     pub source: Source,
     /// The places in the text of its file, if there is one. The defaults have none.
     pub places: Option<Places<'t>>,
-    /// The tree of its text, if that is a document.
-    pub tree: Option<Tree>,
+    /// The table of the defaults, which have no text.
+    pub defaults: Option<Tree>,
     /// Why its text is not a document, if it is not one.
     pub fault: Option<NoDocument>,
 }
 
-/// The places in the text that was read, if one was.
-fn places_of<'t>(alloc: Global, outcome: &'t ReadOutcome) -> Result<Option<Places<'t>>, AllocError>
-    ensures { IfOk result (λ places. places ≡ text_read outcome.entry.now) }
-{
-    match outcome {
-        ReadOutcome::Text(text) => Ok(Some(Places::of(alloc, text.as_str())?)),
-        ReadOutcome::NotFound | ReadOutcome::NotADirectory | ReadOutcome::Failed(_) => Ok(None),
+impl Layer<'_> {
+    /// The tree of its text, if that is a document, or of the defaults.
+    pub fn tree(&self) -> Option<&Tree>
+        ensures { option_map (λ tree. tree_view tree.now) result ≡ layer_tree self.now }
+    {
+        match &self.places {
+            Some(places) => places.document(),
+            None => self.defaults.as_ref(),
+        }
     }
 }
 
@@ -49,14 +49,14 @@ fn layer_of<'t>(
     ensures { IfOk result (λ layer.
         layer_view layer ≡ file_layer (told_kind kind) file.entry.now) }
 {
-    let (tree, fault) = read_document(alloc, &file.outcome)?;
+    let (places, fault) = read_places(alloc, &file.outcome)?;
     Ok(Layer {
         source: Source {
             kind,
             path: Some(String::from_str(alloc, file.path.absolute_path())?),
         },
-        places: places_of(alloc, &file.outcome)?,
-        tree,
+        places,
+        defaults: None,
         fault,
     })
 }
@@ -71,7 +71,7 @@ fn defaults_layer<'t>(alloc: Global) -> Result<Layer<'t>, AllocError>
             path: None,
         },
         places: None,
-        tree: Some(default_tree(alloc)?),
+        defaults: Some(default_tree(alloc)?),
         fault: None,
     })
 }
@@ -268,7 +268,7 @@ pub fn rule_at<'t>(
     index: usize,
 ) -> Option<&'t Tree> {
     let layer = layers.get(place?)?;
-    rule_table(layer.tree.as_ref()?, profile, list, index)
+    rule_table(layer.tree()?, profile, list, index)
 }
 
 /// A text at a key of a table.

@@ -1,14 +1,14 @@
-//! The lines of files that bring what stands at a path.
+//! The lines of files that define the value at a path.
 ghost use Rattle.rinqebo_files.specs.Origins.{AreLinesAt, IsPathPlace};
 
 use crate::layers::Layer;
-use nextest_places::Step;
 use nextest_config::Tree;
+use nextest_places::Step;
 use rinqebo_report::{Lines, Place};
 use std::alloc::{AllocError, Global};
 use std::collections::BTreeMap;
 
-/// The lines of a layer that bring what stands at a path, as they are reported.
+/// The lines of a layer that define the value at a path, as they are reported.
 fn lines_in(layer: &Layer, path: &[Step]) -> Option<Lines>
     ensures { AreLinesAt layer.now.places path.now result }
 {
@@ -19,7 +19,7 @@ fn lines_in(layer: &Layer, path: &[Step]) -> Option<Lines>
     })
 }
 
-/// The place of what stands at a path in the layer at a position.
+/// The place of the value at a path in the layer at a position.
 pub fn path_place(layers: &[Layer], source: usize, path: &[Step]) -> Place
     ensures { IsPathPlace layers.now source path.now result }
 {
@@ -27,7 +27,11 @@ pub fn path_place(layers: &[Layer], source: usize, path: &[Step]) -> Place
         Some(layer) => lines_in(layer, path),
         None => None,
     };
-    Place { source, lines }
+    Place {
+        source,
+        lines,
+        range: None,
+    }
 }
 
 /// A way into a tree that a text begins to spell: its steps so far, what they lead to, and the part
@@ -145,9 +149,9 @@ fn earlier(one: Option<Lines>, other: Option<Lines>) -> Option<Lines> {
     }
 }
 
-/// The lines of a layer that bring what stands at a path that is told as text.
+/// The lines of a layer that define the value at a path that is spelled as text.
 fn spelled_lines(alloc: Global, layer: &Layer, path: &str) -> Result<Option<Lines>, AllocError> {
-    let Some(tree) = &layer.tree else {
+    let Some(tree) = layer.tree() else {
         return Ok(None);
     };
     let mut lines = None;
@@ -157,7 +161,7 @@ fn spelled_lines(alloc: Global, layer: &Layer, path: &str) -> Result<Option<Line
     Ok(lines)
 }
 
-/// The place of what stands at a path in the layer at a position, where the path is told as text:
+/// The place of the value at a path in the layer at a position, where the path is spelled as text:
 /// keys and positions with dots between them. Of several paths that are so spelled it is the first
 /// place.
 pub fn spelled_place(
@@ -170,7 +174,11 @@ pub fn spelled_place(
         Some(layer) => spelled_lines(alloc, layer, path)?,
         None => None,
     };
-    Ok(Place { source, lines })
+    Ok(Place {
+        source,
+        lines,
+        range: None,
+    })
 }
 
 /// The place of what stands at a path that is told as text, in the highest layer that writes it.
@@ -184,6 +192,7 @@ pub fn highest_place(
             return Ok(Some(Place {
                 source,
                 lines: Some(lines),
+                range: None,
             }));
         }
     }

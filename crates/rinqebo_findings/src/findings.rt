@@ -20,7 +20,7 @@ pub struct SourceAt<'l, 't> {
 impl<'l, 't> SourceAt<'l, 't> {
     /// The tree of the source, if its text is a document.
     pub fn tree(self) -> Option<&'l Tree> {
-        self.layers.get(self.position?)?.tree.as_ref()
+        self.layers.get(self.position?)?.tree()
     }
 
     /// Why the text of the source is not a document, if it is not one.
@@ -30,10 +30,7 @@ impl<'l, 't> SourceAt<'l, 't> {
 
     /// The place of the whole source.
     fn place(self) -> Option<Place> {
-        Some(Place {
-            source: self.position?,
-            lines: None,
-        })
+        Some(Place::in_source(self.position?))
     }
 
     /// The place of a path in the source.

@@ -39,7 +39,7 @@ pub fn given_at(source: SourceAt<'_, '_>, path: &[Step<'_>]) -> Option<&'static 
         return Some(kind_words(found));
     }
     for layer in source.layers.iter().rev() {
-        if let Some(tree) = &layer.tree {
+        if let Some(tree) = layer.tree() {
             if let Some(found) = tree_at(tree, path) {
                 return Some(kind_words(found));
             }

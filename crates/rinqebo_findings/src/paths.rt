@@ -69,7 +69,7 @@ pub fn spelled_path<'s>(
         }
     }
     for layer in source.layers.iter().rev() {
-        if let Some(tree) = &layer.tree {
+        if let Some(tree) = layer.tree() {
             if let Some(path) = spelled_in(alloc, tree, text, fault, &file)? {
                 return Ok(path);
             }

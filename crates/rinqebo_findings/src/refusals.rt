@@ -211,7 +211,7 @@ fn add_features(
 fn profile_names<'l>(alloc: Global, layers: &'l [Layer]) -> Result<Vec<&'l str>, AllocError> {
     let mut names = Vec::new(alloc);
     for layer in layers {
-        let Some(tree) = &layer.tree else {
+        let Some(tree) = layer.tree() else {
             continue;
         };
         let Some(profiles) = tree.get("profile") else {

@@ -1,10 +1,10 @@
--- What each element of a list says, element by element, up to the end or the first that says nothing.
+-- The values of all elements of a list, read one by one up to the end or the first that has none.
 use Rattle.std.proofs.Common.{◌≡◌, ℕ, suc, ◌+◌, ◌<◌, ◌≤◌, List, [], ◌∷◌, ◌++◌, length, map, take, drop, get_or, Option, None, Some, option_and_then, option_map, refl, sym, ap, ◌∙◌}
 use Rattle.std.proofs.Math.Seq.{drop-cons}
 use Rattle.std.proofs.lemmas.List.{map-append, map_more, take_all, take-append-drop}
 use Rattle.rinqebo_forms.specs.Requests.{all_said}
 
--- each says what is listed
+-- every element has a value
 pub said_by : {V A B : Type 0} (seen : V → A) (f : A → Option B) (values : List V) (ys : List B)
     → map Some ys ≡ map (λ v. f (seen v)) values → all_said f (map seen values) ≡ Some ys
 unfolding all_said
@@ -21,7 +21,7 @@ none_then : {A B : Type 0} (o : Option A) (g : A → B → B) (rest : Option B) 
 none_then None g rest is = refl
 none_then (Some a) g rest is = rw is refl
 
--- one that says nothing
+-- an element has no value
 silent_by : {V A B : Type 0} (seen : V → A) (f : A → Option B) (front : List V) (x : V) (back : List V)
     → f (seen x) ≡ None → all_said f (map seen (front ++ x ∷ back)) ≡ None
 unfolding all_said

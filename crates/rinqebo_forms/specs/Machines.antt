@@ -1,4 +1,4 @@
--- The engines of a request: its filters and its platforms.
+-- The filters and the platforms of a request.
 use Rattle.std.specs.Prelude.{◌≡◌, ◌⊎◌, ℕ, List, Option, None, Some, option_map, string_bytes, Ok, Err}
 use Rattle.nextest_engines.specs.declared.queries.BuildPlatforms.{BuildPlatforms}
 use Rattle.filter_engine.specs.declared.engine.NextestFilters.{NextestFilters}
@@ -17,22 +17,22 @@ use Rattle.rinqebo_forms.specs.Requests.{MachineText}
 use Rattle.rinqebo_forms.specs.declared.machines.EngineFault.{EngineFault}
 use Rattle.rinqebo_forms.specs.declared.machines.EngineFault.TheVariants as refused
 
--- Filters are those of metadata: with the graph that these say, or without one where none are given.
+-- Filters are those of metadata: with the graph in these, or without a graph if none are given.
 abbrev pub AreFiltersFor : Option (List ℕ) → NextestFilters → Type 0
 AreFiltersFor None filters = filters.graph ≡ None
 AreFiltersFor (Some metadata) filters =
     (graph : Graph) × (graph_of_text metadata ≡ Ok graph)
     × (option_map graph_view filters.graph ≡ Some graph)
 
--- metadata are refused: they say no graph, for this fault; want of memory aside
+-- no graph can be read from metadata, for this fault, unless an allocation failed
 abbrev pub IsMetadataFault : Option (List ℕ) → EngineFault → Type 0
 IsMetadataFault None fault = ⊥
 IsMetadataFault (Some metadata) (refused.Metadata fault) = graph_of_text metadata ≡ Err fault
 IsMetadataFault (Some metadata) (refused.Platform triple fault) = ⊥
 IsMetadataFault (Some metadata) refused.Memory = Unit {0}
 
--- a platform is that of a triple: what the compiler prints for it, where that is given, or else that
--- of the table
+-- a platform is that of a triple: the one that the compiler prints for it, if that is given, or
+-- else the one in the table
 abbrev pub IsPlatformBy : List ℕ → Option (List ℕ) → Platform → Type 0
 IsPlatformBy triple (Some printed) platform = IsPlatformOf triple printed (platform_view platform)
 IsPlatformBy triple None platform =
@@ -42,41 +42,41 @@ IsPlatformBy triple None platform =
 abbrev pub IsPlatformFor : MachineText → Platform → Type 0
 IsPlatformFor machine platform = IsPlatformBy machine.triple machine.cfg platform
 
--- what is printed is refused for this fault; without it, the table has no such triple; want of
--- memory aside
+-- what the compiler prints is refused for this fault, or, if that isn't given, the table doesn't
+-- have the triple, unless an allocation failed
 abbrev pub IsFaultBy : List ℕ → Option (List ℕ) → PlatformFault → Type 0
 IsFaultBy triple printed faults.Memory = Unit {0}
 IsFaultBy triple (Some printed) fault = IsRefusedFor printed fault
 IsFaultBy triple None fault = row_of targets triple ≡ None
 
--- a triple is refused: it is told, with what is wrong; want of memory aside
+-- a triple is refused: the fault has it, and the reason, unless an allocation failed
 abbrev pub IsTripleRefused : List ℕ → Option (List ℕ) → EngineFault → Type 0
 IsTripleRefused triple printed (refused.Metadata fault) = ⊥
-IsTripleRefused triple printed (refused.Platform told fault) =
-    (string_bytes told ≡ triple) × IsFaultBy triple printed fault
+IsTripleRefused triple printed (refused.Platform reported fault) =
+    (string_bytes reported ≡ triple) × IsFaultBy triple printed fault
 IsTripleRefused triple printed refused.Memory = Unit {0}
 
 -- a machine is refused: its triple is
 abbrev pub IsMachineRefused : MachineText → EngineFault → Type 0
 IsMachineRefused machine fault = IsTripleRefused machine.triple machine.cfg fault
 
--- the machine that is built for is refused
+-- the target is refused, if there is one
 abbrev pub IsTargetRefused : Option MachineText → EngineFault → Type 0
 IsTargetRefused (Some machine) fault = IsMachineRefused machine fault
 IsTargetRefused None fault = ⊥
 
--- a machine of a build is refused: the one that builds, or the one that is built for
+-- a machine of a build is refused: the host, or the target
 abbrev pub IsBuildRefused : MachineText → Option MachineText → EngineFault → Type 0
 IsBuildRefused host target fault = IsMachineRefused host fault ⊎ IsTargetRefused target fault
 
--- the platform that is built for is that of a machine, where one is asked for; else there is none
+-- the platform of the target is that of a machine, if a target is given; else there is none
 abbrev pub IsTargetFor : Option MachineText → Option Platform → Type 0
 IsTargetFor (Some machine) (Some platform) = IsPlatformFor machine platform
 IsTargetFor (Some machine) None = ⊥
 IsTargetFor None (Some platform) = ⊥
 IsTargetFor None None = Unit {0}
 
--- The platforms of a build are those that are asked for.
+-- The platforms of a build are those of the host and the target.
 pub record ArePlatformsFor (host : MachineText) (target : Option MachineText)
     (platforms : BuildPlatforms Platform) : Type 0 where
   pub is_host : IsPlatformFor host platforms.host

@@ -36,7 +36,7 @@ flag_number false = 0
 abbrev pub duration_numbers : ℕ → Duration
 duration_numbers n = record { low = n % 2 ^ 64; high = n / 2 ^ 64 }
 
--- how often a test is tried again: with delays that are the same, or that grow up to a longest one
+-- how often a failed test is run again: with equal delays, or with delays that grow up to a longest
 abbrev pub retry_numbers : RetryPolicy → RetryNumbers
 retry_numbers (retries.Fixed count delay jitter) = record {
   backoff = 0;
@@ -61,12 +61,12 @@ thread_numbers (required.Count n) = record { kind = 0; count = n }
 thread_numbers required.NumCpus = record { kind = 1; count = 0 }
 thread_numbers required.NumTestThreads = record { kind = 2; count = 0 }
 
--- what comes of a test that is ended
+-- the result of a test that is terminated
 abbrev pub end_number : SlowTimeoutResult → ℕ
 end_number ends.Fail = 0
 end_number ends.Pass = 1
 
--- when a test counts as slow, and when it is ended
+-- when a test counts as slow, and when it is terminated
 abbrev pub slow_numbers : SlowTimeout → SlowNumbers
 slow_numbers t = record {
   period = duration_numbers t.period;
@@ -75,12 +75,12 @@ slow_numbers t = record {
   on_timeout = end_number t.on_timeout;
 }
 
--- what comes of a test that leaks
+-- the result of a leaky test
 abbrev pub leak_number : LeakTimeoutResult → ℕ
 leak_number leaks.Pass = 0
 leak_number leaks.Fail = 1
 
--- how long what a test started may outlive it
+-- when a test counts as leaky
 abbrev pub leak_numbers : LeakTimeout → LeakNumbers
 leak_numbers t = record { period = duration_numbers t.period; result = leak_number t.result }
 
@@ -91,12 +91,12 @@ output_number shown.ImmediateFinal = 1
 output_number shown.Final = 2
 output_number shown.Never = 3
 
--- what comes of a test that passes at a later try
+-- the result of a test that passes at a later attempt
 abbrev pub flaky_number : FlakyResult → ℕ
 flaky_number flaky.Pass = 0
 flaky_number flaky.Fail = 1
 
--- whether a report lists a test that is skipped
+-- whether a report lists skipped tests
 abbrev pub report_number : ReportSkipPolicy → ℕ
 report_number policies.None = 0
 report_number policies.All = 1

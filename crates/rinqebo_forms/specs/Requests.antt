@@ -1,4 +1,4 @@
--- What a request in JSON says.
+-- Requests in JSON for a session.
 use Rattle.std.specs.Prelude.{ℕ, List, [], ◌∷◌, Option, None, Some, codes, option_and_then, option_map, map, string_bytes, if◌then◌else◌}
 use Rattle.std.specs.Str.{bytes_eq}
 use Rattle.serde_json.specs.Data.{Data}
@@ -18,7 +18,7 @@ pub record MachineText : Type 0 where
   pub triple : List ℕ
   pub cfg : Option (List ℕ)
 
--- What a session is made of, as texts.
+-- A request for a session: the inputs from which it is loaded.
 pub record RequestText : Type 0 where
   pub root : List ℕ
   pub shared : InputFile
@@ -50,7 +50,7 @@ request_view r = record {
 
 -- ---- parts of a request
 
--- what came of reading a file, by the word that stands for it
+-- the kind of outcome that a word names
 abbrev pub kind_of : List ℕ → Option OutcomeKind
 kind_of word =
     if bytes_eq word (codes "text") then Some outcomes.Text
@@ -58,12 +58,12 @@ kind_of word =
     else (if bytes_eq word (codes "not-a-directory") then Some outcomes.NotADirectory
     else (if bytes_eq word (codes "failed") then Some outcomes.Failed else None)))
 
--- the same of the word under a key
+-- the kind of outcome that the word at a key names
 abbrev pub kind_at : List ℕ → Data → Option OutcomeKind
 kind_at key value = option_and_then kind_of (under as_str key value)
 
--- what came of reading a file, where its `text` is what such an outcome has: its text, or the message
--- of a failure, or else `null`
+-- an outcome of a kind, with the value of `text`: the text of the file, the message of a failure, or
+-- else `null`
 abbrev pub outcome_of : OutcomeKind → Data → Option Outcome
 outcome_of outcomes.Text value = option_map text (under as_str (codes "text") value)
 outcome_of outcomes.NotFound value =
@@ -72,12 +72,12 @@ outcome_of outcomes.NotADirectory value =
     option_map (λ nothing. not_a_directory) (under as_null (codes "text") value)
 outcome_of outcomes.Failed value = option_map failed (under as_str (codes "text") value)
 
--- what came of reading the file that an object says, by `outcome` and `text`
+-- the outcome in `outcome` and `text` of an object
 abbrev pub outcome_in : Data → Option Outcome
 outcome_in value =
     option_and_then (λ kind. outcome_of kind value) (kind_at (codes "outcome") value)
 
--- the file that an object says, by `path`, `outcome` and `text`
+-- the file in `path`, `outcome` and `text` of an object
 abbrev pub file_in : Data → Option InputFile
 file_in value =
     option_and_then (λ path. option_map (λ outcome. record { path = path; outcome = outcome })
@@ -99,28 +99,28 @@ abbrev pub organisation_file_in : Data → Option (Option InputFile)
 organisation_file_in value =
     option_and_then file_if (under optional_object (codes "organisation-config-file") value)
 
--- the name of a tool that an object says
+-- the name of a tool in `tool` of an object
 abbrev pub tool_name_in : Data → Option (List ℕ)
 tool_name_in value =
     option_and_then (λ name. if is_part name then Some name else None)
     (under as_str (codes "tool") value)
 
--- the file of a tool that an object says
+-- the file of a tool in an object
 abbrev pub tool_in : Data → Option ToolFile
 tool_in value =
     option_and_then (λ tool. option_map (λ file. record { tool = tool; file = file })
     (file_in value)) (tool_name_in value)
 
--- what each element says, if each says something
+-- what a function returns for each element, if it returns a value for all of them
 unfoldable pub all_said : {A B : Type 0} → (A → Option B) → List A → Option (List B)
 all_said f [] = Some []
 all_said f (x ∷ xs) = option_and_then (λ y. option_map (λ ys. y ∷ ys) (all_said f xs)) (f x)
 
--- the files of tools that a list says
+-- the files of tools in an array
 abbrev pub tools_in : List Data → Option (List ToolFile)
 tools_in values = all_said tool_in values
 
--- the machine that an object says, by `triple` and `cfg`
+-- the machine in `triple` and `cfg` of an object
 abbrev pub machine_in : Data → Option MachineText
 machine_in value =
     option_and_then (λ triple. option_map (λ cfg. record { triple = triple; cfg = cfg })
@@ -131,7 +131,7 @@ abbrev pub machine_if : Option Data → Option (Option MachineText)
 machine_if None = Some None
 machine_if (Some value) = option_map Some (machine_in value)
 
--- the machine that is built for: the object under `target`, or none where `null` stands there
+-- the target: the machine in the object at `target`, or `None` if the value is `null`
 abbrev pub target_in : Data → Option (Option MachineText)
 target_in value = option_and_then machine_if (under optional_object (codes "target") value)
 
@@ -146,8 +146,8 @@ switches_in value =
 
 -- ---- the request
 
--- what a value says: its `root`, `file`, `config-file`, `organisation-config-file`, `tools`,
--- `features`, `metadata`, `host` and `target`
+-- the request in `root`, `file`, `config-file`, `organisation-config-file`, `tools`, `features`,
+-- `metadata`, `host` and `target` of a value
 unfoldable pub request_in : Data → Option RequestText
 request_in value =
     option_and_then (λ root.
@@ -178,6 +178,6 @@ request_in value =
     (option_and_then file_in (under an_object (codes "file") value)))
     (under as_str (codes "root") value)
 
--- what a text says in JSON
+-- the request in a JSON text
 abbrev pub request_of : List ℕ → Option RequestText
 request_of t = option_and_then request_in (read t)

@@ -1,4 +1,4 @@
--- What a request for a whole run says.
+-- Requests in JSON for a whole run.
 use Rattle.std.specs.Prelude.{ℕ, List, Option, None, Some, codes, option_and_then, option_map, string_bytes, if◌then◌else◌}
 use Rattle.std.specs.Str.{bytes_eq}
 use Rattle.serde_json.specs.Data.{Data}
@@ -10,7 +10,7 @@ use Rattle.json_fields.specs.Parts.{under}
 use Rattle.rinqebo_forms.specs.Requests.{RequestText, request_in, request_view}
 use Rattle.rinqebo_forms.specs.declared.run_request.RunRequest.{RunRequest}
 
--- What a run is asked: what is loaded, for which profile and mode, and what lists the tests.
+-- A request for a whole run: that for the session, the profile, the mode, and the list of tests.
 pub record RunText : Type 0 where
   pub load : RequestText
   pub profile : List ℕ
@@ -26,17 +26,17 @@ run_view r = record {
   list = string_bytes r.list;
 }
 
--- the mode of a word
+-- the mode that a word names
 abbrev pub mode_of : List ℕ → Option NextestRunMode
 mode_of word =
     if bytes_eq word (codes "test") then Some Test
     else (if bytes_eq word (codes "benchmark") then Some Benchmark else None)
 
--- the mode whose word stands under a key
+-- the mode that the word at a key names
 abbrev pub mode_at : List ℕ → Data → Option NextestRunMode
 mode_at key value = option_and_then mode_of (under as_str key value)
 
--- what a value says: its `profile`, `mode` and `list`, and what a session would be loaded from
+-- the request in `profile`, `mode` and `list` of a value, and in its request for a session
 unfoldable pub run_in : Data → Option RunText
 run_in value =
     option_and_then (λ profile.
@@ -52,6 +52,6 @@ run_in value =
     (mode_at (codes "mode") value))
     (under as_str (codes "profile") value)
 
--- what a text says of a run in JSON
+-- the request for a whole run in a JSON text
 abbrev pub run_of : List ℕ → Option RunText
 run_of t = option_and_then run_in (read t)

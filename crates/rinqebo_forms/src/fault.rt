@@ -1,28 +1,28 @@
-//! Why a request is not understood.
+//! Faults of requests.
 use json_fields::{Field, Misfit};
 use serde_json::Value;
 use std::alloc::{AllocError, AllocFailed};
 use std::fmt;
 use thiserror::Error;
 
-/// What a part of a request stands in.
+/// The object in a request that has a key.
 #[derive(Clone, Copy, Debug, PartialEq, Eq, Drop)]
 pub enum Holder {
     /// The request itself.
     Request,
     /// The repository's own file.
     File,
-    /// The file that a user named in its place.
+    /// The file that a user names in place of the repository's own.
     ConfigFile,
     /// The organisation's file.
     OrganisationConfigFile,
-    /// The file of a tool, by its place.
+    /// The file of a tool, by its index.
     Tool(usize),
     /// The experimental features.
     Features,
-    /// The machine that builds.
+    /// The host.
     Host,
-    /// The machine that is built for.
+    /// The target.
     Target,
 }
 
@@ -44,7 +44,7 @@ impl fmt::Display for Holder {
 impl Holder {
     ghost use Rattle.std.specs.Prelude.{◌≡◌};
 
-    /// The place of a key that it has.
+    /// Returns the path of a key of the object.
     pub fn at(self, key: &'static str) -> Place
         ensures { result.key.now ≡ key.now }
     {
@@ -52,10 +52,10 @@ impl Holder {
     }
 }
 
-/// A part of a request: what stands under a key.
+/// The path of a value in a request.
 #[derive(Clone, Copy, Debug, PartialEq, Eq, Drop)]
 pub struct Place {
-    /// What has the key.
+    /// The object that has the key.
     pub holder: Holder,
     /// The key.
     pub key: &'static str,
@@ -73,7 +73,7 @@ impl Place {
     ghost use Rattle.serde_json.specs.View.{view};
     ghost use Rattle.json_fields.specs.Fields.{found_at};
 
-    /// What stands at the place, by the value of its holder.
+    /// Returns the field at the path, of the object that has the key.
     pub(crate) fn of(self, value: &Value) -> Field<'_, Place>
         ensures { found_at result ≡ get self.key.now (view value.now) }
     {
@@ -81,16 +81,16 @@ impl Place {
     }
 }
 
-/// What is to stand at a place.
+/// The value that is wanted at a path.
 #[derive(Clone, Copy, Debug, PartialEq, Eq, Drop)]
 pub enum Wanted {
-    /// A JSON value of a kind.
+    /// A JSON value of a type.
     Value(json_fields::Wanted),
     /// The name of a tool.
     ToolName,
-    /// What came of reading a file.
+    /// The outcome of reading a file.
     Outcome,
-    /// For what tests are run.
+    /// The mode of a run.
     Mode,
 }
 
@@ -105,16 +105,16 @@ impl fmt::Display for Wanted {
     }
 }
 
-/// Why a request is not understood.
+/// Why no request can be read from a text.
 #[derive(Clone, Copy, Debug, PartialEq, Eq, Drop, Error)]
 pub enum RequestFault {
-    /// The text is no JSON.
+    /// The text isn't JSON.
     #[error("the request is no JSON")]
     NotJson,
-    /// Something else stands at the place, or nothing.
+    /// The value at the path isn't the one that is wanted, or is missing.
     #[error("expected {0} at `{1}`")]
     Expected(Wanted, Place),
-    /// Want of memory.
+    /// An allocation failed.
     #[error("out of memory")]
     Memory,
 }

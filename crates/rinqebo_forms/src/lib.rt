@@ -1,5 +1,5 @@
-//! The forms in which a session and a whole run are asked for, and in which a session answers: a
-//! request in JSON, the machines that it names, and settings as numbers.
+//! The requests in JSON for a session and for a whole run, the machines that a request names, and
+//! the numbers in which a session returns settings.
 #![tactic(auto)]
 
 mod fault;

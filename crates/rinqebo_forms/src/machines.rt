@@ -1,25 +1,25 @@
-//! The language of filters and the platforms of a build, as a request names them.
+//! The filters and the platforms of a request.
 ghost use Rattle.std.specs.Prelude.{IfOk, IfErr, option_map, string_bytes};
 ghost use Rattle.rinqebo_forms.specs.Machines.{AreFiltersFor, IsMetadataFault, IsPlatformBy, IsPlatformFor, IsFaultBy, ArePlatformsFor, IsTripleRefused, IsMachineRefused, IsBuildRefused};
 ghost use Rattle.rinqebo_forms.specs.Requests.{machine_view};
 
 use crate::request::{LoadRequest, Machine};
-use nextest_engines::BuildPlatforms;
 use filter_engine::{MetadataFault, NextestFilters, PackageGraph};
-use std::alloc::{AllocError, Global};
+use nextest_engines::BuildPlatforms;
 use platform_table::{Platform, PlatformFault};
+use std::alloc::{AllocError, Global};
 use thiserror::Error;
 
-/// Why there are no engines for a request.
+/// Why no filters or platforms can be made for a request.
 #[derive(Debug, Drop, Error)]
 pub enum EngineFault {
-    /// The metadata say no graph of packages.
+    /// No graph of packages can be read from the metadata.
     #[error("{0}")]
     Metadata(MetadataFault),
-    /// No platform is known for a triple.
+    /// No platform can be found for a triple.
     #[error("platform `{0}`: {1}")]
     Platform(String, PlatformFault),
-    /// Want of memory.
+    /// An allocation failed.
     #[error("out of memory")]
     Memory,
 }
@@ -35,7 +35,7 @@ impl From<AllocError> for EngineFault {
     }
 }
 
-/// The language of filters, with the graph of packages where the metadata are given.
+/// Returns the filters of a request, with the graph of packages if the metadata are given.
 pub fn filters_of(alloc: Global, metadata: &Option<String>) -> Result<NextestFilters, EngineFault>
     ensures ok { IfOk result (AreFiltersFor (option_map string_bytes metadata.now)) }
     ensures err { IfErr result (IsMetadataFault (option_map string_bytes metadata.now)) }
@@ -50,8 +50,8 @@ pub fn filters_of(alloc: Global, metadata: &Option<String>) -> Result<NextestFil
     }
 }
 
-/// What is read as the platform of a triple: what the compiler prints for it, where that is given, or
-/// else the row of the table.
+/// Reads the platform of a triple from what the compiler prints for it, if that is given, or else
+/// from the table.
 fn read_platform(
     alloc: Global,
     triple: &str,
@@ -66,13 +66,14 @@ fn read_platform(
     }
 }
 
-/// The platform of a triple: what the compiler prints for it, where that is given, or else that of the
-/// table.
+/// Returns the platform of a triple, read from what the compiler prints for it, if that is given,
+/// or else from the table.
 ///
 /// # Errors
 ///
-/// [`EngineFault::Platform`] with the triple where the text is not what a compiler prints, or where
-/// none is given and the table has no such triple. [`EngineFault::Memory`] where there was none.
+/// Returns [`EngineFault::Platform`] with the triple if the text isn't one that a compiler prints,
+/// or if none is given and the table doesn't have the triple. Returns [`EngineFault::Memory`] if an
+/// allocation fails.
 pub fn platform_of(
     alloc: Global,
     triple: &str,
@@ -88,7 +89,7 @@ pub fn platform_of(
     }
 }
 
-/// The platform of a machine, or what is wrong with its triple.
+/// Returns the platform of a machine.
 fn machine_platform(alloc: Global, machine: &Machine) -> Result<Platform, EngineFault>
     ensures ok { IfOk result (IsPlatformFor (machine_view machine.now)) }
     ensures err { IfErr result (IsMachineRefused (machine_view machine.now)) }
@@ -96,7 +97,7 @@ fn machine_platform(alloc: Global, machine: &Machine) -> Result<Platform, Engine
     platform_of(alloc, machine.triple.as_str(), &machine.cfg)
 }
 
-/// The platforms of a build.
+/// Returns the platforms of a build.
 pub fn platforms_of(
     alloc: Global,
     request: &LoadRequest,

@@ -1,4 +1,4 @@
-//! Settings as numbers, as a caller in C has them.
+//! Settings as numbers, for callers in C.
 ghost use Rattle.std.specs.Prelude.{◌≡◌, option_map};
 ghost use Rattle.rinqebo_forms.specs.Numbers.{flag_number, duration_numbers, retry_numbers, thread_numbers, slow_numbers, leak_numbers, output_number, flaky_number, report_number, status_number, group_numbers};
 
@@ -7,27 +7,29 @@ use nextest_elements::{
     RetryPolicy, SlowTimeout, SlowTimeoutResult, TestOutputDisplay, TestThreads, ThreadsRequired,
 };
 
-/// Nanoseconds: 2 to the 64th times the high part, and the low part.
+/// A number of nanoseconds: the low part, and 2 to the 64th times the high part.
 #[repr(C)]
 #[derive(Clone, Copy, Debug, PartialEq, Eq)]
 pub struct Duration {
+    /// The low part.
     pub low: u64,
+    /// The high part.
     pub high: u64,
 }
 
-/// How often a test is tried again.
+/// How often a failed test is run again.
 #[repr(C)]
 #[derive(Clone, Copy, Debug, PartialEq, Eq)]
 pub struct RetryNumbers {
-    /// 0 where every delay is the same, 1 where each is longer than the one before.
+    /// 0 if all delays are the same, 1 if each is longer than the one before.
     pub backoff: u32,
-    /// How often a test is tried again.
+    /// How often the test is run again.
     pub count: u32,
-    /// The delay between the first two tries.
+    /// The delay between the first two attempts.
     pub delay: Duration,
-    /// 1 where a delay is cut short at random, else 0.
+    /// 1 if delays are shortened at random, else 0.
     pub jitter: u32,
-    /// 1 where a longest delay is given, else 0.
+    /// 1 if a longest delay is given, else 0.
     pub has_max_delay: u32,
     /// The longest delay, or 0.
     pub max_delay: Duration,
@@ -43,27 +45,27 @@ pub struct ThreadNumbers {
     pub count: u64,
 }
 
-/// When a test counts as slow, and when it is ended.
+/// When a test counts as slow, and when it is terminated.
 #[repr(C)]
 #[derive(Clone, Copy, Debug, PartialEq, Eq)]
 pub struct SlowNumbers {
     /// After how long a test counts as slow.
     pub period: Duration,
-    /// After how many periods it is ended, or 0 where it runs on.
+    /// After how many periods it is terminated, or 0 if it isn't.
     pub terminate_after: u64,
-    /// How long it has to end itself, before it is killed.
+    /// How long a test that is terminated may take to end, before it is killed.
     pub grace_period: Duration,
-    /// What comes of a test that is ended: 0 where it fails, 1 where it passes.
+    /// The result of a test that is terminated: 0 if it fails, 1 if it passes.
     pub on_timeout: u32,
 }
 
-/// How long what a test started may outlive it.
+/// When a test counts as leaky, because its child processes outlive it.
 #[repr(C)]
 #[derive(Clone, Copy, Debug, PartialEq, Eq)]
 pub struct LeakNumbers {
     /// After how long a test counts as leaky.
     pub period: Duration,
-    /// What comes of a leaky test: 0 where it passes still, 1 where it fails.
+    /// The result of a leaky test: 0 if it still passes, 1 if it fails.
     pub result: u32,
 }
 
@@ -71,9 +73,9 @@ pub struct LeakNumbers {
 #[repr(C)]
 #[derive(Clone, Copy, Debug, PartialEq, Eq)]
 pub struct GroupThreads {
-    /// 0 for the count, 1 for as many as there are processors, 2 where there is no such group.
+    /// 0 for the count, 1 for as many as there are processors, 2 if there is no such group.
     pub kind: u32,
-    /// The count, or for a negative one so many fewer than there are processors; else 0.
+    /// The count, or 0. A negative count means that many fewer than there are processors.
     pub count: i64,
 }
 
@@ -84,7 +86,7 @@ pub fn flag_number(flag: bool) -> u32
     if flag { 1 } else { 0 }
 }
 
-/// A duration in its two parts.
+/// Returns the two parts of a duration.
 pub fn duration_parts(nanoseconds: u128) -> Duration
     ensures { result ≡ duration_numbers nanoseconds }
 {
@@ -94,7 +96,7 @@ pub fn duration_parts(nanoseconds: u128) -> Duration
     }
 }
 
-/// How often a test is tried again.
+/// Returns how often a failed test is run again.
 pub fn retry_numbers(policy: RetryPolicy) -> RetryNumbers
     ensures { result ≡ retry_numbers policy }
 {
@@ -127,7 +129,7 @@ pub fn retry_numbers(policy: RetryPolicy) -> RetryNumbers
     }
 }
 
-/// How many threads a test takes.
+/// Returns how many threads a test takes.
 pub fn thread_numbers(required: ThreadsRequired) -> ThreadNumbers
     ensures { result ≡ thread_numbers required }
 {
@@ -138,7 +140,7 @@ pub fn thread_numbers(required: ThreadsRequired) -> ThreadNumbers
     }
 }
 
-/// When a test counts as slow, and when it is ended.
+/// Returns when a test counts as slow, and when it is terminated.
 pub fn slow_numbers(timeout: SlowTimeout) -> SlowNumbers
     ensures { result ≡ slow_numbers timeout }
 {
@@ -153,7 +155,7 @@ pub fn slow_numbers(timeout: SlowTimeout) -> SlowNumbers
     }
 }
 
-/// How long what a test started may outlive it.
+/// Returns when a test counts as leaky.
 pub fn leak_numbers(timeout: LeakTimeout) -> LeakNumbers
     ensures { result ≡ leak_numbers timeout }
 {
@@ -166,8 +168,8 @@ pub fn leak_numbers(timeout: LeakTimeout) -> LeakNumbers
     }
 }
 
-/// When the output of a test is shown: 0 as soon as it ends, 1 then and at the end of the run, 2 at
-/// the end of the run, 3 never.
+/// Returns when the output of a test is shown: 0 as soon as the test ends, 1 then and at the end of
+/// the run, 2 at the end of the run, 3 never.
 pub fn output_number(display: TestOutputDisplay) -> u32
     ensures { result ≡ output_number display }
 {
@@ -179,7 +181,7 @@ pub fn output_number(display: TestOutputDisplay) -> u32
     }
 }
 
-/// What comes of a test that passes at a later try: 0 where it passes, 1 where it fails.
+/// Returns the result of a test that passes at a later attempt: 0 if it passes, 1 if it fails.
 pub fn flaky_number(outcome: FlakyResult) -> u32
     ensures { result ≡ flaky_number outcome }
 {
@@ -189,7 +191,7 @@ pub fn flaky_number(outcome: FlakyResult) -> u32
     }
 }
 
-/// Whether a report lists a test that is skipped: 0 where it does not, 1 where it does.
+/// Returns 1 if a report lists skipped tests, else 0.
 pub fn report_number(policy: ReportSkipPolicy) -> u32
     ensures { result ≡ report_number policy }
 {
@@ -199,7 +201,7 @@ pub fn report_number(policy: ReportSkipPolicy) -> u32
     }
 }
 
-/// How a report marks a flaky test that counts as failed: 0 as failed, 1 as passed.
+/// Returns how a report marks a flaky test that counts as failed: 0 as failed, 1 as passed.
 pub fn status_number(status: JunitFlakyFailStatus) -> u32
     ensures { result ≡ status_number status }
 {
@@ -209,7 +211,7 @@ pub fn status_number(status: JunitFlakyFailStatus) -> u32
     }
 }
 
-/// How many tests of a group run at a time, if there is one.
+/// Returns how many tests of a group run at a time, if there is a group.
 pub fn group_threads(threads: Option<TestThreads>) -> GroupThreads
     ensures { result ≡ group_numbers threads }
 {

@@ -1,4 +1,4 @@
-//! What came of reading a file, as a request says it.
+//! Reading the outcomes of reading files.
 ghost use Rattle.std.specs.Prelude.{◌≡◌};
 ghost use Rattle.serde_json.specs.View.{view};
 ghost use Rattle.nextest_sources.specs.Sources.{outcome_view};
@@ -11,20 +11,20 @@ use nextest_sources::ReadOutcome;
 use serde_json::Value;
 use std::alloc::Global;
 
-/// What came of reading a file, without its text.
+/// The outcome of reading a file, without its text.
 #[derive(Clone, Copy, Debug, PartialEq, Eq)]
 pub enum OutcomeKind {
-    /// Its text.
+    /// The file was read.
     Text,
-    /// There is no such file.
+    /// The file doesn't exist.
     NotFound,
-    /// A part of its path that should be a directory is none.
+    /// A part of its path that should be a directory isn't one.
     NotADirectory,
-    /// Anything else, with a message.
+    /// Reading failed in another way.
     Failed,
 }
 
-/// The kind of outcome of a word.
+/// Returns the kind of outcome that a word names.
 fn kind_of(word: &str) -> Option<OutcomeKind>
     ensures { result ≡ kind_of word.now }
 {
@@ -41,7 +41,7 @@ fn kind_of(word: &str) -> Option<OutcomeKind>
     }
 }
 
-/// The kind of outcome whose word stands at a place.
+/// Reads the kind of outcome that the word at a path names.
 fn kind_at(value: &Value, place: Place) -> Result<OutcomeKind, RequestFault>
     ensures { Reads (λ kind. kind) result (kind_at place.key.now (view value.now)) }
 {
@@ -51,7 +51,7 @@ fn kind_at(value: &Value, place: Place) -> Result<OutcomeKind, RequestFault>
     }
 }
 
-/// The outcome of a kind, with the text that it has under `text`.
+/// Reads an outcome of a kind, with the value of `text`.
 fn outcome_of(
     alloc: Global,
     kind: OutcomeKind,
@@ -75,7 +75,7 @@ fn outcome_of(
     }
 }
 
-/// What came of reading the file that an object says.
+/// Reads the outcome of reading a file from `outcome` and `text` of an object.
 pub fn outcome_in(alloc: Global, value: &Value, holder: Holder) -> Result<ReadOutcome, RequestFault>
     ensures { Reads outcome_view result (outcome_in (view value.now)) }
 {

@@ -1,4 +1,4 @@
-//! A request for a session, read from JSON.
+//! Reading a request for a session from JSON.
 ghost use Rattle.std.specs.Prelude.{◌≡◌, IfOk, MatchResult, map, option_map, string_bytes};
 ghost use Rattle.serde_json.specs.View.{view};
 ghost use Rattle.nextest_sources.specs.Sources.{file_view, tool_file_view};
@@ -17,7 +17,7 @@ use std::alloc::Global;
 /// A machine: its triple, and what the compiler prints for it, if that is given.
 #[derive(Debug, Drop)]
 pub struct Machine {
-    /// The name of the machine's platform.
+    /// The triple of the machine.
     pub triple: String,
     /// What `rustc --print cfg` prints for it.
     pub cfg: Option<String>,
@@ -32,28 +32,28 @@ pub struct Switches {
     pub wrapper_scripts: bool,
 }
 
-/// What a session is made of.
+/// A request for a session: the inputs from which it is loaded.
 #[derive(Drop)]
 pub struct LoadRequest {
     /// The workspace's root, and the repository's own file.
     pub paths: ConfigPaths,
-    /// The repository's file that a user named, which counts in place of its own.
+    /// The file that a user names in place of the repository's own, if any.
     pub config_file: Option<FileInput>,
-    /// The organisation's file, if a user named one.
+    /// The organisation's file, if a user names one.
     pub organisation_file: Option<FileInput>,
-    /// The files of tools: the first is the highest.
+    /// The files of tools, from the highest priority to the lowest.
     pub tools: Vec<ToolConfigFile>,
     /// The experimental features that are switched on.
     pub features: Switches,
-    /// What `cargo metadata` prints, if it is given.
+    /// The output of `cargo metadata`, if it is given.
     pub metadata: Option<String>,
-    /// The machine that builds.
+    /// The host.
     pub host: Machine,
-    /// The machine that is built for, where it is another one.
+    /// The target, if it isn't the host.
     pub target: Option<Machine>,
 }
 
-/// The file that an object says.
+/// Reads the file that an object describes.
 fn file_in(alloc: Global, value: &Value, holder: Holder) -> Result<FileInput, RequestFault>
     ensures { Reads file_view result (file_in (view value.now)) }
 {
@@ -95,7 +95,7 @@ fn organisation_file_in(alloc: Global, value: &Value) -> Result<Option<FileInput
     }
 }
 
-/// The name of a tool that an object says.
+/// Reads the name of a tool from an object.
 fn tool_name_in(alloc: Global, value: &Value, holder: Holder) -> Result<ToolName, RequestFault>
     ensures { Reads tool_name_text result (tool_name_in (view value.now)) }
 {
@@ -107,7 +107,7 @@ fn tool_name_in(alloc: Global, value: &Value, holder: Holder) -> Result<ToolName
     }
 }
 
-/// The file of a tool that an object says.
+/// Reads the file of a tool from an object.
 fn tool_in(alloc: Global, value: &Value, place: usize) -> Result<ToolConfigFile, RequestFault>
     ensures { Reads tool_file_view result (tool_in (view value.now)) }
 {
@@ -117,7 +117,7 @@ fn tool_in(alloc: Global, value: &Value, place: usize) -> Result<ToolConfigFile,
     Ok(ToolConfigFile { tool, config_file })
 }
 
-/// The files of tools that a list says.
+/// Reads the files of tools from an array.
 fn tools_in(alloc: Global, values: &[Value]) -> Result<Vec<ToolConfigFile>, RequestFault>
     ensures { Reads (λ tools. map tool_file_view tools.items) result
         (tools_in (map view values.now)) }
@@ -130,7 +130,7 @@ fn tools_in(alloc: Global, values: &[Value]) -> Result<Vec<ToolConfigFile>, Requ
     Ok(tools)
 }
 
-/// The machine that an object says.
+/// Reads the machine that an object describes.
 fn machine_in(alloc: Global, value: &Value, holder: Holder) -> Result<Machine, RequestFault>
     ensures { Reads machine_view result (machine_in (view value.now)) }
 {
@@ -139,7 +139,7 @@ fn machine_in(alloc: Global, value: &Value, holder: Holder) -> Result<Machine, R
     Ok(Machine { triple, cfg })
 }
 
-/// The machine that is built for, if the object says one.
+/// Reads the target, which may be `null`.
 fn target_in(alloc: Global, value: &Value) -> Result<Option<Machine>, RequestFault>
     ensures { Reads (λ target. option_map machine_view target) result
         (target_in (view value.now)) }
@@ -150,7 +150,7 @@ fn target_in(alloc: Global, value: &Value) -> Result<Option<Machine>, RequestFau
     }
 }
 
-/// The features that an object switches on.
+/// Reads the features that an object switches on.
 fn switches_in(value: &Value) -> Result<Switches, RequestFault>
     ensures { Reads (λ switches. switches) result (switches_in (view value.now)) }
 {
@@ -169,7 +169,7 @@ fn switches_in(value: &Value) -> Result<Switches, RequestFault>
     })
 }
 
-/// The place of a key of a request.
+/// Returns the path of a key of a request.
 pub(crate) fn at(key: &'static str) -> Place
     ensures { result.key.now ≡ key.now }
 {
@@ -177,7 +177,7 @@ pub(crate) fn at(key: &'static str) -> Place
 }
 
 impl LoadRequest {
-    /// The request that a JSON value says.
+    /// Reads a request from a JSON value.
     #[tactic(auto, unfolding(crate::specs::Requests::request_in))]
     pub(crate) fn from_value(alloc: Global, value: &Value) -> Result<LoadRequest, RequestFault>
         ensures { Reads request_view result (request_in (view value.now)) }
@@ -207,7 +207,7 @@ impl LoadRequest {
         })
     }
 
-    /// The request that a text says in JSON. Members that a request has none of are not read.
+    /// Reads a request from JSON. Members that a request doesn't have are ignored.
     pub fn read(alloc: Global, text: &str) -> Result<LoadRequest, RequestFault>
         ensures { Reads request_view result (request_of text.now) }
     {

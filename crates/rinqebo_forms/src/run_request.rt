@@ -1,4 +1,4 @@
-//! A request for a whole run, read from JSON.
+//! Reading a request for a whole run from JSON.
 ghost use Rattle.std.specs.Prelude.{◌≡◌};
 ghost use Rattle.serde_json.specs.View.{view};
 ghost use Rattle.rinqebo_forms.specs.Reading.{Reads};
@@ -11,20 +11,20 @@ use nextest_elements::NextestRunMode;
 use serde_json::Value;
 use std::alloc::Global;
 
-/// What a run is asked: the settings that a profile gives to each test of a list.
+/// A request for a whole run: the settings of a profile for each test of a list.
 #[derive(Drop)]
 pub struct RunRequest {
-    /// What is loaded.
+    /// The request for the session.
     pub load: LoadRequest,
     /// The name of the profile.
     pub profile: String,
-    /// For what the tests are run.
+    /// The mode of the run.
     pub mode: NextestRunMode,
-    /// What `cargo nextest list --message-format json` prints.
+    /// The output of `cargo nextest list --message-format json`.
     pub list: String,
 }
 
-/// The mode of a word.
+/// Returns the mode that a word names.
 fn mode_of(word: &str) -> Option<NextestRunMode>
     ensures { result ≡ mode_of word.now }
 {
@@ -37,7 +37,7 @@ fn mode_of(word: &str) -> Option<NextestRunMode>
     }
 }
 
-/// The mode whose word stands at a place.
+/// Reads the mode that the word at a path names.
 fn mode_at(value: &Value, place: Place) -> Result<NextestRunMode, RequestFault>
     ensures { Reads (λ mode. mode) result (mode_at place.key.now (view value.now)) }
 {
@@ -48,7 +48,7 @@ fn mode_at(value: &Value, place: Place) -> Result<NextestRunMode, RequestFault>
 }
 
 impl RunRequest {
-    /// The request that a JSON value says.
+    /// Reads a request from a JSON value.
     #[tactic(auto, unfolding(crate::specs::Runs::run_in))]
     fn from_value(alloc: Global, value: &Value) -> Result<RunRequest, RequestFault>
         ensures { Reads run_view result (run_in (view value.now)) }
@@ -65,7 +65,7 @@ impl RunRequest {
         })
     }
 
-    /// The request that a text says in JSON. Members that a request has none of are not read.
+    /// Reads a request from JSON. Members that a request doesn't have are ignored.
     pub fn read(alloc: Global, text: &str) -> Result<RunRequest, RequestFault>
         ensures { Reads run_view result (run_of text.now) }
     {

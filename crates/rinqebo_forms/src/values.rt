@@ -1,4 +1,4 @@
-//! Copies of the texts of a JSON value.
+//! Reading strings of a JSON value as copies.
 ghost use Rattle.std.specs.Prelude.{option_map, string_bytes};
 ghost use Rattle.serde_json.specs.Find.{as_str};
 ghost use Rattle.serde_json.specs.View.{view};
@@ -9,7 +9,7 @@ use crate::fault::{Place, RequestFault};
 use serde_json::Value;
 use std::alloc::Global;
 
-/// A copy of the text at a place.
+/// Reads the string at a path, and returns a copy.
 pub fn string_at(alloc: Global, value: &Value, place: Place) -> Result<String, RequestFault>
     ensures { Reads string_bytes result (under as_str place.key.now (view value.now)) }
 {
@@ -17,7 +17,7 @@ pub fn string_at(alloc: Global, value: &Value, place: Place) -> Result<String, R
     Ok(String::from_str(alloc, text)?)
 }
 
-/// A copy of the text at a place, or nothing where `null` stands there.
+/// Reads the string at a path, and returns a copy, or `None` for `null`.
 pub fn optional_string_at(
     alloc: Global,
     value: &Value,

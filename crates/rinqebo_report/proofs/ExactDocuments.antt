@@ -6,7 +6,7 @@ use Rattle.serde_json.specs.Find.{of_integer}
 use Rattle.serde_json.specs.Read.{max_depth}
 use Rattle.serde_json.specs.Written.{has_float}
 use Rattle.rinqebo_report.specs.Document.{common_members, with_asked, with_content, document_data}
-use Rattle.rinqebo_report.specs.Documents.{count_data, text_data, optional_text_data, optional_count_data, list_data, pair_data, lines_data, scalar_data, value_data, optional_value_data, part_data, kind_data, origin_data, setting_data, test_data, test_id_data, entry_data, rule_data, tool_data, source_data, unreached_data, wrapper_data, place_source_data, place_lines_data, span_data, expression_data, expression_span_data, finding_data}
+use Rattle.rinqebo_report.specs.Documents.{count_data, text_data, optional_text_data, optional_count_data, list_data, pair_data, lines_data, range_data, scalar_data, value_data, optional_value_data, part_data, kind_data, origin_data, setting_data, test_data, test_id_data, entry_data, rule_data, tool_data, source_data, unreached_data, wrapper_data, place_source_data, place_lines_data, place_range_data, span_data, expression_data, expression_span_data, finding_data}
 use Rattle.rinqebo_report.specs.declared.finding.Expression.{Expression}
 use Rattle.rinqebo_report.specs.declared.finding.Finding.{Finding}
 use Rattle.rinqebo_report.specs.declared.finding.Span.{Span}
@@ -16,6 +16,7 @@ use Rattle.rinqebo_report.specs.declared.origin.Origin.TheVariants as origins
 use Rattle.rinqebo_report.specs.declared.origin.Part.{Part}
 use Rattle.rinqebo_report.specs.declared.origin.Part.TheVariants.{Fields, Override, Script}
 use Rattle.rinqebo_report.specs.declared.origin.Place.{Place}
+use Rattle.rinqebo_report.specs.declared.origin.Range.{Range}
 use Rattle.rinqebo_report.specs.declared.origin.Source.{Source}
 use Rattle.rinqebo_report.specs.declared.origin.SourceKind.{SourceKind}
 use Rattle.rinqebo_report.specs.declared.origin.SourceKind.TheVariants as kinds
@@ -68,6 +69,10 @@ lines : (n : ℕ) (l : Option Lines) → IsExact (n + 1) (lines_data l)
 lines n None = exact_null (n + 1)
 lines n (Some l) = pair n l.first l.last
 
+range : (n : ℕ) (r : Option Range) → IsExact (n + 2) (range_data r)
+range n None = exact_null (n + 2)
+range n (Some r) = record { nests = omega arith; whole = refl }
+
 integer : (n : ℕ) (z : ℤ) → IsExact n (number (of_integer z))
 integer n (pos m) = record { nests = omega arith; whole = refl }
 integer n (negsuc m) = record { nests = omega arith; whole = refl }
@@ -94,54 +99,61 @@ part n Fields = exact_null n
 part n (Override i) = count n i
 part n (Script i) = count n i
 
-kind : (n : ℕ) (word : List ℕ) (index lines profile source : Data) → IsExact n index → IsExact n lines
-    → IsExact n profile → IsExact n source
-    → IsExact (n + 1) (kind_data word index lines profile source)
-kind n word index lines profile source i l p s =
-    exact_object n (and_member _ i
-    (and_member _ (exact_text n word) (and_member _ l (and_member _ p (and_member _ s (no_more n))))))
+kind : (n : ℕ) (word : List ℕ) (index lines profile range source : Data) → IsExact n index → IsExact n lines
+    → IsExact n profile → IsExact n range → IsExact n source
+    → IsExact (n + 1) (kind_data word index lines profile range source)
+kind n word index lines profile range source i l p r s =
+    exact_object n (and_member _ i (and_member _ (exact_text n word)
+    (and_member _ l (and_member _ p (and_member _ r (and_member _ s (no_more n)))))))
 
-origin : (o : Origin) → IsExact 2 (origin_data o)
-origin origins.BuiltIn = kind 1 _ null null null null (exact_null 1) (exact_null 1) (exact_null 1) (exact_null 1)
-origin origins.DefaultTable = kind 1 _ null null null null (exact_null 1) (exact_null 1) (exact_null 1) (exact_null 1)
+unwritten : (word : List ℕ) → IsExact 3 (kind_data word null null null null null)
+unwritten word =
+    kind 2 word null null null null null
+    (exact_null 2) (exact_null 2) (exact_null 2) (exact_null 2) (exact_null 2)
+
+origin : (o : Origin) → IsExact 3 (origin_data o)
+origin origins.BuiltIn = unwritten _
+origin origins.DefaultTable = unwritten _
 origin (origins.Written w) =
-    kind 1 _ _ _ _ _ (part 1 w.part) (lines 0 w.place.lines) (text 1 w.profile) (count 1 w.place.source)
+    kind 2 _ _ _ _ _ _ (part 2 w.part) (lines 1 w.place.lines) (text 2 w.profile)
+    (range 0 w.place.range) (count 2 w.place.source)
 origin (origins.File p) =
-    kind 1 _ null _ null _ (exact_null 1) (lines 0 p.lines) (exact_null 1) (count 1 p.source)
+    kind 2 _ null _ null _ _ (exact_null 2) (lines 1 p.lines) (exact_null 2)
+    (range 0 p.range) (count 2 p.source)
 
-setting : (row : SettingRow) → IsExact 4 (setting_data row)
+setting : (row : SettingRow) → IsExact 5 (setting_data row)
 setting row =
-    exact_object 3 (and_member _ (exact_list 2 origin_data origin row.origins.items)
-    (and_member _ (optional_value 2 row.value) (no_more 3)))
+    exact_object 4 (and_member _ (exact_list 3 origin_data origin row.origins.items)
+    (and_member _ (optional_value 3 row.value) (no_more 4)))
 
-test : (t : TestRows) → IsExact 6 (test_data t)
+test : (t : TestRows) → IsExact 7 (test_data t)
 test t =
-    let settings = exact_object 4
-    (exact_puts 4 (λ (row : SettingRow). string_bytes row.key) setting_data setting t.settings.items
-    no_members (no_more 4)) in
-    exact_object 5 (and_member _ (text 5 t.binary)
-    (and_member _ (text 5 t.name) (and_member _ (exact_text 5 _) (and_member _ settings (no_more 5)))))
+    let settings = exact_object 5
+    (exact_puts 5 (λ (row : SettingRow). string_bytes row.key) setting_data setting t.settings.items
+    no_members (no_more 5)) in
+    exact_object 6 (and_member _ (text 6 t.binary)
+    (and_member _ (text 6 t.name) (and_member _ (exact_text 6 _) (and_member _ settings (no_more 6)))))
 
-test_id : (t : TestId) → IsExact 7 (test_id_data t)
-test_id t = exact_object 6 (and_member _ (text 6 t.binary)
-    (and_member _ (text 6 t.name) (and_member _ (exact_text 6 _) (no_more 6))))
+test_id : (t : TestId) → IsExact 8 (test_id_data t)
+test_id t = exact_object 7 (and_member _ (text 7 t.binary)
+    (and_member _ (text 7 t.name) (and_member _ (exact_text 7 _) (no_more 7))))
 
 wrapper : (w : ListWrapper) → IsExact 1 (wrapper_data w)
 wrapper w = exact_object 0 (and_member _ (text 0 w.binary) (and_member _ (text 0 w.value) (no_more 0)))
 
-entry : (e : Entry) → IsExact 3 (entry_data e)
+entry : (e : Entry) → IsExact 4 (entry_data e)
 entry e =
-    exact_object 2 (and_member _ (exact_truth 2 e.is_hidden)
-    (and_member _ (text 2 e.key) (and_member _ (origin e.origin) (and_member _ (value 1 e.value) (no_more 2)))))
+    exact_object 3 (and_member _ (exact_truth 3 e.is_hidden)
+    (and_member _ (text 3 e.key) (and_member _ (origin e.origin) (and_member _ (value 2 e.value) (no_more 3)))))
 
-rule : (r : Rule) → IsExact 4 (rule_data r)
+rule : (r : Rule) → IsExact 5 (rule_data r)
 rule r =
-    exact_object 3 (and_member _ (exact_text 3 _)
-    (and_member _ (exact_text 3 _)
-    (and_member _ (deeper 3 (origin r.origin) (omega arith))
-    (and_member _ (exact_list 2 origin_data origin r.others.items)
-    (and_member _ (exact_text 3 _)
-    (and_member _ (optional_value 2 r.value) (and_member _ (exact_text 3 _) (no_more 3))))))))
+    exact_object 4 (and_member _ (exact_text 4 _)
+    (and_member _ (exact_text 4 _)
+    (and_member _ (deeper 4 (origin r.origin) (omega arith))
+    (and_member _ (exact_list 3 origin_data origin r.others.items)
+    (and_member _ (exact_text 4 _)
+    (and_member _ (optional_value 3 r.value) (and_member _ (exact_text 4 _) (no_more 4))))))))
 
 tool : (n : ℕ) (k : SourceKind) → IsExact n (tool_data k)
 tool n kinds.Default = exact_null n
@@ -165,6 +177,10 @@ place_lines : (n : ℕ) (p : Option Place) → IsExact (n + 1) (place_lines_data
 place_lines n None = exact_null (n + 1)
 place_lines n (Some p) = lines n p.lines
 
+place_range : (n : ℕ) (p : Option Place) → IsExact (n + 2) (place_range_data p)
+place_range n None = exact_null (n + 2)
+place_range n (Some p) = range n p.range
+
 span : (n : ℕ) (s : Option Span) → IsExact (n + 1) (span_data s)
 span n None = exact_null (n + 1)
 span n (Some s) = pair n s.from s.to
@@ -177,73 +193,74 @@ expression_span : (n : ℕ) (e : Option Expression) → IsExact (n + 1) (express
 expression_span n None = exact_null (n + 1)
 expression_span n (Some e) = span n e.span
 
-finding : (f : Finding) → IsExact 2 (finding_data f)
+finding : (f : Finding) → IsExact 3 (finding_data f)
 finding f =
-    exact_object 1 (and_member _ (text 1 f.code)
-    (and_member _ (optional_count 1 f.column)
-    (and_member _ (optional_text 1 f.expected)
-    (and_member _ (expression 1 f.expression)
-    (and_member _ (optional_text 1 f.help)
-    (and_member _ (exact_text 1 _)
-    (and_member _ (place_lines 0 f.place)
-    (and_member _ (text 1 f.message)
-    (and_member _ (optional_text 1 f.path)
-    (and_member _ (place_source 1 f.place) (and_member _ (expression_span 0 f.expression) (no_more 1))))))))))))
+    exact_object 2 (and_member _ (text 2 f.code)
+    (and_member _ (optional_count 2 f.column)
+    (and_member _ (optional_text 2 f.expected)
+    (and_member _ (expression 2 f.expression)
+    (and_member _ (optional_text 2 f.help)
+    (and_member _ (exact_text 2 _)
+    (and_member _ (place_lines 1 f.place)
+    (and_member _ (text 2 f.message)
+    (and_member _ (optional_text 2 f.path)
+    (and_member _ (place_range 0 f.place)
+    (and_member _ (place_source 2 f.place) (and_member _ (expression_span 1 f.expression) (no_more 2)))))))))))))
 
 -- members with what was asked for, and with those of each page
-asked : {ms : Members} (command : List ℕ) (a : Asked) → AreExact 7 ms → AreExact 7 (with_asked command a ms)
+asked : {ms : Members} (command : List ℕ) (a : Asked) → AreExact 8 ms → AreExact 8 (with_asked command a ms)
 asked command a h =
-    exact_put (codes "target") _ _ (optional_text 7 a.target)
-    (exact_put (codes "profile") _ _ (text 7 a.profile)
-    (exact_put (codes "mode") _ _ (exact_text 7 _)
-    (exact_put (codes "host") _ _ (text 7 a.host)
-    (exact_put (codes "command") _ _ (exact_text 7 command)
-    (exact_put (codes "chain") _ _ (texts 6 a.chain.items) h)))))
+    exact_put (codes "target") _ _ (optional_text 8 a.target)
+    (exact_put (codes "profile") _ _ (text 8 a.profile)
+    (exact_put (codes "mode") _ _ (exact_text 8 _)
+    (exact_put (codes "host") _ _ (text 8 a.host)
+    (exact_put (codes "command") _ _ (exact_text 8 command)
+    (exact_put (codes "chain") _ _ (texts 7 a.chain.items) h)))))
 
-rules_of : (rules : List Rule) → IsExact 7 (list_data rule_data rules)
-rules_of rules = exact_list 6 rule_data (λ r. deeper 6 (rule r) (omega arith)) rules
+rules_of : (rules : List Rule) → IsExact 8 (list_data rule_data rules)
+rules_of rules = exact_list 7 rule_data (λ r. deeper 7 (rule r) (omega arith)) rules
 
-entries_of : (entries : List Entry) → IsExact 7 (list_data entry_data entries)
-entries_of entries = exact_list 6 entry_data (λ e. deeper 6 (entry e) (omega arith)) entries
+entries_of : (entries : List Entry) → IsExact 8 (list_data entry_data entries)
+entries_of entries = exact_list 7 entry_data (λ e. deeper 7 (entry e) (omega arith)) entries
 
-unused_of : (unused : List Origin) → IsExact 7 (list_data origin_data unused)
-unused_of unused = exact_list 6 origin_data (λ o. deeper 6 (origin o) (omega arith)) unused
+unused_of : (unused : List Origin) → IsExact 8 (list_data origin_data unused)
+unused_of unused = exact_list 7 origin_data (λ o. deeper 7 (origin o) (omega arith)) unused
 
-wrappers_of : (wrappers : List ListWrapper) → IsExact 7 (list_data wrapper_data wrappers)
-wrappers_of wrappers = exact_list 6 wrapper_data (λ w. deeper 6 (wrapper w) (omega arith)) wrappers
+wrappers_of : (wrappers : List ListWrapper) → IsExact 8 (list_data wrapper_data wrappers)
+wrappers_of wrappers = exact_list 7 wrapper_data (λ w. deeper 7 (wrapper w) (omega arith)) wrappers
 
-content : {ms : Members} (c : Content) → AreExact 7 ms → AreExact 7 (with_content c ms)
+content : {ms : Members} (c : Content) → AreExact 8 ms → AreExact 8 (with_content c ms)
 content (contents.Explain a t) h =
-    exact_put (codes "tests") _ _ (exact_list 6 test_data test (t ∷ [])) (asked (codes "explain") a h)
+    exact_put (codes "tests") _ _ (exact_list 7 test_data test (t ∷ [])) (asked (codes "explain") a h)
 content (contents.Why a t key rules) h =
     exact_put (codes "test") _ _ (test_id t)
     (exact_put (codes "rules") _ _ (rules_of rules.items)
-    (exact_put (codes "key") _ _ (text 7 key) (asked (codes "explain") a h)))
+    (exact_put (codes "key") _ _ (text 8 key) (asked (codes "explain") a h)))
 content (contents.List a tests unused scripts) h =
     exact_put (codes "unused") _ _ (unused_of unused.items)
-    (exact_put (codes "tests") _ _ (exact_list 6 test_data test tests.items)
-    (exact_put (codes "setup-scripts") _ _ (texts 6 scripts.setup.items)
+    (exact_put (codes "tests") _ _ (exact_list 7 test_data test tests.items)
+    (exact_put (codes "setup-scripts") _ _ (texts 7 scripts.setup.items)
     (exact_put (codes "list-wrappers") _ _ (wrappers_of scripts.list_wrappers.items) (asked (codes "list") a h))))
 content (contents.ShowConfig a entries) h =
     exact_put (codes "entries") _ _ (entries_of entries.items) (asked (codes "show-config") a h)
 content contents.Check h = h
 
-common : (report : Report) → AreExact 7 (common_members report)
+common : (report : Report) → AreExact 8 (common_members report)
 common report =
-    and_member _ (nothing 6) (and_member _ (exact_text 7 _) (and_member _ (nothing 6)
-    (and_member _ (exact_list 6 finding_data (λ f. deeper 6 (finding f) (omega arith)) report.findings.items)
-    (and_member _ (exact_null 7) (and_member _ (nothing 6)
-    (and_member _ (exact_null 7) (and_member _ (exact_null 7) (and_member _ (text 7 report.root)
-    (and_member _ (nothing 6) (and_member _ (nothing 6)
-    (and_member _ (exact_list 6 source_data (λ s. deeper 6 (source s) (omega arith)) report.sources.items)
-    (and_member _ (exact_null 7) (and_member _ (nothing 6)
-    (and_member _ (exact_list 6 unreached_data (λ u. deeper 6 (unreached u) (omega arith)) report.unreached.items)
-    (and_member _ (nothing 6) (and_member _ (count 7 1) (no_more 7)))))))))))))))))
+    and_member _ (nothing 7) (and_member _ (exact_text 8 _) (and_member _ (nothing 7)
+    (and_member _ (exact_list 7 finding_data (λ f. deeper 7 (finding f) (omega arith)) report.findings.items)
+    (and_member _ (exact_null 8) (and_member _ (nothing 7)
+    (and_member _ (exact_null 8) (and_member _ (exact_null 8) (and_member _ (text 8 report.root)
+    (and_member _ (nothing 7) (and_member _ (nothing 7)
+    (and_member _ (exact_list 7 source_data (λ s. deeper 7 (source s) (omega arith)) report.sources.items)
+    (and_member _ (exact_null 8) (and_member _ (nothing 7)
+    (and_member _ (exact_list 7 unreached_data (λ u. deeper 7 (unreached u) (omega arith)) report.unreached.items)
+    (and_member _ (nothing 7) (and_member _ (count 8 1) (no_more 8)))))))))))))))))
 
-document : (report : Report) → IsExact 8 (document_data report)
-document report = exact_object 7 (content report.content (common report))
+document : (report : Report) → IsExact 9 (document_data report)
+document report = exact_object 8 (content report.content (common report))
 
-within : (d : Data) → IsExact 8 d → depth d ≤ max_depth
+within : (d : Data) → IsExact 9 d → depth d ≤ max_depth
 within d h = omega (arith, h.nests)
 
 pub document_nests : (report : Report) → depth (document_data report) ≤ max_depth

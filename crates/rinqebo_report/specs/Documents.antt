@@ -13,6 +13,8 @@ use Rattle.rinqebo_report.specs.declared.origin.Origin.TheVariants as origins
 use Rattle.rinqebo_report.specs.declared.origin.Part.{Part}
 use Rattle.rinqebo_report.specs.declared.origin.Part.TheVariants.{Fields, Override, Script}
 use Rattle.rinqebo_report.specs.declared.origin.Place.{Place}
+use Rattle.rinqebo_report.specs.declared.origin.Position.{Position}
+use Rattle.rinqebo_report.specs.declared.origin.Range.{Range}
 use Rattle.rinqebo_report.specs.declared.origin.Source.{Source}
 use Rattle.rinqebo_report.specs.declared.origin.SourceKind.{SourceKind}
 use Rattle.rinqebo_report.specs.declared.origin.SourceKind.TheVariants as kinds
@@ -64,6 +66,16 @@ abbrev pub lines_data : Option Lines → Data
 lines_data None = null
 lines_data (Some lines) = pair_data lines.first lines.last
 
+-- a position: its line and its column
+abbrev pub position_data : Position → Data
+position_data position = pair_data position.line position.column
+
+-- a range, where it starts and where it ends, or null
+abbrev pub range_data : Option Range → Data
+range_data None = null
+range_data (Some range) =
+    array (item (position_data range.start) (item (position_data range.end) no_items))
+
 -- a value that holds no others: a duration is the text of it
 abbrev pub scalar_data : Scalar → Data
 scalar_data (scalars.Boolean b) = boolean b
@@ -99,21 +111,22 @@ part_data (Override index) = count_data index
 part_data (Script index) = count_data index
 
 -- an origin of this kind
-abbrev pub kind_data : List ℕ → Data → Data → Data → Data → Data
-kind_data kind index lines profile source =
+abbrev pub kind_data : List ℕ → Data → Data → Data → Data → Data → Data
+kind_data kind index lines profile range source =
     object (member (codes "index") index (member (codes "kind") (string kind)
     (member (codes "lines") lines (member (codes "profile") profile
-    (member (codes "source") source no_members)))))
+    (member (codes "range") range (member (codes "source") source no_members))))))
 
 -- an origin
 abbrev pub origin_data : Origin → Data
-origin_data origins.BuiltIn = kind_data (codes "built-in") null null null null
-origin_data origins.DefaultTable = kind_data (codes "default-table") null null null null
+origin_data origins.BuiltIn = kind_data (codes "built-in") null null null null null
+origin_data origins.DefaultTable = kind_data (codes "default-table") null null null null null
 origin_data (origins.Written written) =
     kind_data (part_word written.part) (part_data written.part) (lines_data written.place.lines)
-    (text_data written.profile) (count_data written.place.source)
+    (text_data written.profile) (range_data written.place.range) (count_data written.place.source)
 origin_data (origins.File place) =
-    kind_data (codes "file") null (lines_data place.lines) null (count_data place.source)
+    kind_data (codes "file") null (lines_data place.lines) null (range_data place.range)
+    (count_data place.source)
 
 -- a setting of a test
 abbrev pub setting_data : SettingRow → Data
@@ -213,6 +226,11 @@ abbrev pub place_lines_data : Option Place → Data
 place_lines_data None = null
 place_lines_data (Some place) = lines_data place.lines
 
+-- the range of a finding, or null
+abbrev pub place_range_data : Option Place → Data
+place_range_data None = null
+place_range_data (Some place) = range_data place.range
+
 -- a span, or null
 abbrev pub span_data : Option Span → Data
 span_data None = null
@@ -238,9 +256,10 @@ with_fault finding members =
 abbrev pub with_site : Finding → Members → Members
 with_site finding members =
     put (codes "source") (place_source_data finding.place)
+    (put (codes "range") (place_range_data finding.place)
     (put (codes "path") (optional_text_data finding.path)
     (put (codes "lines") (place_lines_data finding.place)
-    (put (codes "column") (optional_count_data finding.column) members)))
+    (put (codes "column") (optional_count_data finding.column) members))))
 
 -- members, with the expression that it is about
 abbrev pub with_expression : Finding → Members → Members
@@ -266,5 +285,6 @@ finding_data finding =
     (member (codes "lines") (place_lines_data finding.place)
     (member (codes "message") (text_data finding.message)
     (member (codes "path") (optional_text_data finding.path)
+    (member (codes "range") (place_range_data finding.place)
     (member (codes "source") (place_source_data finding.place)
-    (member (codes "span") (expression_span_data finding.expression) no_members)))))))))))
+    (member (codes "span") (expression_span_data finding.expression) no_members))))))))))))

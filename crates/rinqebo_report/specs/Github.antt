@@ -4,6 +4,7 @@ use Rattle.std.specs.Str.{chars}
 use Rattle.rinqebo_report.specs.declared.finding.Finding.{Finding}
 use Rattle.rinqebo_report.specs.declared.origin.Lines.{Lines}
 use Rattle.rinqebo_report.specs.declared.origin.Place.{Place}
+use Rattle.rinqebo_report.specs.declared.origin.Range.{Range}
 use Rattle.rinqebo_report.specs.declared.origin.Source.{Source}
 use Rattle.rinqebo_report.specs.declared.report.Report.{Report}
 use Rattle.rinqebo_report.specs.Advice.{message_with_advice}
@@ -32,22 +33,37 @@ lines_property (Some lines) =
     codes "line=" ++ (decimal lines.first
     ++ (codes ",endLine=" ++ (decimal lines.last ++ codes ",")))
 
+-- the columns of a range, as properties: GitHub takes them where the range is on one line
+abbrev pub columns_property : Range → List ℕ
+columns_property range =
+    if range.start.line == range.end.line
+    then codes "col=" ++ (decimal range.start.column
+    ++ (codes ",endColumn=" ++ (decimal range.end.column ++ codes ",")))
+    else []
+
+-- where in its file something is, as properties: its range, or else its lines
+abbrev pub range_property : Option Range → Option Lines → List ℕ
+range_property (Some range) lines =
+    lines_property (Some (record { first = range.start.line; last = range.end.line }))
+    ++ columns_property range
+range_property None lines = lines_property lines
+
 -- the path of the source at a place among sources, if it has one
 abbrev pub file_at : List Source → ℕ → Option (List ℕ)
 file_at sources n = option_map string_bytes (option_and_then (λ s. s.path) (slice_get sources n))
 
--- a file below the folder of a workflow, and lines of it, as properties
-abbrev pub path_property : List ℕ → Option Lines → Option (List ℕ) → List ℕ
-path_property workspace lines None = []
-path_property workspace lines (Some path) =
+-- a file below the folder of a workflow, and a place in it, as properties
+abbrev pub path_property : List ℕ → Place → Option (List ℕ) → List ℕ
+path_property workspace place None = []
+path_property workspace place (Some path) =
     codes "file=" ++ (flat_map property_char (chars (below workspace path))
-    ++ (codes "," ++ lines_property lines))
+    ++ (codes "," ++ range_property place.range place.lines))
 
 -- a place, as properties
 abbrev pub file_property : List ℕ → List Source → Option Place → List ℕ
 file_property workspace sources None = []
 file_property workspace sources (Some place) =
-    path_property workspace place.lines (file_at sources place.source)
+    path_property workspace place (file_at sources place.source)
 
 -- the properties of a finding: its place, and its name as the title
 abbrev pub properties_text : List ℕ → List Source → Finding → List ℕ

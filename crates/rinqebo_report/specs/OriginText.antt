@@ -7,6 +7,8 @@ use Rattle.rinqebo_report.specs.declared.origin.Origin.TheVariants as origins
 use Rattle.rinqebo_report.specs.declared.origin.Part.{Part}
 use Rattle.rinqebo_report.specs.declared.origin.Part.TheVariants.{Fields, Override, Script}
 use Rattle.rinqebo_report.specs.declared.origin.Place.{Place}
+use Rattle.rinqebo_report.specs.declared.origin.Position.{Position}
+use Rattle.rinqebo_report.specs.declared.origin.Range.{Range}
 use Rattle.rinqebo_report.specs.declared.origin.Source.{Source}
 use Rattle.rinqebo_report.specs.declared.origin.SourceKind.{SourceKind}
 use Rattle.rinqebo_report.specs.declared.origin.SourceKind.TheVariants as kinds
@@ -52,6 +54,16 @@ lines_text (Some lines) =
     codes ":" ++ (decimal lines.first
     ++ (if lines.first == lines.last then [] else codes "-" ++ decimal lines.last))
 
+-- a colon and a line, and then a colon and a column
+abbrev pub position_text : Position → List ℕ
+position_text position =
+    codes ":" ++ (decimal position.line ++ (codes ":" ++ decimal position.column))
+
+-- where in its file something is: where its range starts, or else its lines
+abbrev pub range_text : Option Range → Option Lines → List ℕ
+range_text (Some range) lines = position_text range.start
+range_text None lines = lines_text lines
+
 -- the tool that brings a source, if one does
 abbrev pub tool_of : SourceKind → Option (List ℕ)
 tool_of kinds.Default = None
@@ -69,11 +81,11 @@ abbrev pub tool_text : Option (List ℕ) → List ℕ
 tool_text None = []
 tool_text (Some name) = codes " (tool " ++ (name ++ codes ")")
 
--- a place: the path, the lines, and the tool
+-- a place: the path, where in the file it is, and the tool
 abbrev pub place_text : List ℕ → List Source → Place → List ℕ
 place_text root sources place =
     path_at root sources place.source
-    ++ (lines_text place.lines ++ tool_text (tool_at sources place.source))
+    ++ (range_text place.range place.lines ++ tool_text (tool_at sources place.source))
 
 -- a part of a profile
 abbrev pub part_text : Part → List ℕ

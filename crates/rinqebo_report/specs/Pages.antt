@@ -11,6 +11,7 @@ use Rattle.rinqebo_report.specs.declared.finding.Span.{Span}
 use Rattle.rinqebo_report.specs.declared.origin.Lines.{Lines}
 use Rattle.rinqebo_report.specs.declared.origin.Origin.{Origin}
 use Rattle.rinqebo_report.specs.declared.origin.Place.{Place}
+use Rattle.rinqebo_report.specs.declared.origin.Range.{Range}
 use Rattle.rinqebo_report.specs.declared.origin.Source.{Source}
 use Rattle.rinqebo_report.specs.declared.piece.Style.TheVariants as styles
 use Rattle.rinqebo_report.specs.declared.piece.Style.{Style}
@@ -34,7 +35,7 @@ use Rattle.rinqebo_report.specs.declared.report.Verdict.{Verdict}
 use Rattle.rinqebo_report.specs.declared.report.Verdict.TheVariants as verdicts
 use Rattle.rinqebo_report.specs.Advice.{message_with_advice}
 use Rattle.rinqebo_report.specs.Joined.{joined}
-use Rattle.rinqebo_report.specs.OriginText.{all_origins_text, origin_text, path_at}
+use Rattle.rinqebo_report.specs.OriginText.{all_origins_text, origin_text, path_at, position_text}
 use Rattle.rinqebo_report.specs.Pieces.{Run, styled, repeated, numbered, ending, shown_char}
 use Rattle.rinqebo_report.specs.TomlText.{value_text}
 
@@ -266,15 +267,22 @@ column_text None = []
 column_text (Some column) = codes ":" ++ decimal column
 
 -- a colon, the first of lines, and a column there
-abbrev pub spot_text : Option Lines → Option ℕ → List ℕ
-spot_text None column = []
-spot_text (Some lines) column = codes ":" ++ (decimal lines.first ++ column_text column)
+abbrev pub line_text : Option Lines → Option ℕ → List ℕ
+line_text None column = []
+line_text (Some lines) column = codes ":" ++ (decimal lines.first ++ column_text column)
+
+-- where in its file a finding is: where its range starts, or else the first of its lines, and a
+-- column there
+abbrev pub spot_text : Option Range → Option Lines → Option ℕ → List ℕ
+spot_text (Some range) lines column = position_text range.start
+spot_text None lines column = line_text lines column
 
 -- where a finding is, before what is told
 abbrev pub finding_place : List ℕ → List Source → Option Place → Option ℕ → List ℕ
 finding_place root sources None column = []
 finding_place root sources (Some place) column =
-    path_at root sources place.source ++ (spot_text place.lines column ++ codes ": ")
+    path_at root sources place.source
+    ++ (spot_text place.range place.lines column ++ codes ": ")
 
 -- the level of a finding, and its name in brackets
 abbrev pub level_text : Finding → List ℕ

@@ -1,14 +1,14 @@
 //! The page of a check: what is wrong, and where.
 ghost use Rattle.std.specs.Prelude.{◌≡◌, ◌++◌, OnOk, IfOk, codes, count_by, flat_map, string_bytes};
 ghost use Rattle.rinqebo_report.specs.Joined.{joined};
-ghost use Rattle.rinqebo_report.specs.Pages.{level_word, level_style, spot_text, finding_place, level_text, head_line_runs, head_runs, concise_line_runs, shown_width, caret_runs, expression_runs, remark_runs, finding_runs, is_refusal, is_error, is_warning, unreached_text, counts_text, summary_text, findings_runs, concise_runs, content_runs};
+ghost use Rattle.rinqebo_report.specs.Pages.{level_word, level_style, line_text, spot_text, finding_place, level_text, head_line_runs, head_runs, concise_line_runs, shown_width, caret_runs, expression_runs, remark_runs, finding_runs, is_refusal, is_error, is_warning, unreached_text, counts_text, summary_text, findings_runs, concise_runs, content_runs};
 ghost use Rattle.rinqebo_report.specs.Pieces.{page_text};
 ghost use Rattle.rinqebo_report.specs.declared.report.Content.{Content};
 
 use crate::explain_page::width;
 use crate::finding::{Expression, Finding, Level, Span};
-use crate::origin::{Lines, Place, Source};
-use crate::origin_text::path_at;
+use crate::origin::{Lines, Place, Range, Source};
+use crate::origin_text::{add_position, path_at};
 use crate::piece::{Colour, Piece, Style, add_char, add_pieces};
 use crate::report::{Report, Unreached};
 use std::alloc::{AllocError, Global};
@@ -47,14 +47,30 @@ impl Level {
 }
 
 /// Writes a colon, the first of lines, and a column there.
-fn add_spot(out: &mut String, lines: Option<Lines>, column: Option<u64>) -> Result<(), AllocError>
+fn add_line(out: &mut String, lines: Option<Lines>, column: Option<u64>) -> Result<(), AllocError>
     ensures { OnOk result (string_bytes out.new
-        ≡ string_bytes out.old ++ spot_text lines column) }
+        ≡ string_bytes out.old ++ line_text lines column) }
 {
     match (lines, column) {
         (Some(Lines { first, .. }), Some(column)) => write!(out, ":{first}:{column}"),
         (Some(Lines { first, .. }), None) => write!(out, ":{first}"),
         (None, _) => Ok(()),
+    }
+}
+
+/// Writes where a range starts, or else the first of lines, and a column there.
+fn add_spot(
+    out: &mut String,
+    range: Option<Range>,
+    lines: Option<Lines>,
+    column: Option<u64>,
+) -> Result<(), AllocError>
+    ensures { OnOk result (string_bytes out.new
+        ≡ string_bytes out.old ++ spot_text range lines column) }
+{
+    match range {
+        Some(Range { start, .. }) => add_position(out, start),
+        None => add_line(out, lines, column),
     }
 }
 
@@ -72,7 +88,7 @@ fn finding_place(
     let mut text = String::new(alloc);
     if let Some(place) = place {
         text.push_str(path_at(root, sources, place.source))?;
-        add_spot(&mut text, place.lines, column)?;
+        add_spot(&mut text, place.range, place.lines, column)?;
         text.push_str(": ")?;
     }
     Ok(text)

@@ -1,10 +1,10 @@
 //! Findings as commands of GitHub's workflows, which show them beside the lines.
 ghost use Rattle.std.specs.Prelude.{◌≡◌, ◌++◌, OnOk, IfOk, option_map, flat_map, string_bytes};
 ghost use Rattle.std.specs.Str.{chars};
-ghost use Rattle.rinqebo_report.specs.Github.{message_char, property_char, file_at, path_property, file_property, lines_property, properties_text, github_line, github_text};
+ghost use Rattle.rinqebo_report.specs.Github.{message_char, property_char, file_at, path_property, file_property, lines_property, columns_property, range_property, properties_text, github_line, github_text};
 
 use crate::finding::Finding;
-use crate::origin::{Lines, Place, Source};
+use crate::origin::{Lines, Place, Range, Source};
 use crate::origin_text::below;
 use crate::report::Report;
 use std::alloc::{AllocError, Global};
@@ -65,6 +65,34 @@ fn add_lines(out: &mut String, lines: Option<Lines>) -> Result<(), AllocError>
     }
 }
 
+/// Writes the properties of the columns of a range. GitHub takes them where the range is on one line.
+fn add_columns(out: &mut String, range: Range) -> Result<(), AllocError>
+    ensures { OnOk result (string_bytes out.new ≡ string_bytes out.old ++ columns_property range) }
+{
+    let Range { start, end } = range;
+    if start.line != end.line {
+        return Ok(());
+    }
+    let (from, to) = (start.column, end.column);
+    write!(out, "col={from},endColumn={to},")
+}
+
+/// Writes the properties of a range, or else of lines.
+fn add_range(out: &mut String, range: Option<Range>, lines: Option<Lines>) -> Result<(), AllocError>
+    ensures { OnOk result (string_bytes out.new
+        ≡ string_bytes out.old ++ range_property range lines) }
+{
+    let Some(range) = range else {
+        return add_lines(out, lines);
+    };
+    let lines = Lines {
+        first: range.start.line,
+        last: range.end.line,
+    };
+    add_lines(out, Some(lines))?;
+    add_columns(out, range)
+}
+
 /// The path of the source at a place among sources, if it has one.
 fn file_at(sources: &[Source], source: usize) -> Option<&str>
     ensures { option_map (λ path. path.now) result ≡ file_at sources.now source }
@@ -80,15 +108,15 @@ fn file_at(sources: &[Source], source: usize) -> Option<&str>
     }
 }
 
-/// Writes the properties of a file and of lines in it.
+/// Writes the properties of a file and of a place in it.
 fn add_path(
     out: &mut String,
     workspace: &str,
-    lines: Option<Lines>,
+    place: Place,
     path: Option<&str>,
 ) -> Result<(), AllocError>
     ensures { OnOk result (string_bytes out.new ≡ string_bytes out.old
-        ++ path_property workspace.now lines (option_map (λ path. path.now) path.entry)) }
+        ++ path_property workspace.now place (option_map (λ path. path.now) path.entry)) }
 {
     let Some(path) = path else {
         return Ok(());
@@ -96,7 +124,7 @@ fn add_path(
     out.push_str("file=")?;
     add_property(out, below(workspace, path))?;
     out.push_str(",")?;
-    add_lines(out, lines)
+    add_range(out, place.range, place.lines)
 }
 
 /// Writes the properties of a place.
@@ -110,7 +138,7 @@ fn add_file(
         ≡ string_bytes out.old ++ file_property workspace.now sources.now place) }
 {
     match place {
-        Some(place) => add_path(out, workspace, place.lines, file_at(sources, place.source)),
+        Some(place) => add_path(out, workspace, place, file_at(sources, place.source)),
         None => Ok(()),
     }
 }

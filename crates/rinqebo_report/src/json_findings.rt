@@ -1,10 +1,10 @@
 //! Findings as JSON.
 ghost use Rattle.std.specs.Prelude.{◌≡◌, IfOk, OnOk};
 ghost use Rattle.serde_json.specs.View.{members_view, view};
-ghost use Rattle.rinqebo_report.specs.Documents.{list_data, place_source_data, place_lines_data, span_data, expression_data, expression_span_data, with_fault, with_site, with_expression, with_advice, finding_data};
+ghost use Rattle.rinqebo_report.specs.Documents.{list_data, place_source_data, place_lines_data, place_range_data, span_data, expression_data, expression_span_data, with_fault, with_site, with_expression, with_advice, finding_data};
 
 use crate::finding::{Expression, Finding, Span};
-use crate::json_parts::{lines_json, optional_count_json, optional_text_json};
+use crate::json_parts::{lines_json, optional_count_json, optional_text_json, range_json};
 use crate::origin::Place;
 use serde_json::{Map, Value, json, put};
 use std::alloc::{AllocError, Global};
@@ -25,6 +25,16 @@ fn place_lines_json(alloc: Global, place: Option<Place>) -> Result<Value, AllocE
 {
     match place {
         Some(place) => lines_json(alloc, place.lines),
+        None => Ok(Value::Null),
+    }
+}
+
+/// The range of a finding, or null.
+fn place_range_json(alloc: Global, place: Option<Place>) -> Result<Value, AllocError>
+    ensures { IfOk result (λ value. view value ≡ place_range_data place) }
+{
+    match place {
+        Some(place) => range_json(alloc, place.range),
         None => Ok(Value::Null),
     }
 }
@@ -95,6 +105,8 @@ fn put_site(
     put(members, alloc, "lines", lines)?;
     let path = optional_text_json(alloc, &finding.path)?;
     put(members, alloc, "path", path)?;
+    let range = place_range_json(alloc, finding.place)?;
+    put(members, alloc, "range", range)?;
     put(members, alloc, "source", place_source_json(finding.place))
 }
 

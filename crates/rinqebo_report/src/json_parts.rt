@@ -2,10 +2,10 @@
 ghost use Rattle.std.specs.Prelude.{◌≡◌, IfOk, codes, fold};
 ghost use Rattle.serde_json.specs.Data.{null, object, no_members};
 ghost use Rattle.serde_json.specs.View.{members_view, view};
-ghost use Rattle.rinqebo_report.specs.Documents.{count_data, text_data, optional_text_data, optional_count_data, list_data, lines_data, scalar_data, with_field, value_data, optional_value_data, part_word, part_data, kind_data, origin_data, setting_data, with_setting, test_data, test_id_data, entry_data, answer_word, rule_data, kind_word, tool_data, source_data, unreached_data, wrapper_data};
+ghost use Rattle.rinqebo_report.specs.Documents.{count_data, text_data, optional_text_data, optional_count_data, list_data, lines_data, range_data, scalar_data, with_field, value_data, optional_value_data, part_word, part_data, kind_data, origin_data, setting_data, with_setting, test_data, test_id_data, entry_data, answer_word, rule_data, kind_word, tool_data, source_data, unreached_data, wrapper_data};
 
 use crate::duration::add_duration;
-use crate::origin::{Lines, Origin, Part, Place, Source, SourceKind, Written};
+use crate::origin::{Lines, Origin, Part, Place, Range, Source, SourceKind, Written};
 use crate::report::{
     ConditionAnswer, Entry, ListWrapper, Rule, SettingRow, TestId, TestRows, Unreached,
 };
@@ -50,6 +50,18 @@ pub(crate) fn lines_json(alloc: Global, lines: Option<Lines>) -> Result<Value, A
 {
     match lines {
         Some(Lines { first, last }) => json!(in alloc; [first, last]),
+        None => Ok(Value::Null),
+    }
+}
+
+/// A range, where it starts and where it ends, or null.
+pub(crate) fn range_json(alloc: Global, range: Option<Range>) -> Result<Value, AllocError>
+    ensures { IfOk result (λ value. view value ≡ range_data range) }
+{
+    match range {
+        Some(Range { start, end }) => {
+            json!(in alloc; [[start.line, start.column], [end.line, end.column]])
+        }
         None => Ok(Value::Null),
     }
 }
@@ -129,39 +141,51 @@ impl Part {
 
 /// An origin that no file writes.
 fn unwritten_json(alloc: Global, kind: &str) -> Result<Value, AllocError>
-    ensures { IfOk result (λ value. view value ≡ kind_data kind.now null null null null) }
+    ensures { IfOk result (λ value. view value ≡ kind_data kind.now null null null null null) }
 {
-    json!(in alloc; {"kind": kind, "profile": null, "index": null, "source": null, "lines": null})
+    json!(in alloc; {
+        "kind": kind,
+        "profile": null,
+        "index": null,
+        "source": null,
+        "lines": null,
+        "range": null
+    })
 }
 
 /// What is written in a file.
 fn written_json(alloc: Global, written: &Written) -> Result<Value, AllocError>
     ensures { IfOk result (λ value. view value ≡ kind_data (part_word written.now.part)
         (part_data written.now.part) (lines_data written.now.place.lines)
-        (text_data written.now.profile) (count_data written.now.place.source)) }
+        (text_data written.now.profile) (range_data written.now.place.range)
+        (count_data written.now.place.source)) }
 {
     let lines = lines_json(alloc, written.place.lines)?;
+    let range = range_json(alloc, written.place.range)?;
     json!(in alloc; {
         "kind": written.part.word(),
         "profile": written.profile.as_str(),
         "index": written.part.index_json(),
         "source": written.place.source,
-        "lines": lines
+        "lines": lines,
+        "range": range
     })
 }
 
 /// What is written in a file beside all profiles.
 fn beside_json(alloc: Global, place: Place) -> Result<Value, AllocError>
     ensures { IfOk result (λ value. view value ≡ kind_data (codes "file") null
-        (lines_data place.lines) null (count_data place.source)) }
+        (lines_data place.lines) null (range_data place.range) (count_data place.source)) }
 {
     let lines = lines_json(alloc, place.lines)?;
+    let range = range_json(alloc, place.range)?;
     json!(in alloc; {
         "kind": "file",
         "profile": null,
         "index": null,
         "source": place.source,
-        "lines": lines
+        "lines": lines,
+        "range": range
     })
 }
 

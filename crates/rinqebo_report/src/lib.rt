@@ -33,7 +33,7 @@ pub use hint::nearest_name;
 pub use json_document::{document, render_json};
 pub use laws::{law_colours, law_durations};
 pub use list_page::{render_list_end, render_listed};
-pub use origin::{Lines, Origin, Part, Place, Source, SourceKind, Written};
+pub use origin::{Lines, Origin, Part, Place, Position, Range, Source, SourceKind, Written};
 pub use piece::Colour;
 pub use report::{
     Asked, Condition, ConditionAnswer, Content, Entry, ListScripts, ListWrapper, Platform, Report,

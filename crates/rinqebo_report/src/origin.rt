@@ -1,4 +1,5 @@
 //! Where a value, a rule or a finding comes from.
+ghost use Rattle.std.specs.Prelude.{◌≡◌, None};
 
 /// What brings a file.
 #[derive(Drop)]
@@ -33,6 +34,24 @@ pub struct Lines {
     pub last: u64,
 }
 
+/// A position in a file, before a character or at the end of a line.
+#[derive(Clone, Copy)]
+pub struct Position {
+    /// The line, from 1.
+    pub line: u64,
+    /// The column, in characters from 1.
+    pub column: u64,
+}
+
+/// A range of a file.
+#[derive(Clone, Copy)]
+pub struct Range {
+    /// Where it starts.
+    pub start: Position,
+    /// Where it ends: the position behind its last character.
+    pub end: Position,
+}
+
 /// A place in a file.
 #[derive(Clone, Copy)]
 pub struct Place {
@@ -40,6 +59,21 @@ pub struct Place {
     pub source: usize,
     /// The lines, if they are known.
     pub lines: Option<Lines>,
+    /// The range in these lines, if it is known.
+    pub range: Option<Range>,
+}
+
+impl Place {
+    /// A place in a source of which nothing more is known.
+    pub fn in_source(source: usize) -> Place
+        ensures { result ≡ record { source = source; lines = None; range = None } }
+    {
+        Place {
+            source,
+            lines: None,
+            range: None,
+        }
+    }
 }
 
 /// What of a profile is meant.

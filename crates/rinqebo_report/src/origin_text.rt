@@ -1,9 +1,9 @@
 //! Origins as pages show them.
 ghost use Rattle.std.specs.Prelude.{◌≡◌, ◌++◌, MatchOption, None, Some, option_map, OnOk, IfOk, codes, string_bytes};
 ghost use Rattle.rinqebo_report.specs.Joined.{joined};
-ghost use Rattle.rinqebo_report.specs.OriginText.{after_prefix, ends_with_slash, below, path_at, lines_text, tool_at, tool_text, place_text, part_text, written_text, origin_text, all_origins_text};
+ghost use Rattle.rinqebo_report.specs.OriginText.{after_prefix, ends_with_slash, below, path_at, lines_text, position_text, range_text, tool_at, tool_text, place_text, part_text, written_text, origin_text, all_origins_text};
 
-use crate::origin::{Lines, Origin, Part, Place, Source, SourceKind, Written};
+use crate::origin::{Lines, Origin, Part, Place, Position, Range, Source, SourceKind, Written};
 use crate::toml_text::add_key;
 use std::alloc::{AllocError, Global};
 use std::fmt::Write;
@@ -67,6 +67,24 @@ fn add_lines(out: &mut String, lines: Option<Lines>) -> Result<(), AllocError>
     }
 }
 
+/// Writes a colon and a line, and then a colon and a column.
+pub(crate) fn add_position(out: &mut String, position: Position) -> Result<(), AllocError>
+    ensures { OnOk result (string_bytes out.new ≡ string_bytes out.old ++ position_text position) }
+{
+    let Position { line, column } = position;
+    write!(out, ":{line}:{column}")
+}
+
+/// Writes where a range starts, or else lines.
+fn add_range(out: &mut String, range: Option<Range>, lines: Option<Lines>) -> Result<(), AllocError>
+    ensures { OnOk result (string_bytes out.new ≡ string_bytes out.old ++ range_text range lines) }
+{
+    match range {
+        Some(Range { start, .. }) => add_position(out, start),
+        None => add_lines(out, lines),
+    }
+}
+
 /// The tool that brings a source, if one does.
 fn tool_at(sources: &[Source], source: usize) -> Option<&str>
     ensures { option_map (λ tool. tool.now) result ≡ tool_at sources.now source }
@@ -104,7 +122,7 @@ fn add_place(
         ≡ string_bytes out.old ++ place_text root.now sources.now place) }
 {
     out.push_str(path_at(root, sources, place.source))?;
-    add_lines(out, place.lines)?;
+    add_range(out, place.range, place.lines)?;
     add_tool(out, tool_at(sources, place.source))
 }
 

@@ -16,7 +16,7 @@ pub fn trees_of<'l>(
 {
     let mut trees = Vec::new(alloc);
     for layer in layers {
-        trees.push(layer.tree.as_ref())?;
+        trees.push(layer.tree())?;
     }
     Ok(trees)
 }

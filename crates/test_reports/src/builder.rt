@@ -382,7 +382,7 @@ impl Builder {
         };
         match line.word(0)? {
             "at" => {
-                finding.place = Some(place_of(line, 1)?);
+                finding.place = Some(place_of(line, 1, 5)?);
                 finding.column = line.optional_number(4)?;
             }
             "path" => finding.path = Some(line.text(alloc, 1)?),

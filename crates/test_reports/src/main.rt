@@ -19,19 +19,21 @@
 //! | `texts TEXT ..`, `table` | the value is a list of texts, or a table |
 //! | `field KEY KIND TEXT` | a member of the table |
 //! | `built-in`, `default-table` | where the setting, rule or leaf comes from |
-//! | `profile`, `override` or `script`, then `PROFILE INDEX SOURCE FIRST LAST` | the same, with the place of the source from 0, and lines |
-//! | `file SOURCE FIRST LAST` | the same, of what stands beside all profiles |
+//! | `profile`, `override` or `script`, then `PROFILE INDEX SOURCE FIRST LAST` and perhaps a range | the same, with the place of the source from 0, and lines |
+//! | `file SOURCE FIRST LAST` and perhaps a range | the same, of what stands beside all profiles |
 //! | `unused`, and such a rule behind it | a rule that holds for no test |
 //! | `setup ID ..` | the setup scripts that the tests of a list enable |
 //! | `list-wrapper BINARY ID` | the list wrapper of a binary |
 //! | `finding LEVEL CODE MESSAGE` | what is wrong |
-//! | `at SOURCE FIRST LAST COLUMN` | where it is |
+//! | `at SOURCE FIRST LAST COLUMN` and perhaps a range | where it is |
 //! | `path KEYS` | the keys that lead to it |
 //! | `expression TEXT FROM TO` | the expression, and the span of it that is wrong |
 //! | `expected TEXT`, `help TEXT` | remarks on it |
 //! | `unreached SOURCE NAME ..` | checks that were not reached |
 //! | `print FORM ..` | what is printed: `text`, `colour`, `json`, `findings`, `concise`, `coloured-concise` or `github:FOLDER` |
 //! | `nearest NAME KNOWN ..` | the known name that is nearest to a name is printed |
+//!
+//! A range is the line and the column of its start, and then those of its end.
 //!
 //! A line of another form is told on standard error, and the status is 2.
 #![tactic(auto)]

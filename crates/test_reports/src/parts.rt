@@ -1,7 +1,8 @@
 //! Parts of a report, by the words of a line.
 use crate::line::{Line, RowError};
 use rinqebo_report::{
-    ConditionAnswer, Expression, Lines, Origin, Part, Place, Scalar, Span, Verdict, Written,
+    ConditionAnswer, Expression, Lines, Origin, Part, Place, Position, Range, Scalar, Span,
+    Verdict, Written,
 };
 use std::alloc::Global;
 
@@ -48,8 +49,28 @@ pub fn scalar_of(alloc: Global, line: &Line, place: usize) -> Result<Scalar, Row
     }
 }
 
-/// The place whose source stands at a place of the line, and whose lines behind it.
-pub fn place_of(line: &Line, place: usize) -> Result<Place, RowError> {
+/// The position whose line is the number at a place, and whose column the next one.
+fn position_of(line: &Line, place: usize) -> Result<Position, RowError> {
+    Ok(Position {
+        line: line.number(place)?,
+        column: line.number(place.saturating_add(1))?,
+    })
+}
+
+/// The range whose start and end are the words at a place, if the line has as many.
+fn range_of(line: &Line, place: usize) -> Result<Option<Range>, RowError> {
+    if line.words().len() <= place {
+        return Ok(None);
+    }
+    Ok(Some(Range {
+        start: position_of(line, place)?,
+        end: position_of(line, place.saturating_add(2))?,
+    }))
+}
+
+/// The place whose source is the word at a place of the line, whose lines follow, and whose range
+/// is at another.
+pub fn place_of(line: &Line, place: usize, range: usize) -> Result<Place, RowError> {
     let source = line.number(place)? as usize;
     let first = line.optional_number(place.saturating_add(1))?;
     let last = line.optional_number(place.saturating_add(2))?;
@@ -57,7 +78,11 @@ pub fn place_of(line: &Line, place: usize) -> Result<Place, RowError> {
         (Some(first), Some(last)) => Some(Lines { first, last }),
         _ => None,
     };
-    Ok(Place { source, lines })
+    Ok(Place {
+        source,
+        lines,
+        range: range_of(line, range)?,
+    })
 }
 
 /// The origin of a line.
@@ -65,7 +90,7 @@ pub fn origin_of(alloc: Global, line: &Line) -> Result<Origin, RowError> {
     match line.word(0)? {
         "built-in" => Ok(Origin::BuiltIn),
         "default-table" => Ok(Origin::DefaultTable),
-        "file" => Ok(Origin::File(place_of(line, 1)?)),
+        "file" => Ok(Origin::File(place_of(line, 1, 4)?)),
         _ => written_of(alloc, line, 0),
     }
 }
@@ -80,7 +105,7 @@ pub fn written_of(alloc: Global, line: &Line, place: usize) -> Result<Origin, Ro
         _ => return Err(RowError::NoRow),
     };
     Ok(Origin::Written(Written {
-        place: place_of(line, place.saturating_add(3))?,
+        place: place_of(line, place.saturating_add(3), place.saturating_add(6))?,
         profile: line.text(alloc, place.saturating_add(1))?,
         part,
     }))

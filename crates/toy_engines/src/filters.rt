@@ -1,5 +1,5 @@
 //! The engine of filters.
-ghost use Rattle.std.specs.Prelude.{◌≡◌, ◌++◌, ◌∷◌, [], Ok, Err, IfOk, IfErr, map, refl, string_bytes};
+ghost use Rattle.std.specs.Prelude.{◌≡◌, ◌++◌, ◌∷◌, [], None, Ok, Err, IfOk, IfErr, map, refl, string_bytes};
 ghost use Rattle.std.specs.List.{flat_map, list_any};
 ghost use Rattle.nextest_engines.specs.Engines.{refusal_message, IfFilterRefused};
 ghost use Rattle.toy_engines.specs.FilterValues.{Filter, match_all as nothing_asked, term_of, lists_of, filter_of, subject_of};
@@ -98,8 +98,9 @@ fn with_leaves(alloc: Global, found: Vec<String>, terms: &[Term]) -> Result<Vec<
 
 /// The refusal of a text that breaks at a piece.
 fn no_filter(alloc: Global, text: &str, piece: &str) -> FilterFault
-    ensures { IfFilterRefused result
+    ensures message { IfFilterRefused result
         (λ refusal. refusal_message refusal ≡ messages.no_filter text.now piece.now) }
+    ensures span { IfFilterRefused result (λ refusal. refusal.span ≡ None) }
 {
     match format!(in alloc; "`{text}` is no filter: it breaks at `{piece}`") {
         Ok(message) => FilterFault::Refused(Refusal {
@@ -112,8 +113,9 @@ fn no_filter(alloc: Global, text: &str, piece: &str) -> FilterFault
 
 /// The refusal of a default filter that asks for itself.
 fn default_in_default(alloc: Global, text: &str) -> FilterFault
-    ensures { IfFilterRefused result
+    ensures message { IfFilterRefused result
         (λ refusal. refusal_message refusal ≡ messages.default_in_default text.now) }
+    ensures span { IfFilterRefused result (λ refusal. refusal.span ≡ None) }
 {
     let message = format!(in alloc;
         "`{text}` asks for the default filter, which a default filter may not"
@@ -140,6 +142,8 @@ fn for_kind(
     ensures err { IfErr result (λ fault. IfFilterRefused fault
         (λ refusal. read_for kind text.now (Ok (lists_of lists.items))
         ≡ Err (refusal_message refusal))) }
+    ensures span { IfErr result
+        (λ fault. IfFilterRefused fault (λ refusal. refusal.span ≡ None)) }
 {
     match kind {
         FiltersetKind::DefaultFilter => {

@@ -1,5 +1,5 @@
 //! The engine of platforms. A platform is a triple, kept as a text.
-ghost use Rattle.std.specs.Prelude.{◌≡◌, ◌||◌, Some, IfOk, option_map, string_bytes};
+ghost use Rattle.std.specs.Prelude.{◌≡◌, ◌||◌, None, Some, IfOk, option_map, string_bytes};
 ghost use Rattle.std.specs.List.{list_all};
 ghost use Rattle.nextest_engines.specs.Engines.{refusal_message, IfSpecRefused};
 ghost use Rattle.toy_engines.specs.Platforms as messages;
@@ -84,8 +84,9 @@ fn read_spec(alloc: Global, text: &str) -> Result<Option<ToySpec>, AllocError>
 
 /// The refusal of a text.
 fn no_spec(alloc: Global, text: &str) -> SpecFault
-    ensures { IfSpecRefused result
+    ensures message { IfSpecRefused result
         (λ refusal. refusal_message refusal ≡ messages.no_spec text.now) }
+    ensures span { IfSpecRefused result (λ refusal. refusal.span ≡ None) }
 {
     match format!(in alloc; "`{text}` is no platform spec") {
         Ok(message) => SpecFault::Refused(Refusal {

@@ -4,7 +4,7 @@ use Rattle.nextest_sources.specs.Sources.{tool_file_view}
 use Rattle.rinqebo_forms.specs.Requests.{tool_in}
 use Rattle.rinqebo_forms.proofs.request.tools_in.Given as goal
 
--- the values so far said these files
+-- these are the files in the values so far
 abbrev pub invariant-loop-place : goal.invariant-loop-place
 invariant-loop-place l =
     map Some (map tool_file_view l.tools.items) ≡ map (λ v. tool_in (view v)) (take l.place l.values)

@@ -1,8 +1,7 @@
-use Rattle.std.proofs.Common.{◌≡◌, ◌∙◌, Option, ap, option_map}
+use Rattle.std.proofs.Common.{◌≡◌, ◌∙◌}
 use Rattle.nextest_engines.specs.Engines.{test_view}
 use Rattle.nextest_profiles.specs.Meaning.{profile_meaning}
-use Rattle.nextest_rules.specs.Rules.{RuleId}
-use Rattle.nextest_settings.specs.Queries.{query_in, setting_origin, setting_value, wrapping_rule}
+use Rattle.nextest_settings.specs.Queries.{query_in, setting_origin, setting_value}
 use Rattle.nextest_settings.specs.SettingsView.{origin_at, value_at}
 use Rattle.rinqebo_rules.specs.TestOrigins.{wrapping_at, wrapping_id}
 use Rattle.rinqebo_rules.proofs.RowsMore.{told_alike, wrapping_alike}

@@ -1,7 +1,0 @@
-pub mod Rising
-pub mod Stepping
-pub mod Turns
-pub mod Escapes
-pub mod Walk
-mod Examples
-pub mod Reopened

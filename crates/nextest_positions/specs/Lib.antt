@@ -1,4 +1,0 @@
-pub mod Positions
-pub mod Offsets
-pub mod Pieces
-pub mod Law

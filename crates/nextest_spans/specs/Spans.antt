@@ -1,0 +1,100 @@
+-- Where the value at a path is written in a text.
+use Rattle.std.specs.Prelude.{◌≡◌, ◌≤◌, ◌+◌, Bool, true, false, ℕ, List, [], ◌∷◌, map, slice_get, Option, Some, IfSome, option_and_then, option_map}
+use Rattle.std.specs.Str.{IsCharBoundary}
+use Rattle.toml.specs.Data.{Data, at, get, table}
+use Rattle.toml.specs.Parse.{parse_document}
+use Rattle.toml.specs.View.{view}
+use Rattle.toml.specs.declared.value.Value.{Value}
+use Rattle.nextest_places.specs.Place.{IsPlaceOfPath}
+use Rattle.nextest_places.specs.declared.place.Lines.{Lines}
+use Rattle.nextest_places.specs.declared.step.Step.{Step}
+use Rattle.nextest_places.specs.declared.step.Step.TheVariants as steps
+use Rattle.nextest_spans.specs.Nodes.{ReadsAs}
+use Rattle.nextest_spans.specs.Tree.{AreItems}
+use Rattle.nextest_spans.specs.declared.item.Item.{Item}
+use Rattle.nextest_spans.specs.declared.item.Role.{Role}
+use Rattle.nextest_spans.specs.declared.item.Role.TheVariants as role
+use Rattle.nextest_spans.specs.declared.token.Span.{Span}
+use Rattle.nextest_spans.specs.Positions.{position_of}
+use Rattle.nextest_spans.specs.declared.position.ColumnUnit.TheVariants.{Char}
+use Rattle.nextest_spans.specs.Paths.{IsAtPath, path_step}
+use Rattle.nextest_spans.specs.declared.path_spans.PathSpan.{PathSpan}
+
+-- the line of a byte, from 1
+abbrev pub line_of : List ℕ → ℕ → ℕ
+line_of text byte = (position_of Char text byte).line + 1
+
+-- some whole characters of a text lie on some of its lines
+pub record IsOnLines (text : List ℕ) (lines : Lines) (span : Span) : Type 0 where
+  pub start : IsCharBoundary text span.start
+  pub end : IsCharBoundary text span.end
+  pub first : lines.first ≤ line_of text span.start
+  pub last : line_of text span.end ≤ lines.last
+
+-- what a step leads to
+abbrev pub data_into : Step → Data → Option Data
+data_into (steps.Key k) node = get k.now node
+data_into (steps.Position i) node = at i node
+
+-- the value at a path of a document
+abbrev pub data_at : List Step → Data → Option Data
+data_at [] node = Some node
+data_at (step ∷ path) node = option_and_then (data_at path) (data_into step node)
+
+-- the text is this document
+abbrev pub IsDocumentOf : List ℕ → Data → Type 0
+IsDocumentOf text root = option_map table (parse_document text) ≡ Some root
+
+-- the text is a document, and this is the value at the path
+pub record StandsAt (path : List Step) (text : List ℕ) (node : Data) : Type 0 where
+  pub root : Data
+  pub is : IsDocumentOf text root
+  pub at : data_at path root ≡ Some node
+
+abbrev pub is_key : Role → Bool
+is_key (role.Key name kind element) = true
+is_key (role.Value position container) = false
+
+-- one of the items is at the path, in these lines of the text
+pub record IsSpanOf (text : List ℕ) (items : List Item) (path : List Step)
+    (lines : Lines) (span : Span) (item : Item) : Type 0 where
+  pub index : ℕ
+  pub among : slice_get items index ≡ Some item
+  pub leads : IsAtPath items item (map path_step path)
+  pub span_is : span ≡ item.span
+  pub on_lines : IsOnLines text lines span
+
+-- a part of a key at the path
+pub record IsKeyOf (text : List ℕ) (items : List Item) (path : List Step)
+    (lines : Lines) (span : Span) : Type 0 where
+  pub item : Item
+  pub is : IsSpanOf text items path lines span item
+  pub sort : is_key item.role ≡ true
+
+-- a value at the path, whose bytes read as a node
+pub record IsValueOf (text : List ℕ) (items : List Item) (path : List Step)
+    (lines : Lines) (node : Data) (span : Span) : Type 0 where
+  pub item : Item
+  pub is : IsSpanOf text items path lines span item
+  pub sort : is_key item.role ≡ false
+  pub reads : ReadsAs text item node
+
+-- The lines are those that define the value at the path. On them lie the key and the value, of
+-- which the bytes of the value read as the value there.
+pub record IsPathSpan (path : List Step) (text : List ℕ) (found : PathSpan) : Type 0 where
+  pub place : IsPlaceOfPath path text found.lines
+  pub items : List Item
+  pub are : AreItems text items
+  pub key : IfSome found.key (IsKeyOf text items path found.lines)
+  pub value : IfSome found.value (λ span.
+      (node : Data) × StandsAt path text node × IsValueOf text items path found.lines node span)
+
+abbrev pub root_view : Option Value → Option Data
+root_view root = option_map view root
+
+-- what is kept of a text
+pub record IsKept (text : List ℕ) (items : List Item) (root : Option Data) (places : List ℕ)
+    : Type 0 where
+  pub are : AreItems text items
+  pub document : IfSome root (IsDocumentOf text)
+  pub same : places ≡ text
