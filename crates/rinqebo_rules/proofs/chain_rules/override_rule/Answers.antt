@@ -24,8 +24,8 @@ returns c =
     let asking = c.args.asking.now in
     let test = test_view asking.query.now in
     let rule = c.args.rule.now in
-    let same = c.rule.ensures in
-    let value = told_by_kind s c.value.result _ (c.value.ensures
+    let same = c.rule-written.ensures in
+    let value = told_by_kind s c.value-value.result _ (c.value-value.ensures
     ∙ ap (λ written. option_map (by_kind s) (sets written c.args.mode s))
     (c.settings.ensures ∙ ap (λ r. (override_ref_view r).writes.settings) same)) in
     let place = c.of_override.ensures

@@ -15,7 +15,7 @@ pub returns-clause-overrides : goal.returns-clause-overrides
 returns-clause-overrides c =
     let names = borrowed_view c.args.chain.now in
     let platforms = c.args.platforms.now in
-    let rules = c.in_ok-rules.ensures.overrides ∙ ap (λ ls. overrides_of ls names) c.layers.ensures in
+    let rules = c.in_ok-rules.ensures.overrides ∙ ap (λ ls. overrides_of ls names) c.layers-layers.ensures in
     ok_both _ _ (λ rules. AreOverridesOn is_met_by platforms
     (overrides_of c.args.config.now.config.layers names) rules.overrides.items) c.evaluate.result
     (λ held on same. record {
@@ -29,7 +29,7 @@ pub returns-clause-script_rules : goal.returns-clause-script_rules
 returns-clause-script_rules c =
     let names = borrowed_view c.args.chain.now in
     let platforms = c.args.platforms.now in
-    let rules = c.in_ok-rules.ensures.script_rules ∙ ap (λ ls. script_rules_of ls names) c.layers.ensures in
+    let rules = c.in_ok-rules.ensures.script_rules ∙ ap (λ ls. script_rules_of ls names) c.layers-layers.ensures in
     ok_both _ _ (λ rules. AreScriptRulesOn is_met_by platforms
     (script_rules_of c.args.config.now.config.layers names) rules.script_rules.items) c.evaluate.result
     (λ held on same. record {
@@ -43,8 +43,8 @@ pub returns-clause-default_filter : goal.returns-clause-default_filter
 returns-clause-default_filter c =
     let names = borrowed_view c.args.chain.now in
     let platforms = c.args.platforms.now in
-    let rules = c.in_ok-rules.ensures.overrides ∙ ap (λ ls. overrides_of ls names) c.layers.ensures in
-    let nearest = c.nearest_filter.ensures ∙ ap (λ ls. nearest_filter ls names) c.layers.ensures in
+    let rules = c.in_ok-rules.ensures.overrides ∙ ap (λ ls. overrides_of ls names) c.layers-layers.ensures in
+    let nearest = c.nearest_filter-nearest.ensures ∙ ap (λ ls. nearest_filter ls names) c.layers-layers.ensures in
     ok_both _ _ (λ rules. rules.default_filter.expr.now
     ≡ default_filter_here platforms c.args.config.now.config names) c.evaluate.result
     (λ held on default. ap (λ choice. choice.filter) (default

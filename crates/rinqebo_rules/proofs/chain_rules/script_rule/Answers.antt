@@ -19,7 +19,7 @@ returns c =
     let asking = c.args.asking.now in
     let test = test_view asking.query.now in
     let rule = c.args.rule.now in
-    let same = c.rule.ensures in
+    let same = c.rule-written.ensures in
     let place = c.of_script.ensures
     ∙ ap script_place (c.id.ensures ∙ ap (λ r. (script_rule_ref_view r).writes.id) same) in
     let filter = c.filter.ensures ∙ ap (λ r. (script_rule_ref_view r).filter) same in
@@ -30,7 +30,7 @@ returns c =
     (λ m. filter_holds m test (marks_view names_of asking.default_filter.now)) test.binary.platform
     (evaluated_script_rule_view rule) in
     rule_judged asking wrapper_written (script_rule_ref_view rule.rule) (evaluated_script_rule_view rule) _
-    refl refl (λ i. record { place = place i; value = c.named_wrapper.ensures i })
+    refl refl (λ i. record { place = place i; value = c.named_wrapper-value.ensures i })
     (c.is_on.ensures ∙ ap (λ p. is_on (evaluated_script_rule_view rule) p) c.platform.ensures) holds c.is_some.ensures
     (c.answers_of.ensures.host ∙ ap (told_condition (λ s. is_met_by s asking.platforms.now.host))
     (c.platforms.ensures.host ∙ ap (λ r. (script_rule_ref_view r).host) same))
