@@ -1,22 +1,17 @@
 -- What is found out of rules as code holds them is found out of the rules of a chain.
-use Rattle.std.proofs.Common.{◌≡◌, ◌∙◌, ◌&&◌, Bool, true, false, if◌then◌else◌, List, [], ◌∷◌, map, Option, None, Some, option_map, is_some, ap, refl, sym}
+use Rattle.std.proofs.Common.{◌≡◌, ◌∙◌, ◌&&◌, Bool, true, false, List, [], ◌∷◌, map, Option, None, Some, option_map, is_some, ap, refl, sym}
 use Rattle.filter_language.specs.declared.filterset.Filterset.{Filterset}
 use Rattle.nextest_engines.specs.Engines.{test_view}
 use Rattle.nextest_engines.specs.declared.queries.BuildPlatform.{BuildPlatform}
 use Rattle.filter_engine.specs.declared.compiling.FieldMatcher.{FieldMatcher}
 use Rattle.nextest_rules.specs.Rules.{Compiled}
-use Rattle.nextest_settings.proofs.Held.{is_held}
 use Rattle.nextest_settings.specs.Deciding.{filter_holds, rule_holds}
 use Rattle.nextest_settings.specs.Platforms.{EvaluatedRule, is_on, runs_on}
 use Rattle.nextest_settings.specs.View.{evaluated_meaning}
 use Rattle.platform_language.specs.declared.expression.TargetSpec.{TargetSpec}
-use Rattle.rinqebo_report.specs.declared.report.ConditionAnswer.TheVariants as says
-use Rattle.rinqebo_rules.specs.Conditions.{told_answer, told_condition, told_by_facts, is_met_by, asked_if}
-use Rattle.rinqebo_rules.specs.RuleAnswers.{asked_query, judged}
-use Rattle.rinqebo_rules.specs.RuleViews.{setting_rule_view}
+use Rattle.rinqebo_rules.specs.Conditions.{told_condition, told_by_facts, is_met_by, asked_if}
+use Rattle.rinqebo_rules.specs.RuleAnswers.{Judged, asked_query, judged}
 use Rattle.rinqebo_rules.specs.SettingRules.{RuleValue, for_setting, on_setting}
-use Rattle.rinqebo_rules.specs.SettingValues.{told_value}
-use Rattle.rinqebo_rules.specs.declared.chain_rules.SettingRule.{SettingRule}
 use Rattle.rinqebo_rules.specs.declared.conditions.Asking.{Asking}
 
 -- a filter matches by what it means
@@ -47,22 +42,21 @@ filter_told matches true (Some m) = refl
 
 module _ {W : Type 0} (asking : Asking) (writes : W → RuleValue)
     (rule : Compiled (Filterset FieldMatcher) TargetSpec W)
-    (on : EvaluatedRule (Filterset FieldMatcher) W) (held : SettingRule) where
+    (on : EvaluatedRule (Filterset FieldMatcher) W) (held : Judged) where
   -- what is found out of a rule, part by part
   pub rule_judged : on.filter ≡ rule.filter → on.writes ≡ rule.writes
-      → (setting_rule_view held).writes ≡ writes rule.writes
+      → held.writes ≡ writes rule.writes
       → held.facts.is_on ≡ is_on on (asked_query asking).platform
       → held.facts.holds ≡ rule_holds (asked_query asking) on
-      → held.facts.writes ≡ is_some held.value
+      → held.facts.writes ≡ is_some held.writes.value
       → held.answers.host ≡ told_condition (λ s. is_met_by s asking.platforms.now.host) rule.host
       → held.answers.target
       ≡ told_condition (λ s. is_met_by s (runs_on asking.platforms.now (asked_query asking).platform)) rule.target
       → held.answers.filter ≡ told_by_facts (is_some rule.filter) held.facts
-      → setting_rule_view held ≡ judged asking (for_setting writes rule) (on_setting writes on)
+      → held ≡ judged asking (for_setting writes rule) (on_setting writes on)
   rule_judged same_filter same_writes written on_there holds there host target filter =
       let writes_there : held.facts.writes ≡ is_some (writes on.writes).value =
-      there ∙ sym (is_held told_value held.value) ∙ ap (λ w. is_some w.value) written
-      ∙ ap (λ w. is_some (writes w).value) (sym same_writes) in
+      there ∙ ap (λ w. is_some w.value) written ∙ ap (λ w. is_some (writes w).value) (sym same_writes) in
       let told = filter ∙ (λ i. told_by_facts (is_some (sym same_filter i)) (record {
         is_on = on_there i;
         holds = holds i;

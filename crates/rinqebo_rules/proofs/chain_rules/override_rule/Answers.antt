@@ -14,6 +14,8 @@ use Rattle.filter_engine.specs.Engine.{filter_holds}
 use Rattle.rinqebo_rules.specs.Conditions.{is_met_by, told_by_facts, told_condition}
 use Rattle.rinqebo_rules.specs.RulePlaces.{id_place}
 use Rattle.rinqebo_rules.specs.SettingRules.{override_writes}
+use Rattle.rinqebo_rules.specs.SettingValues.{told_value}
+use Rattle.rinqebo_rules.specs.declared.verdict.RuleFacts.{RuleFacts}
 use Rattle.rinqebo_rules.proofs.Judged.{holds_meant, rule_judged}
 use Rattle.rinqebo_rules.proofs.ToldOf.{told_by_kind}
 use Rattle.rinqebo_rules.proofs.chain_rules.override_rule.Goals as goal
@@ -37,12 +39,18 @@ returns c =
     ∙ holds_meant (marks_view names_of) (use_meaning (marks_view names_of))
     (λ m. filter_holds m test (marks_view names_of asking.default_filter.now)) test.binary.platform
     (evaluated_override_view rule) in
+    let facts : RuleFacts = record {
+      is_on = c.is_on.result;
+      holds = c.override_holds.result;
+      writes = c.is_some.result;
+    } in
     rule_judged asking (override_writes s c.args.mode) (override_ref_view rule.rule) (evaluated_override_view rule) _
     refl refl (λ i. record { place = place i; value = value i })
-    (c.is_on.ensures ∙ ap (λ p. is_on (evaluated_override_view rule) p) c.platform.ensures) holds c.is_some.ensures
+    (c.is_on.ensures ∙ ap (λ p. is_on (evaluated_override_view rule) p) c.platform.ensures) holds
+    (c.is_some.ensures ∙ sym (is_held told_value c.value-value.result))
     (c.answers_of.ensures.host ∙ ap (told_condition (λ s. is_met_by s asking.platforms.now.host))
     (c.platforms.ensures.host ∙ ap (λ r. (override_ref_view r).host) same))
     (c.answers_of.ensures.target
     ∙ ap (told_condition (λ s. is_met_by s (runs_on asking.platforms.now test.binary.platform)))
     (c.platforms.ensures.target ∙ ap (λ r. (override_ref_view r).target) same))
-    (c.answers_of.ensures.filter ∙ ap (λ b. told_by_facts b _) (sym (is_held (λ f. f.now) c.filter.result) ∙ ap is_some filter))
+    (c.answers_of.ensures.filter ∙ ap (λ b. told_by_facts b facts) (sym (is_held (λ f. f.now) c.filter.result) ∙ ap is_some filter))

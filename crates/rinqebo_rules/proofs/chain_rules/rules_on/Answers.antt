@@ -1,10 +1,8 @@
-use Rattle.std.proofs.Common.{◌≡◌, ◌∙◌, ap, map, option_map, sym}
-use Rattle.std.proofs.lemmas.Result.{IfOk-weaker}
+use Rattle.std.proofs.Common.{◌≡◌, ◌∙◌, ap, map, sym}
 use Rattle.nextest_inheritance.specs.View.{borrowed_view}
 use Rattle.nextest_settings.specs.Chains.{overrides_of, script_rules_of, nearest_filter, match_all_filter}
-use Rattle.nextest_settings.specs.FilterView.{filter_view}
 use Rattle.nextest_settings.specs.Platforms.{rule_on, default_filter_of}
-use Rattle.nextest_settings.specs.View.{override_ref_view, script_rule_ref_view, evaluated_override_view, evaluated_script_rule_view}
+use Rattle.nextest_settings.specs.View.{override_ref_view, script_rule_ref_view}
 use Rattle.rinqebo_rules.specs.Conditions.{is_met_by, default_filter_here}
 use Rattle.rinqebo_rules.specs.RuleViews.{AreOverridesOn, AreScriptRulesOn}
 use Rattle.rinqebo_rules.proofs.Listing.{made_twice}
