@@ -17,8 +17,8 @@ ghost use Rattle.nextest_sources.specs.Inputs.{SourceText};
 ghost use Rattle.nextest_tables.specs.Scripts.{AreFileScripts};
 
 use crate::loaded_config::ScriptConfig;
-use nextest_places::ids_in_order;
 use indexmap::IndexMap;
+use nextest_places::ids_in_order;
 use nextest_scripts::{ScriptId, SetupScriptConfig};
 use nextest_tables::ScriptsTable;
 use nextest_tree::{Key, Tree};

@@ -3,8 +3,8 @@ ghost use Rattle.std.specs.Prelude.{◌≡◌, List, ◌∷◌, [], map, IfSome,
 ghost use Rattle.std.specs.Bool.{OnTrue};
 ghost use Rattle.nextest_spans.specs.Paths.{IsAtPath, IsEndedBy, LeadsTo, PathStep, inner_steps, key, own_steps, path_step, position};
 
-use nextest_places::Step;
 use crate::{Item, Role};
+use nextest_places::Step;
 
 /// How many steps stand before the last one of a path, if that is this key.
 fn before_key(path: &[Step], name: &str) -> Option<usize>

@@ -2,9 +2,8 @@
 ghost use Rattle.std.specs.Bool.{OnTrue};
 ghost use Rattle.nextest_spans.specs.Spans.{IsOnLines};
 
+use crate::{ColumnUnit, Span, position_at};
 use nextest_places::Lines;
-use crate::Span;
-use crate::{ColumnUnit, position_at};
 
 /// Whether some bytes of a text are whole characters that lie in some of its lines.
 pub(crate) fn is_on_lines(text: &str, lines: Lines, span: Span) -> bool

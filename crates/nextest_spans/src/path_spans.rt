@@ -5,11 +5,11 @@ ghost use Rattle.nextest_places.specs.Place.{HasNoPlace};
 ghost use Rattle.nextest_spans.specs.Spans.{IsDocumentOf, IsKept, IsKeyOf, IsPathSpan, IsValueOf, root_view};
 ghost use Rattle.nextest_spans.specs.Spans as spec;
 
-use crate::path_lines::is_on_lines;
 use crate::node_at::node_at;
 use crate::path::is_at;
-use nextest_places::{Lines, Places, Step};
+use crate::path_lines::is_on_lines;
 use crate::{Item, Role, Span, items_of, reads_as};
+use nextest_places::{Lines, Places, Step};
 use std::alloc::{AllocError, Global};
 use std::marker::Model;
 use toml::{Value, table_from_str};

@@ -19,7 +19,7 @@ ghost use Rattle.rinqebo_session.specs.declared.session.Session.{Session};
 ghost use Rattle.rinqebo_c.specs.Handles.{loaded, lent, profile_row, opened, lent_profile};
 
 use rinqebo_resolve::resolve;
-use rinqebo_session::{AskedTest, Profile, Session, SettingNumbers};
+use rinqebo_session::{Profile, RequestedTest, Session, SettingNumbers};
 use std::alloc::Global;
 use std::mem::size_of;
 
@@ -140,7 +140,7 @@ pub unsafe extern "C" fn rinqebo_profile_status(profile: *const u8) -> u32
 #[unsafe(no_mangle)]
 pub unsafe extern "C" fn rinqebo_profile_ask(
     profile: *const u8,
-    test: AskedTest<'_>,
+    test: RequestedTest<'_>,
 ) -> SettingNumbers
     ghost g: { List ℕ × List ℕ × Share × Share × Profile }
     // A profile lies there, its session is still loaded, and nothing writes either during the call.

@@ -12,7 +12,7 @@ use Rattle.nextest_texts.specs.IdentifierText.{tool_name_text}
 use Rattle.nextest_tree.specs.Node.{Node}
 use Rattle.nextest_tree.specs.View.{tree_view}
 use Rattle.rinqebo_files.specs.Features.{tree_read}
-use Rattle.rinqebo_files.specs.Origins.{file_of, told_file}
+use Rattle.rinqebo_files.specs.Origins.{file_of, reported_file}
 use Rattle.rinqebo_files.specs.declared.files.Gathered.{Gathered}
 use Rattle.rinqebo_files.specs.declared.layers.Layer.{Layer}
 
@@ -42,7 +42,7 @@ layer_tree layer = tree_by layer.places (option_map tree_view layer.defaults)
 -- a layer as code holds it
 abbrev pub layer_view : Layer → LayerRead
 layer_view layer = record {
-  file = told_file layer.source;
+  file = reported_file layer.source;
   text = layer.places;
   tree = layer_tree layer;
 }

@@ -3,7 +3,7 @@ ghost use Rattle.std.specs.Prelude.{◌≡◌, ◌++◌, ◌↔◌, Some, IfOk, 
 ghost use Rattle.nextest_sources.specs.Sources.{source_kind_view, source_view};
 ghost use Rattle.nextest_tree.specs.View.{tree_view};
 ghost use Rattle.rinqebo_files.specs.Layers.{default_layer, file_layer, layer_tree, layer_view, layers_read, organisation_layers, repository_layer, tool_layer};
-ghost use Rattle.rinqebo_files.specs.Origins.{HasNoFile, IsFileAt, told_file, told_kind};
+ghost use Rattle.rinqebo_files.specs.Origins.{HasNoFile, IsFileAt, reported_file, reported_kind};
 
 use crate::document::{NoDocument, read_places};
 use crate::files::Gathered;
@@ -47,7 +47,7 @@ fn layer_of<'t>(
     file: &'t FileInput,
 ) -> Result<Layer<'t>, AllocError>
     ensures { IfOk result (λ layer.
-        layer_view layer ≡ file_layer (told_kind kind) file.entry.now) }
+        layer_view layer ≡ file_layer (reported_kind kind) file.entry.now) }
 {
     let (places, fault) = read_places(alloc, &file.outcome)?;
     Ok(Layer {
@@ -143,7 +143,7 @@ pub fn layers_of<'t>(alloc: Global, gathered: &'t Gathered) -> Result<Vec<Layer<
 
 /// A copy of a kind of source.
 fn copied_kind(kind: &SourceKind) -> Result<SourceKind, AllocError>
-    ensures { IfOk result (λ copy. told_kind copy ≡ told_kind kind.now) }
+    ensures { IfOk result (λ copy. reported_kind copy ≡ reported_kind kind.now) }
 {
     match kind {
         SourceKind::Default => Ok(SourceKind::Default),
@@ -167,7 +167,7 @@ fn copied_path(path: &Option<String>) -> Result<Option<String>, AllocError>
 
 /// A copy of a source.
 fn copied(source: &Source) -> Result<Source, AllocError>
-    ensures { IfOk result (λ copy. told_file copy ≡ told_file source.now) }
+    ensures { IfOk result (λ copy. reported_file copy ≡ reported_file source.now) }
 {
     Ok(Source {
         kind: copied_kind(&source.kind)?,
@@ -177,8 +177,8 @@ fn copied(source: &Source) -> Result<Source, AllocError>
 
 /// The sources of layers.
 pub fn sources_of(alloc: Global, layers: &[Layer]) -> Result<Vec<Source>, AllocError>
-    ensures { IfOk result (λ sources. map told_file sources.items
-        ≡ map (λ layer. told_file layer.source) layers.now) }
+    ensures { IfOk result (λ sources. map reported_file sources.items
+        ≡ map (λ layer. reported_file layer.source) layers.now) }
 {
     let mut sources = Vec::new(alloc);
     for layer in layers {
@@ -189,7 +189,7 @@ pub fn sources_of(alloc: Global, layers: &[Layer]) -> Result<Vec<Source>, AllocE
 
 /// Whether what brings a file is told so.
 fn is_kind(told: &SourceKind, kind: &ConfigSourceKind) -> bool
-    ensures { IsTrue result ↔ (told_kind told.now ≡ Some (source_kind_view kind.now)) }
+    ensures { IsTrue result ↔ (reported_kind told.now ≡ Some (source_kind_view kind.now)) }
 {
     match (told, kind) {
         (SourceKind::Tool(name), ConfigSourceKind::Tool(tool)) => name.as_str() == tool.as_str(),
@@ -202,7 +202,7 @@ fn is_kind(told: &SourceKind, kind: &ConfigSourceKind) -> bool
 
 /// Whether a file that is reported is a source of a load: of its kind, at its path.
 fn is_source(told: &Source, source: &ConfigSource) -> bool
-    ensures { IsTrue result ↔ (told_file told.now ≡ Some (source_view source.now)) }
+    ensures { IsTrue result ↔ (reported_file told.now ≡ Some (source_view source.now)) }
 {
     let Some(path) = &told.path else {
         return false;

@@ -1,6 +1,6 @@
 -- That a report is one of a session.
 use Rattle.std.specs.Prelude.{◌≡◌, map, string_bytes}
-use Rattle.rinqebo_files.specs.Origins.{told_file}
+use Rattle.rinqebo_files.specs.Origins.{reported_file}
 use Rattle.rinqebo_load.specs.declared.session.Session.{Session}
 use Rattle.rinqebo_report.specs.declared.report.Report.{Report}
 
@@ -8,5 +8,5 @@ use Rattle.rinqebo_report.specs.declared.report.Report.{Report}
 -- their order.
 pub record IsReportOf (session : Session) (report : Report) : Type 0 where
   pub root : string_bytes report.root ≡ string_bytes session.gathered.now.paths.workspace_root
-  pub sources : map told_file report.sources.items
-      ≡ map (λ layer. told_file layer.source) session.layers.items
+  pub sources : map reported_file report.sources.items
+      ≡ map (λ layer. reported_file layer.source) session.layers.items

@@ -6,13 +6,13 @@ ghost use Rattle.rinqebo_load.specs.Machines.{machine_of};
 
 use crate::fault::{InputFault, Subject, TripleSource};
 use crate::triples::Triples;
-use nextest_config::BuildPlatforms;
 use filter_engine::NextestFilters;
-use rinqebo_files::Gathered;
-use rinqebo_request::{FileOption, ListFile, NamedFile, Request};
-use rinqebo_forms::{EngineFault, filters_of, platform_of};
-use std::alloc::{AllocError, Global};
+use nextest_config::BuildPlatforms;
 use platform_table::Platform;
+use rinqebo_files::Gathered;
+use rinqebo_forms::{EngineFault, filters_of, platform_of};
+use rinqebo_request::{FileOption, ListFile, NamedFile, Request};
+use std::alloc::{AllocError, Global};
 
 /// The language of filters, and the platforms of a build.
 #[derive(Drop)]

@@ -1,9 +1,9 @@
 //! What is wrong with the list of tests, the metadata or the platforms that a request names.
-use rinqebo_request::NamedFile;
+use nextest_lists::ListFault;
 use rinqebo_forms::EngineFault;
+use rinqebo_request::NamedFile;
 use std::alloc::AllocError;
 use std::fmt;
-use nextest_lists::ListFault;
 use thiserror::Error;
 
 /// What gives the triple of a platform.

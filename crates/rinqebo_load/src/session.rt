@@ -10,20 +10,20 @@ ghost use Rattle.rinqebo_load.specs.Beginning.{IsBeginningFailure, IsUnusable};
 use crate::engines::Engines;
 use crate::failure::Failure;
 use crate::triples::{Triples, listed_tests, triples_for};
+use filter_engine::NextestFilters;
 use nextest_config::run::Inputs;
 use nextest_config::{
     ConfigExperimental, ConfigFileSelection, ConfigParseError, ConfigPath, DefaultConfigWarnings,
     FileInput, LoadedConfig, ParseContext, ReadOutcome, ToolConfigFile,
 };
-use filter_engine::NextestFilters;
+use nextest_lists::ListedTests;
 use nextest_sources::ConfigInputs;
+use platform_language::TargetSpecs;
 use rinqebo_files::{Gathered, Layer, features_of, layers_of};
 use rinqebo_report::SourceKind;
 use rinqebo_request::{ListFile, ProfileSource, Request};
 use std::alloc::{AllocError, Global};
 use std::collections::BTreeSet;
-use platform_language::TargetSpecs;
-use nextest_lists::ListedTests;
 
 /// A loaded configuration.
 pub type Config = LoadedConfig<NextestFilters, TargetSpecs>;

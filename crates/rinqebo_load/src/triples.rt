@@ -5,10 +5,10 @@ ghost use Rattle.rinqebo_load.specs.InputFaults.{IsListFault, NamesList};
 ghost use Rattle.rinqebo_load.specs.Triples.{host_for, host_source, target_for, target_source, IsListFor};
 
 use crate::fault::{InputFault, TripleSource};
+use nextest_lists::{ListFault, ListedTests, tests_of};
 use rinqebo_files::Gathered;
 use rinqebo_request::{EngineOptions, FileOption, HOST, NamedFile};
 use std::alloc::{AllocError, Global};
-use nextest_lists::{ListFault, ListedTests, tests_of};
 
 /// The triples of a build.
 #[derive(Drop)]

@@ -5,7 +5,7 @@ use Rattle.serde_json.specs.Data.{Data, null, number, array, no_items, Members, 
 use Rattle.serde_json.specs.Find.{of_integer}
 use Rattle.serde_json.specs.Read.{max_depth}
 use Rattle.serde_json.specs.Written.{has_float}
-use Rattle.rinqebo_report.specs.Document.{common_members, with_asked, with_content, document_data}
+use Rattle.rinqebo_report.specs.Document.{common_members, with_requested, with_content, document_data}
 use Rattle.rinqebo_report.specs.Documents.{count_data, text_data, optional_text_data, optional_count_data, list_data, pair_data, lines_data, range_data, scalar_data, value_data, optional_value_data, part_data, kind_data, origin_data, setting_data, test_data, test_id_data, entry_data, rule_data, tool_data, source_data, unreached_data, wrapper_data, place_source_data, place_lines_data, place_range_data, span_data, expression_data, expression_span_data, finding_data}
 use Rattle.rinqebo_report.specs.declared.finding.Expression.{Expression}
 use Rattle.rinqebo_report.specs.declared.finding.Finding.{Finding}
@@ -208,7 +208,7 @@ finding f =
     (and_member _ (place_source 2 f.place) (and_member _ (expression_span 1 f.expression) (no_more 2)))))))))))))
 
 -- members with what was asked for, and with those of each page
-asked : {ms : Members} (command : List ℕ) (a : Asked) → AreExact 8 ms → AreExact 8 (with_asked command a ms)
+asked : {ms : Members} (command : List ℕ) (a : Asked) → AreExact 8 ms → AreExact 8 (with_requested command a ms)
 asked command a h =
     exact_put (codes "target") _ _ (optional_text 8 a.target)
     (exact_put (codes "profile") _ _ (text 8 a.profile)

@@ -37,8 +37,8 @@ common_members report =
     (member (codes "version") (count_data 1) no_members))))))))))))))))
 
 -- members, with a command, and what was asked for
-abbrev pub with_asked : List ℕ → Asked → Members → Members
-with_asked command asked members =
+abbrev pub with_requested : List ℕ → Asked → Members → Members
+with_requested command asked members =
     put (codes "target") (optional_text_data asked.target)
     (put (codes "profile") (text_data asked.profile)
     (put (codes "mode") (string (mode_word asked.mode))
@@ -50,14 +50,14 @@ with_asked command asked members =
 abbrev pub with_explain : Asked → TestRows → Members → Members
 with_explain asked test members =
     put (codes "tests") (array (item (test_data test) no_items))
-    (with_asked (codes "explain") asked members)
+    (with_requested (codes "explain") asked members)
 
 -- members, with those of the page of a setting
 abbrev pub with_why : Asked → TestId → List ℕ → List Rule → Members → Members
 with_why asked test key rules members =
     put (codes "test") (test_id_data test)
     (put (codes "rules") (list_data rule_data rules)
-    (put (codes "key") (string key) (with_asked (codes "explain") asked members)))
+    (put (codes "key") (string key) (with_requested (codes "explain") asked members)))
 
 -- members, with those of the page of a list
 abbrev pub with_list : Asked → List TestRows → List Origin → ListScripts → Members → Members
@@ -66,13 +66,13 @@ with_list asked tests unused scripts members =
     (put (codes "tests") (list_data test_data tests)
     (put (codes "setup-scripts") (list_data text_data scripts.setup.items)
     (put (codes "list-wrappers") (list_data wrapper_data scripts.list_wrappers.items)
-    (with_asked (codes "list") asked members))))
+    (with_requested (codes "list") asked members))))
 
 -- members, with those of the page of a configuration
 abbrev pub with_config : Asked → List Entry → Members → Members
 with_config asked entries members =
     put (codes "entries") (list_data entry_data entries)
-    (with_asked (codes "show-config") asked members)
+    (with_requested (codes "show-config") asked members)
 
 -- members, with those of the page of what a command answers
 abbrev pub with_content : Content → Members → Members

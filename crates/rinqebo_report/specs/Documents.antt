@@ -174,7 +174,7 @@ answer_word answers.Absent = codes "absent"
 answer_word answers.Yes = codes "yes"
 answer_word answers.No = codes "no"
 answer_word answers.Unknown = codes "unknown"
-answer_word answers.Unasked = codes "unasked"
+answer_word answers.Unrequested = codes "unasked"
 
 -- a rule
 abbrev pub rule_data : Rule → Data

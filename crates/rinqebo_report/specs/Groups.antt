@@ -16,31 +16,31 @@ use Rattle.rinqebo_report.specs.Pieces.{Run, styled, ending, page_text}
 use Rattle.rinqebo_report.specs.TomlText.{value_text}
 
 -- a setting and its value, or that it has none
-abbrev pub told_line_runs : List ℕ → Option (List ℕ) → List Run
-told_line_runs key (Some value) =
+abbrev pub reported_line_runs : List ℕ → Option (List ℕ) → List Run
+reported_line_runs key (Some value) =
     styled styles.Key key ∷ plain (codes " = ") ∷ plain value ∷ ending ∷ []
-told_line_runs key None = absent_runs key
+reported_line_runs key None = absent_runs key
 
 -- what is told of a setting
-abbrev pub told_row_runs : SettingRow → List Run
-told_row_runs row = told_line_runs (string_bytes row.key) (option_map value_text row.value)
+abbrev pub reported_row_runs : SettingRow → List Run
+reported_row_runs row = reported_line_runs (string_bytes row.key) (option_map value_text row.value)
 
 -- what is told of a test, a line for each setting
-abbrev pub told_runs : TestRows → List Run
-told_runs test = flat_map told_row_runs test.settings.items
+abbrev pub reported_runs : TestRows → List Run
+reported_runs test = flat_map reported_row_runs test.settings.items
 
 -- what is told of a test, as a text
-abbrev pub told_text : TestRows → List ℕ
-told_text test = page_text colours.Plain (told_runs test)
+abbrev pub reported_text : TestRows → List ℕ
+reported_text test = page_text colours.Plain (reported_runs test)
 
 -- whether a text is told of a test
-abbrev pub has_told : List ℕ → TestRows → Bool
-has_told text test = bytes_eq (told_text test) text
+abbrev pub has_reported : List ℕ → TestRows → Bool
+has_reported text test = bytes_eq (reported_text test) text
 
 -- tests, and another one, if what is told of it is told of none of them
 abbrev pub with_first : List TestRows → TestRows → List TestRows
 with_first found test =
-    if list_any (has_told (told_text test)) found then found else found ++ test ∷ []
+    if list_any (has_reported (reported_text test)) found then found else found ++ test ∷ []
 
 -- of tests those that are the first of which something is told, in their order
 abbrev pub firsts : List TestRows → List TestRows
@@ -54,7 +54,8 @@ grouped_test_runs test =
 -- the group of a test: what is told of it, and all tests of which the same is told
 abbrev pub group_runs : List TestRows → TestRows → List Run
 group_runs tests first =
-    told_runs first ++ flat_map grouped_test_runs (filter (has_told (told_text first)) tests)
+    reported_runs first
+    ++ flat_map grouped_test_runs (filter (has_reported (reported_text first)) tests)
 
 -- tests in groups, in the order of the first test of each
 abbrev pub groups_runs : List TestRows → List Run

@@ -127,21 +127,21 @@ number_run verdicts.Fallback n = plain (codes "-")
 number_run _ n = numbered (n + 1)
 
 -- what is told of a condition: that it does not hold, or that it can't be told
-abbrev pub told_answer : ConditionAnswer → Option (List ℕ)
-told_answer answers.No = Some (codes ": no")
-told_answer answers.Unknown = Some (codes ": unknown")
-told_answer _ = None
+abbrev pub reported_answer : ConditionAnswer → Option (List ℕ)
+reported_answer answers.No = Some (codes ": no")
+reported_answer answers.Unknown = Some (codes ": unknown")
+reported_answer _ = None
 
 -- a line of a rule, if something is told there
-abbrev pub told_runs : List ℕ → List ℕ → Option (List ℕ) → List Run
-told_runs word text None = []
-told_runs word text (Some told) =
+abbrev pub reported_runs : List ℕ → List ℕ → Option (List ℕ) → List Run
+reported_runs word text None = []
+reported_runs word text (Some told) =
     plain (codes "     ") ∷ plain word ∷ plain (codes " ") ∷ plain text ∷ plain told ∷ ending ∷ []
 
 -- a condition, where it does not hold or can't be told
 abbrev pub condition_runs : List ℕ → Condition → List Run
 condition_runs word condition =
-    told_runs word (string_bytes condition.text) (told_answer condition.answer)
+    reported_runs word (string_bytes condition.text) (reported_answer condition.answer)
 
 -- what a rule writes is shown where it decides, or another one does so before it
 abbrev pub shows_value : Verdict → Bool

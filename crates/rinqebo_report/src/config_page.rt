@@ -7,8 +7,8 @@ ghost use Rattle.rinqebo_report.specs.Pages.{entry_width, widest_entry, setting_
 ghost use Rattle.rinqebo_report.specs.Pieces.{page_text};
 
 use crate::explain_page::{add_valued, width};
-use crate::json_asked::put_asked;
 use crate::json_parts::entries_json;
+use crate::json_requested::put_requested;
 use crate::origin::{Origin, Source};
 use crate::origin_text::origin_text;
 use crate::piece::{Colour, Piece, Style, add_pieces};
@@ -125,6 +125,6 @@ pub(crate) fn put_config(
     ensures { OnOk result (members_view members.new.entries
         ≡ with_config asked.now entries.now (members_view members.old.entries)) }
 {
-    put_asked(members, alloc, "show-config", asked)?;
+    put_requested(members, alloc, "show-config", asked)?;
     put(members, alloc, "entries", entries_json(alloc, entries)?)
 }

@@ -6,8 +6,8 @@ ghost use Rattle.rinqebo_report.specs.Joined.{joined};
 ghost use Rattle.rinqebo_report.specs.Pages.{width, key_width, widest, mode_word, platform_word, triple_of, header_text, absent_runs, setting_runs, row_runs, explain_runs};
 ghost use Rattle.rinqebo_report.specs.Pieces.{page_text};
 
-use crate::json_asked::put_asked;
 use crate::json_parts::test_json;
+use crate::json_requested::put_requested;
 use crate::origin::Source;
 use crate::origin_text::origins_text;
 use crate::piece::{Colour, Piece, Style, add_pieces};
@@ -246,7 +246,7 @@ pub(crate) fn put_explain(
     ensures { OnOk result (members_view members.new.entries
         ≡ with_explain asked.now test.now (members_view members.old.entries)) }
 {
-    put_asked(members, alloc, "explain", asked)?;
+    put_requested(members, alloc, "explain", asked)?;
     let test = test_json(alloc, test)?;
     let tests = json!(in alloc; [test])?;
     put(members, alloc, "tests", tests)

@@ -1,7 +1,7 @@
 //! The page of groups: tests, put together where the same is told of them.
 ghost use Rattle.std.specs.Prelude.{◌≡◌, ◌++◌, Some, IfOk, OnOk, filter, flat_map, map, string_bytes};
 ghost use Rattle.std.specs.List.{list_any};
-ghost use Rattle.rinqebo_report.specs.Groups.{told_line_runs, told_row_runs, told_runs, told_text, has_told, firsts, grouped_test_runs, group_runs, groups_runs, grouped_runs};
+ghost use Rattle.rinqebo_report.specs.Groups.{reported_line_runs, reported_row_runs, reported_runs, reported_text, has_reported, firsts, grouped_test_runs, group_runs, groups_runs, grouped_runs};
 ghost use Rattle.rinqebo_report.specs.Pieces.{page_text};
 
 use crate::explain_page::add_absent;
@@ -13,14 +13,14 @@ use crate::toml_text::value_text;
 use std::alloc::{AllocError, Global};
 
 /// Writes a setting and its value.
-fn add_told_value<'x>(
+fn add_reported_value<'x>(
     out: &mut String,
     colour: Colour,
     key: &'x str,
     value: &'x str,
 ) -> Result<(), AllocError>
     ensures { OnOk result (string_bytes out.new ≡ string_bytes out.old
-        ++ page_text colour (told_line_runs key.now (Some value.now))) }
+        ++ page_text colour (reported_line_runs key.now (Some value.now))) }
 {
     add_pieces(
         out,
@@ -35,65 +35,65 @@ fn add_told_value<'x>(
 }
 
 /// Writes what is told of a setting.
-fn add_told_row(
+fn add_reported_row(
     alloc: Global,
     out: &mut String,
     colour: Colour,
     row: &SettingRow,
 ) -> Result<(), AllocError>
     ensures { OnOk result (string_bytes out.new ≡ string_bytes out.old
-        ++ page_text colour (told_row_runs row.now)) }
+        ++ page_text colour (reported_row_runs row.now)) }
 {
     let key = row.key.as_str();
     match &row.value {
         Some(value) => {
             let value = value_text(alloc, value)?;
-            add_told_value(out, colour, key, value.as_str())
+            add_reported_value(out, colour, key, value.as_str())
         }
         None => add_absent(alloc, out, colour, key),
     }
 }
 
 /// Writes what is told of a test.
-fn add_told(
+fn add_reported(
     alloc: Global,
     out: &mut String,
     colour: Colour,
     test: &TestRows,
 ) -> Result<(), AllocError>
     ensures { OnOk result (string_bytes out.new ≡ string_bytes out.old
-        ++ page_text colour (told_runs test.now)) }
+        ++ page_text colour (reported_runs test.now)) }
 {
     for row in &test.settings {
-        add_told_row(alloc, out, colour, row)?;
+        add_reported_row(alloc, out, colour, row)?;
     }
     Ok(())
 }
 
 /// What is told of a test, as a text.
-fn told_text(alloc: Global, test: &TestRows) -> Result<String, AllocError>
-    ensures { IfOk result (λ text. string_bytes text ≡ told_text test.now) }
+fn reported_text(alloc: Global, test: &TestRows) -> Result<String, AllocError>
+    ensures { IfOk result (λ text. string_bytes text ≡ reported_text test.now) }
 {
     let mut text = String::new(alloc);
-    add_told(alloc, &mut text, Colour::Plain, test)?;
+    add_reported(alloc, &mut text, Colour::Plain, test)?;
     Ok(text)
 }
 
 /// Whether a text is told of a test.
-fn has_told(alloc: Global, test: &TestRows, text: &str) -> Result<bool, AllocError>
-    ensures { IfOk result (λ has. has ≡ has_told text.now test.now) }
+fn has_reported(alloc: Global, test: &TestRows, text: &str) -> Result<bool, AllocError>
+    ensures { IfOk result (λ has. has ≡ has_reported text.now test.now) }
 {
-    let told = told_text(alloc, test)?;
+    let told = reported_text(alloc, test)?;
     Ok(told.as_str() == text)
 }
 
 /// Whether a text is told of one of some tests.
 fn is_told(alloc: Global, tests: &[&TestRows], text: &str) -> Result<bool, AllocError>
     ensures { IfOk result (λ is. is
-        ≡ list_any (has_told text.now) (map (λ test. test.now) tests.now)) }
+        ≡ list_any (has_reported text.now) (map (λ test. test.now) tests.now)) }
 {
     for test in tests {
-        if has_told(alloc, *test, text)? {
+        if has_reported(alloc, *test, text)? {
             return Ok(true);
         }
     }
@@ -106,7 +106,7 @@ fn firsts<'t>(alloc: Global, tests: &'t [TestRows]) -> Result<Vec<&'t TestRows>,
 {
     let mut found: Vec<&'t TestRows> = Vec::new(alloc);
     for test in tests {
-        let text = told_text(alloc, test)?;
+        let text = reported_text(alloc, test)?;
         if !is_told(alloc, &found, text.as_str())? {
             found.push(test)?;
         }
@@ -132,10 +132,10 @@ fn add_grouped_tests(
     text: &str,
 ) -> Result<(), AllocError>
     ensures { OnOk result (string_bytes out.new ≡ string_bytes out.old ++ page_text colour
-        (flat_map grouped_test_runs (filter (has_told text.now) tests.now))) }
+        (flat_map grouped_test_runs (filter (has_reported text.now) tests.now))) }
 {
     for test in tests {
-        if has_told(alloc, test, text)? {
+        if has_reported(alloc, test, text)? {
             add_grouped_test(out, colour, test)?;
         }
     }
@@ -153,8 +153,8 @@ fn add_group(
     ensures { OnOk result (string_bytes out.new ≡ string_bytes out.old
         ++ page_text colour (group_runs tests.now first.now)) }
 {
-    let text = told_text(alloc, first)?;
-    add_told(alloc, out, colour, first)?;
+    let text = reported_text(alloc, first)?;
+    add_reported(alloc, out, colour, first)?;
     add_grouped_tests(alloc, out, colour, tests, text.as_str())
 }
 

@@ -325,7 +325,7 @@ impl ConditionAnswer {
             ConditionAnswer::Yes => "yes",
             ConditionAnswer::No => "no",
             ConditionAnswer::Unknown => "unknown",
-            ConditionAnswer::Unasked => "unasked",
+            ConditionAnswer::Unrequested => "unasked",
         }
     }
 }

@@ -6,8 +6,8 @@ ghost use Rattle.rinqebo_report.specs.Pages.{widest, test_line_runs, indented_ru
 ghost use Rattle.rinqebo_report.specs.Pieces.{page_text};
 
 use crate::explain_page::{add_row, widest};
-use crate::json_asked::put_asked;
 use crate::json_parts::{origins_json, tests_json, texts_json, wrappers_json};
+use crate::json_requested::put_requested;
 use crate::origin::{Origin, Source};
 use crate::origin_text::origin_text;
 use crate::piece::{Colour, Piece, Style, add_pieces};
@@ -195,7 +195,7 @@ pub(crate) fn put_list(
         ≡ with_list asked.now tests.now unused.now scripts.now
         (members_view members.old.entries)) }
 {
-    put_asked(members, alloc, "list", asked)?;
+    put_requested(members, alloc, "list", asked)?;
     let wrappers = wrappers_json(alloc, &scripts.list_wrappers)?;
     put(members, alloc, "list-wrappers", wrappers)?;
     let setup = texts_json(alloc, &scripts.setup)?;

@@ -113,7 +113,7 @@ pub enum ConditionAnswer {
     /// It cannot be told, which counts as met.
     Unknown,
     /// It was not asked.
-    Unasked,
+    Unrequested,
 }
 
 /// A condition of a rule.

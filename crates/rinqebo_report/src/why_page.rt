@@ -2,14 +2,14 @@
 ghost use Rattle.std.specs.Prelude.{◌≡◌, ◌++◌, ◌+◌, ◌^◌, ◌<◌, option_map, OnOk, string_bytes};
 ghost use Rattle.serde_json.specs.View.{members_view};
 ghost use Rattle.rinqebo_report.specs.Document.{with_why};
-ghost use Rattle.rinqebo_report.specs.Pages.{verdict_text, verdict_style, number_run, told_answer, condition_runs, shows_value, value_runs, written_runs, verdict_runs, conditions_runs, rule_runs, rules_runs};
+ghost use Rattle.rinqebo_report.specs.Pages.{verdict_text, verdict_style, number_run, reported_answer, condition_runs, shows_value, value_runs, written_runs, verdict_runs, conditions_runs, rule_runs, rules_runs};
 ghost use Rattle.rinqebo_report.specs.Pieces.{page_text};
 ghost use Rattle.rinqebo_report.specs.PieceView.{piece_view};
 ghost use Rattle.rinqebo_report.specs.TomlText.{value_text};
 
 use crate::explain_page::width;
-use crate::json_asked::{put_asked, put_text};
 use crate::json_parts::{rules_json, test_id_json};
+use crate::json_requested::{put_requested, put_text};
 use crate::origin::Source;
 use crate::origin_text::all_origins_text;
 use crate::piece::{Colour, Piece, Style, add_pieces};
@@ -72,7 +72,7 @@ impl Verdict {
 impl ConditionAnswer {
     /// What is told of it: that it does not hold, or that it can't be told.
     fn told(self) -> Option<&'static str>
-        ensures { option_map (λ told. told.now) result ≡ told_answer self }
+        ensures { option_map (λ told. told.now) result ≡ reported_answer self }
     {
         match self {
             ConditionAnswer::No => Some(": no"),
@@ -245,7 +245,7 @@ pub(crate) fn put_why(
     ensures { OnOk result (members_view members.new.entries
         ≡ with_why asked.now test.now key.now rules.now (members_view members.old.entries)) }
 {
-    put_asked(members, alloc, "explain", asked)?;
+    put_requested(members, alloc, "explain", asked)?;
     put_text(members, alloc, "key", key)?;
     put(members, alloc, "rules", rules_json(alloc, rules)?)?;
     put(members, alloc, "test", test_id_json(alloc, test)?)

@@ -18,7 +18,7 @@ pub use keys::{SettingKey, all_keys, setting_of};
 pub use named::{FileOption, NamedFile, ProfileSource};
 pub use notes::notes_of;
 pub use request::{
-    AskedSettings, Command, ConfigFile, EngineOptions, FileOptions, HOST, ListFile, Question,
-    Request, TestName, ToolFile,
+    Command, ConfigFile, EngineOptions, FileOptions, HOST, ListFile, Question, Request,
+    RequestedSettings, TestName, ToolFile,
 };
 pub use words::{ParseStop, parse};

@@ -1,6 +1,6 @@
 //! Notes on variables that stand above all files.
 use crate::environment::{Environment, set};
-use crate::request::{AskedSettings, Question, Request};
+use crate::request::{Question, Request, RequestedSettings};
 use nextest_config::Setting;
 use std::alloc::{AllocError, Global};
 
@@ -15,7 +15,7 @@ fn asks_for(question: &Question<'_>, setting: Setting) -> bool {
         Question::Explain { settings, .. } => settings.iter().any(|asked| *asked == setting),
         Question::Why { setting: asked, .. } => *asked == setting,
         Question::List {
-            asked: AskedSettings::These(settings),
+            asked: RequestedSettings::These(settings),
             ..
         } => settings.iter().any(|asked| *asked == setting),
         Question::List { .. } => true,

@@ -38,7 +38,7 @@ impl<'a> ListFile<'a> {
 
 /// Which settings are told of each test of a list.
 #[derive(Drop)]
-pub enum AskedSettings {
+pub enum RequestedSettings {
     /// Those that rules decide, in the order of all settings.
     Decided,
     /// These, in this order, whatever decides them.
@@ -75,7 +75,7 @@ pub enum Question<'a> {
         /// Where the list is read.
         list: ListFile<'a>,
         /// The settings that are told.
-        asked: AskedSettings,
+        asked: RequestedSettings,
     },
     /// The leaves of the configuration.
     ShowConfig {

@@ -6,8 +6,8 @@ use crate::keys::setting_of;
 use crate::named::ProfileSource;
 use crate::options::program;
 use crate::request::{
-    AskedSettings, Command, ConfigFile, EngineOptions, FileOptions, ListFile, Question, Request,
-    TestName, ToolFile,
+    Command, ConfigFile, EngineOptions, FileOptions, ListFile, Question, Request,
+    RequestedSettings, TestName, ToolFile,
 };
 use clap::ArgMatches;
 use clap::error::ErrorKind;
@@ -345,11 +345,11 @@ fn explain_request<'a>(
 }
 
 /// The settings of each test that are asked for: without a word, those that rules decide.
-fn asked_settings(
+fn requested_settings(
     alloc: Global,
     matches: &ArgMatches<'_>,
     mode: NextestRunMode,
-) -> Result<AskedSettings, ParseStop> {
+) -> Result<RequestedSettings, ParseStop> {
     let mut asked = named_settings(alloc, matches, mode)?;
     let is_all = matches.get_flag("all");
     if is_all && !asked.is_empty() {
@@ -364,12 +364,12 @@ fn asked_settings(
             .map_err(AllocError::from)?;
     }
     if is_all {
-        return Ok(AskedSettings::These(all_settings(alloc)?));
+        return Ok(RequestedSettings::These(all_settings(alloc)?));
     }
     if asked.is_empty() {
-        return Ok(AskedSettings::Decided);
+        return Ok(RequestedSettings::Decided);
     }
-    Ok(AskedSettings::These(asked))
+    Ok(RequestedSettings::These(asked))
 }
 
 /// What is asked about a list of tests.
@@ -387,7 +387,7 @@ fn list_question<'a>(
         profile: profile(matches, environment),
         mode,
         list,
-        asked: asked_settings(alloc, matches, mode)?,
+        asked: requested_settings(alloc, matches, mode)?,
     })
 }
 

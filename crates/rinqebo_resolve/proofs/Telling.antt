@@ -16,16 +16,16 @@ use Rattle.rinqebo_run.specs.declared.answer.Answer.{Answer}
 use Rattle.rinqebo_load.specs.declared.failure.Failure.{Failure}
 use Rattle.rinqebo_load.specs.declared.failure.Failure.TheVariants as failures
 use Rattle.rinqebo_load.specs.declared.session.Session.{Session}
-use Rattle.rinqebo_run.proofs.Refused.{failure_told}
+use Rattle.rinqebo_run.proofs.Refused.{failure_reported}
 use Rattle.rinqebo_forms.specs.Runs.{RunText}
-use Rattle.rinqebo_resolve.specs.Asking.{AskedText, AreFilesOf, AsksForAll, IsRequestFor, asked_of}
+use Rattle.rinqebo_resolve.specs.Asking.{RequestedText, AreFilesOf, AsksForAll, IsRequestFor, requested_of}
 use Rattle.rinqebo_session.specs.declared.status.TheConstants.{DONE}
 use Rattle.rinqebo_resolve.specs.Endings.{IsAnswerTo, IsAnswerOf, IsEndingFor, IsEndingIn, IsEndingOf, IsResolved, IsSilent, TellsFailure, TellsOutcome, ending_status, ending_text}
 use Rattle.rinqebo_resolve.specs.declared.ending.Ending.{Ending}
 use Rattle.rinqebo_resolve.specs.declared.ending.Ending.TheVariants as ends
 
 -- the answer about a list has status 0
-zero_of : (asked : AskedText) (q : Question) (session : Session) (report : Report) (status : ℕ)
+zero_of : (asked : RequestedText) (q : Question) (session : Session) (report : Report) (status : ℕ)
     → AsksForAll asked q → AnswersQuestion q session report status → status ≡ 0
 zero_of asked (questions.Explain profile test settings) session report status asks answers = absurd asks
 zero_of asked (questions.Why profile test setting) session report status asks answers = absurd asks
@@ -34,7 +34,7 @@ zero_of asked (questions.ShowConfig profile keys with_hidden) session report sta
 zero_of asked (questions.Check deny_warnings) session report status asks answers = absurd asks
 
 -- the document of an answer
-answered : (asked : AskedText) (request : Request) (gathered : Gathered) (report : Report) (status : ℕ)
+answered : (asked : RequestedText) (request : Request) (gathered : Gathered) (report : Report) (status : ℕ)
     (text : List ℕ) → IsRequestFor asked request → IsAnswer request gathered report status
     → text ≡ rendered report Json Plain → IsAnswerOf asked gathered text
 answered asked request gathered report status text is_request is_answer document =
@@ -49,7 +49,7 @@ answered asked request gathered report status text is_request is_answer document
     }
 
 -- the ending for which the program answers nothing
-unanswered : (asked : AskedText) (request : Request) (gathered : Gathered) (failure : Failure) (ending : Ending)
+unanswered : (asked : RequestedText) (request : Request) (gathered : Gathered) (failure : Failure) (ending : Ending)
     → IsRequestFor asked request → Fails request gathered failure → TellsFailure failure ending
     → IsEndingIn asked gathered ending
 unanswered asked request gathered (failures.Engines fault) (ends.NoEngines reason) is_request fails tells = tt
@@ -57,20 +57,20 @@ unanswered asked request gathered (failures.Refused report) (ends.Refused text) 
   request = request;
   is_request = is_request;
   report = report;
-  holds = (failure_told request gathered (failures.Refused report) 3 fails (inl refl)).refused refl;
+  holds = (failure_reported request gathered (failures.Refused report) 3 fails (inl refl)).refused refl;
   document = tells;
 }
 unanswered asked request gathered (failures.NoProfile report) (ends.NoProfile text) is_request fails tells = record {
   request = request;
   is_request = is_request;
   report = report;
-  holds = (failure_told request gathered (failures.NoProfile report) 4 fails (inl refl)).lacking refl;
+  holds = (failure_reported request gathered (failures.NoProfile report) 4 fails (inl refl)).lacking refl;
   document = tells;
 }
 unanswered asked request gathered failure ending is_request fails tells = absurd tells
 
 -- the ending that tells what the program answers
-ends_so : (asked : AskedText) (request : Request) (gathered : Gathered) (outcome : Result Answer Failure)
+ends_so : (asked : RequestedText) (request : Request) (gathered : Gathered) (outcome : Result Answer Failure)
     (ending : Ending) → IsRequestFor asked request
     → IfOk outcome (λ answer. IsAnswer request gathered answer.report answer.status)
     → IfErr outcome (Fails request gathered) → TellsOutcome outcome ending → IsEndingIn asked gathered ending
@@ -81,7 +81,7 @@ ends_so asked request gathered (Err failure) ending is_request is_answer fails t
     unanswered asked request gathered failure ending is_request fails tells
 
 -- what the program answers ends a run, where memory suffices to tell it
-pub ended : {E : Type 0} (asked : AskedText) (request : Request) (gathered : Gathered)
+pub ended : {E : Type 0} (asked : RequestedText) (request : Request) (gathered : Gathered)
     (outcome : Result Answer Failure) (told : Result Ending E) → IsRequestFor asked request
     → IfOk outcome (λ answer. IsAnswer request gathered answer.report answer.status)
     → IfErr outcome (Fails request gathered) → IfOk told (TellsOutcome outcome) → IfOk told (IsEndingIn asked gathered)
@@ -90,8 +90,8 @@ ended asked request gathered outcome (Ok ending) is_request is_answer fails tell
 ended asked request gathered outcome (Err want) is_request is_answer fails tells = tt
 
 -- what is asked of the files of a run ends as the run does
-pub ended_of : {E : Type 0} (run : RunText) (asked : AskedText) (gathered : Gathered) (told : Result Ending E)
-    → asked ≡ asked_of run → AreFilesOf run gathered → IfOk told (IsEndingIn asked gathered)
+pub ended_of : {E : Type 0} (run : RunText) (asked : RequestedText) (gathered : Gathered) (told : Result Ending E)
+    → asked ≡ requested_of run → AreFilesOf run gathered → IfOk told (IsEndingIn asked gathered)
     → IfOk told (IsEndingOf run)
 ended_of run asked gathered (Ok ending) same are_files is = record {
   gathered = gathered;
@@ -132,9 +132,9 @@ answer_in request old new needed status r (inr room) done =
     subst (IsAnswerTo request) (sym is) (answer_of request r.ending r.is_ending (sym told.0 ∙ done))
 
 -- what is told with status 0 answers the request
-pub told_answer : (request old new : List ℕ) (needed status : ℕ) → IsResolved request old new needed status
+pub reported_answer : (request old new : List ℕ) (needed status : ℕ) → IsResolved request old new needed status
     → status ≡ DONE → IsAnswerTo request (take needed new)
-told_answer request old new needed status r =
+reported_answer request old new needed status r =
     answer_in request old new needed status r (cases_lt (length old) (length (ending_text r.ending)))
 
 -- an ending with a status beside which nothing is told has no text
@@ -167,7 +167,7 @@ kept_in request old new needed status r (inr room) silent =
     told.1 ∙ ap (λ text. text ++ drop (length text) old) none
 
 -- where nothing is told, the buffer is as it was
-pub told_kept : (request old new : List ℕ) (needed status : ℕ) → IsResolved request old new needed status
+pub reported_kept : (request old new : List ℕ) (needed status : ℕ) → IsResolved request old new needed status
     → IsSilent status → new ≡ old
-told_kept request old new needed status r =
+reported_kept request old new needed status r =
     kept_in request old new needed status r (cases_lt (length old) (length (ending_text r.ending)))

@@ -5,8 +5,8 @@ use Rattle.nextest_elements.specs.declared.run_mode.NextestRunMode.{NextestRunMo
 use Rattle.nextest_rules.specs.KnownView.{features_view}
 use Rattle.nextest_settings.specs.Settings.{settings}
 use Rattle.rinqebo_files.specs.declared.files.Gathered.{Gathered}
-use Rattle.rinqebo_request.specs.declared.request.AskedSettings.{AskedSettings}
-use Rattle.rinqebo_request.specs.declared.request.AskedSettings.TheVariants.{Decided, These}
+use Rattle.rinqebo_request.specs.declared.request.RequestedSettings.{RequestedSettings}
+use Rattle.rinqebo_request.specs.declared.request.RequestedSettings.TheVariants.{Decided, These}
 use Rattle.rinqebo_request.specs.declared.request.EngineOptions.{EngineOptions}
 use Rattle.rinqebo_request.specs.declared.request.Question.{Question}
 use Rattle.rinqebo_request.specs.declared.request.Question.TheVariants as questions
@@ -18,7 +18,7 @@ use Rattle.rinqebo_forms.specs.declared.request.Switches.{Switches}
 use Rattle.rinqebo_resolve.specs.declared.asking.Asked.{Asked}
 
 -- What is asked of files: a profile and a mode, the triples of the machines, and features.
-pub record AskedText : Type 0 where
+pub record RequestedText : Type 0 where
   pub profile : List ℕ
   pub mode : NextestRunMode
   pub host : List ℕ
@@ -26,8 +26,8 @@ pub record AskedText : Type 0 where
   pub features : Switches
 
 -- what contracts see of what is asked
-abbrev pub asked_view : Asked → AskedText
-asked_view asked = record {
+abbrev pub requested_view : Asked → RequestedText
+requested_view asked = record {
   profile = string_bytes asked.profile;
   mode = asked.mode;
   host = string_bytes asked.host;
@@ -36,8 +36,8 @@ asked_view asked = record {
 }
 
 -- what a run asks of its files
-abbrev pub asked_of : RunText → AskedText
-asked_of run = record {
+abbrev pub requested_of : RunText → RequestedText
+requested_of run = record {
   profile = run.profile;
   mode = run.mode;
   host = run.load.host.triple;
@@ -46,12 +46,12 @@ asked_of run = record {
 }
 
 -- what is told of each test are all settings
-abbrev pub AreAll : AskedSettings → Type 0
+abbrev pub AreAll : RequestedSettings → Type 0
 AreAll Decided = ⊥
 AreAll (These asked) = asked.items ≡ settings
 
 -- a question asks for all settings of each test of a list, in a profile and a mode
-abbrev pub AsksForAll : AskedText → Question → Type 0
+abbrev pub AsksForAll : RequestedText → Question → Type 0
 AsksForAll asked (questions.Explain profile test shown) = ⊥
 AsksForAll asked (questions.Why profile test setting) = ⊥
 AsksForAll asked (questions.List profile mode list shown) =
@@ -60,13 +60,13 @@ AsksForAll asked (questions.ShowConfig profile keys with_hidden) = ⊥
 AsksForAll asked (questions.Check deny_warnings) = ⊥
 
 -- The languages know the triples that are asked for, and none of an environment.
-pub record AreEnginesFor (asked : AskedText) (engines : EngineOptions) : Type 0 where
+pub record AreEnginesFor (asked : RequestedText) (engines : EngineOptions) : Type 0 where
   pub host : option_map (λ host. host.now) engines.host ≡ Some asked.host
   pub target : option_map (λ target. target.now) engines.target ≡ asked.target
   pub build_target : engines.build_target ≡ None
 
 -- A request of the program asks for this.
-pub record IsRequestFor (asked : AskedText) (request : Request) : Type 0 where
+pub record IsRequestFor (asked : RequestedText) (request : Request) : Type 0 where
   pub question : AsksForAll asked request.question
   pub engines : AreEnginesFor asked request.engines
   pub features : (feature : ConfigExperimental)

@@ -14,12 +14,12 @@ use Rattle.rinqebo_load.specs.declared.failure.Failure.{Failure}
 use Rattle.rinqebo_load.specs.declared.failure.Failure.TheVariants as failures
 use Rattle.rinqebo_session.specs.declared.status.TheConstants.{DONE, REFUSED, SMALL, NOT_TEXT, MEMORY, NOT_UNDERSTOOD, NO_ENGINES, NO_PROFILE}
 use Rattle.rinqebo_forms.specs.Runs.{RunText, run_of}
-use Rattle.rinqebo_resolve.specs.Asking.{AskedText, AreFilesOf, IsRequestFor, asked_of}
+use Rattle.rinqebo_resolve.specs.Asking.{RequestedText, AreFilesOf, IsRequestFor, requested_of}
 use Rattle.rinqebo_resolve.specs.declared.ending.Ending.{Ending}
 use Rattle.rinqebo_resolve.specs.declared.ending.Ending.TheVariants as ends
 
 -- A text is the document of a report, in JSON, of which something holds for what is asked of files.
-pub record TellsOf (asked : AskedText) (gathered : Gathered)
+pub record TellsOf (asked : RequestedText) (gathered : Gathered)
     (Holds : Request → Gathered → Report → Type 0) (text : List ℕ) : Type 0 where
   pub request : Request
   pub is_request : IsRequestFor asked request
@@ -28,22 +28,22 @@ pub record TellsOf (asked : AskedText) (gathered : Gathered)
   pub document : text ≡ rendered report Json Plain
 
 -- a text is the document of the answer
-abbrev pub IsAnswerOf : AskedText → Gathered → List ℕ → Type 0
+abbrev pub IsAnswerOf : RequestedText → Gathered → List ℕ → Type 0
 IsAnswerOf asked gathered =
     TellsOf asked gathered (λ request files report. IsAnswer request files report 0)
 
 -- a text is a document beside files that are refused: some written rule does not hold of them
-abbrev pub IsRefusalOf : AskedText → Gathered → List ℕ → Type 0
+abbrev pub IsRefusalOf : RequestedText → Gathered → List ℕ → Type 0
 IsRefusalOf asked gathered =
     TellsOf asked gathered (λ request files report. AreRefusedFor request files)
 
 -- a text is a document beside files that are accepted and lack the profile
-abbrev pub TellsNoProfileOf : AskedText → Gathered → List ℕ → Type 0
+abbrev pub TellsNoProfileOf : RequestedText → Gathered → List ℕ → Type 0
 TellsNoProfileOf asked gathered =
     TellsOf asked gathered (λ request files report. LackProfileFor request files)
 
 -- how what is asked of files ends, want of memory aside
-abbrev pub IsEndingIn : AskedText → Gathered → Ending → Type 0
+abbrev pub IsEndingIn : RequestedText → Gathered → Ending → Type 0
 IsEndingIn asked gathered (ends.Answered text) = IsAnswerOf asked gathered (string_bytes text)
 IsEndingIn asked gathered (ends.Refused text) = IsRefusalOf asked gathered (string_bytes text)
 IsEndingIn asked gathered (ends.NoProfile text) =
@@ -57,7 +57,7 @@ IsEndingIn asked gathered ends.Memory = Unit {0}
 pub record IsEndingOf (run : RunText) (ending : Ending) : Type 0 where
   pub gathered : Gathered
   pub are_files : AreFilesOf run gathered
-  pub is_ending : IsEndingIn (asked_of run) gathered ending
+  pub is_ending : IsEndingIn (requested_of run) gathered ending
 
 -- an ending tells why the program answers nothing: the report of the refusal, or of the profile that
 -- is missing, in JSON
@@ -115,7 +115,7 @@ ending_text ends.Memory = []
 -- An ending is told: where the buffer has room for its text, that stands at the buffer's start, what
 -- was behind it stays, and its number is answered; else the buffer is left as it was. The length of
 -- the text is told either way.
-pub record IsTold (ending : Ending) (old new : List ℕ) (needed status : ℕ) : Type 0 where
+pub record IsReported (ending : Ending) (old new : List ℕ) (needed status : ℕ) : Type 0 where
   pub told : needed ≡ length (ending_text ending)
   pub written : length (ending_text ending) ≤ length old
       → (status ≡ ending_status ending)
@@ -126,7 +126,7 @@ pub record IsTold (ending : Ending) (old new : List ℕ) (needed status : ℕ) :
 pub record IsResolved (request old new : List ℕ) (needed status : ℕ) : Type 0 where
   pub ending : Ending
   pub is_ending : IsEndingFor request ending
-  pub is_told : IsTold ending old new needed status
+  pub is_told : IsReported ending old new needed status
 
 -- A text is the answer to the bytes of a request: they are understood, and it is the document of the answer
 -- over the files that they say.
@@ -135,7 +135,7 @@ pub record IsAnswerTo (request text : List ℕ) : Type 0 where
   pub reads : run_of request ≡ Some run
   pub gathered : Gathered
   pub are_files : AreFilesOf run gathered
-  pub is_answer : IsAnswerOf (asked_of run) gathered text
+  pub is_answer : IsAnswerOf (requested_of run) gathered text
 
 -- a status beside which nothing is told
 abbrev pub IsSilent : ℕ → Type 0

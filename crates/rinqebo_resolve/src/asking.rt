@@ -3,17 +3,17 @@ ghost use Rattle.std.specs.Prelude.{◌≡◌, IfOk, option_and_then, option_map
 ghost use Rattle.nextest_settings.specs.Settings.{settings};
 ghost use Rattle.rinqebo_forms.specs.Requests.{machine_view};
 ghost use Rattle.rinqebo_forms.specs.Runs.{run_view};
-ghost use Rattle.rinqebo_resolve.specs.Asking.{AreEnginesFor, AreFilesOf, AsksForAll, IsRequestFor, asked_of, asked_view};
+ghost use Rattle.rinqebo_resolve.specs.Asking.{AreEnginesFor, AreFilesOf, AsksForAll, IsRequestFor, requested_of, requested_view};
 
 use nextest_config::{NextestRunMode, Setting};
 use rinqebo_files::Gathered;
+use rinqebo_forms::{LoadRequest, Machine, RunRequest, Switches};
 use rinqebo_report::{Colour, Format};
 use rinqebo_request::{
-    AskedSettings, ConfigFile, EngineOptions, FileOptions, ListFile, ProfileSource, Question,
-    Request,
+    ConfigFile, EngineOptions, FileOptions, ListFile, ProfileSource, Question, Request,
+    RequestedSettings,
 };
 use rinqebo_session::features_of;
-use rinqebo_forms::{LoadRequest, Machine, RunRequest, Switches};
 use std::alloc::{AllocError, Global};
 
 /// What messages call the list of tests: the member of a request that has it.
@@ -58,19 +58,19 @@ fn text_of(text: &Option<String>) -> Option<&str>
 impl Asked {
     /// The question: all settings of each test of the list.
     fn question(&self, alloc: Global) -> Result<Question<'_>, AllocError>
-        ensures { IfOk result (AsksForAll (asked_view self.now)) }
+        ensures { IfOk result (AsksForAll (requested_view self.now)) }
     {
         Ok(Question::List {
             profile: self.profile.as_str(),
             mode: self.mode,
             list: ListFile::Named(LIST),
-            asked: AskedSettings::These(all_settings(alloc)?),
+            asked: RequestedSettings::These(all_settings(alloc)?),
         })
     }
 
     /// What the languages of filters and platforms know.
     fn engines(&self) -> EngineOptions<'_>
-        ensures { AreEnginesFor (asked_view self.now) result }
+        ensures { AreEnginesFor (requested_view self.now) result }
     {
         EngineOptions {
             host: Some(self.host.as_str()),
@@ -84,7 +84,7 @@ impl Asked {
 
     /// The request of the program, for a document of JSON.
     pub fn request(&self, alloc: Global) -> Result<Request<'_>, AllocError>
-        ensures { IfOk result (IsRequestFor (asked_view self.now)) }
+        ensures { IfOk result (IsRequestFor (requested_view self.now)) }
     {
         Ok(Request {
             question: self.question(alloc)?,
@@ -119,7 +119,7 @@ fn target_parts(target: Option<Machine>) -> (Option<String>, Option<String>)
 
 /// Parts what a run is asked from the files that it has.
 pub fn parted(run: RunRequest) -> (Asked, Gathered)
-    ensures asked { asked_view result.0 ≡ asked_of (run_view run) }
+    ensures asked { requested_view result.0 ≡ requested_of (run_view run) }
     ensures files { AreFilesOf (run_view run) result.1 }
 {
     let RunRequest {

@@ -1,6 +1,6 @@
 //! How a run ends.
 ghost use Rattle.std.specs.Prelude.{◌≡◌};
-ghost use Rattle.rinqebo_resolve.specs.Endings.{IsTold, ending_status, ending_text};
+ghost use Rattle.rinqebo_resolve.specs.Endings.{IsReported, ending_status, ending_text};
 
 use rinqebo_session::copy_out;
 use rinqebo_session::status::{
@@ -59,7 +59,7 @@ impl Ending {
     /// Writes what it tells at the start of a buffer, and answers its number; or answers that the
     /// buffer is too small.
     pub fn tell(&self, out: &mut [u8], needed: &mut usize) -> u32
-        ensures { IsTold self.now out.old out.new needed.new result }
+        ensures { IsReported self.now out.old out.new needed.new result }
     {
         if copy_out(self.text().as_bytes(), out, needed) == SMALL {
             return SMALL;

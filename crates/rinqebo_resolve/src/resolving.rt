@@ -5,17 +5,17 @@ ghost use Rattle.rinqebo_report.specs.Rendered.{rendered};
 ghost use Rattle.rinqebo_report.specs.declared.format.Format.TheVariants.{Json};
 ghost use Rattle.rinqebo_report.specs.declared.piece.Colour.TheVariants.{Plain};
 ghost use Rattle.rinqebo_session.specs.declared.status.TheConstants.{DONE};
-ghost use Rattle.rinqebo_resolve.specs.Asking.{asked_view};
+ghost use Rattle.rinqebo_resolve.specs.Asking.{requested_view};
 ghost use Rattle.rinqebo_resolve.specs.Endings.{IsAnswerTo, IsSilent, IsEndingFor, IsEndingIn, IsEndingOf, IsResolved, TellsFailure, TellsOutcome};
 
 use crate::asking::{Asked, LIST, parted};
 use crate::ending::Ending;
 use rinqebo_files::Gathered;
-use rinqebo_rules::Untold;
+use rinqebo_forms::{RequestFault, RunRequest};
 use rinqebo_load::{Failure, InputFault};
 use rinqebo_report::{Colour, Format, Report, render};
+use rinqebo_rules::NoProgress;
 use rinqebo_run::{Answer, answer_of};
-use rinqebo_forms::{RequestFault, RunRequest};
 use std::alloc::{AllocError, Global};
 
 /// The document of a report.
@@ -63,10 +63,10 @@ fn ended(alloc: Global, outcome: &Result<Answer, Failure>) -> Result<Ending, All
 
 /// How what is asked of files ends.
 fn ending_in(alloc: Global, asked: &Asked, gathered: &Gathered) -> Result<Ending, AllocError>
-    ensures { IfOk result (IsEndingIn (asked_view asked.now) gathered.now) }
+    ensures { IfOk result (IsEndingIn (requested_view asked.now) gathered.now) }
 {
     let request = asked.request(alloc)?;
-    let outcome = answer_of(alloc, &request, gathered, &mut Untold);
+    let outcome = answer_of(alloc, &request, gathered, &mut NoProgress);
     ended(alloc, &outcome)
 }
 

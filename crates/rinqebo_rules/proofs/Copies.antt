@@ -22,11 +22,11 @@ module _ (layers : List Layer) where
       → IsCopyOf (kinds.Written from) (kinds.Written copy) → IsWrittenAt layers at profile part rest from
       → IsWrittenAt layers at profile part rest copy
   written_copy at profile part rest from copy same is = record {
-    profile_told = same.1.0 ∙ is.profile_told;
-    part_told = same.1.1 ∙ is.part_told;
+    profile_reported = same.1 ∙ is.profile_reported;
+    part_reported = same.2 ∙ is.part_reported;
     path = is.path;
     spelled = is.spelled;
-    place_told = subst (IsPathPlace layers at is.path) (sym same.0) is.place_told;
+    place_reported = subst (IsPathPlace layers at is.path) (sym same.0) is.place_reported;
   }
 
   -- a copy of the origin of a rule
@@ -131,10 +131,10 @@ known_at basis known place table name same_place same_table same_name is =
     known.origins.items) same_place is))
 
 -- copies that were made tell where a value comes from as the origins do
-pub copies_told : (r : Result (Vec Origin Global) AllocError) (basis : Basis) (place : Option Place)
+pub copies_reported : (r : Result (Vec Origin Global) AllocError) (basis : Basis) (place : Option Place)
     (table : Option (List ℕ)) (name : List ℕ) (origins : List Origin)
     → IfOk r (λ copies. AllZip IsCopyOf origins copies.items) → AreOriginsAt basis place table name origins
     → IfOk r (λ copies. AreOriginsAt basis place table name copies.items)
-copies_told (Ok copies) basis place table name origins same are =
+copies_reported (Ok copies) basis place table name origins same are =
     copies_at basis place table name origins copies.items same are
-copies_told (Err error) basis place table name origins same are = tt
+copies_reported (Err error) basis place table name origins same are = tt

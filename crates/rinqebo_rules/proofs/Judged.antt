@@ -9,8 +9,8 @@ use Rattle.nextest_settings.specs.Deciding.{filter_holds, rule_holds}
 use Rattle.nextest_settings.specs.Platforms.{EvaluatedRule, is_on, runs_on}
 use Rattle.nextest_settings.specs.View.{evaluated_meaning}
 use Rattle.platform_language.specs.declared.expression.TargetSpec.{TargetSpec}
-use Rattle.rinqebo_rules.specs.Conditions.{told_condition, told_by_facts, is_met_by, asked_if}
-use Rattle.rinqebo_rules.specs.RuleAnswers.{Judged, asked_query, judged}
+use Rattle.rinqebo_rules.specs.Conditions.{reported_condition, reported_by_facts, is_met_by, requested_if}
+use Rattle.rinqebo_rules.specs.RuleAnswers.{Judged, requested_query, judged}
 use Rattle.rinqebo_rules.specs.SettingRules.{RuleValue, for_setting, on_setting}
 use Rattle.rinqebo_rules.specs.declared.conditions.Asking.{Asking}
 
@@ -29,16 +29,16 @@ holds_meant f h matches platform rule =
     ap (λ b. is_on rule platform && b) (filter_meant f matches rule.filter)
 
 -- what is known of a rule tells what its filter says
-filter_told : {M : Type 0} (matches : M → Bool) (on : Bool) (filter : Option M)
-    → told_by_facts (is_some filter) (record {
+filter_reported : {M : Type 0} (matches : M → Bool) (on : Bool) (filter : Option M)
+    → reported_by_facts (is_some filter) (record {
       is_on = on;
       holds = on && filter_holds matches filter;
       writes = true;
     })
-    ≡ asked_if on (told_condition (λ m. Some (matches m)) filter)
-filter_told matches false filter = refl
-filter_told matches true None = refl
-filter_told matches true (Some m) = refl
+    ≡ requested_if on (reported_condition (λ m. Some (matches m)) filter)
+filter_reported matches false filter = refl
+filter_reported matches true None = refl
+filter_reported matches true (Some m) = refl
 
 module _ {W : Type 0} (asking : Asking) (writes : W → RuleValue)
     (rule : Compiled (Filterset FieldMatcher) TargetSpec W)
@@ -46,24 +46,24 @@ module _ {W : Type 0} (asking : Asking) (writes : W → RuleValue)
   -- what is found out of a rule, part by part
   pub rule_judged : on.filter ≡ rule.filter → on.writes ≡ rule.writes
       → held.writes ≡ writes rule.writes
-      → held.facts.is_on ≡ is_on on (asked_query asking).platform
-      → held.facts.holds ≡ rule_holds (asked_query asking) on
+      → held.facts.is_on ≡ is_on on (requested_query asking).platform
+      → held.facts.holds ≡ rule_holds (requested_query asking) on
       → held.facts.writes ≡ is_some held.writes.value
-      → held.answers.host ≡ told_condition (λ s. is_met_by s asking.platforms.now.host) rule.host
+      → held.answers.host ≡ reported_condition (λ s. is_met_by s asking.platforms.now.host) rule.host
       → held.answers.target
-      ≡ told_condition (λ s. is_met_by s (runs_on asking.platforms.now (asked_query asking).platform)) rule.target
-      → held.answers.filter ≡ told_by_facts (is_some rule.filter) held.facts
+      ≡ reported_condition (λ s. is_met_by s (runs_on asking.platforms.now (requested_query asking).platform)) rule.target
+      → held.answers.filter ≡ reported_by_facts (is_some rule.filter) held.facts
       → held ≡ judged asking (for_setting writes rule) (on_setting writes on)
   rule_judged same_filter same_writes written on_there holds there host target filter =
       let writes_there : held.facts.writes ≡ is_some (writes on.writes).value =
       there ∙ ap (λ w. is_some w.value) written ∙ ap (λ w. is_some (writes w).value) (sym same_writes) in
-      let told = filter ∙ (λ i. told_by_facts (is_some (sym same_filter i)) (record {
+      let told = filter ∙ (λ i. reported_by_facts (is_some (sym same_filter i)) (record {
         is_on = on_there i;
         holds = holds i;
         writes = true;
-      })) ∙ filter_told (asked_query asking).matches (is_on on (asked_query asking).platform) on.filter
-      ∙ ap (λ o. asked_if (is_on on (asked_query asking).platform)
-      (told_condition (λ m. Some ((asked_query asking).matches m)) o)) same_filter in
+      })) ∙ filter_reported (requested_query asking).matches (is_on on (requested_query asking).platform) on.filter
+      ∙ ap (λ o. requested_if (is_on on (requested_query asking).platform)
+      (reported_condition (λ m. Some ((requested_query asking).matches m)) o)) same_filter in
       λ i. record {
         writes = written i;
         facts = record { is_on = on_there i; holds = holds i; writes = writes_there i };

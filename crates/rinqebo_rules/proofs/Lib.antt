@@ -4,7 +4,7 @@ mod ProfileOrigins
 pub mod Finding
 pub mod VerdictsOf
 pub mod Judged
-pub mod ToldOf
+pub mod ReportedOf
 pub mod Items
 pub mod Copies
 pub mod Listing

@@ -44,12 +44,12 @@ pub some_of : {X : Type 0} (v : Vec X Global) {b : Bool} → b ≡ (vec_len v ==
 some_of v empty is none = false≢true (sym is ∙ empty ∙ eq-eqb (vec_len v) 0 (v.ok.0 ∙ ap length none))
 
 -- what a profile of the chain writes is told by the layers that show it
-pub told_by : (layers : List Layer) (chain : List Name) (table : Option (List ℕ)) (name : List ℕ)
+pub reported_by : (layers : List Layer) (chain : List Name) (table : Option (List ℕ)) (name : List ℕ)
     (grounds : Grounds) (near : AreNearestGrounds (trees_of layers) chain (key_path table name) grounds)
     (profile : Name) (origins : List Origin) → profile ≡ near.name
     → AllZip (IsLayerOrigin layers profile table name) grounds.layers.items origins
     → AreWrittenOrigins layers chain table name origins
-told_by layers chain table name grounds near profile origins same told = record {
+reported_by layers chain table name grounds near profile origins same told = record {
   nearer = near.nearer;
   profile = near.name;
   farther = near.farther;
@@ -62,8 +62,8 @@ told_by layers chain table name grounds near profile origins same told = record 
 }
 
 -- some layers are told by some origins
-pub some_told : {A B : Type 0} (R : A → B → Type 0) (xs : List A) (ys : List B) → xs ≢ [] → AllZip R xs ys
+pub some_reported : {A B : Type 0} (R : A → B → Type 0) (xs : List A) (ys : List B) → xs ≢ [] → AllZip R xs ys
     → ys ≢ []
-some_told R [] ys some told = absurd (some refl)
-some_told R (x ∷ xs) [] some told = absurd told
-some_told R (x ∷ xs) (y ∷ ys) some told = λ none. cc
+some_reported R [] ys some told = absurd (some refl)
+some_reported R (x ∷ xs) [] some told = absurd told
+some_reported R (x ∷ xs) (y ∷ ys) some told = λ none. cc

@@ -12,8 +12,8 @@ use Rattle.nextest_settings.specs.SourceView.{setting_source_view, MarksOrigin}
 use Rattle.nextest_settings.specs.declared.setting.Setting.{Setting}
 use Rattle.nextest_settings.specs.declared.source.SettingSource.{SettingSource}
 use Rattle.rinqebo_rules.specs.TestOrigins.{Basis}
-use Rattle.rinqebo_rules.specs.Settings.{IsSettingTold, told_settings}
-use Rattle.rinqebo_request.specs.declared.request.AskedSettings.{AskedSettings}
+use Rattle.rinqebo_rules.specs.Settings.{IsSettingReported, reported_settings}
+use Rattle.rinqebo_request.specs.declared.request.RequestedSettings.{RequestedSettings}
 use Rattle.rinqebo_report.specs.declared.report.SettingRow.{SettingRow}
 
 -- one more of each of two lists
@@ -24,6 +24,13 @@ zip_more R xs i x d below same now new y before is more =
     let taken : take (i + 1) xs ≡ take i xs ++ x ∷ [] = take_more xs i d below
     ∙ ap (λ z. take i xs ++ z ∷ []) (sym same) in
     rw (taken, more) (all_zipped_more R (take i xs) now x y before is)
+
+-- one more of each of two lists, by what is the same as before
+pub zip_more_by : {A B X : Type 0} (R : X → A → B → Type 0) (before now : X) → now ≡ before → (xs : List A) (i : ℕ)
+    (x d : A) → i < length xs → x ≡ get_or xs i d → (rows new : List B) (y : B) → AllZip (R before) (take i xs) rows
+    → R now x y → new ≡ rows ++ y ∷ [] → AllZip (R before) (take (i + 1) xs) new
+zip_more_by R before now kept xs i x d below same rows new y told is more =
+    zip_more (R before) xs i x d below same rows new y told (subst (λ b. R b x y) kept is) more
 
 kept_front : {X : Type 0} (b : Bool) (y : X) (all front last : List X) → all ≡ front ++ last
     → cond b (y ∷ all) all ≡ cond b (y ∷ front) front ++ last
@@ -58,17 +65,17 @@ filter_same p xs i x d below same now before fails =
     ∙ sym (filter-one p (take i xs) x) ∙ ap (filter p) (sym taken)
 
 -- rows tell the settings by whatever says the same of each
-pub told_alike : (basis : Basis) (one other : Option RuleId) (v w : (s : Setting) → Option (ValueOf s))
-    (o p : Setting → Option Origin) (mode : NextestRunMode) (asked : AskedSettings) (rows : List SettingRow)
+pub reported_alike : (basis : Basis) (one other : Option RuleId) (v w : (s : Setting) → Option (ValueOf s))
+    (o p : Setting → Option Origin) (mode : NextestRunMode) (asked : RequestedSettings) (rows : List SettingRow)
     → one ≡ other → ((s : Setting) → v s ≡ w s) → ((s : Setting) → o s ≡ p s)
-    → AllZip (IsSettingTold basis one v o mode) (told_settings asked o) rows
-    → AllZip (IsSettingTold basis other w p mode) (told_settings asked p) rows
-told_alike basis one other v w o p mode asked rows wrapping values origins told =
+    → AllZip (IsSettingReported basis one v o mode) (reported_settings asked o) rows
+    → AllZip (IsSettingReported basis other w p mode) (reported_settings asked p) rows
+reported_alike basis one other v w o p mode asked rows wrapping values origins told =
     let same_values : v ≡ w = λ i s. values s i in
     let same_origins : o ≡ p = λ i s. origins s i in
-    subst (λ v. AllZip (IsSettingTold basis other v p mode) (told_settings asked p) rows) same_values
-    (subst (λ o. AllZip (IsSettingTold basis other v o mode) (told_settings asked o) rows) same_origins
-    (subst (λ id. AllZip (IsSettingTold basis id v o mode) (told_settings asked o) rows) wrapping told))
+    subst (λ v. AllZip (IsSettingReported basis other v p mode) (reported_settings asked p) rows) same_values
+    (subst (λ o. AllZip (IsSettingReported basis other v o mode) (reported_settings asked o) rows) same_origins
+    (subst (λ id. AllZip (IsSettingReported basis id v o mode) (reported_settings asked o) rows) wrapping told))
 
 -- the id of what a rule writes is that of the rule
 pub wrapping_alike : {M : Type 0} (uses : Option ScriptRuleUse) (rule : Option (EvaluatedRule M ScriptRuleUse))

@@ -21,15 +21,15 @@ use Rattle.platform_table.specs.declared.Platform.{Platform}
 use Rattle.rinqebo_rules.specs.declared.verdict.RuleFacts.{RuleFacts}
 
 -- an answer that may be unknown, as it is told
-abbrev pub told_answer : Option Bool → ConditionAnswer
-told_answer (Some true) = says.Yes
-told_answer (Some false) = says.No
-told_answer None = says.Unknown
+abbrev pub reported_answer : Option Bool → ConditionAnswer
+reported_answer (Some true) = says.Yes
+reported_answer (Some false) = says.No
+reported_answer None = says.Unknown
 
 -- the answer of a condition that may be absent, as it is told
-abbrev pub told_condition : {X : Type 0} → (X → Option Bool) → Option X → ConditionAnswer
-told_condition answer None = says.Absent
-told_condition answer (Some condition) = told_answer (answer condition)
+abbrev pub reported_condition : {X : Type 0} → (X → Option Bool) → Option X → ConditionAnswer
+reported_condition answer None = says.Absent
+reported_condition answer (Some condition) = reported_answer (answer condition)
 
 -- whether a spec that was read is met by a platform, or none where that is unknown
 abbrev pub is_met_by : TargetSpec → Platform → Option Bool
@@ -41,14 +41,14 @@ filter_matches filter test default =
     filter_holds (marks_view names_of filter) test (marks_view names_of default)
 
 -- A filter is asked where the platforms hold.
-abbrev pub asked_if : Bool → ConditionAnswer → ConditionAnswer
-asked_if true answer = answer
-asked_if false answer = says.Unasked
+abbrev pub requested_if : Bool → ConditionAnswer → ConditionAnswer
+requested_if true answer = answer
+requested_if false answer = says.Unrequested
 
 -- What the filter of a rule says, by whether the rule has one and by what is known of it.
-abbrev pub told_by_facts : Bool → RuleFacts → ConditionAnswer
-told_by_facts has_filter facts =
-    asked_if facts.is_on (if has_filter then told_answer (Some facts.holds) else says.Absent)
+abbrev pub reported_by_facts : Bool → RuleFacts → ConditionAnswer
+reported_by_facts has_filter facts =
+    requested_if facts.is_on (if has_filter then reported_answer (Some facts.holds) else says.Absent)
 
 -- The default filter that counts for profiles of these names, on the platforms of a build.
 abbrev pub default_filter_here : BuildPlatforms Platform

@@ -41,11 +41,11 @@ key_steps (Some table) name = key table ∷ key name ∷ []
 -- profile it is, and the place of its path in the layer at a position.
 pub record IsWrittenAt (layers : List Layer) (at : ℕ) (profile : Name) (part : Part)
     (rest : List PathStep) (written : Written) : Type 0 where
-  pub profile_told : string_bytes written.profile ≡ profile
-  pub part_told : written.part ≡ part
+  pub profile_reported : string_bytes written.profile ≡ profile
+  pub part_reported : written.part ≡ part
   pub path : List Step
   pub spelled : map step_view path ≡ profile_steps profile part ++ rest
-  pub place_told : IsPathPlace layers at path written.place
+  pub place_reported : IsPathPlace layers at path written.place
 
 -- What stands at some steps from a rule is told to be written in the file of the rule's source.
 pub record IsWrittenInFile (layers : List Layer) (place : Place) (rest : List PathStep)

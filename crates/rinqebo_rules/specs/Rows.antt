@@ -8,30 +8,31 @@ use Rattle.nextest_settings.specs.Profile.{EvaluatableModel}
 use Rattle.nextest_settings.specs.Queries.{query_in, setting_origin, setting_value}
 use Rattle.nextest_settings.specs.declared.setting.Setting.{Setting}
 use Rattle.rinqebo_rules.specs.TestOrigins.{Basis, wrapping_id}
-use Rattle.rinqebo_rules.specs.Settings.{IsSettingTold, told_settings}
-use Rattle.rinqebo_request.specs.declared.request.AskedSettings.{AskedSettings}
+use Rattle.rinqebo_rules.specs.Settings.{IsSettingReported, reported_settings}
+use Rattle.rinqebo_request.specs.declared.request.RequestedSettings.{RequestedSettings}
 use Rattle.rinqebo_report.specs.declared.report.SettingRow.{SettingRow}
 use Rattle.rinqebo_report.specs.declared.report.TestRows.{TestRows}
 
 -- Settings of a test are told in their order, each with the value that the profile gives it, and with
 -- where that comes from.
-abbrev pub AreSettingsTold : {M : Type 0} → Basis → QueryContext M → NextestRunMode
+abbrev pub AreSettingsReported : {M : Type 0} → Basis → QueryContext M → NextestRunMode
     → EvaluatableModel M → List Setting → List SettingRow → Type 0
-AreSettingsTold basis query mode profile = AllZip
-    (IsSettingTold basis (wrapping_id query profile) (setting_value query mode profile)
+AreSettingsReported basis query mode profile = AllZip
+    (IsSettingReported basis (wrapping_id query profile) (setting_value query mode profile)
     (setting_origin query mode profile) mode)
 
 -- A test is told: its binary, its name, and the settings that rules decide, or that are asked for.
-pub record IsTestTold {M : Type 0} (basis : Basis) (query : QueryContext M) (mode : NextestRunMode)
-    (profile : EvaluatableModel M) (asked : AskedSettings) (test : Test) (told : TestRows) : Type 0
+pub record IsTestReported {M : Type 0} (basis : Basis) (query : QueryContext M)
+    (mode : NextestRunMode) (profile : EvaluatableModel M) (asked : RequestedSettings) (test : Test)
+    (told : TestRows) : Type 0
   where
     pub binary : string_bytes told.binary ≡ test.binary.binary_id
     pub name : string_bytes told.name ≡ test.name
-    pub settings_told : AreSettingsTold basis query mode profile
-        (told_settings asked (setting_origin query mode profile)) told.settings.items
+    pub settings_reported : AreSettingsReported basis query mode profile
+        (reported_settings asked (setting_origin query mode profile)) told.settings.items
 
 -- tests are told in their order, each as a profile gives it settings
-abbrev pub AreTestsTold : {M : Type 0} → Basis → (M → Test → M → Bool) → NextestRunMode
-    → EvaluatableModel M → AskedSettings → List Test → List TestRows → Type 0
-AreTestsTold basis matches mode profile asked = AllZip
-    (λ test. IsTestTold basis (query_in matches profile test) mode profile asked test)
+abbrev pub AreTestsReported : {M : Type 0} → Basis → (M → Test → M → Bool) → NextestRunMode
+    → EvaluatableModel M → RequestedSettings → List Test → List TestRows → Type 0
+AreTestsReported basis matches mode profile asked = AllZip
+    (λ test. IsTestReported basis (query_in matches profile test) mode profile asked test)

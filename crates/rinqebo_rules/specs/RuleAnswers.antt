@@ -12,7 +12,7 @@ use Rattle.platform_language.specs.declared.expression.TargetSpec.{TargetSpec}
 use Rattle.rinqebo_rules.specs.declared.conditions.Answers.{Answers}
 use Rattle.rinqebo_rules.specs.declared.conditions.Asking.{Asking}
 use Rattle.rinqebo_rules.specs.declared.verdict.RuleFacts.{RuleFacts}
-use Rattle.rinqebo_rules.specs.Conditions.{told_condition, is_met_by, filter_matches, asked_if}
+use Rattle.rinqebo_rules.specs.Conditions.{reported_condition, is_met_by, filter_matches, requested_if}
 use Rattle.rinqebo_rules.specs.SettingRules.{RuleFor, RuleValue, writes_it}
 use Rattle.rinqebo_rules.specs.Verdicts.{facts_of}
 
@@ -21,10 +21,10 @@ use Rattle.rinqebo_rules.specs.Verdicts.{facts_of}
 abbrev pub answers_on : {M K P W : Type 0} → (K → P → Option Bool) → BuildPlatforms P
     → QueryContext M → Compiled M K W → EvaluatedRule M W → Answers
 answers_on meets platforms query rule on = record {
-  host = told_condition (λ spec. meets spec platforms.host) rule.host;
-  target = told_condition (λ spec. meets spec (runs_on platforms query.platform)) rule.target;
-  filter = asked_if (is_on on query.platform)
-      (told_condition (λ filter. Some (query.matches filter)) rule.filter);
+  host = reported_condition (λ spec. meets spec platforms.host) rule.host;
+  target = reported_condition (λ spec. meets spec (runs_on platforms query.platform)) rule.target;
+  filter = requested_if (is_on on query.platform)
+      (reported_condition (λ filter. Some (query.matches filter)) rule.filter);
 }
 
 -- what the conditions of a rule say
@@ -34,8 +34,8 @@ answers_by meets platforms query rule =
     answers_on meets platforms query rule (rule_on meets platforms rule)
 
 -- the test that is asked about, as rules are judged for it
-abbrev pub asked_query : Asking → QueryContext (Filterset FieldMatcher)
-asked_query asking =
+abbrev pub requested_query : Asking → QueryContext (Filterset FieldMatcher)
+requested_query asking =
     test_query filter_matches asking.default_filter.now (test_view asking.query.now)
 
 -- What is found out of a rule that may write a setting: its place and what it writes, what is known
@@ -50,8 +50,8 @@ abbrev pub judged : Asking → RuleFor (Filterset FieldMatcher) TargetSpec
     → EvaluatedRule (Filterset FieldMatcher) RuleValue → Judged
 judged asking rule on = record {
   writes = rule.writes;
-  facts = facts_of (asked_query asking) writes_it on;
-  answers = answers_on is_met_by asking.platforms.now (asked_query asking) rule on;
+  facts = facts_of (requested_query asking) writes_it on;
+  answers = answers_on is_met_by asking.platforms.now (requested_query asking) rule on;
 }
 
 -- what is found out of a rule on the platforms of the build that is asked about

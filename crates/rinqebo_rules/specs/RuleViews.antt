@@ -15,7 +15,7 @@ use Rattle.platform_language.specs.declared.expression.TargetSpec.{TargetSpec}
 use Rattle.rinqebo_rules.specs.RuleAnswers.{Judged, judged}
 use Rattle.rinqebo_rules.specs.RulePlaces.{place_view}
 use Rattle.rinqebo_rules.specs.SettingRules.{RuleFor, for_setting, on_setting, override_writes, wrapper_written}
-use Rattle.rinqebo_rules.specs.SettingValues.{told_value}
+use Rattle.rinqebo_rules.specs.SettingValues.{reported_value}
 use Rattle.rinqebo_rules.specs.declared.chain_rules.SettingRule.{SettingRule}
 use Rattle.rinqebo_rules.specs.declared.conditions.Asking.{Asking}
 
@@ -34,7 +34,7 @@ ReadScriptRule = Compiled (Filterset FieldMatcher) TargetSpec ScriptRuleUse
 -- a rule as code holds it
 abbrev pub setting_rule_view : SettingRule → Judged
 setting_rule_view rule = record {
-  writes = record { place = place_view rule.place; value = option_map told_value rule.value };
+  writes = record { place = place_view rule.place; value = option_map reported_value rule.value };
   facts = rule.facts;
   answers = rule.answers;
 }

@@ -33,9 +33,9 @@ wrapper_view wrapper = (string_bytes wrapper.binary, string_bytes wrapper.value)
 -- Scripts are told as a profile gives them to tests and binaries: the setup scripts that the tests
 -- enable, in the order in which they run, and the list wrapper of each binary that has one, in the
 -- order of the binaries.
-pub record AreScriptsTold {M : Type 0} (matches : M → Test → M → Bool)
+pub record AreScriptsReported {M : Type 0} (matches : M → Test → M → Bool)
     (matches_binary : BinaryMatch M) (profile : EvaluatableModel M) (tests : List Test)
     (binaries : List Binary) (told : ListScripts) : Type 0 where
-  pub setup_told : map string_bytes told.setup.items ≡ enabled_ids matches profile tests
-  pub wrappers_told : map wrapper_view told.list_wrappers.items
+  pub setup_reported : map string_bytes told.setup.items ≡ enabled_ids matches profile tests
+  pub wrappers_reported : map wrapper_view told.list_wrappers.items
       ≡ filter_map (wrapper_at matches_binary profile) binaries

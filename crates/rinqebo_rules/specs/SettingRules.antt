@@ -6,13 +6,13 @@ use Rattle.nextest_settings.specs.Platforms.{EvaluatedRule}
 use Rattle.nextest_settings.specs.Settings.{sets}
 use Rattle.nextest_settings.specs.declared.setting.Setting.{Setting}
 use Rattle.nextest_settings.specs.declared.setting.Setting.TheVariants as at
-use Rattle.rinqebo_rules.specs.Told.{ToldValue, told_of}
+use Rattle.rinqebo_rules.specs.Told.{ReportedValue, reported_of}
 use Rattle.rinqebo_rules.specs.RulePlaces.{Place, id_place, script_place}
 
 -- the place of a rule, and what it writes for a setting as it is reported, if it writes it
 pub record RuleValue : Type 0 where
   pub place : Place
-  pub value : Option ToldValue
+  pub value : Option ReportedValue
 
 -- whether a rule writes the setting
 abbrev pub writes_it : RuleValue → Bool
@@ -45,14 +45,14 @@ on_setting writes rule = record {
 abbrev pub override_writes : {M : Type 0} → Setting → NextestRunMode → OverrideUse M → RuleValue
 override_writes s mode written = record {
   place = id_place written.id;
-  value = option_map (told_of s) (sets written.settings mode s);
+  value = option_map (reported_of s) (sets written.settings mode s);
 }
 
 -- the run wrapper that a script rule names
 abbrev pub wrapper_written : ScriptRuleUse → RuleValue
 wrapper_written written = record {
   place = script_place written.id;
-  value = option_map (told_of at.RunWrapper) written.scripts.run_wrapper;
+  value = option_map (reported_of at.RunWrapper) written.scripts.run_wrapper;
 }
 
 -- Whether script rules write a setting. They name run wrappers.

@@ -6,11 +6,11 @@ use Rattle.nextest_settings.specs.Queries.{Origin, unwritten, by_profile, by_ove
 use Rattle.nextest_settings.specs.Settings.{ValueOf, settings}
 use Rattle.nextest_settings.specs.declared.setting.Setting.{Setting}
 use Rattle.rinqebo_rules.specs.TestOrigins.{Basis, AreOriginsBy}
-use Rattle.rinqebo_request.specs.declared.request.AskedSettings.{AskedSettings}
-use Rattle.rinqebo_request.specs.declared.request.AskedSettings.TheVariants as asks
+use Rattle.rinqebo_request.specs.declared.request.RequestedSettings.{RequestedSettings}
+use Rattle.rinqebo_request.specs.declared.request.RequestedSettings.TheVariants as asks
 use Rattle.rinqebo_report.specs.declared.report.SettingRow.{SettingRow}
 use Rattle.rinqebo_request.specs.Keys.{key_name, key_table, key_text}
-use Rattle.rinqebo_rules.specs.Told.{told_of, value_view}
+use Rattle.rinqebo_rules.specs.Told.{reported_of, value_view}
 
 -- whether a rule decides a setting
 abbrev pub is_by_rule : Option Origin → Bool
@@ -21,16 +21,16 @@ is_by_rule (Some (by_override id)) = true
 is_by_rule (Some by_script) = true
 
 -- the settings that are told: those that rules decide, or those that are asked for, in order
-abbrev pub told_settings : AskedSettings → (Setting → Option Origin) → List Setting
-told_settings asks.Decided origin = filter (λ s. is_by_rule (origin s)) settings
-told_settings (asks.These asked) origin = asked.items
+abbrev pub reported_settings : RequestedSettings → (Setting → Option Origin) → List Setting
+reported_settings asks.Decided origin = filter (λ s. is_by_rule (origin s)) settings
+reported_settings (asks.These asked) origin = asked.items
 
 -- A setting is told: by its key in files, with its value, and with where that comes from, for the
 -- script rule that wraps the run of the test.
-pub record IsSettingTold (basis : Basis) (wrapping : Option RuleId)
+pub record IsSettingReported (basis : Basis) (wrapping : Option RuleId)
     (value : (s : Setting) → Option (ValueOf s)) (origin : Setting → Option Origin)
     (mode : NextestRunMode) (s : Setting) (told : SettingRow) : Type 0 where
   pub key : string_bytes told.key ≡ key_text s mode
-  pub value_told : option_map value_view told.value ≡ option_map (told_of s) (value s)
-  pub origins_told : AreOriginsBy basis wrapping (key_table s mode) (key_name s) (origin s)
+  pub value_reported : option_map value_view told.value ≡ option_map (reported_of s) (value s)
+  pub origins_reported : AreOriginsBy basis wrapping (key_table s mode) (key_name s) (origin s)
       told.origins.items

@@ -25,67 +25,67 @@ use Rattle.rinqebo_report.specs.declared.value.Value.TheVariants as values
 
 -- A value that holds no others: whether something is so, a number, a text, or a length of time in
 -- nanoseconds.
-pub data ToldScalar : Type 0 where
-  boolean : Bool → ToldScalar
-  integer : ℤ → ToldScalar
-  text : List ℕ → ToldScalar
-  duration : ℕ → ToldScalar
+pub data ReportedScalar : Type 0 where
+  boolean : Bool → ReportedScalar
+  integer : ℤ → ReportedScalar
+  text : List ℕ → ReportedScalar
+  duration : ℕ → ReportedScalar
 
 -- A member of a table.
-pub record ToldField : Type 0 where
+pub record ReportedField : Type 0 where
   pub key : List ℕ
-  pub value : ToldScalar
+  pub value : ReportedScalar
 
 -- A value: one that holds no others, texts, or a table.
-pub data ToldValue : Type 0 where
-  scalar : ToldScalar → ToldValue
-  texts : List (List ℕ) → ToldValue
-  table : List ToldField → ToldValue
+pub data ReportedValue : Type 0 where
+  scalar : ReportedScalar → ReportedValue
+  texts : List (List ℕ) → ReportedValue
+  table : List ReportedField → ReportedValue
 
 -- what contracts see of a value that holds no others
-abbrev pub scalar_view : Scalar → ToldScalar
+abbrev pub scalar_view : Scalar → ReportedScalar
 scalar_view (scalars.Boolean b) = boolean b
 scalar_view (scalars.Integer n) = integer n
 scalar_view (scalars.Text t) = text (string_bytes t)
 scalar_view (scalars.Duration n) = duration n
 
 -- what contracts see of a member of a table
-abbrev pub field_view : Field → ToldField
+abbrev pub field_view : Field → ReportedField
 field_view f = record { key = string_bytes f.key; value = scalar_view f.value }
 
 -- what contracts see of a value
-abbrev pub value_view : Value → ToldValue
+abbrev pub value_view : Value → ReportedValue
 value_view (values.Scalar s) = scalar (scalar_view s)
 value_view (values.Texts ts) = texts (map string_bytes ts.items)
 value_view (values.Table fs) = table (map field_view fs.items)
 
 -- A count is told as a number, the greatest one of TOML where it is greater.
-abbrev pub told_count : ℕ → ToldScalar
-told_count n = integer (pos (min n (2 ^ 63 - 1)))
+abbrev pub reported_count : ℕ → ReportedScalar
+reported_count n = integer (pos (min n (2 ^ 63 - 1)))
 
 -- a table of one member
-abbrev pub one : List ℕ → ToldScalar → List ToldField
+abbrev pub one : List ℕ → ReportedScalar → List ReportedField
 one key value = record { key = key; value = value } ∷ []
 
 -- a member that may be absent
-abbrev pub one_if : {X : Type 0} → List ℕ → (X → ToldScalar) → Option X → List ToldField
+abbrev pub one_if : {X : Type 0} → List ℕ → (X → ReportedScalar) → Option X → List ReportedField
 one_if key told None = []
 one_if key told (Some x) = one key (told x)
 
 -- that something is so, or nothing
-abbrev pub one_if_true : List ℕ → Bool → List ToldField
+abbrev pub one_if_true : List ℕ → Bool → List ReportedField
 one_if_true key false = []
 one_if_true key true = one key (boolean true)
 
 -- the members of a retry policy: no jitter is left out
-abbrev pub retry_fields : List ℕ → ℕ → ℕ → Bool → Option ℕ → List ToldField
+abbrev pub retry_fields : List ℕ → ℕ → ℕ → Bool → Option ℕ → List ReportedField
 retry_fields backoff count delay jitter max_delay =
     one (codes "backoff") (text backoff) ++ one (codes "count") (integer (pos count))
     ++ one (codes "delay") (duration delay) ++ one_if_true (codes "jitter") jitter
     ++ one_if (codes "max-delay") duration max_delay
 
 -- a fixed retry policy, by whether it has neither delay nor jitter
-abbrev pub fixed_as : Bool → ℕ → ℕ → Bool → ToldValue
+abbrev pub fixed_as : Bool → ℕ → ℕ → Bool → ReportedValue
 fixed_as true count delay jitter = scalar (integer (pos count))
 fixed_as false count delay jitter =
     table (retry_fields (codes "fixed") count delay jitter None)
@@ -95,43 +95,43 @@ abbrev pub is_plain : ℕ → Bool → Bool
 is_plain delay jitter = (delay == 0) && not jitter
 
 -- a fixed retry policy: a count where it has neither delay nor jitter
-abbrev pub told_fixed : ℕ → ℕ → Bool → ToldValue
-told_fixed count delay jitter = fixed_as (is_plain delay jitter) count delay jitter
+abbrev pub reported_fixed : ℕ → ℕ → Bool → ReportedValue
+reported_fixed count delay jitter = fixed_as (is_plain delay jitter) count delay jitter
 
 -- a retry policy
-abbrev pub told_retries : RetryPolicy → ToldValue
-told_retries (policies.Fixed count delay jitter) = told_fixed count delay jitter
-told_retries (policies.Exponential count delay jitter max_delay) =
+abbrev pub reported_retries : RetryPolicy → ReportedValue
+reported_retries (policies.Fixed count delay jitter) = reported_fixed count delay jitter
+reported_retries (policies.Exponential count delay jitter max_delay) =
     table (retry_fields (codes "exponential") count delay jitter max_delay)
 
 -- a slow timeout
-abbrev pub told_slow : SlowTimeout → ToldValue
-told_slow slow = table (one (codes "period") (duration slow.period)
-    ++ one_if (codes "terminate-after") told_count slow.terminate_after
+abbrev pub reported_slow : SlowTimeout → ReportedValue
+reported_slow slow = table (one (codes "period") (duration slow.period)
+    ++ one_if (codes "terminate-after") reported_count slow.terminate_after
     ++ one (codes "grace-period") (duration slow.grace_period)
     ++ one (codes "on-timeout") (text (slow_result_text slow.on_timeout)))
 
 -- a leak timeout
-abbrev pub told_leak : LeakTimeout → ToldValue
-told_leak leak = table (one (codes "period") (duration leak.period)
+abbrev pub reported_leak : LeakTimeout → ReportedValue
+reported_leak leak = table (one (codes "period") (duration leak.period)
     ++ one (codes "result") (text (leak_result_text leak.result)))
 
 -- how many threads a test takes
-abbrev pub told_threads : ThreadsRequired → ToldScalar
-told_threads (threads.Count n) = told_count n
-told_threads threads.NumCpus = text (threads_required_text threads.NumCpus)
-told_threads threads.NumTestThreads = text (threads_required_text threads.NumTestThreads)
+abbrev pub reported_threads : ThreadsRequired → ReportedScalar
+reported_threads (threads.Count n) = reported_count n
+reported_threads threads.NumCpus = text (threads_required_text threads.NumCpus)
+reported_threads threads.NumTestThreads = text (threads_required_text threads.NumTestThreads)
 
 -- A value is told by its kind.
-abbrev pub told : ValueByKind → ToldValue
+abbrev pub told : ValueByKind → ReportedValue
 told (kinds.priority value) = scalar (integer value.0)
-told (kinds.threads value) = scalar (told_threads value)
+told (kinds.threads value) = scalar (reported_threads value)
 told (kinds.wrapper id) = scalar (text id)
 told (kinds.arguments items) = texts items
-told (kinds.retries policy) = told_retries policy
+told (kinds.retries policy) = reported_retries policy
 told (kinds.flaky_result result) = scalar (text (flaky_result_text result))
-told (kinds.slow_timeout timeout) = told_slow timeout
-told (kinds.leak_timeout timeout) = told_leak timeout
+told (kinds.slow_timeout timeout) = reported_slow timeout
+told (kinds.leak_timeout timeout) = reported_leak timeout
 told (kinds.group value) = scalar (text (group_text value))
 told (kinds.output display) = scalar (text (test_output_display_text display))
 told (kinds.is_stored value) = scalar (boolean value)
@@ -139,5 +139,5 @@ told (kinds.skipped policy) = scalar (text (report_skip_policy_text policy))
 told (kinds.flaky_fail_status status) = scalar (text (junit_flaky_fail_status_text status))
 
 -- the value of a setting, as it is told
-abbrev pub told_of : (s : Setting) → ValueOf s → ToldValue
-told_of s value = told (by_kind s value)
+abbrev pub reported_of : (s : Setting) → ValueOf s → ReportedValue
+reported_of s value = told (by_kind s value)

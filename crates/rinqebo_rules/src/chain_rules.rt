@@ -7,7 +7,7 @@ ghost use Rattle.rinqebo_rules.specs.Conditions.{default_filter_here, is_met_by}
 ghost use Rattle.rinqebo_rules.specs.RuleAnswers.{judged_here};
 ghost use Rattle.rinqebo_rules.specs.RuleViews.{AreOverridesOn, AreScriptRulesOn, ReadOverride, ReadScriptRule, judged_override, judged_script_rule, setting_rule_view};
 ghost use Rattle.rinqebo_rules.specs.SettingRules.{is_of_scripts, rules_for, wrapper_written};
-ghost use Rattle.rinqebo_rules.specs.SettingValues.{told_value};
+ghost use Rattle.rinqebo_rules.specs.SettingValues.{reported_value};
 
 use crate::conditions::{Answers, Asking, answers_of};
 use crate::holds::{override_holds, script_rule_holds};
@@ -91,7 +91,7 @@ fn override_rules<'c>(
 
 /// The run wrapper that a script rule names.
 fn named_wrapper<'c>(rule: &ScriptRule<'c>) -> Option<SettingValue<'c>>
-    ensures { option_map told_value result
+    ensures { option_map reported_value result
         ≡ (wrapper_written (script_rule_ref_view rule.now.rule).writes).value }
 {
     match rule.rule().run_wrapper() {

@@ -2,7 +2,7 @@
 ghost use Rattle.std.specs.Prelude.{◌≡◌, is_some};
 ghost use Rattle.nextest_engines.specs.Engines.{test_view};
 ghost use Rattle.nextest_settings.specs.Platforms.{runs_on};
-ghost use Rattle.rinqebo_rules.specs.Conditions.{is_met_by, told_by_facts, told_condition};
+ghost use Rattle.rinqebo_rules.specs.Conditions.{is_met_by, reported_by_facts, reported_condition};
 
 use crate::verdict::RuleFacts;
 use filter_engine::NextestFilters;
@@ -59,7 +59,7 @@ pub struct Answers {
 
 /// What a platform says to a spec.
 fn spec_answer(spec: &Option<<TargetSpecs as Specs>::Spec>, platform: &Platform) -> ConditionAnswer
-    ensures { result ≡ told_condition (λ s. is_met_by s platform.now) spec.now }
+    ensures { result ≡ reported_condition (λ s. is_met_by s platform.now) spec.now }
 {
     match spec {
         None => ConditionAnswer::Absent,
@@ -73,10 +73,10 @@ fn spec_answer(spec: &Option<<TargetSpecs as Specs>::Spec>, platform: &Platform)
 
 /// What the filter of a rule says, if it has one, by what is known of the rule.
 fn filter_answer(has_filter: bool, facts: RuleFacts) -> ConditionAnswer
-    ensures { result ≡ told_by_facts has_filter facts }
+    ensures { result ≡ reported_by_facts has_filter facts }
 {
     if !facts.is_on {
-        ConditionAnswer::Unasked
+        ConditionAnswer::Unrequested
     } else if !has_filter {
         ConditionAnswer::Absent
     } else if facts.holds {
@@ -94,11 +94,11 @@ pub(crate) fn answers_of(
     asking: &Asking<'_, '_>,
 ) -> Answers
     ensures host { result.host
-        ≡ told_condition (λ s. is_met_by s asking.now.platforms.now.host) specs.now.host }
+        ≡ reported_condition (λ s. is_met_by s asking.now.platforms.now.host) specs.now.host }
     ensures target { let platform = runs_on asking.now.platforms.now
         (test_view asking.now.query.now).binary.platform in
-        result.target ≡ told_condition (λ s. is_met_by s platform) specs.now.target }
-    ensures filter { result.filter ≡ told_by_facts (is_some filter.entry) facts }
+        result.target ≡ reported_condition (λ s. is_met_by s platform) specs.now.target }
+    ensures filter { result.filter ≡ reported_by_facts (is_some filter.entry) facts }
 {
     Answers {
         host: spec_answer(&specs.host, &asking.platforms.host),

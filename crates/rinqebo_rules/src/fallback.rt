@@ -3,8 +3,8 @@ ghost use Rattle.std.specs.Prelude.{◌≡◌, IfOk, option_map};
 ghost use Rattle.nextest_inheritance.specs.View.{borrowed_view};
 ghost use Rattle.nextest_settings.specs.Chains.{fields_of};
 ghost use Rattle.nextest_settings.specs.Settings.{fallback_of};
-ghost use Rattle.rinqebo_rules.specs.SettingValues.{told_value};
-ghost use Rattle.rinqebo_rules.specs.Told.{told_of};
+ghost use Rattle.rinqebo_rules.specs.SettingValues.{reported_value};
+ghost use Rattle.rinqebo_rules.specs.Told.{reported_of};
 
 use nextest_config::{NextestRunMode, Setting};
 use nextest_settings::{SettingValue, fallback_of, fields_of};
@@ -20,9 +20,9 @@ pub fn fallback_of_chain<'c>(
     setting: Setting,
     mode: NextestRunMode,
 ) -> Result<Option<SettingValue<'c>>, AllocError>
-    ensures { IfOk result (λ value. option_map told_value value ≡ option_map (told_of setting)
-        (fallback_of (fields_of config.now.config.profiles (borrowed_view chain.now)) mode
-        setting)) }
+    ensures { IfOk result (λ value. option_map reported_value value
+        ≡ option_map (reported_of setting) (fallback_of
+        (fields_of config.now.config.profiles (borrowed_view chain.now)) mode setting)) }
 {
     let fields = fields_of(alloc, config.profiles(), chain)?;
     Ok(fallback_of(&fields, setting, mode))

@@ -38,7 +38,7 @@ fn list_value(alloc: Global, items: &[Tree]) -> Result<Option<Value>, AllocError
 ///
 /// There is none for a float, a date, a time, and a list of anything but texts: a tree does not
 /// keep the former, and no setting of nextest is one.
-pub fn told_value(alloc: Global, leaf: &Tree) -> Result<Option<Value>, AllocError>
+pub fn reported_value(alloc: Global, leaf: &Tree) -> Result<Option<Value>, AllocError>
     ensures { IfOk result (λ told. MatchOption told (is_tellable (tree_view leaf.now) ≡ false)
         (IsValueOf (tree_view leaf.now))) }
 {

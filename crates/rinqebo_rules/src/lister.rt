@@ -3,7 +3,7 @@ ghost use Rattle.std.specs.Prelude.{◌≡◌, IfOk, map};
 ghost use Rattle.nextest_engines.specs.Engines.{test_view};
 ghost use Rattle.nextest_profiles.specs.Meaning.{profile_meaning};
 ghost use Rattle.nextest_settings.specs.Queries.{query_in};
-ghost use Rattle.rinqebo_rules.specs.Rows.{AreTestsTold, IsTestTold};
+ghost use Rattle.rinqebo_rules.specs.Rows.{AreTestsReported, IsTestReported};
 ghost use Rattle.rinqebo_rules.specs.Unused.{AreUnusedIn};
 
 use crate::origins::Origins;
@@ -14,21 +14,21 @@ use nextest_elements::NextestRunMode;
 use nextest_engines::{BuildPlatform, Filters, Specs, TestQuery};
 use nextest_profiles::EvaluatableProfile;
 use rinqebo_report::{Platform, TestRows};
-use rinqebo_request::AskedSettings;
+use rinqebo_request::RequestedSettings;
 use std::alloc::{AllocError, Global};
 
-/// What a list is told by.
+/// Lists the settings of tests.
 #[derive_where(Clone, Copy)]
 pub struct Lister<'l, 'c, F: Filters, S: Specs> {
     /// The profile on the platforms of the build.
     pub profile: &'l EvaluatableProfile<'c, F, S>,
     /// For what tests are run.
     pub mode: NextestRunMode,
-    /// Which settings are told.
-    pub asked: &'l AskedSettings,
+    /// Which settings are listed.
+    pub asked: &'l RequestedSettings,
 }
 
-/// What is told of the tests of a list.
+/// The tests of a list, and the rules that hold for none of them.
 #[derive(Drop)]
 pub struct ListedRows<'c> {
     /// The settings of each test, in order.
@@ -46,7 +46,7 @@ pub fn reported_platform(platform: BuildPlatform) -> Platform {
 }
 
 impl<'l, 'c, F: Filters, S: Specs> Lister<'l, 'c, F, S> {
-    /// The settings of a test that are told. It takes as much memory as they do, and loads nothing.
+    /// Returns the settings of a test. It takes as much memory as they do, and loads nothing.
     pub fn rows_of(
         &self,
         alloc: Global,
@@ -56,7 +56,7 @@ impl<'l, 'c, F: Filters, S: Specs> Lister<'l, 'c, F, S> {
     ) -> Result<TestRows, AllocError>
         ensures same { origins.new ≡ origins.old }
         ensures told { let profile = profile_meaning F.meaning self.now.profile.now in
-            IfOk result (IsTestTold origins.old (query_in F.holds profile (test_view query.now))
+            IfOk result (IsTestReported origins.old (query_in F.holds profile (test_view query.now))
             self.now.mode profile self.now.asked.now (test_view query.now)) }
     {
         let settings = self
@@ -70,8 +70,8 @@ impl<'l, 'c, F: Filters, S: Specs> Lister<'l, 'c, F, S> {
         })
     }
 
-    /// The rows of tests, one test after another, and the rules of the profile that hold for none.
-    /// After each test it is told how far the list is.
+    /// Returns the rows of tests, one test after another, and the rules of the profile that hold for
+    /// none of them. It reports progress after each test.
     pub fn list<P: Progress>(
         &self,
         alloc: Global,
@@ -81,7 +81,7 @@ impl<'l, 'c, F: Filters, S: Specs> Lister<'l, 'c, F, S> {
         progress: &mut P,
     ) -> Result<ListedRows<'c>, AllocError>
         ensures tests { let profile = profile_meaning F.meaning self.now.profile.now in
-            IfOk result (λ listed. AreTestsTold origins.old F.holds self.now.mode profile
+            IfOk result (λ listed. AreTestsReported origins.old F.holds self.now.mode profile
             self.now.asked.now (map test_view queries.now) listed.tests.items) }
         ensures unused { let profile = profile_meaning F.meaning self.now.profile.now in
             IfOk result (λ listed. AreUnusedIn

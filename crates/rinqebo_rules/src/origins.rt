@@ -50,7 +50,7 @@ fn is_same_list(kind: RuleKind, other: RuleKind) -> bool
 
 /// Whether two places are of one rule.
 fn is_same_rule(rule: RulePlace<'_>, other: RulePlace<'_>) -> bool
-    ensures { IsTrue result → place_view rule ≡ place_view other }
+    ensures { IsTrue result → place_view rule.entry ≡ place_view other.entry }
 {
     rule.index == other.index
         && is_same_list(rule.kind, other.kind)
@@ -60,7 +60,8 @@ fn is_same_rule(rule: RulePlace<'_>, other: RulePlace<'_>) -> bool
 
 /// Whether two values come from one rule, or without one both from the profile.
 fn is_same_ground(rule: Option<RulePlace<'_>>, other: Option<RulePlace<'_>>) -> bool
-    ensures { IsTrue result → option_map place_view rule ≡ option_map place_view other }
+    ensures { IsTrue result
+        → option_map place_view rule.entry ≡ option_map place_view other.entry }
 {
     match (rule, other) {
         (Some(rule), Some(other)) => is_same_rule(rule, other),
@@ -93,7 +94,7 @@ impl KnownOrigins<'_> {
     /// Whether they are those of a rule, or without one those of the profile, at a key.
     fn are_of(&self, rule: Option<RulePlace<'_>>, key: SettingKey) -> bool
         ensures rule { IsTrue result
-            → option_map place_view self.now.rule ≡ option_map place_view rule }
+            → option_map place_view self.now.rule ≡ option_map place_view rule.entry }
         ensures table { IsTrue result → option_map (λ table. table.now) self.now.key.table
             ≡ option_map (λ table. table.now) key.table }
         ensures key { IsTrue result → self.now.key.key.now ≡ key.key.now }
@@ -138,7 +139,7 @@ fn known_of<'k>(
     key: SettingKey,
 ) -> Option<&'k [Origin]>
     ensures { (basis : Basis) → All (IsKnown basis) known.now
-        → IfSome result (λ origins. AreOriginsAt basis (option_map place_view rule)
+        → IfSome result (λ origins. AreOriginsAt basis (option_map place_view rule.entry)
         (option_map (λ table. table.now) key.table) key.key.now origins.now) }
 {
     for one in known {
@@ -159,7 +160,7 @@ fn found(
 ) -> Result<Vec<Origin>, AllocError>
     ensures { IfOk result (λ origins. AreOriginsAt
         (record { layers = layers.now; chain = borrowed_view chain.now })
-        (option_map place_view rule) (option_map (λ table. table.now) key.table) key.key.now
+        (option_map place_view rule.entry) (option_map (λ table. table.now) key.table) key.key.now
         origins.items) }
 {
     match rule {
@@ -177,7 +178,16 @@ pub struct Origins<'l, 't, 'c> {
 }
 
 impl<'l, 't, 'c> Model for Origins<'l, 't, 'c> {
+    ghost use Rattle.std.specs.Prelude.{All};
+    ghost use Rattle.std.specs.Coded.{codes};
+    ghost use Rattle.nextest_inheritance.specs.View.{borrowed_view};
+    ghost use Rattle.nextest_tree.specs.contracts.tree.Tree as tree;
+    ghost use Rattle.rinqebo_rules.specs.KnownOrigins.{IsKnown};
+    ghost use Rattle.rinqebo_rules.specs.TestOrigins.{Basis};
+
     ghost Value = { Basis };
+
+    ghost coded = { Prim.hlevel (codes, tree.the_row.coded) };
 
     ghost view = { λ origins. record {
       layers = origins.layers.now;
@@ -212,8 +222,9 @@ impl<'l, 't, 'c> Origins<'l, 't, 'c> {
         key: SettingKey,
     ) -> Result<Vec<Origin>, AllocError>
         ensures same { self.new ≡ self.old }
-        ensures told { IfOk result (λ origins. AreOriginsAt self.old (option_map place_view rule)
-            (option_map (λ table. table.now) key.table) key.key.now origins.items) }
+        ensures told { IfOk result (λ origins. AreOriginsAt self.old
+            (option_map place_view rule.entry) (option_map (λ table. table.now) key.table) key.key.now
+            origins.items) }
     {
         if let Some(origins) = known_of(&self.known, rule, key) {
             return all_copied(alloc, origins);

@@ -8,8 +8,8 @@ pub trait Progress {
 
 /// Tells nobody.
 #[derive(Drop)]
-pub struct Untold;
+pub struct NoProgress;
 
-impl Progress for Untold {
+impl Progress for NoProgress {
     fn asked(&mut self, _done: usize, _all: usize) {}
 }

@@ -7,7 +7,7 @@ ghost use Rattle.nextest_tree.specs.View.{tree_view};
 ghost use Rattle.rinqebo_rules.specs.LeafValue.{is_tellable};
 ghost use Rattle.rinqebo_rules.specs.ReportedEntries.{step_key, profile_of, IsOriginOf, IsEntryOf};
 
-use crate::leaf_value::told_value;
+use crate::leaf_value::reported_value;
 use nextest_grounds::{Entry, Section, key_text};
 use nextest_places::Step;
 use rinqebo_report::{Origin, Part, Place, Written};
@@ -77,7 +77,7 @@ pub fn reported_entry(
         (is_tellable (tree_view entry.now.value.now) ≡ false)
         (IsEntryOf (leaf_view entry.now) place)) }
 {
-    let Some(value) = told_value(alloc, entry.value)? else {
+    let Some(value) = reported_value(alloc, entry.value)? else {
         return Ok(None);
     };
     Ok(Some(rinqebo_report::Entry {

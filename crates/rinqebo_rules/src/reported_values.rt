@@ -1,7 +1,7 @@
 //! How the values of settings are reported.
 ghost use Rattle.std.specs.Prelude.{◌≡◌, ◌++◌, IfOk, OnOk, map, option_map, string_bytes};
-ghost use Rattle.rinqebo_rules.specs.SettingValues.{told_value};
-ghost use Rattle.rinqebo_rules.specs.Told.{ToldScalar, ToldValue, scalar_view, field_view, value_view, told_count, one, one_if, one_if_true, retry_fields, is_plain, told_fixed, told_retries, told_slow, told_leak, told_threads};
+ghost use Rattle.rinqebo_rules.specs.SettingValues.{reported_value};
+ghost use Rattle.rinqebo_rules.specs.Told.{ReportedScalar, ReportedValue, scalar_view, field_view, value_view, reported_count, one, one_if, one_if_true, retry_fields, is_plain, reported_fixed, reported_retries, reported_slow, reported_leak, reported_threads};
 
 use nextest_config::{
     LeakTimeout, RetryPolicy, SlowTimeout, TestGroup, TestPriority, ThreadsRequired,
@@ -12,14 +12,14 @@ use std::alloc::{AllocError, Global};
 
 /// A number as one of TOML. Files write no greater one.
 fn count(number: u64) -> Scalar
-    ensures { scalar_view result ≡ told_count number }
+    ensures { scalar_view result ≡ reported_count number }
 {
     Scalar::Integer(i64::try_from(number).unwrap_or(i64::MAX))
 }
 
 /// A text as a value.
 fn text_value(text: String) -> Value
-    ensures { value_view result ≡ ToldValue.scalar (ToldScalar.text (string_bytes text)) }
+    ensures { value_view result ≡ ReportedValue.scalar (ReportedScalar.text (string_bytes text)) }
 {
     Value::Scalar(Scalar::Text(text))
 }
@@ -47,7 +47,7 @@ fn add_duration(
     duration: Option<u128>,
 ) -> Result<(), AllocError>
     ensures { OnOk result (map field_view fields.new.items
-        ≡ map field_view fields.old.items ++ one_if key.now ToldScalar.duration duration) }
+        ≡ map field_view fields.old.items ++ one_if key.now ReportedScalar.duration duration) }
 {
     match duration {
         Some(duration) => add_field(alloc, fields, key, Scalar::Duration(duration)),
@@ -63,7 +63,7 @@ fn add_count(
     number: Option<u64>,
 ) -> Result<(), AllocError>
     ensures { OnOk result (map field_view fields.new.items
-        ≡ map field_view fields.old.items ++ one_if key.now told_count number) }
+        ≡ map field_view fields.old.items ++ one_if key.now reported_count number) }
 {
     match number {
         Some(number) => add_field(alloc, fields, key, count(number)),
@@ -90,7 +90,7 @@ fn add_if_true(
 
 /// How many threads a test takes.
 fn threads_value(alloc: Global, threads: ThreadsRequired) -> Result<Scalar, AllocError>
-    ensures { IfOk result (λ scalar. scalar_view scalar ≡ told_threads threads) }
+    ensures { IfOk result (λ scalar. scalar_view scalar ≡ reported_threads threads) }
 {
     match threads {
         ThreadsRequired::Count(number) => Ok(count(number)),
@@ -103,7 +103,7 @@ fn threads_value(alloc: Global, threads: ThreadsRequired) -> Result<Scalar, Allo
 /// Copies of arguments.
 fn arguments_value(alloc: Global, arguments: &[String]) -> Result<Value, AllocError>
     ensures { IfOk result (λ value. value_view value
-        ≡ ToldValue.texts (map string_bytes arguments.now)) }
+        ≡ ReportedValue.texts (map string_bytes arguments.now)) }
 {
     let mut texts = Vec::new(alloc);
     for argument in arguments {
@@ -122,7 +122,7 @@ fn retry_table(
     max_delay: Option<u128>,
 ) -> Result<Value, AllocError>
     ensures { IfOk result (λ value. value_view value
-        ≡ ToldValue.table (retry_fields backoff.now count delay jitter max_delay)) }
+        ≡ ReportedValue.table (retry_fields backoff.now count delay jitter max_delay)) }
 {
     let mut fields = Vec::new(alloc);
     let backoff = String::from_str(alloc, backoff)?;
@@ -148,7 +148,7 @@ fn is_plain(delay: u128, jitter: bool) -> bool
 
 /// A fixed retry policy: a count where it has neither delay nor jitter.
 fn fixed_value(alloc: Global, count: u32, delay: u128, jitter: bool) -> Result<Value, AllocError>
-    ensures { IfOk result (λ value. value_view value ≡ told_fixed count delay jitter) }
+    ensures { IfOk result (λ value. value_view value ≡ reported_fixed count delay jitter) }
 {
     if is_plain(delay, jitter) {
         return Ok(Value::Scalar(Scalar::Integer(i64::from(count))));
@@ -158,7 +158,7 @@ fn fixed_value(alloc: Global, count: u32, delay: u128, jitter: bool) -> Result<V
 
 /// A retry policy.
 fn retries_value(alloc: Global, retries: RetryPolicy) -> Result<Value, AllocError>
-    ensures { IfOk result (λ value. value_view value ≡ told_retries retries) }
+    ensures { IfOk result (λ value. value_view value ≡ reported_retries retries) }
 {
     match retries {
         RetryPolicy::Fixed {
@@ -177,7 +177,7 @@ fn retries_value(alloc: Global, retries: RetryPolicy) -> Result<Value, AllocErro
 
 /// The table of a slow timeout.
 fn slow_timeout_value(alloc: Global, slow: SlowTimeout) -> Result<Value, AllocError>
-    ensures { IfOk result (λ value. value_view value ≡ told_slow slow) }
+    ensures { IfOk result (λ value. value_view value ≡ reported_slow slow) }
 {
     let mut fields = Vec::new(alloc);
     let on_timeout = slow.on_timeout.to_string(alloc)?;
@@ -191,7 +191,7 @@ fn slow_timeout_value(alloc: Global, slow: SlowTimeout) -> Result<Value, AllocEr
 
 /// The table of a leak timeout.
 fn leak_timeout_value(alloc: Global, leak: LeakTimeout) -> Result<Value, AllocError>
-    ensures { IfOk result (λ value. value_view value ≡ told_leak leak) }
+    ensures { IfOk result (λ value. value_view value ≡ reported_leak leak) }
 {
     let mut fields = Vec::new(alloc);
     let result = leak.result.to_string(alloc)?;
@@ -203,7 +203,7 @@ fn leak_timeout_value(alloc: Global, leak: LeakTimeout) -> Result<Value, AllocEr
 /// A value, as it is reported.
 #[tactic(auto, unfolding(nextest_elements::specs::TestGroup::global_text))]
 pub fn reported(alloc: Global, value: SettingValue<'_>) -> Result<Value, AllocError>
-    ensures { IfOk result (λ told. value_view told ≡ told_value value.entry) }
+    ensures { IfOk result (λ told. value_view told ≡ reported_value value.entry) }
 {
     match value {
         SettingValue::Priority(TestPriority(priority)) => {
@@ -233,7 +233,7 @@ pub fn reported_if_set(
     value: Option<SettingValue<'_>>,
 ) -> Result<Option<Value>, AllocError>
     ensures { IfOk result (λ told. option_map value_view told
-        ≡ option_map told_value value.entry) }
+        ≡ option_map reported_value value.entry) }
 {
     match value {
         Some(value) => Ok(Some(reported(alloc, value)?)),

@@ -6,7 +6,7 @@ ghost use Rattle.nextest_settings.specs.Settings.{settings as all_settings};
 ghost use Rattle.nextest_settings.specs.SettingsView.{origin_at, value_at};
 ghost use Rattle.nextest_settings.specs.SourceView.{setting_source_view};
 ghost use Rattle.rinqebo_rules.specs.TestOrigins.{AreOriginsBy, wrapping_at, wrapping_places};
-ghost use Rattle.rinqebo_rules.specs.Settings.{is_by_rule, told_settings, IsSettingTold};
+ghost use Rattle.rinqebo_rules.specs.Settings.{is_by_rule, reported_settings, IsSettingReported};
 ghost use Rattle.rinqebo_rules.specs.Origins.{IsOriginOf, key_steps};
 
 use crate::origins::Origins;
@@ -17,7 +17,7 @@ use nextest_engines::{Filters, Specs};
 use nextest_rules::ScriptRuleId;
 use nextest_settings::{Setting, SettingSource, SettingValues};
 use rinqebo_report::{Origin, SettingRow};
-use rinqebo_request::{AskedSettings, SettingKey};
+use rinqebo_request::{RequestedSettings, SettingKey};
 use std::alloc::{AllocError, Global};
 
 /// Whether a rule decides a setting of a test.
@@ -82,7 +82,7 @@ fn wrapping_origins<'c>(
     ensures same { origins.new ≡ origins.old }
     ensures told { IfOk result (λ told. AllZip (λ place. IsOriginOf origins.old.layers place
         (key_steps (option_map (λ table. table.now) key.table) key.key.now))
-        (wrapping_places (option_map (λ id. script_rule_id_view id.now) rule)) told.items) }
+        (wrapping_places (option_map (λ id. script_rule_id_view id.now) rule.entry)) told.items) }
 {
     match rule {
         Some(id) => origins.of(alloc, Some(RulePlace::of_script(id)), key),
@@ -100,9 +100,9 @@ fn origins_by<'c, F: Filters, S: Specs>(
 ) -> Result<Vec<Origin>, AllocError>
     ensures same { origins.new ≡ origins.old }
     ensures told { IfOk result (λ told. AreOriginsBy origins.old
-        (option_map (λ id. script_rule_id_view id.now) wrapping)
+        (option_map (λ id. script_rule_id_view id.now) wrapping.entry)
         (option_map (λ table. table.now) key.table) key.key.now
-        (option_map setting_source_view source) told.items) }
+        (option_map setting_source_view source.entry) told.items) }
 {
     match source {
         None => Ok(Vec::new(alloc)),
@@ -116,7 +116,7 @@ fn origins_by<'c, F: Filters, S: Specs>(
 }
 
 /// The row of a setting.
-#[tactic(auto, using(crate::proofs::ToldOf::told_by_kind))]
+#[tactic(auto, using(crate::proofs::ReportedOf::reported_by_kind))]
 fn setting_row<'c, F: Filters, S: Specs>(
     alloc: Global,
     settings: &SourcedSettings<'c, F, S>,
@@ -125,7 +125,7 @@ fn setting_row<'c, F: Filters, S: Specs>(
     origins: &mut Origins<'_, '_, 'c>,
 ) -> Result<SettingRow, AllocError>
     ensures same { origins.new ≡ origins.old }
-    ensures told { IfOk result (IsSettingTold origins.old (wrapping_at settings.now)
+    ensures told { IfOk result (IsSettingReported origins.old (wrapping_at settings.now)
         (value_at settings.now) (origin_at settings.now) mode setting) }
 {
     let key = SettingKey::of(setting, mode);
@@ -147,7 +147,7 @@ fn these_rows<'c, F: Filters, S: Specs>(
     origins: &mut Origins<'_, '_, 'c>,
 ) -> Result<Vec<SettingRow>, AllocError>
     ensures same { origins.new ≡ origins.old }
-    ensures told { IfOk result (λ rows. AllZip (IsSettingTold origins.old
+    ensures told { IfOk result (λ rows. AllZip (IsSettingReported origins.old
         (wrapping_at settings.now) (value_at settings.now) (origin_at settings.now) mode)
         told.now rows.items) }
 {
@@ -162,20 +162,20 @@ fn these_rows<'c, F: Filters, S: Specs>(
 pub fn rows_of<'c, F: Filters, S: Specs>(
     alloc: Global,
     settings: &SourcedSettings<'c, F, S>,
-    asked: &AskedSettings,
+    asked: &RequestedSettings,
     mode: NextestRunMode,
     origins: &mut Origins<'_, '_, 'c>,
 ) -> Result<Vec<SettingRow>, AllocError>
     ensures same { origins.new ≡ origins.old }
-    ensures told { IfOk result (λ rows. AllZip (IsSettingTold origins.old
+    ensures told { IfOk result (λ rows. AllZip (IsSettingReported origins.old
         (wrapping_at settings.now) (value_at settings.now) (origin_at settings.now) mode)
-        (told_settings asked.now (origin_at settings.now)) rows.items) }
+        (reported_settings asked.now (origin_at settings.now)) rows.items) }
 {
     match asked {
-        AskedSettings::Decided => {
+        RequestedSettings::Decided => {
             let decided = decided_settings(alloc, settings)?;
             these_rows(alloc, settings, &decided, mode, origins)
         }
-        AskedSettings::These(these) => these_rows(alloc, settings, these, mode, origins),
+        RequestedSettings::These(these) => these_rows(alloc, settings, these, mode, origins),
     }
 }

@@ -7,7 +7,7 @@ ghost use Rattle.nextest_settings.specs.Deciding.{decides, filter_holds};
 ghost use Rattle.nextest_settings.specs.Engines.{binary_query_by};
 ghost use Rattle.nextest_settings.specs.Queries.{list_wrapper_by, list_wrapper_of};
 ghost use Rattle.nextest_settings.specs.View.{meant_script_rule};
-ghost use Rattle.rinqebo_rules.specs.Scripts.{binary_in, enabled_ids, wrapper_at, wrapper_view, AreScriptsTold};
+ghost use Rattle.rinqebo_rules.specs.Scripts.{binary_in, enabled_ids, wrapper_at, wrapper_view, AreScriptsReported};
 
 use nextest_engines::{BinaryQuery, EvalContext, Filters, Specs, TestQuery};
 use nextest_profiles::EvaluatableProfile;
@@ -135,7 +135,7 @@ pub fn scripts_of<F: Filters, S: Specs>(
     binaries: &[BinaryQuery<'_>],
     tally: &mut F::Tally,
 ) -> Result<ListScripts, AllocError>
-    ensures { IfOk result (AreScriptsTold F.holds F.holds_binary
+    ensures { IfOk result (AreScriptsReported F.holds F.holds_binary
         (profile_meaning F.meaning profile.now) (map test_view tests.now)
         (map binary_view binaries.now)) }
 {

@@ -87,13 +87,13 @@ module _ (failure : Failure) (request : Request) (report : Report) (n s : ℕ) (
   document_quiet (inr (inr six)) quiet (inr (inr page)) = inl six
 
   -- the document of a failure goes out
-  pub document_told : (n ≡ s) ⊎ (n ≡ 5) ⊎ (n ≡ 6)
+  pub document_reported : (n ≡ s) ⊎ (n ≡ 5) ⊎ (n ≡ 6)
       → (n ≡ 5) ⊎ (n ≡ 6) ⊎ Appends old new (rendered report request.format request.colour)
       → (n ≡ 3) ⊎ (n ≡ 4) → TellsFailure failure request n old new
-  document_told ends (inl five) told = not_cut_off n (inl five) told
-  document_told ends (inr (inl six)) told = not_cut_off n (inr six) told
-  document_told (inl is) (inr (inr page)) told = document is page
-  document_told (inr cut) (inr (inr page)) told = not_cut_off n cut told
+  document_reported ends (inl five) told = not_cut_off n (inl five) told
+  document_reported ends (inr (inl six)) told = not_cut_off n (inr six) told
+  document_reported (inl is) (inr (inr page)) told = document is page
+  document_reported (inr cut) (inr (inr page)) told = not_cut_off n cut told
 
 -- what goes out where a request is not answered
 pub refusal_quiet : {X : Type 0} (request : Request) (gathered : Gathered) (failure : Failure) (n : ℕ)

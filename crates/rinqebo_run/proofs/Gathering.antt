@@ -31,13 +31,13 @@ use Rattle.platform_table.specs.declared.Platform.{Platform}
 use Rattle.rinqebo_run.proofs.Meant.{reasons_of_texts}
 use Rattle.rinqebo_load.specs.Accepted.{AreAccepted}
 use Rattle.rinqebo_rules.specs.Conditions.{is_met_by, filter_matches, default_filter_here}
-use Rattle.rinqebo_run.specs.Reasons.{AreRulesTold}
+use Rattle.rinqebo_run.specs.Reasons.{AreRulesReported}
 use Rattle.rinqebo_rules.specs.RuleViews.{Rule as ReadRule}
 use Rattle.rinqebo_load.specs.Sessions.{files_view, readings, IsLoadedFrom}
 use Rattle.rinqebo_rules.specs.SettingRules.{rules_for}
 use Rattle.rinqebo_run.specs.TellsReasons.{AreReasons, AreReasonsIn, configured_by, IfWhy, IsTestNamed, TellsReasons}
 use Rattle.rinqebo_load.specs.declared.session.Session.{Session}
-use Rattle.rinqebo_rules.specs.Told.{told_of, value_view}
+use Rattle.rinqebo_rules.specs.Told.{reported_of, value_view}
 
 -- what is told of the rules of a chain for a setting, and then of the fallback
 pub reasons_here : (layers : List FileLayer) (platforms : BuildPlatforms Platform) (test : TestName) (query : TestQuery) (s : Setting)
@@ -48,17 +48,17 @@ pub reasons_here : (layers : List FileLayer) (platforms : BuildPlatforms Platfor
     (script_rules_of c.config.layers (with_default names))
     → (test_view query).name ≡ test.name.now → (test_view query).binary.binary_id ≡ test.binary.now
     → (test_view query).binary.platform ≡ test.platform
-    → AreRulesTold layers is_met_by platforms (test_query filter_matches default (test_view query)) read before
+    → AreRulesReported layers is_met_by platforms (test_query filter_matches default (test_view query)) read before
     → fallback.verdict ≡ told.Fallback
     → option_map value_view fallback.value
-    ≡ option_map (told_of s) (fallback_of (fields_of c.config.profiles (with_default names)) test.mode s)
+    ≡ option_map (reported_of s) (fallback_of (fields_of c.config.profiles (with_default names)) test.mode s)
     → rules ≡ before ++ fallback ∷ []
     → AreReasons layers is_met_by filter_matches platforms test s (profile_of c name names) rules
 reasons_here layers platforms test query s default c name names read before fallback rules same gathered named binary on
     here last valued are =
     let asked = test_view query in
     let Told : Filterset FieldMatcher → List ReadRule → Type 0 =
-    λ d rs. AreRulesTold layers is_met_by platforms (test_query filter_matches d asked) rs before in
+    λ d rs. AreRulesReported layers is_met_by platforms (test_query filter_matches d asked) rs before in
     record {
       asked = asked;
       name = named;
@@ -67,9 +67,9 @@ reasons_here layers platforms test query s default c name names read before fall
       before = before;
       fallback = fallback;
       are = are;
-      rules_told = subst (Told (default_filter_here platforms c.config (with_default names))) gathered
+      rules_reported = subst (Told (default_filter_here platforms c.config (with_default names))) gathered
           (subst (λ d. Told d read) same here);
-      fallback_told = last;
+      fallback_reported = last;
       fallback_value = valued;
     }
 

@@ -25,8 +25,8 @@ use Rattle.nextest_settings.specs.Queries.{query_in}
 use Rattle.nextest_tables.specs.FileTexts.{names_in, IsIn}
 use Rattle.nextest_tables.specs.Written.{Name}
 use Rattle.rinqebo_rules.specs.TestOrigins.{Basis}
-use Rattle.rinqebo_rules.specs.Rows.{AreTestsTold}
-use Rattle.rinqebo_rules.specs.Scripts.{AreScriptsTold}
+use Rattle.rinqebo_rules.specs.Rows.{AreTestsReported}
+use Rattle.rinqebo_rules.specs.Scripts.{AreScriptsReported}
 use Rattle.rinqebo_rules.specs.Unused.{unused_among, AreUnusedIn}
 use Rattle.rinqebo_rules.specs.declared.unused.UnusedRules.{UnusedRules}
 use Rattle.rinqebo_report.specs.declared.origin.Origin.{Origin}
@@ -34,7 +34,7 @@ use Rattle.rinqebo_report.specs.declared.report.Content.{Content}
 use Rattle.rinqebo_report.specs.declared.report.ListScripts.{ListScripts}
 use Rattle.rinqebo_report.specs.declared.report.Report.{Report}
 use Rattle.rinqebo_report.specs.declared.report.TestRows.{TestRows}
-use Rattle.rinqebo_request.specs.declared.request.AskedSettings.{AskedSettings}
+use Rattle.rinqebo_request.specs.declared.request.RequestedSettings.{RequestedSettings}
 use Rattle.platform_language.specs.Expressions.{Spec, spec_view}
 use Rattle.platform_language.specs.declared.expression.TargetSpec.{TargetSpec}
 use Rattle.nextest_lists.specs.ListView.{list_view}
@@ -58,10 +58,10 @@ zip_mapped f R (x ∷ xs) [] all = absurd all
 zip_mapped f R (x ∷ xs) (y ∷ ys) all = (all.0, zip_mapped f R xs ys all.1)
 
 -- origins are told in the same layers by another name
-pub told_in : (files layers : List FileLayer) (places : List Place) (origins : List Origin) → files ≡ layers
+pub reported_in : (files layers : List FileLayer) (places : List Place) (origins : List Origin) → files ≡ layers
     → AllZip (λ place. IsOriginOf files place []) places origins
     → AllZip (λ place. IsOriginOf layers place []) places origins
-told_in files layers places origins same told =
+reported_in files layers places origins same told =
     subst (λ fs. AllZip (λ place. IsOriginOf fs place []) places origins) same told
 
 both : {A B X : Type 0} (g : B → X) (f : A → B) (xs : List A) → map g (map f xs) ≡ map (λ a. g (f a)) xs
@@ -110,17 +110,17 @@ basis_here session basis layers chain is same = is ∙ ap (based chain) same
 
 -- tests, rules and scripts are told by a configuration that was loaded
 pub listed_here : (session : Session) (loaded : Loaded (Filterset FieldMatcher) TargetSpec) (name : Name)
-    (mode : NextestRunMode) (asked : AskedSettings) (on : EvaluatableModel (Filterset FieldMatcher))
+    (mode : NextestRunMode) (asked : RequestedSettings) (on : EvaluatableModel (Filterset FieldMatcher))
     (names chain : List Name) (ids : UnusedRules) (tests : List TestRows) (unused : List Origin) (scripts : ListScripts)
     → IsProfileOn is_met_by session.engines.platforms (read_by session loaded) name on
     → IsChainAndDefault (parents_in (config_parents loaded.config)) name names → chain ≡ names
-    → AreTestsTold (basis_of session chain) (readings session.engines.filters).matches_test mode
+    → AreTestsReported (basis_of session chain) (readings session.engines.filters).matches_test mode
     (profile_meaning (marks_view names_of) on) asked (all_tests (list_view session.tests)) tests
     → AreUnusedIn (map (query_in (readings session.engines.filters).matches_test
     (profile_meaning (marks_view names_of) on)) (all_tests (list_view session.tests)))
     (profile_meaning (marks_view names_of) on) ids
     → AllZip (λ place. IsOriginOf session.layers.items place []) (places_of ids) unused
-    → AreScriptsTold (readings session.engines.filters).matches_test (readings session.engines.filters).matches_binary
+    → AreScriptsReported (readings session.engines.filters).matches_test (readings session.engines.filters).matches_binary
     (profile_meaning (marks_view names_of) on) (all_tests (list_view session.tests))
     (all_binaries (list_view session.tests)) scripts
     → listed_by session loaded name mode asked tests unused scripts
@@ -134,17 +134,17 @@ listed_here session loaded name mode asked on names chain ids tests unused scrip
           (read_by session loaded) name on is;
       chain = names;
       is_chain = ends;
-      tests_told = subst (λ ns. AreTestsTold (basis_of session ns) engines.matches_test mode profile asked
+      tests_reported = subst (λ ns. AreTestsReported (basis_of session ns) engines.matches_test mode profile asked
           (all_tests (list_view session.tests)) tests) same told;
-      unused_told = subst (λ places. AllZip (λ place. IsOriginOf session.layers.items place []) places unused)
+      unused_reported = subst (λ places. AllZip (λ place. IsOriginOf session.layers.items place []) places unused)
           (unused_stand (map (query_in engines.matches_test profile) (all_tests (list_view session.tests))) profile ids
           are)
           origins;
-      scripts_told = scripted;
+      scripts_reported = scripted;
     }
 
 -- a report tells the tests of a list by what was loaded
-pub tells_tests : (session : Session) (profile : Name) (mode : NextestRunMode) (asked : AskedSettings)
+pub tells_tests : (session : Session) (profile : Name) (mode : NextestRunMode) (asked : RequestedSettings)
     (report : Report) (content : Content) (loaded : Loaded (Filterset FieldMatcher) TargetSpec) → AreAccepted session
     → IsLoadedFrom (readings session.engines.filters) (files_view session.gathered.now) loaded
     → IsIn (names_in loaded.config.profiles) profile → report.content ≡ content

@@ -27,9 +27,9 @@ use Rattle.rinqebo_run.proofs.Pairs.{zip_moved}
 use Rattle.rinqebo_rules.specs.Verdicts.{facts_of, verdicts_of}
 use Rattle.rinqebo_rules.specs.VerdictsBy.{verdicts_by}
 use Rattle.rinqebo_rules.specs.declared.verdict.Verdict.{Verdict}
-use Rattle.rinqebo_rules.specs.Conditions.{told_condition, asked_if}
+use Rattle.rinqebo_rules.specs.Conditions.{reported_condition, requested_if}
 use Rattle.rinqebo_rules.specs.RuleAnswers.{answers_by}
-use Rattle.rinqebo_run.specs.Reasons.{IsRuleTold, AreRulesTold}
+use Rattle.rinqebo_run.specs.Reasons.{IsRuleReported, AreRulesReported}
 use Rattle.rinqebo_rules.specs.SettingRules.{RuleFor, writes_it, for_setting, override_writes, wrapper_written, is_of_scripts, rules_for}
 use Rattle.rinqebo_run.specs.TellsReasons.{AreReasons, AreReasonsIn}
 
@@ -57,8 +57,8 @@ module _ {E N M K P : Type 0} (f : E → M) (g : N → K) (meets : K → P → O
       λ i. spec_meant platforms.host host i && spec_meant (runs_on platforms build) target i
 
   condition_meant : (platform : P) (o : Option N)
-      → told_condition (λ spec. read_meets spec platform) o
-      ≡ told_condition (λ spec. meets spec platform) (option_map g o)
+      → reported_condition (λ spec. read_meets spec platform) o
+      ≡ reported_condition (λ spec. meets spec platform) (option_map g o)
   condition_meant platform None = refl
   condition_meant platform (Some spec) = refl
 
@@ -67,11 +67,11 @@ module _ {E N M K P : Type 0} (f : E → M) (g : N → K) (meets : K → P → O
     abbrev pub read_query : QueryContext E
     read_query = record { platform = query.platform; matches = λ e. query.matches (f e) }
 
-    told_meant : (o : Option E)
-        → told_condition (λ e. Some (query.matches (f e))) o
-        ≡ told_condition (λ m. Some (query.matches m)) (option_map f o)
-    told_meant None = refl
-    told_meant (Some e) = refl
+    reported_meant : (o : Option E)
+        → reported_condition (λ e. Some (query.matches (f e))) o
+        ≡ reported_condition (λ m. Some (query.matches m)) (option_map f o)
+    reported_meant None = refl
+    reported_meant (Some e) = refl
 
     -- whether a rule is on the platforms of the build
     on_meant : {W : Type 0} (r : Compiled E N W)
@@ -89,7 +89,7 @@ module _ {E N M K P : Type 0} (f : E → M) (g : N → K) (meets : K → P → O
         λ i. record {
           host = host i;
           target = target i;
-          filter = asked_if (on_meant r i) (told_meant r.filter i);
+          filter = requested_if (on_meant r i) (reported_meant r.filter i);
         }
 
     facts_meant : (r : RuleFor E N)
@@ -118,16 +118,16 @@ module _ {E N M K P : Type 0} (f : E → M) (g : N → K) (meets : K → P → O
 
     -- what is told of rules for a setting
     rules_meant : (layers : List FileLayer) (rs : List (RuleFor E N)) (rules : List Rule)
-        → AreRulesTold layers read_meets platforms read_query rs rules
-        → AreRulesTold layers meets platforms query (map (rule_meaning f g (λ w. w)) rs) rules
+        → AreRulesReported layers read_meets platforms read_query rs rules
+        → AreRulesReported layers meets platforms query (map (rule_meaning f g (λ w. w)) rs) rules
     rules_meant layers rs rules all =
         let R : RuleFor E N × Verdict → Rule → Type 0 =
-        λ p. IsRuleTold layers p.0.writes (answers_by read_meets platforms read_query p.0) p.1 in
+        λ p. IsRuleReported layers p.0.writes (answers_by read_meets platforms read_query p.0) p.1 in
         let S : RuleFor M K × Verdict → Rule → Type 0 =
-        λ p. IsRuleTold layers p.0.writes (answers_by meets platforms query p.0) p.1 in
+        λ p. IsRuleReported layers p.0.writes (answers_by meets platforms query p.0) p.1 in
         subst (λ vs. AllZip S (zip (map (rule_meaning f g (λ w. w)) rs) vs) rules) (verdicts_meant rs)
         (zip_moved (rule_meaning f g (λ w. w)) R S
-        (λ r v rule is. subst (λ answers. IsRuleTold layers r.writes answers v rule) (answers_meant r) is)
+        (λ r v rule is. subst (λ answers. IsRuleReported layers r.writes answers v rule) (answers_meant r) is)
         rs (verdicts_of read_query writes_it (map (rule_on read_meets platforms) rs)) rules all)
 
   module _ (s : Setting) (mode : NextestRunMode) where
@@ -180,16 +180,16 @@ module _ {E N M K P : Type 0} (f : E → M) (g : N → K) (meets : K → P → O
           before = is.before;
           fallback = is.fallback;
           are = is.are;
-          rules_told =
-              subst (λ rs. AreRulesTold layers meets platforms
+          rules_reported =
+              subst (λ rs. AreRulesReported layers meets platforms
               (query (profile_on meets platforms meant).default_filter.filter) rs is.before)
               (rules_meaning s test.mode profile.overrides profile.script_rules
               ∙ (λ i. rules_for s test.mode (overrides_meaning f g c.config.layers (with_default chain) i)
               (script_rules_meaning f g c.config.layers (with_default chain) i)))
-              (subst (λ d. AreRulesTold layers meets platforms (query d) (map (rule_meaning f g (λ w. w)) written) is.before)
+              (subst (λ d. AreRulesReported layers meets platforms (query d) (map (rule_meaning f g (λ w. w)) written) is.before)
               (ap (λ p. p.default_filter.filter) (profile_means f g meets platforms c name chain))
-              (rules_meant (query (f default)) layers written is.before is.rules_told));
-          fallback_told = is.fallback_told;
+              (rules_meant (query (f default)) layers written is.before is.rules_reported));
+          fallback_reported = is.fallback_reported;
           fallback_value = is.fallback_value;
         }
 

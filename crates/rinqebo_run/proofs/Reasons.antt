@@ -7,7 +7,7 @@ use Rattle.rinqebo_report.specs.declared.report.Rule.{Rule}
 use Rattle.rinqebo_rules.proofs.Listing.{made_twice}
 use Rattle.rinqebo_rules.proofs.VerdictsOf.{verdicts-facts}
 use Rattle.rinqebo_rules.specs.Conditions.{is_met_by}
-use Rattle.rinqebo_rules.specs.RuleAnswers.{Judged, answers_by, asked_query, judged_here}
+use Rattle.rinqebo_rules.specs.RuleAnswers.{Judged, answers_by, requested_query, judged_here}
 use Rattle.rinqebo_rules.specs.RuleViews.{setting_rule_view, Rule as ReadRule}
 use Rattle.rinqebo_rules.specs.SettingRules.{writes_it}
 use Rattle.rinqebo_rules.specs.Verdicts.{facts_of, verdicts_of}
@@ -16,15 +16,15 @@ use Rattle.rinqebo_rules.specs.declared.chain_rules.SettingRule.{SettingRule}
 use Rattle.rinqebo_rules.specs.declared.conditions.Asking.{Asking}
 use Rattle.rinqebo_rules.specs.declared.verdict.Verdict.{Verdict}
 use Rattle.rinqebo_run.proofs.Pairs.{zip_back, zip_moved}
-use Rattle.rinqebo_run.specs.Reasons.{AreRulesToldHere, AreToldWith, IsRuleTold}
+use Rattle.rinqebo_run.specs.Reasons.{AreRulesReportedHere, AreReportedWith, IsRuleReported}
 
 -- the verdicts of what is found out of rules are those that come of them
-told_verdicts : (asking : Asking) (rules : List SettingRule) (written : List ReadRule)
+reported_verdicts : (asking : Asking) (rules : List SettingRule) (written : List ReadRule)
     → map setting_rule_view rules ≡ map (judged_here asking) written
     → verdicts_by false (map (λ rule. rule.facts) rules)
-    ≡ verdicts_of (asked_query asking) writes_it (map (rule_on is_met_by asking.platforms.now) written)
-told_verdicts asking rules written same =
-    let query = asked_query asking in
+    ≡ verdicts_of (requested_query asking) writes_it (map (rule_on is_met_by asking.platforms.now) written)
+reported_verdicts asking rules written same =
+    let query = requested_query asking in
     let on = rule_on is_met_by asking.platforms.now in
     ap (verdicts_by false) (sym (made_twice (λ j. j.facts) setting_rule_view rules)
     ∙ ap (map (λ j. j.facts)) same
@@ -33,20 +33,20 @@ told_verdicts asking rules written same =
     ∙ sym (verdicts-facts query writes_it (map on written))
 
 -- rules that code holds are told as the rules of which this is found out
-pub told_here : (layers : List Layer) (asking : Asking) (written : List ReadRule) (rules : List SettingRule)
+pub reported_here : (layers : List Layer) (asking : Asking) (written : List ReadRule) (rules : List SettingRule)
     (told : List Rule) → map setting_rule_view rules ≡ map (judged_here asking) written
-    → AreToldWith layers rules (verdicts_by false (map (λ rule. rule.facts) rules)) told
-    → AreRulesToldHere layers asking written told
-told_here layers asking written rules told same all =
-    let query = asked_query asking in
+    → AreReportedWith layers rules (verdicts_by false (map (λ rule. rule.facts) rules)) told
+    → AreRulesReportedHere layers asking written told
+reported_here layers asking written rules told same all =
+    let query = requested_query asking in
     let platforms = asking.platforms.now in
     let verdicts = verdicts_by false (map (λ rule. rule.facts) rules) in
     let Held : SettingRule × Verdict → Rule → Type 0 =
-    λ p. IsRuleTold layers (setting_rule_view p.0).writes p.0.answers p.1 in
-    let Found : Judged × Verdict → Rule → Type 0 = λ p. IsRuleTold layers p.0.writes p.0.answers p.1 in
+    λ p. IsRuleReported layers (setting_rule_view p.0).writes p.0.answers p.1 in
+    let Found : Judged × Verdict → Rule → Type 0 = λ p. IsRuleReported layers p.0.writes p.0.answers p.1 in
     let Told : ReadRule × Verdict → Rule → Type 0 =
-    λ p. IsRuleTold layers p.0.writes (answers_by is_met_by platforms query p.0) p.1 in
-    subst (λ vs. AllZip Told (zip written vs) told) (told_verdicts asking rules written same)
+    λ p. IsRuleReported layers p.0.writes (answers_by is_met_by platforms query p.0) p.1 in
+    subst (λ vs. AllZip Told (zip written vs) told) (reported_verdicts asking rules written same)
     (zip_back (judged_here asking) Told Found (λ r v rule is. is) written verdicts told
     (subst (λ js. AllZip Found (zip js verdicts) told) same
     (zip_moved setting_rule_view Held Found (λ r v rule is. is) rules verdicts told all)))

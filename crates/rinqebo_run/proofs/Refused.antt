@@ -10,7 +10,7 @@ use Rattle.rinqebo_request.specs.declared.request.Request.{Request as Asked}
 use Rattle.rinqebo_run.proofs.Statuses.{shown_low}
 use Rattle.rinqebo_run.specs.Answered.{AnswersQuestion, IsAnswer}
 use Rattle.rinqebo_load.specs.Accepted.{AreAccepted}
-use Rattle.rinqebo_run.specs.Refused.{AreRefusedFor, Fails, IsFailureIn, IsToldBy, LackProfileFor, LacksProfileOf}
+use Rattle.rinqebo_run.specs.Refused.{AreRefusedFor, Fails, IsFailureIn, IsReportedBy, LackProfileFor, LacksProfileOf}
 use Rattle.rinqebo_findings.specs.Failures.{IsFailureAbout}
 use Rattle.rinqebo_load.specs.SessionOf.{IsSessionOf}
 use Rattle.rinqebo_run.specs.Statuses.{failure_status}
@@ -19,10 +19,10 @@ use Rattle.rinqebo_load.specs.declared.failure.Failure.TheVariants as failures
 use Rattle.rinqebo_load.specs.declared.session.Session.{Session}
 
 -- want of memory is a failure about any profile
-pub want_told : {A : Type 0} (session : Session) (profile : Name) (r : Result A Failure)
+pub want_reported : {A : Type 0} (session : Session) (profile : Name) (r : Result A Failure)
     → IsErrAnd r (λ failure. failure ≡ failures.Memory) → IfErr r (IsFailureAbout session profile)
-want_told session profile (Ok answer) is = tt
-want_told session profile (Err failure) is = subst (IsFailureAbout session profile) (sym is) tt
+want_reported session profile (Ok answer) is = tt
+want_reported session profile (Err failure) is = subst (IsFailureAbout session profile) (sym is) tt
 
 -- what holds of a failure holds of it where it is told
 pub passed_on : {A : Type 0} (P : Failure → Type 0) (r : Result A Failure) (failure : Failure)
@@ -89,9 +89,9 @@ lacking_in (questions.ShowConfig profile keys with_hidden) session report n answ
 lacking_in (questions.Check deny_warnings) session report n answers four = no_four n answers.is_status four
 
 -- the status of a run with an answer tells of files
-pub answer_told : (request : Asked) (gathered : Gathered) (report : Report) (n m : ℕ)
-    → IsAnswer request gathered report m → (n ≡ m) ⊎ (n ≡ 5) ⊎ (n ≡ 6) → IsToldBy request gathered n
-answer_told request gathered report n m answer (inl same) = record {
+pub answer_reported : (request : Asked) (gathered : Gathered) (report : Report) (n m : ℕ)
+    → IsAnswer request gathered report m → (n ≡ m) ⊎ (n ≡ 5) ⊎ (n ≡ 6) → IsReportedBy request gathered n
+answer_reported request gathered report n m answer (inl same) = record {
   refused = λ three. record {
     session = answer.session;
     begun = answer.begun;
@@ -99,11 +99,11 @@ answer_told request gathered report n m answer (inl same) = record {
   };
   lacking = λ four. lacking_in request.question answer.session report m answer.answers (sym same ∙ four);
 }
-answer_told request gathered report n m answer (inr (inl five)) = record {
+answer_reported request gathered report n m answer (inr (inl five)) = record {
   refused = λ three. absurd (omega arith);
   lacking = λ four. absurd (omega arith);
 }
-answer_told request gathered report n m answer (inr (inr six)) = record {
+answer_reported request gathered report n m answer (inr (inr six)) = record {
   refused = λ three. absurd (omega arith);
   lacking = λ four. absurd (omega arith);
 }
@@ -153,17 +153,17 @@ lacking_for request gathered (failures.NoProfile report) (inr fails) four = reco
 lacking_for request gathered failures.Memory fails four = absurd (omega arith)
 
 -- the status of a run with a failure tells of files
-pub failure_told : (request : Asked) (gathered : Gathered) (failure : Failure) (n : ℕ)
-    → Fails request gathered failure → (n ≡ failure_status failure) ⊎ (n ≡ 5) ⊎ (n ≡ 6) → IsToldBy request gathered n
-failure_told request gathered failure n fails (inl same) = record {
+pub failure_reported : (request : Asked) (gathered : Gathered) (failure : Failure) (n : ℕ)
+    → Fails request gathered failure → (n ≡ failure_status failure) ⊎ (n ≡ 5) ⊎ (n ≡ 6) → IsReportedBy request gathered n
+failure_reported request gathered failure n fails (inl same) = record {
   refused = λ three. refused_for request gathered failure fails (sym same ∙ three);
   lacking = λ four. lacking_for request gathered failure fails (sym same ∙ four);
 }
-failure_told request gathered failure n fails (inr (inl five)) = record {
+failure_reported request gathered failure n fails (inr (inl five)) = record {
   refused = λ three. absurd (omega arith);
   lacking = λ four. absurd (omega arith);
 }
-failure_told request gathered failure n fails (inr (inr six)) = record {
+failure_reported request gathered failure n fails (inr (inr six)) = record {
   refused = λ three. absurd (omega arith);
   lacking = λ four. absurd (omega arith);
 }

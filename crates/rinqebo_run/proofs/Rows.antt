@@ -17,7 +17,7 @@ use Rattle.nextest_settings.specs.declared.setting.Setting.{Setting}
 use Rattle.nextest_tables.specs.FileTexts.{names_in, IsIn}
 use Rattle.nextest_tables.specs.Written.{Name}
 use Rattle.rinqebo_rules.specs.TestOrigins.{Basis}
-use Rattle.rinqebo_rules.specs.Rows.{AreSettingsTold}
+use Rattle.rinqebo_rules.specs.Rows.{AreSettingsReported}
 use Rattle.rinqebo_load.specs.Accepted.{AreAccepted}
 use Rattle.rinqebo_load.specs.Sessions.{files_view, readings, IsLoadedFrom}
 use Rattle.rinqebo_load.specs.declared.session.Session.{Session}
@@ -41,7 +41,7 @@ pub explained_here : (session : Session) (loaded : Loaded (Filterset FieldMatche
     → IsChainAndDefault (parents_in (config_parents loaded.config)) name names → basis ≡ basis_of session names
     → asked.name ≡ test.name.now → asked.binary.binary_id ≡ test.binary.now → asked.binary.platform ≡ test.platform
     → string_bytes rows.binary ≡ asked.binary.binary_id → string_bytes rows.name ≡ asked.name → these ≡ settings
-    → AreSettingsTold basis (query_in filter_holds (profile_meaning (marks_view names_of) on) asked) test.mode
+    → AreSettingsReported basis (query_in filter_holds (profile_meaning (marks_view names_of) on) asked) test.mode
     (profile_meaning (marks_view names_of) on) these rows.settings.items
     → explained_by session loaded name test settings rows
 explained_here session loaded name test settings these asked basis on names rows is ends same_basis same_name binary
@@ -50,18 +50,18 @@ explained_here session loaded name test settings these asked basis on names rows
     let query = query_in filter_holds profile asked in
     record {
       asked = asked;
-      asked_name = same_name;
-      asked_binary = binary;
-      asked_platform = platform;
+      requested_name = same_name;
+      requested_binary = binary;
+      requested_platform = platform;
       profile = profile;
       is_profile = given_means (marks_view names_of) spec_view (readings session.engines.filters).meets
           session.engines.platforms (read_by session loaded) name on is;
       chain = names;
       is_chain = ends;
       binary = rows_binary ∙ binary;
-      name_told = rows_name ∙ same_name;
-      settings_told = subst (λ b. AreSettingsTold b query test.mode profile settings rows.settings.items) same_basis
-          (subst (λ ss. AreSettingsTold basis query test.mode profile ss rows.settings.items) same told);
+      name_reported = rows_name ∙ same_name;
+      settings_reported = subst (λ b. AreSettingsReported b query test.mode profile settings rows.settings.items) same_basis
+          (subst (λ ss. AreSettingsReported basis query test.mode profile ss rows.settings.items) same told);
     }
 
 -- a report tells the settings of a test by what was loaded

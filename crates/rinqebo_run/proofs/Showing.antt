@@ -29,10 +29,10 @@ next_leaf found n m leaf within at next =
     ∙ ap (λ l. map leaf_view (take n found) ++ leaf_view l ∷ []) (sym at)
 
 -- one leaf more that is told
-pub told_more : (found : List Found) (n m : ℕ) (leaf : Found) (old new : List Entry) (entry : Entry)
+pub reported_more : (found : List Found) (n m : ℕ) (leaf : Found) (old new : List Entry) (entry : Entry)
     → n < length found → leaf ≡ get_or found n leaf → m ≡ n + 1 → TellLeaves (map leaf_view (take n found)) old
     → TellsLeaf (leaf_view leaf) entry → new ≡ old ++ entry ∷ [] → TellLeaves (map leaf_view (take m found)) new
-told_more found n m leaf old new entry within at next before is more =
+reported_more found n m leaf old new entry within at next before is more =
     let leaves = map leaf_view (take n found) in
     let same = ap (filter tells) (next_leaf found n m leaf within at next)
     ∙ ended leaves (leaf_view leaf) true is.is_entry.value.told in
@@ -41,10 +41,10 @@ told_more found n m leaf old new entry within at next before is more =
     (all_zipped_more TellsLeaf (filter tells leaves) old (leaf_view leaf) entry before is))
 
 -- one leaf more that is not told
-pub told_less : (found : List Found) (n m : ℕ) (leaf : Found) (old new : List Entry) → n < length found
+pub reported_less : (found : List Found) (n m : ℕ) (leaf : Found) (old new : List Entry) → n < length found
     → leaf ≡ get_or found n leaf → m ≡ n + 1 → TellLeaves (map leaf_view (take n found)) old
     → tells (leaf_view leaf) ≡ false → new ≡ old → TellLeaves (map leaf_view (take m found)) new
-told_less found n m leaf old new within at next before none kept =
+reported_less found n m leaf old new within at next before none kept =
     let leaves = map leaf_view (take n found) in
     let same = ap (filter tells) (next_leaf found n m leaf within at next)
     ∙ ended leaves (leaf_view leaf) false none ∙ append-nil (filter tells leaves) in

@@ -86,16 +86,16 @@ no_failure request gathered (failures.NoProfile report) fails is = no_four reque
 no_failure request gathered failures.Memory fails is = no_five request.question is
 
 -- the status of a run with an answer of status m
-pub told_same : (q : Question) (n m : ℕ) → (n ≡ m) ⊎ (n ≡ 5) ⊎ (n ≡ 6) → IsAnswerStatus q n → n ≡ m
-told_same q n m (inl same) is = same
-told_same q n m (inr (inl five)) is = absurd (no_five q (subst (IsAnswerStatus q) five is))
-told_same q n m (inr (inr six)) is = absurd (no_six q (subst (IsAnswerStatus q) six is))
+pub reported_same : (q : Question) (n m : ℕ) → (n ≡ m) ⊎ (n ≡ 5) ⊎ (n ≡ 6) → IsAnswerStatus q n → n ≡ m
+reported_same q n m (inl same) is = same
+reported_same q n m (inr (inl five)) is = absurd (no_five q (subst (IsAnswerStatus q) five is))
+reported_same q n m (inr (inr six)) is = absurd (no_six q (subst (IsAnswerStatus q) six is))
 
 -- an answer goes out whole
-pub told_page : (q : Question) (n : ℕ) {X : Type 0} → (n ≡ 5) ⊎ (n ≡ 6) ⊎ X → IsAnswerStatus q n → X
-told_page q n (inl five) is = absurd (no_five q (subst (IsAnswerStatus q) five is))
-told_page q n (inr (inl six)) is = absurd (no_six q (subst (IsAnswerStatus q) six is))
-told_page q n (inr (inr page)) is = page
+pub reported_page : (q : Question) (n : ℕ) {X : Type 0} → (n ≡ 5) ⊎ (n ≡ 6) ⊎ X → IsAnswerStatus q n → X
+reported_page q n (inl five) is = absurd (no_five q (subst (IsAnswerStatus q) five is))
+reported_page q n (inr (inl six)) is = absurd (no_six q (subst (IsAnswerStatus q) six is))
+reported_page q n (inr (inr page)) is = page
 
 -- a run with an answer tells it
 pub tells : (request : Request) (gathered : Gathered) (report : Report) (n m : ℕ) (old new : Option (List ℕ))

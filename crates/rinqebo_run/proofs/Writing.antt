@@ -24,7 +24,7 @@ use Rattle.nextest_tables.specs.FileTexts.{names_in, IsIn}
 use Rattle.nextest_tables.specs.Written.{Name}
 use Rattle.rinqebo_files.specs.declared.files.Gathered.{Gathered}
 use Rattle.rinqebo_rules.specs.TestOrigins.{Basis}
-use Rattle.rinqebo_rules.specs.Rows.{AreTestsTold, IsTestTold}
+use Rattle.rinqebo_rules.specs.Rows.{AreTestsReported, IsTestReported}
 use Rattle.rinqebo_report.specs.Pages.{content_runs, count_runs, list_runs, listed_runs, unused_runs}
 use Rattle.rinqebo_report.specs.Pieces.{painted, page_text}
 use Rattle.rinqebo_report.specs.Rendered.{rendered}
@@ -36,7 +36,7 @@ use Rattle.rinqebo_report.specs.declared.report.Content.TheVariants as contents
 use Rattle.rinqebo_report.specs.declared.report.ListScripts.{ListScripts}
 use Rattle.rinqebo_report.specs.declared.report.Report.{Report}
 use Rattle.rinqebo_report.specs.declared.report.TestRows.{TestRows}
-use Rattle.rinqebo_request.specs.declared.request.AskedSettings.{AskedSettings}
+use Rattle.rinqebo_request.specs.declared.request.RequestedSettings.{RequestedSettings}
 use Rattle.rinqebo_request.specs.declared.request.Question.{Question}
 use Rattle.rinqebo_request.specs.declared.request.Question.TheVariants as questions
 use Rattle.rinqebo_request.specs.declared.request.Request.{Request}
@@ -45,7 +45,7 @@ use Rattle.platform_language.specs.declared.expression.TargetSpec.{TargetSpec}
 use Rattle.nextest_lists.specs.ListView.{list_view}
 use Rattle.nextest_lists.specs.Lists.{all_tests}
 use Rattle.rinqebo_run.proofs.Listing.{given_means, tells_tests, zip_mapped}
-use Rattle.rinqebo_run.proofs.Refused.{failure_told}
+use Rattle.rinqebo_run.proofs.Refused.{failure_reported}
 use Rattle.rinqebo_run.proofs.Statuses.{failed_silent, failed_status}
 use Rattle.rinqebo_run.specs.Answered.{AnswersQuestion, Tells}
 use Rattle.rinqebo_run.specs.Begun.{tests_text, AreFirstOf, AreFirstWritten, BeginsList, BeginsPage, IsBegun}
@@ -53,7 +53,7 @@ use Rattle.rinqebo_load.specs.Accepted.{AreAccepted}
 use Rattle.rinqebo_rules.specs.Conditions.{is_met_by}
 use Rattle.rinqebo_run.specs.Listed.{IfListed, IsProfileOn, TellsTests}
 use Rattle.rinqebo_run.specs.ListedBy.{basis_of, listed_by, read_by}
-use Rattle.rinqebo_run.specs.Refused.{Fails, IsFailureIn, IsToldBy}
+use Rattle.rinqebo_run.specs.Refused.{Fails, IsFailureIn, IsReportedBy}
 use Rattle.rinqebo_findings.specs.Failures.{IsFailureAbout}
 use Rattle.rinqebo_load.specs.SessionOf.{IsSessionOf}
 use Rattle.rinqebo_load.specs.Sessions.{files_view, readings, IsLoadedFrom}
@@ -64,7 +64,7 @@ use Rattle.rinqebo_load.specs.declared.failure.Failure.{Failure}
 use Rattle.rinqebo_load.specs.declared.failure.Failure.TheVariants as failures
 use Rattle.rinqebo_run.specs.declared.list_fault.ListFault.{ListFault}
 use Rattle.rinqebo_run.specs.declared.list_fault.ListFault.TheVariants as faults
-use Rattle.rinqebo_run.specs.declared.list_page.AskedList.{AskedList}
+use Rattle.rinqebo_run.specs.declared.list_page.RequestedList.{RequestedList}
 use Rattle.rinqebo_load.specs.declared.session.Session.{Session}
 
 -- a fault is passed on
@@ -112,40 +112,40 @@ whole_page head tint tests unused count old mid new all before after =
     (Appends-trans old mid new (tests_text head tint tests) (ending count) before after)
 
 -- the tests so far went out
-pub first_so_far : (basis : Basis) (mode : NextestRunMode) (profile : EvaluatableModel Filter) (asked : AskedSettings)
+pub first_so_far : (basis : Basis) (mode : NextestRunMode) (profile : EvaluatableModel Filter) (asked : RequestedSettings)
     (head : Report) (tint : Colour) (queries : List TestQuery) (i : ℕ) (tests : List TestRows)
     (old new : Option (List ℕ))
-    → AllZip (λ query. IsTestTold basis (query_in filter_holds profile (test_view query)) mode profile asked
+    → AllZip (λ query. IsTestReported basis (query_in filter_holds profile (test_view query)) mode profile asked
     (test_view query)) (take i queries) tests
     → Appends old new (tests_text head tint tests)
     → AreFirstWritten basis filter_holds mode profile asked (map test_view queries) head tint old new
 first_so_far basis mode profile asked head tint queries i tests old new told page =
     let Told : Test → TestRows → Type 0 =
-    λ test. IsTestTold basis (query_in filter_holds profile test) mode profile asked test in
+    λ test. IsTestReported basis (query_in filter_holds profile test) mode profile asked test in
     record {
       count = i;
       tests = tests;
-      are_told = subst (λ list. AllZip Told list tests) (sym (take-map test_view i queries))
+      are_reported = subst (λ list. AllZip Told list tests) (sym (take-map test_view i queries))
           (zip_mapped test_view Told (take i queries) tests told);
       page = page;
     }
 
 -- all tests went out
-pub all_first : (basis : Basis) (mode : NextestRunMode) (profile : EvaluatableModel Filter) (asked : AskedSettings)
+pub all_first : (basis : Basis) (mode : NextestRunMode) (profile : EvaluatableModel Filter) (asked : RequestedSettings)
     (head : Report) (tint : Colour) (list : List Test) (tests : List TestRows) (old new : Option (List ℕ))
-    → AreTestsTold basis filter_holds mode profile asked list tests → Appends old new (tests_text head tint tests)
+    → AreTestsReported basis filter_holds mode profile asked list tests → Appends old new (tests_text head tint tests)
     → AreFirstWritten basis filter_holds mode profile asked list head tint old new
 all_first basis mode profile asked head tint list tests old new told page = record {
   count = length list;
   tests = tests;
-  are_told = subst (λ first. AreTestsTold basis filter_holds mode profile asked first tests)
+  are_reported = subst (λ first. AreTestsReported basis filter_holds mode profile asked first tests)
       (sym (take_all (length list) list (omega arith))) told;
   page = page;
 }
 
 -- the first tests went out by a configuration that was loaded
 pub first_here : (session : Session) (loaded : Loaded (Filterset FieldMatcher) TargetSpec) (name : Name)
-    (mode : NextestRunMode) (asked : AskedSettings) (on : EvaluatableModel (Filterset FieldMatcher))
+    (mode : NextestRunMode) (asked : RequestedSettings) (on : EvaluatableModel (Filterset FieldMatcher))
     (names chain : List Name) (head : Report) (tint : Colour) (old new : Option (List ℕ))
     → IsProfileOn is_met_by session.engines.platforms (read_by session loaded) name on
     → IsChainAndDefault (parents_in (config_parents loaded.config)) name names → chain ≡ names
@@ -165,7 +165,7 @@ first_here session loaded name mode asked on names chain head tint old new is en
 }
 
 -- the page of a list was begun by what was loaded
-pub begins_list : (session : Session) (profile : Name) (mode : NextestRunMode) (asked : AskedSettings) (tint : Colour)
+pub begins_list : (session : Session) (profile : Name) (mode : NextestRunMode) (asked : RequestedSettings) (tint : Colour)
     (loaded : Loaded (Filterset FieldMatcher) TargetSpec) (old new : Option (List ℕ)) → AreAccepted session
     → IsLoadedFrom (readings session.engines.filters) (files_view session.gathered.now) loaded
     → IsIn (names_in loaded.config.profiles) profile → AreFirstBy session loaded profile mode asked tint old new
@@ -196,7 +196,7 @@ page_of_list head tint (contents.List asked tests unused scripts) P old new list
 page_of_list head tint _ P old new listed page = absurd listed
 
 -- the page of a list went out by what was loaded
-pub writes_list : (session : Session) (profile : Name) (mode : NextestRunMode) (asked : AskedSettings) (tint : Colour)
+pub writes_list : (session : Session) (profile : Name) (mode : NextestRunMode) (asked : RequestedSettings) (tint : Colour)
     (head : Report) (content : Content) (loaded : Loaded (Filterset FieldMatcher) TargetSpec)
     (old new : Option (List ℕ)) → AreAccepted session
     → IsLoadedFrom (readings session.engines.filters) (files_view session.gathered.now) loaded
@@ -230,7 +230,7 @@ stops_at_end begun old mid new faults.Memory first (inr same) = inl (first (sym 
 stops_at_end begun old mid new faults.Write first stop = tt
 
 -- a question that asks for a list is answered by what tells its tests
-answers_list : (q : Question) (list : AskedList) (session : Session) (report : Report) → AsksList q list
+answers_list : (q : Question) (list : RequestedList) (session : Session) (report : Report) → AsksList q list
     → TellsTests session list.profile.now list.mode list.settings.now report → AnswersQuestion q session report 0
 answers_list (questions.List profile mode file settings) list session report asks tells = (
   refl,
@@ -240,7 +240,7 @@ answers_list (questions.List profile mode file settings) list session report ask
 )
 answers_list _ list session report asks tells = absurd asks
 
-begins_page : (q : Question) (list : AskedList) (session : Session) (tint : Colour) (old new : Option (List ℕ))
+begins_page : (q : Question) (list : RequestedList) (session : Session) (tint : Colour) (old new : Option (List ℕ))
     → AsksList q list
     → BeginsList session list.profile.now list.mode list.settings.now tint old new
     → BeginsPage q session tint old new
@@ -250,24 +250,24 @@ begins_page (questions.List profile mode file settings) list session tint old ne
     (subst (λ s. BeginsList session list.profile.now list.mode s tint old new) asks.2 begins))
 begins_page _ list session tint old new asks begins = absurd asks
 
-fails_about : (q : Question) (list : AskedList) (session : Session) (failure : Failure) → AsksList q list
+fails_about : (q : Question) (list : RequestedList) (session : Session) (failure : Failure) → AsksList q list
     → IsFailureAbout session list.profile.now failure → IsFailureIn session q failure
 fails_about (questions.List profile mode file settings) list session failure asks cause =
     subst (λ p. IsFailureAbout session p failure) asks.0 cause
 fails_about _ list session failure asks cause = absurd asks
 
 -- status 0 answers a question that asks for a list
-pub zero_answers : (q : Question) (list : AskedList) → AsksList q list → IsAnswerStatus q 0
+pub zero_answers : (q : Question) (list : RequestedList) → AsksList q list → IsAnswerStatus q 0
 zero_answers (questions.List profile mode file settings) list asks = refl
 zero_answers _ list asks = absurd asks
 
 -- a list of a session that went out whole answers the request
-pub list_told : (request : Request) (gathered : Gathered) (list : AskedList) (session : Session)
+pub list_reported : (request : Request) (gathered : Gathered) (list : RequestedList) (session : Session)
     (old new : Option (List ℕ)) → IsSessionOf request gathered session → AsksList request.question list
     → request.format ≡ formats.Text
     → WritesList session list.profile.now list.mode list.settings.now request.colour old new
     → Tells request gathered 0 old new
-list_told request gathered list session old new begun asks is_text writes = record {
+list_reported request gathered list session old new begun asks is_text writes = record {
   report = writes.report;
   is_answer = record {
     session = session;
@@ -279,7 +279,7 @@ list_told request gathered list session old new begun asks is_text writes = reco
 }
 
 -- why a list of a session was not written whole is why that of the request was not
-pub list_stopped : (request : Request) (gathered : Gathered) (list : AskedList) (session : Session)
+pub list_stopped : (request : Request) (gathered : Gathered) (list : RequestedList) (session : Session)
     (old new : Option (List ℕ)) (fault : ListFault) → IsSessionOf request gathered session
     → AsksList request.question list → request.format ≡ formats.Text
     → StopsList (IsFailureAbout session list.profile.now)
@@ -330,12 +330,12 @@ stop_silent request gathered old new faults.Write n stop ends is =
     failed_silent request gathered failures.Memory n (inl tt) (inr (inr ends)) is
 
 -- the status of a run whose list was not written whole tells of files
-pub stop_told : (request : Request) (gathered : Gathered) (old new : Option (List ℕ)) (fault : ListFault) (n : ℕ)
+pub stop_reported : (request : Request) (gathered : Gathered) (old new : Option (List ℕ)) (fault : ListFault) (n : ℕ)
     → StopsList (Fails request gathered) (IsBegun request gathered old new) old new fault → IsStopStatus fault n
-    → IsToldBy request gathered n
-stop_told request gathered old new (faults.Refused failure) n stop ends =
-    failure_told request gathered failure n stop.0 ends
-stop_told request gathered old new faults.Memory n stop ends =
-    failure_told request gathered failures.Memory n (inl tt) (inr ends)
-stop_told request gathered old new faults.Write n stop ends =
-    failure_told request gathered failures.Memory n (inl tt) (inr (inr ends))
+    → IsReportedBy request gathered n
+stop_reported request gathered old new (faults.Refused failure) n stop ends =
+    failure_reported request gathered failure n stop.0 ends
+stop_reported request gathered old new faults.Memory n stop ends =
+    failure_reported request gathered failures.Memory n (inl tt) (inr ends)
+stop_reported request gathered old new faults.Write n stop ends =
+    failure_reported request gathered failures.Memory n (inl tt) (inr (inr ends))

@@ -15,14 +15,14 @@ use Rattle.nextest_tables.specs.Written.{Name}
 use Rattle.rinqebo_files.specs.declared.files.Gathered.{Gathered}
 use Rattle.rinqebo_files.specs.declared.layers.Layer.{Layer}
 use Rattle.rinqebo_rules.specs.TestOrigins.{Basis}
-use Rattle.rinqebo_rules.specs.Rows.{AreTestsTold}
+use Rattle.rinqebo_rules.specs.Rows.{AreTestsReported}
 use Rattle.rinqebo_report.specs.Pages.{listed_runs}
 use Rattle.rinqebo_report.specs.Pieces.{page_text}
 use Rattle.rinqebo_report.specs.declared.format.Format.TheVariants as formats
 use Rattle.rinqebo_report.specs.declared.piece.Colour.{Colour}
 use Rattle.rinqebo_report.specs.declared.report.Report.{Report}
 use Rattle.rinqebo_report.specs.declared.report.TestRows.{TestRows}
-use Rattle.rinqebo_request.specs.declared.request.AskedSettings.{AskedSettings}
+use Rattle.rinqebo_request.specs.declared.request.RequestedSettings.{RequestedSettings}
 use Rattle.rinqebo_request.specs.declared.request.Question.{Question}
 use Rattle.rinqebo_request.specs.declared.request.Question.TheVariants as questions
 use Rattle.rinqebo_request.specs.declared.request.Request.{Request}
@@ -43,18 +43,18 @@ tests_text head tint tests =
 -- The first tests of a list went out, each whole and told as a profile gives it settings: known bytes
 -- grew by their lines on the page of a report, and by nothing else.
 pub record AreFirstWritten {M : Type 0} (basis : Basis) (matches : M → Test → M → Bool)
-    (mode : NextestRunMode) (profile : EvaluatableModel M) (asked : AskedSettings)
+    (mode : NextestRunMode) (profile : EvaluatableModel M) (asked : RequestedSettings)
     (list : List Test) (head : Report) (tint : Colour) (old new : Option (List ℕ)) : Type 0 where
   pub count : ℕ
   pub tests : List TestRows
-  pub are_told : AreTestsTold basis matches mode profile asked (take count list) tests
+  pub are_reported : AreTestsReported basis matches mode profile asked (take count list) tests
   pub page : Appends old new (tests_text head tint tests)
 
 -- The first tests of a list went out, as the profile of a name gives them settings on the platforms
 -- of a build.
 pub record AreFirstOf {M K P : Type 0} (meets : K → P → Option Bool) (matches : M → Test → M → Bool)
     (platforms : BuildPlatforms P) (configured : Configured M K) (name : Name)
-    (mode : NextestRunMode) (asked : AskedSettings) (layers : List Layer) (list : List Test)
+    (mode : NextestRunMode) (asked : RequestedSettings) (layers : List Layer) (list : List Test)
     (tint : Colour) (old new : Option (List ℕ)) : Type 0 where
   pub head : Report
   pub profile : EvaluatableModel M
@@ -66,7 +66,7 @@ pub record AreFirstOf {M K P : Type 0} (meets : K → P → Option Bool) (matche
 
 -- The page of a list was begun: its first tests went out, by what the files mean.
 pub record BeginsList (session : Session) (profile : Name) (mode : NextestRunMode)
-    (asked : AskedSettings) (tint : Colour) (old new : Option (List ℕ)) : Type 0 where
+    (asked : RequestedSettings) (tint : Colour) (old new : Option (List ℕ)) : Type 0 where
   -- Every written rule holds of the files.
   pub acceptance : AreAccepted session
   -- Their scripts are those that they define.

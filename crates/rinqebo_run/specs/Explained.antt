@@ -13,7 +13,7 @@ use Rattle.nextest_sources.specs.Inputs.{sources_in}
 use Rattle.nextest_tables.specs.FileTexts.{names_in, IsIn}
 use Rattle.nextest_tables.specs.Written.{Name}
 use Rattle.rinqebo_files.specs.declared.layers.Layer.{Layer}
-use Rattle.rinqebo_rules.specs.Rows.{AreSettingsTold}
+use Rattle.rinqebo_rules.specs.Rows.{AreSettingsReported}
 use Rattle.rinqebo_load.specs.Accepted.{AreAccepted}
 use Rattle.rinqebo_load.specs.Sessions.{files_view, readings}
 use Rattle.rinqebo_load.specs.declared.session.Session.{Session}
@@ -33,16 +33,16 @@ pub record IsTestOf {M K P : Type 0} (meets : K → P → Option Bool) (matches 
     (settings : List Setting) (layers : List Layer) (told : TestRows) : Type 0 where
   -- The test, as filters see it, is the one that is named.
   pub asked : Test
-  pub asked_name : asked.name ≡ test.name.now
-  pub asked_binary : asked.binary.binary_id ≡ test.binary.now
-  pub asked_platform : asked.binary.platform ≡ test.platform
+  pub requested_name : asked.name ≡ test.name.now
+  pub requested_binary : asked.binary.binary_id ≡ test.binary.now
+  pub requested_platform : asked.binary.platform ≡ test.platform
   pub profile : EvaluatableModel M
   pub is_profile : IsProfileOn meets platforms configured name profile
   pub chain : List Name
   pub is_chain : IsChainAndDefault (parents_in (config_parents configured.config)) name chain
   pub binary : string_bytes told.binary ≡ test.binary.now
-  pub name_told : string_bytes told.name ≡ test.name.now
-  pub settings_told : AreSettingsTold (record { layers = layers; chain = chain })
+  pub name_reported : string_bytes told.name ≡ test.name.now
+  pub settings_reported : AreSettingsReported (record { layers = layers; chain = chain })
       (query_in matches profile asked) test.mode profile settings told.settings.items
 
 -- a fact of the test that a report tells the settings of

@@ -16,8 +16,8 @@ use Rattle.nextest_sources.specs.Inputs.{sources_in}
 use Rattle.nextest_tables.specs.FileTexts.{names_in, IsIn}
 use Rattle.nextest_tables.specs.Written.{Name}
 use Rattle.rinqebo_files.specs.declared.layers.Layer.{Layer}
-use Rattle.rinqebo_rules.specs.Rows.{AreTestsTold}
-use Rattle.rinqebo_rules.specs.Scripts.{AreScriptsTold}
+use Rattle.rinqebo_rules.specs.Rows.{AreTestsReported}
+use Rattle.rinqebo_rules.specs.Scripts.{AreScriptsReported}
 use Rattle.rinqebo_rules.specs.Unused.{unused_among}
 use Rattle.rinqebo_report.specs.declared.origin.Origin.{Origin}
 use Rattle.rinqebo_report.specs.declared.report.Content.{Content}
@@ -25,7 +25,7 @@ use Rattle.rinqebo_report.specs.declared.report.Content.TheVariants as contents
 use Rattle.rinqebo_report.specs.declared.report.ListScripts.{ListScripts}
 use Rattle.rinqebo_report.specs.declared.report.Report.{Report}
 use Rattle.rinqebo_report.specs.declared.report.TestRows.{TestRows}
-use Rattle.rinqebo_request.specs.declared.request.AskedSettings.{AskedSettings}
+use Rattle.rinqebo_request.specs.declared.request.RequestedSettings.{RequestedSettings}
 use Rattle.nextest_lists.specs.ListView.{list_view}
 use Rattle.nextest_lists.specs.Lists.{all_binaries, all_tests, TestList}
 use Rattle.rinqebo_load.specs.Accepted.{AreAccepted}
@@ -61,18 +61,18 @@ AreUnused layers tests profile unused =
 -- hold for none, and the scripts that it gives to the list.
 pub record AreTestsOf {M K P : Type 0} (meets : K → P → Option Bool) (matches : M → Test → M → Bool)
     (matches_binary : BinaryMatch M) (platforms : BuildPlatforms P) (configured : Configured M K)
-    (name : Name) (mode : NextestRunMode) (asked : AskedSettings) (layers : List Layer)
+    (name : Name) (mode : NextestRunMode) (asked : RequestedSettings) (layers : List Layer)
     (list : TestList) (tests : List TestRows) (unused : List Origin) (scripts : ListScripts)
     : Type 0 where
   pub profile : EvaluatableModel M
   pub is_profile : IsProfileOn meets platforms configured name profile
   pub chain : List Name
   pub is_chain : IsChainAndDefault (parents_in (config_parents configured.config)) name chain
-  pub tests_told : AreTestsTold (record { layers = layers; chain = chain }) matches mode profile
-      asked (all_tests list) tests
-  pub unused_told : AreUnused layers (map (query_in matches profile) (all_tests list))
+  pub tests_reported : AreTestsReported (record { layers = layers; chain = chain }) matches mode
+      profile asked (all_tests list) tests
+  pub unused_reported : AreUnused layers (map (query_in matches profile) (all_tests list))
       profile unused
-  pub scripts_told : AreScriptsTold matches matches_binary profile (all_tests list)
+  pub scripts_reported : AreScriptsReported matches matches_binary profile (all_tests list)
       (all_binaries list) scripts
 
 -- a fact of the tests, of the rules and of the scripts that a report lists
@@ -82,7 +82,7 @@ IfListed _ P = ⊥
 
 -- A report tells the tests of a list in a profile, by what the files mean.
 pub record TellsTests (session : Session) (profile : Name) (mode : NextestRunMode)
-    (asked : AskedSettings) (report : Report) : Type 0 where
+    (asked : RequestedSettings) (report : Report) : Type 0 where
   -- Every written rule holds of the files.
   pub acceptance : AreAccepted session
   -- Their scripts are those that they define.

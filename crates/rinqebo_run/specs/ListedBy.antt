@@ -14,7 +14,7 @@ use Rattle.nextest_tables.specs.Written.{Name}
 use Rattle.rinqebo_report.specs.declared.origin.Origin.{Origin}
 use Rattle.rinqebo_report.specs.declared.report.ListScripts.{ListScripts}
 use Rattle.rinqebo_report.specs.declared.report.TestRows.{TestRows}
-use Rattle.rinqebo_request.specs.declared.request.AskedSettings.{AskedSettings}
+use Rattle.rinqebo_request.specs.declared.request.RequestedSettings.{RequestedSettings}
 use Rattle.rinqebo_request.specs.declared.request.TestName.{TestName}
 use Rattle.platform_language.specs.Expressions.{spec_view}
 use Rattle.platform_language.specs.declared.expression.TargetSpec.{TargetSpec}
@@ -43,7 +43,7 @@ places_of unused = map (λ id. id_place (id_view id.now)) unused.overrides.items
 
 -- tests, rules and scripts are told as the profile of a name gives them, by what was loaded
 abbrev pub listed_by : Session → Loaded (Filterset FieldMatcher) TargetSpec → Name
-    → NextestRunMode → AskedSettings → List TestRows → List Origin → ListScripts → Type 0
+    → NextestRunMode → RequestedSettings → List TestRows → List Origin → ListScripts → Type 0
 listed_by session loaded profile mode asked =
     AreTestsOf (readings session.engines.filters).meets
     (readings session.engines.filters).matches_test

@@ -14,7 +14,7 @@ use Rattle.rinqebo_rules.specs.declared.verdict.Verdict.{Verdict}
 use Rattle.rinqebo_rules.specs.declared.verdict.Verdict.TheVariants as verdicts
 use Rattle.rinqebo_rules.specs.Conditions.{is_met_by}
 use Rattle.rinqebo_rules.specs.Origins.{IsOriginOf}
-use Rattle.rinqebo_rules.specs.RuleAnswers.{answers_by, asked_query}
+use Rattle.rinqebo_rules.specs.RuleAnswers.{answers_by, requested_query}
 use Rattle.rinqebo_rules.specs.RuleViews.{setting_rule_view, Rule as ReadRule}
 use Rattle.rinqebo_rules.specs.SettingRules.{RuleFor, RuleValue, writes_it}
 use Rattle.rinqebo_rules.specs.declared.chain_rules.SettingRule.{SettingRule}
@@ -22,18 +22,18 @@ use Rattle.rinqebo_rules.specs.declared.conditions.Answers.{Answers}
 use Rattle.rinqebo_rules.specs.declared.conditions.Asking.{Asking}
 
 -- a verdict, as it is told
-abbrev pub told_verdict : Verdict → report.Verdict
-told_verdict verdicts.PlatformNo = told.PlatformNo
-told_verdict verdicts.FilterNo = told.FilterNo
-told_verdict verdicts.SetsNothing = told.SetsNothing
-told_verdict verdicts.DecidedBefore = told.DecidedBefore
-told_verdict verdicts.Decides = told.Decides
+abbrev pub page_verdict : Verdict → report.Verdict
+page_verdict verdicts.PlatformNo = told.PlatformNo
+page_verdict verdicts.FilterNo = told.FilterNo
+page_verdict verdicts.SetsNothing = told.SetsNothing
+page_verdict verdicts.DecidedBefore = told.DecidedBefore
+page_verdict verdicts.Decides = told.Decides
 
 -- A rule is reported: its verdict, its place in the layers, what its conditions say, and what it writes
 -- for a setting.
-pub record IsRuleTold (layers : List Layer) (written : RuleValue) (answers : Answers)
+pub record IsRuleReported (layers : List Layer) (written : RuleValue) (answers : Answers)
     (verdict : Verdict) (rule : Rule) : Type 0 where
-  pub verdict_told : rule.verdict ≡ told_verdict verdict
+  pub verdict_reported : rule.verdict ≡ page_verdict verdict
   pub origin : IsOriginOf layers written.place [] rule.origin
   pub others : rule.others.items ≡ []
   pub host : rule.host.answer ≡ answers.host
@@ -42,22 +42,22 @@ pub record IsRuleTold (layers : List Layer) (written : RuleValue) (answers : Ans
   pub value : option_map value_view rule.value ≡ written.value
 
 -- Rules for a setting are told in their order, each with what comes of it.
-abbrev pub AreRulesTold : {M K P : Type 0} → List Layer → (K → P → Option Bool)
+abbrev pub AreRulesReported : {M K P : Type 0} → List Layer → (K → P → Option Bool)
     → BuildPlatforms P → QueryContext M → List (RuleFor M K) → List Rule → Type 0
-AreRulesTold {M} {K} layers meets platforms query rules told = AllZip
+AreRulesReported {M} {K} layers meets platforms query rules told = AllZip
     (λ (p : RuleFor M K × Verdict).
-    IsRuleTold layers p.0.writes (answers_by meets platforms query p.0) p.1)
+    IsRuleReported layers p.0.writes (answers_by meets platforms query p.0) p.1)
     (zip rules (verdicts_of query writes_it (map (rule_on meets platforms) rules)))
     told
 
 -- rules for a setting are told, each with what comes of it for what is asked
-abbrev pub AreRulesToldHere : List Layer → Asking → List ReadRule → List Rule → Type 0
-AreRulesToldHere layers asking rules told =
-    AreRulesTold layers is_met_by asking.platforms.now (asked_query asking) rules told
+abbrev pub AreRulesReportedHere : List Layer → Asking → List ReadRule → List Rule → Type 0
+AreRulesReportedHere layers asking rules told =
+    AreRulesReported layers is_met_by asking.platforms.now (requested_query asking) rules told
 
 -- rules as code holds them are told with verdicts
-abbrev pub AreToldWith : List Layer → List SettingRule → List Verdict → List Rule → Type 0
-AreToldWith layers rules verdicts told = AllZip
+abbrev pub AreReportedWith : List Layer → List SettingRule → List Verdict → List Rule → Type 0
+AreReportedWith layers rules verdicts told = AllZip
     (λ (p : SettingRule × Verdict).
-    IsRuleTold layers (setting_rule_view p.0).writes p.0.answers p.1)
+    IsRuleReported layers (setting_rule_view p.0).writes p.0.answers p.1)
     (zip rules verdicts) told

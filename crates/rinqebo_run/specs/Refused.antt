@@ -64,7 +64,7 @@ pub record LackProfileFor (request : Request) (gathered : Gathered) : Type 0 whe
 
 -- An exit status tells of files: 3 only where some written rule does not hold of them, and 4 only
 -- where all do and the files lack the profile that is asked for.
-pub record IsToldBy (request : Request) (gathered : Gathered) (status : ℕ) : Type 0 where
+pub record IsReportedBy (request : Request) (gathered : Gathered) (status : ℕ) : Type 0 where
   pub refused : status ≡ 3 → AreRefusedFor request gathered
   pub lacking : status ≡ 4 → LackProfileFor request gathered
 

@@ -24,11 +24,11 @@ use Rattle.rinqebo_request.specs.Keys.{key_text}
 use Rattle.rinqebo_request.specs.declared.request.TestName.{TestName}
 use Rattle.platform_language.specs.Expressions.{Spec}
 use Rattle.rinqebo_load.specs.Accepted.{AreAccepted}
-use Rattle.rinqebo_run.specs.Reasons.{AreRulesTold}
+use Rattle.rinqebo_run.specs.Reasons.{AreRulesReported}
 use Rattle.rinqebo_load.specs.Sessions.{files_view, readings}
 use Rattle.rinqebo_rules.specs.SettingRules.{rules_for}
 use Rattle.rinqebo_load.specs.declared.session.Session.{Session}
-use Rattle.rinqebo_rules.specs.Told.{told_of, value_view}
+use Rattle.rinqebo_rules.specs.Told.{reported_of, value_view}
 
 -- The rules of a setting are told for a test of a name: each override of a profile, in order, or
 -- for a run wrapper each script rule, with what comes of it on the platforms of a build, and then
@@ -43,12 +43,12 @@ pub record AreReasons {M K P : Type 0} (layers : List Layer) (meets : K → P �
   pub before : List Rule
   pub fallback : Rule
   pub are : rules ≡ before ++ fallback ∷ []
-  pub rules_told : AreRulesTold layers meets platforms
+  pub rules_reported : AreRulesReported layers meets platforms
       (query_in matches (profile_on meets platforms profile) asked)
       (rules_for s test.mode profile.overrides profile.script_rules) before
-  pub fallback_told : fallback.verdict ≡ told.Fallback
+  pub fallback_reported : fallback.verdict ≡ told.Fallback
   pub fallback_value : option_map value_view fallback.value
-      ≡ option_map (told_of s) (fallback_of profile.facts.fields test.mode s)
+      ≡ option_map (reported_of s) (fallback_of profile.facts.fields test.mode s)
 
 -- The rules of a setting are told for a test in the profile of a name.
 pub record AreReasonsIn {M K P : Type 0} (layers : List Layer) (meets : K → P → Option Bool)

@@ -13,7 +13,7 @@ use Rattle.nextest_settings.specs.Deciding.{QueryContext}
 use Rattle.nextest_settings.specs.Profile.{EvaluatableModel}
 use Rattle.nextest_tables.specs.Written.{Name}
 use Rattle.rinqebo_rules.specs.TestOrigins.{Basis}
-use Rattle.rinqebo_rules.specs.Rows.{IsTestTold}
+use Rattle.rinqebo_rules.specs.Rows.{IsTestReported}
 use Rattle.rinqebo_findings.specs.Reports.{IsReportOf}
 use Rattle.rinqebo_report.specs.Pages.{listed_runs}
 use Rattle.rinqebo_report.specs.Pieces.{page_text}
@@ -22,7 +22,7 @@ use Rattle.rinqebo_report.specs.declared.format.Format.TheVariants as formats
 use Rattle.rinqebo_report.specs.declared.piece.Colour.{Colour}
 use Rattle.rinqebo_report.specs.declared.report.Report.{Report}
 use Rattle.rinqebo_report.specs.declared.report.TestRows.{TestRows}
-use Rattle.rinqebo_request.specs.declared.request.AskedSettings.{AskedSettings}
+use Rattle.rinqebo_request.specs.declared.request.RequestedSettings.{RequestedSettings}
 use Rattle.rinqebo_request.specs.declared.request.Question.{Question}
 use Rattle.rinqebo_request.specs.declared.request.Question.TheVariants as questions
 use Rattle.platform_language.specs.Expressions.{spec_view}
@@ -37,28 +37,28 @@ use Rattle.rinqebo_run.specs.Statuses.{failure_status}
 use Rattle.rinqebo_load.specs.declared.failure.Failure.{Failure}
 use Rattle.rinqebo_run.specs.declared.list_fault.ListFault.{ListFault}
 use Rattle.rinqebo_run.specs.declared.list_fault.ListFault.TheVariants as faults
-use Rattle.rinqebo_run.specs.declared.list_page.AskedList.{AskedList}
+use Rattle.rinqebo_run.specs.declared.list_page.RequestedList.{RequestedList}
 use Rattle.rinqebo_load.specs.declared.session.Session.{Session}
 
 -- a question asks for a list
-abbrev pub AsksList : Question → AskedList → Type 0
+abbrev pub AsksList : Question → RequestedList → Type 0
 AsksList (questions.List profile mode list settings) asked =
     (asked.profile.now ≡ profile.now) × (asked.mode ≡ mode) × (asked.settings.now ≡ settings)
 AsksList _ asked = ⊥
 
 -- One more test is told, and these are its lines on the page of a report.
 pub record AddsTest {M : Type 0} (basis : Basis) (query : QueryContext M) (mode : NextestRunMode)
-    (profile : EvaluatableModel M) (asked : AskedSettings) (test : Test) (head : Report)
+    (profile : EvaluatableModel M) (asked : RequestedSettings) (test : Test) (head : Report)
     (tint : Colour) (old new : List TestRows) (lines : List ℕ) : Type 0 where
   pub rows : TestRows
-  pub are_told : IsTestTold basis query mode profile asked test rows
+  pub are_reported : IsTestReported basis query mode profile asked test rows
   pub added : new ≡ old ++ rows ∷ []
   pub shown : lines ≡ page_text tint
       (listed_runs (string_bytes head.root) head.sources.items rows)
 
 -- the first tests of a list went out by a configuration that was loaded
 abbrev pub AreFirstBy : Session → Loaded (Filterset FieldMatcher) TargetSpec → Name
-    → NextestRunMode → AskedSettings → Colour → Option (List ℕ) → Option (List ℕ) → Type 0
+    → NextestRunMode → RequestedSettings → Colour → Option (List ℕ) → Option (List ℕ) → Type 0
 AreFirstBy session loaded profile mode asked =
     AreFirstOf (readings session.engines.filters).meets
     (readings session.engines.filters).matches_test session.engines.platforms
@@ -67,7 +67,7 @@ AreFirstBy session loaded profile mode asked =
 
 -- The page of a list went out whole.
 pub record WritesList (session : Session) (profile : Name) (mode : NextestRunMode)
-    (asked : AskedSettings) (tint : Colour) (old new : Option (List ℕ)) : Type 0 where
+    (asked : RequestedSettings) (tint : Colour) (old new : Option (List ℕ)) : Type 0 where
   pub report : Report
   pub about : IsReportOf session report
   pub tells : TellsTests session profile mode asked report

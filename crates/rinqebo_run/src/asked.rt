@@ -22,7 +22,7 @@ fn reported_mode(mode: NextestRunMode) -> RunMode {
 }
 
 /// What is asked about.
-pub fn asked_of(
+pub fn requested_of(
     alloc: Global,
     session: &Session<'_>,
     profile: &str,

@@ -6,7 +6,7 @@ ghost use Rattle.rinqebo_findings.specs.Reports.{IsReportOf};
 ghost use Rattle.rinqebo_run.specs.Explained.{Explains, IfExplained};
 ghost use Rattle.rinqebo_run.specs.ListedBy.{explained_by};
 
-use crate::asked::asked_of;
+use crate::asked::requested_of;
 use crate::idle::findings_on;
 use crate::list::profile_on;
 use filter_engine::NextestTally;
@@ -14,7 +14,7 @@ use nextest_config::{DefaultConfigWarnings, Setting};
 use rinqebo_findings::{config_with, report_of};
 use rinqebo_load::{Config, Failure, Session, chain_of_profile};
 use rinqebo_report::{Content, Report};
-use rinqebo_request::{AskedSettings, TestName};
+use rinqebo_request::{RequestedSettings, TestName};
 use rinqebo_rules::{Lister, Origins, query_of};
 use std::alloc::{AllocError, Global};
 
@@ -33,7 +33,7 @@ fn explained<'c>(
 {
     let chain = chain_of_profile(alloc, config, profile)?;
     let on = profile_on(alloc, session, config, profile)?;
-    let asked = AskedSettings::These(Vec::from_slice(alloc, settings)?);
+    let asked = RequestedSettings::These(Vec::from_slice(alloc, settings)?);
     let asking = Lister {
         profile: &on,
         mode: test.mode,
@@ -44,7 +44,7 @@ fn explained<'c>(
     let mut origins = Origins::new(alloc, &session.layers, &chain);
     let rows = asking.rows_of(alloc, &query, &mut tally, &mut origins)?;
     Ok(Content::Explain {
-        asked: asked_of(alloc, session, profile, &chain, test.mode)?,
+        asked: requested_of(alloc, session, profile, &chain, test.mode)?,
         test: rows,
     })
 }

@@ -9,7 +9,7 @@ ghost use Rattle.nextest_settings.specs.Queries.{query_in};
 ghost use Rattle.nextest_tables.specs.FileTexts.{names_in, IsIn};
 ghost use Rattle.nextest_lists.specs.ListView.{list_view};
 ghost use Rattle.nextest_lists.specs.Lists.{all_tests};
-ghost use Rattle.rinqebo_rules.specs.Rows.{AreTestsTold};
+ghost use Rattle.rinqebo_rules.specs.Rows.{AreTestsReported};
 ghost use Rattle.rinqebo_rules.specs.Unused.{AreUnusedIn};
 ghost use Rattle.rinqebo_rules.specs.Conditions.{is_met_by};
 ghost use Rattle.rinqebo_run.specs.Listed.{IfListed, IsProfileOn, TellsTests};
@@ -17,7 +17,7 @@ ghost use Rattle.rinqebo_run.specs.ListedBy.{basis_of, read_by, listed_by};
 ghost use Rattle.rinqebo_findings.specs.Failures.{IsFailureAbout};
 ghost use Rattle.rinqebo_findings.specs.Reports.{IsReportOf};
 
-use crate::asked::asked_of;
+use crate::asked::requested_of;
 use crate::list_origins::unused_origins;
 use crate::list_scripts::scripts_of_list;
 use filter_engine::{NextestFilters, NextestTally};
@@ -26,7 +26,7 @@ use platform_language::TargetSpecs;
 use rinqebo_findings::{config_with, report_of, warning_findings};
 use rinqebo_load::{Config, Failure, Session, chain_of_profile};
 use rinqebo_report::{Content, Report};
-use rinqebo_request::AskedSettings;
+use rinqebo_request::RequestedSettings;
 use rinqebo_rules::{ListedRows, Lister, Origins, Progress};
 use std::alloc::{AllocError, Global};
 
@@ -59,10 +59,10 @@ fn listed_rows<'c, P: Progress>(
     chain: &[&str],
     profile: &Profile<'c>,
     mode: NextestRunMode,
-    asked: &AskedSettings,
+    asked: &RequestedSettings,
     progress: &mut P,
 ) -> Result<ListedRows<'c>, AllocError>
-    ensures tests { IfOk result (λ rows. AreTestsTold
+    ensures tests { IfOk result (λ rows. AreTestsReported
         (basis_of session.now (borrowed_view chain.now)) filter_holds mode
         (profile_meaning (marks_view names_of) profile.now) asked.now
         (all_tests (list_view session.now.tests)) rows.tests.items) }
@@ -89,7 +89,7 @@ fn listed<'c, P: Progress>(
     config: &'c Config,
     profile: &'c str,
     mode: NextestRunMode,
-    asked: &AskedSettings,
+    asked: &RequestedSettings,
     progress: &mut P,
 ) -> Result<Content, AllocError>
     requires { IsIn (names_in config.now.config.profiles) profile.now }
@@ -100,7 +100,7 @@ fn listed<'c, P: Progress>(
     let on = profile_on(alloc, session, config, profile)?;
     let rows = listed_rows(alloc, session, &chain, &on, mode, asked, progress)?;
     Ok(Content::List {
-        asked: asked_of(alloc, session, profile, &chain, mode)?,
+        asked: requested_of(alloc, session, profile, &chain, mode)?,
         unused: unused_origins(alloc, &session.layers, &rows.unused)?,
         scripts: scripts_of_list(alloc, session, &on)?,
         tests: rows.tests,
@@ -114,7 +114,7 @@ pub fn list<P: Progress>(
     session: &Session<'_>,
     profile: &str,
     mode: NextestRunMode,
-    asked: &AskedSettings,
+    asked: &RequestedSettings,
     progress: &mut P,
 ) -> Result<Report, Failure>
     ensures ok { IfOk result (TellsTests session.now profile.now mode asked.now) }

@@ -12,7 +12,7 @@ ghost use Rattle.nextest_settings.specs.Queries.{query_in};
 ghost use Rattle.nextest_tables.specs.FileTexts.{names_in, IsIn};
 ghost use Rattle.nextest_lists.specs.ListView.{list_view};
 ghost use Rattle.nextest_lists.specs.Lists.{all_tests};
-ghost use Rattle.rinqebo_rules.specs.Rows.{AreTestsTold};
+ghost use Rattle.rinqebo_rules.specs.Rows.{AreTestsReported};
 ghost use Rattle.rinqebo_rules.specs.Unused.{AreUnusedIn};
 ghost use Rattle.rinqebo_report.specs.Pages.{content_runs, count_runs, unused_runs};
 ghost use Rattle.rinqebo_report.specs.Pieces.{page_text};
@@ -23,7 +23,7 @@ ghost use Rattle.rinqebo_run.specs.Begun.{tests_text, AreFirstWritten};
 ghost use Rattle.rinqebo_run.specs.Written.{AddsTest, AreFirstBy, StopsList};
 ghost use Rattle.rinqebo_run.specs.declared.list_fault.ListFault.TheVariants as faults;
 
-use crate::asked::asked_of;
+use crate::asked::requested_of;
 use crate::list::{Profile, profile_on};
 use crate::list_fault::ListFault;
 use crate::list_origins::unused_origins;
@@ -33,7 +33,7 @@ use nextest_config::{NextestRunMode, TestQuery};
 use platform_language::TargetSpecs;
 use rinqebo_load::{Config, Session, chain_of_profile};
 use rinqebo_report::{Colour, Content, Origin, Report, TestRows, render_list_end, render_listed};
-use rinqebo_request::AskedSettings;
+use rinqebo_request::RequestedSettings;
 use rinqebo_rules::{ListedRows, Lister, Origins, Progress, UnusedRules, unused_rules};
 use std::alloc::{AllocError, Global};
 use std::io::Write;
@@ -43,13 +43,13 @@ type TestLister<'l, 'c> = Lister<'l, 'c, NextestFilters, TargetSpecs>;
 
 /// What is asked of a list.
 #[derive(Clone, Copy)]
-pub struct AskedList<'q> {
+pub struct RequestedList<'q> {
     /// The name of the profile.
     pub profile: &'q str,
     /// For what the tests are run.
     pub mode: NextestRunMode,
     /// Which settings are told.
-    pub settings: &'q AskedSettings,
+    pub settings: &'q RequestedSettings,
 }
 
 /// The page of a list.
@@ -58,7 +58,7 @@ pub struct ListPage<'c, 'g> {
     pub session: &'c Session<'g>,
     /// What was loaded in the session.
     pub config: &'c Config,
-    pub list: AskedList<'c>,
+    pub list: RequestedList<'c>,
     /// The report of which it is the page, but for what that answers.
     pub head: &'c Report,
     pub colour: Colour,
@@ -126,7 +126,7 @@ impl<'c> ListPage<'c, '_> {
     ) -> Result<ListedRows<'c>, ListFault>
         ensures tests { let profile = profile_meaning (marks_view names_of)
             asking.now.profile.now in
-            IfOk result (λ rows. AreTestsTold origins.old filter_holds asking.now.mode profile
+            IfOk result (λ rows. AreTestsReported origins.old filter_holds asking.now.mode profile
             asking.now.asked.now (map test_view queries.now) rows.tests.items) }
         ensures unused { let profile = profile_meaning (marks_view names_of)
             asking.now.profile.now in
@@ -161,7 +161,7 @@ impl<'c> ListPage<'c, '_> {
         progress: &mut P,
         out: &mut O,
     ) -> Result<ListedRows<'c>, ListFault>
-        ensures tests { IfOk result (λ rows. AreTestsTold
+        ensures tests { IfOk result (λ rows. AreTestsReported
             (basis_of self.now.session.now (borrowed_view chain.now)) filter_holds
             self.now.list.mode
             (profile_meaning (marks_view names_of) on.now) self.now.list.settings.now
@@ -234,7 +234,7 @@ impl<'c> ListPage<'c, '_> {
             (O.contents out.old) (O.contents out.new)) }
     {
         let chain = chain_of_profile(alloc, self.config, self.list.profile)?;
-        let asked = asked_of(
+        let asked = requested_of(
             alloc,
             self.session,
             self.list.profile,

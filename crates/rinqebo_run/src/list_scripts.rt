@@ -6,7 +6,7 @@ ghost use Rattle.filter_engine.specs.Engine.{filter_holds, filter_holds_binary};
 ghost use Rattle.nextest_profiles.specs.Meaning.{profile_meaning};
 ghost use Rattle.nextest_lists.specs.ListView.{list_view};
 ghost use Rattle.nextest_lists.specs.Lists.{all_binaries, all_tests};
-ghost use Rattle.rinqebo_rules.specs.Scripts.{AreScriptsTold};
+ghost use Rattle.rinqebo_rules.specs.Scripts.{AreScriptsReported};
 
 use crate::list::Profile;
 use filter_engine::NextestTally;
@@ -22,7 +22,7 @@ pub fn scripts_of_list(
     profile: &Profile<'_>,
 ) -> Result<ListScripts, AllocError>
     ensures { let list = list_view session.now.tests in
-        IfOk result (AreScriptsTold filter_holds filter_holds_binary
+        IfOk result (AreScriptsReported filter_holds filter_holds_binary
         (profile_meaning (marks_view names_of) profile.now) (all_tests list) (all_binaries list)) }
 {
     let tests = session.tests.queries(alloc)?;

@@ -10,7 +10,7 @@ ghost use Rattle.rinqebo_findings.specs.Reports.{IsReportOf};
 ghost use Rattle.rinqebo_report.specs.declared.format.Format.TheVariants as formats;
 
 use crate::list_fault::ListFault;
-use crate::list_page::{AskedList, ListPage, write_last};
+use crate::list_page::{ListPage, RequestedList, write_last};
 use crate::progress::ProgressLine;
 use nextest_config::DefaultConfigWarnings;
 use rinqebo_files::Gathered;
@@ -44,7 +44,7 @@ fn begin<E: Write>(
 fn write_in<O: Write, E: Write>(
     alloc: Global,
     session: &Session<'_>,
-    list: &AskedList<'_>,
+    list: &RequestedList<'_>,
     colour: Colour,
     shows_progress: bool,
     out: &mut O,
@@ -80,7 +80,7 @@ fn write_in<O: Write, E: Write>(
 pub fn write_list<O: Write, E: Write>(
     alloc: Global,
     request: &Request<'_>,
-    list: &AskedList<'_>,
+    list: &RequestedList<'_>,
     gathered: &Gathered,
     out: &mut O,
     err: &mut E,

@@ -9,7 +9,7 @@ ghost use Rattle.rinqebo_findings.specs.Reports.{IsReportOf};
 ghost use Rattle.rinqebo_report.specs.Rendered.{rendered};
 ghost use Rattle.rinqebo_run.specs.Answered.{AnswersQuestion, IsAnswer, Tells};
 ghost use Rattle.rinqebo_run.specs.Begun.{IsBegun};
-ghost use Rattle.rinqebo_run.specs.Refused.{Fails, IsFailureIn, IsToldBy, TellsRefusal};
+ghost use Rattle.rinqebo_run.specs.Refused.{Fails, IsFailureIn, IsReportedBy, TellsRefusal};
 ghost use Rattle.rinqebo_run.specs.Statuses.{IsStatus, IsAnswerStatus, IsGatherStatus, IsWordsStatus, TellsWords};
 ghost use Rattle.rinqebo_run.specs.Written.{AsksList, IsStopStatus};
 ghost use Rattle.rinqebo_report.specs.declared.format.Format.TheVariants as formats;
@@ -19,7 +19,7 @@ use crate::check::check;
 use crate::explain::explain;
 use crate::list::list;
 use crate::list_fault::ListFault;
-use crate::list_page::AskedList;
+use crate::list_page::RequestedList;
 use crate::list_text::write_list;
 use crate::progress::ProgressLine;
 use crate::read_files::add_read_files;
@@ -179,7 +179,7 @@ fn answer_whole<O: Write, E: Write>(
     ensures refusal { request.now.format ≡ formats.Json → (result ≡ 3) ⊎ (result ≡ 4)
         → IsAnswerStatus request.now.question result
         ⊎ TellsRefusal request.now gathered.now result (O.contents out.old) (O.contents out.new) }
-    ensures cause { IsToldBy request.now gathered.now result }
+    ensures cause { IsReportedBy request.now gathered.now result }
 {
     let mut progress = ProgressLine::new(&mut *err, request.shows_progress);
     let answer = answer_of(alloc, request, gathered, &mut progress);
@@ -191,7 +191,7 @@ fn answer_whole<O: Write, E: Write>(
 }
 
 /// What is asked of a list, where a request asks for one as a text.
-fn text_list<'r>(request: &'r Request<'_>) -> Option<AskedList<'r>>
+fn text_list<'r>(request: &'r Request<'_>) -> Option<RequestedList<'r>>
     ensures question { IfSome result (AsksList request.now.question) }
     ensures format { IfSome result (λ _. request.now.format ≡ formats.Text) }
 {
@@ -205,7 +205,7 @@ fn text_list<'r>(request: &'r Request<'_>) -> Option<AskedList<'r>>
         return None;
     };
     match request.format {
-        Format::Text => Some(AskedList {
+        Format::Text => Some(RequestedList {
             profile: *profile,
             mode: *mode,
             settings: asked,
@@ -230,7 +230,7 @@ fn refuse_list<E: Write>(alloc: Global, fault: &ListFault, request: &Request<'_>
 fn answer_list<O: Write, E: Write>(
     alloc: Global,
     request: &Request<'_>,
-    list: &AskedList<'_>,
+    list: &RequestedList<'_>,
     gathered: &Gathered,
     out: &mut O,
     err: &mut E,
@@ -243,7 +243,7 @@ fn answer_list<O: Write, E: Write>(
         × IsBegun request.now gathered.now (O.contents out.old) (O.contents out.new)) }
     ensures page { IsAnswerStatus request.now.question result
         → Tells request.now gathered.now result (O.contents out.old) (O.contents out.new) }
-    ensures cause { IsToldBy request.now gathered.now result }
+    ensures cause { IsReportedBy request.now gathered.now result }
 {
     match write_list(alloc, request, list, gathered, out, err) {
         Ok(()) => Status::Success as u8,
@@ -276,7 +276,7 @@ pub fn perform<O: Write, E: Write>(
     ensures refusal { request.now.format ≡ formats.Json → (result ≡ 3) ⊎ (result ≡ 4)
         → IsAnswerStatus request.now.question result
         ⊎ TellsRefusal request.now gathered.now result (O.contents out.old) (O.contents out.new) }
-    ensures cause { IsToldBy request.now gathered.now result }
+    ensures cause { IsReportedBy request.now gathered.now result }
 {
     match text_list(request) {
         Some(list) => answer_list(alloc, request, &list, gathered, out, err),

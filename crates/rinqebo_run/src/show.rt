@@ -12,7 +12,7 @@ ghost use Rattle.rinqebo_rules.specs.Trees.{trees_of};
 ghost use Rattle.rinqebo_run.specs.ShownConfig.{TellsLeaf, TellLeaves, AreShown, IsShownIn, shown_status, ShowsConfig};
 
 use crate::answer::Answer;
-use crate::asked::asked_of;
+use crate::asked::requested_of;
 use crate::idle::findings_on;
 use crate::status::Status;
 use nextest_config::{DefaultConfigWarnings, NextestRunMode};
@@ -26,7 +26,11 @@ use std::alloc::{AllocError, Global};
 
 /// A leaf as it is reported, with its place in the file of its layer. There is none where its value
 /// can't be told.
-fn told_leaf(alloc: Global, layers: &[Layer], leaf: &Leaf<'_>) -> Result<Option<Entry>, AllocError>
+fn reported_leaf(
+    alloc: Global,
+    layers: &[Layer],
+    leaf: &Leaf<'_>,
+) -> Result<Option<Entry>, AllocError>
     ensures { IfOk result (λ told. MatchOption told
         (is_tellable (leaf_view leaf.now).value ≡ false) (TellsLeaf (leaf_view leaf.now))) }
 {
@@ -36,7 +40,7 @@ fn told_leaf(alloc: Global, layers: &[Layer], leaf: &Leaf<'_>) -> Result<Option<
 }
 
 /// Leaves as they are reported.
-fn told_leaves(
+fn reported_leaves(
     alloc: Global,
     layers: &[Layer],
     leaves: &[Leaf<'_>],
@@ -45,7 +49,7 @@ fn told_leaves(
 {
     let mut entries = Vec::new(alloc);
     for leaf in leaves {
-        match told_leaf(alloc, layers, leaf)? {
+        match reported_leaf(alloc, layers, leaf)? {
             Some(entry) => entries.push(entry)?,
             None => {}
         }
@@ -66,7 +70,7 @@ fn entries_in(
 {
     let trees = trees_of(alloc, layers)?;
     let leaves = entries_of(alloc, &trees, chain, keys, with_hidden)?;
-    told_leaves(alloc, layers, &leaves)
+    reported_leaves(alloc, layers, &leaves)
 }
 
 /// The leaves of a profile below keys, by a configuration.
@@ -83,7 +87,7 @@ fn shown(
         profile.now (keys_view keys.now) with_hidden) }
 {
     let chain = chain_of_profile(alloc, config, profile)?;
-    let asked = asked_of(alloc, session, profile, &chain, NextestRunMode::Test)?;
+    let asked = requested_of(alloc, session, profile, &chain, NextestRunMode::Test)?;
     let entries = entries_in(alloc, &session.layers, &chain, keys, with_hidden)?;
     Ok(Content::ShowConfig { asked, entries })
 }

@@ -12,17 +12,17 @@ ghost use Rattle.nextest_tables.specs.Written.{Name};
 ghost use Rattle.rinqebo_report.specs.declared.report.Verdict.TheVariants as told;
 ghost use Rattle.rinqebo_request.specs.Keys.{key_text};
 ghost use Rattle.rinqebo_rules.specs.Conditions.{is_met_by, filter_matches};
-ghost use Rattle.rinqebo_run.specs.Reasons.{told_verdict, AreRulesToldHere, AreToldWith, IsRuleTold};
+ghost use Rattle.rinqebo_run.specs.Reasons.{page_verdict, AreRulesReportedHere, AreReportedWith, IsRuleReported};
 ghost use Rattle.rinqebo_rules.specs.RuleAnswers.{judged_here};
 ghost use Rattle.rinqebo_findings.specs.Failures.{IsFailureAbout};
 ghost use Rattle.rinqebo_findings.specs.Reports.{IsReportOf};
 ghost use Rattle.rinqebo_rules.specs.RuleViews.{setting_rule_view, Rule as ReadRule};
 ghost use Rattle.rinqebo_rules.specs.declared.conditions.Asking.{Asking};
 ghost use Rattle.rinqebo_run.specs.TellsReasons.{AreReasons, AreReasonsIn, IfWhy, IsTestNamed, TellsReasons};
-ghost use Rattle.rinqebo_rules.specs.Told.{told_of, value_view};
+ghost use Rattle.rinqebo_rules.specs.Told.{reported_of, value_view};
 ghost use Rattle.platform_language.specs.declared.expression.TargetSpec.{TargetSpec};
 
-use crate::asked::asked_of;
+use crate::asked::requested_of;
 use crate::idle::findings_on;
 use nextest_config::{DefaultConfigWarnings, NextestRunMode, Setting};
 use rinqebo_files::{Layer, host_text, target_text, text_at};
@@ -52,7 +52,7 @@ fn condition(
 
 /// A verdict, as it is reported.
 fn reported_verdict(verdict: rinqebo_rules::Verdict) -> Verdict
-    ensures { result ≡ told_verdict verdict }
+    ensures { result ≡ page_verdict verdict }
 {
     match verdict {
         rinqebo_rules::Verdict::PlatformNo => Verdict::PlatformNo,
@@ -70,7 +70,7 @@ fn reported_rule(
     rule: &SettingRule<'_>,
     verdict: rinqebo_rules::Verdict,
 ) -> Result<Rule, AllocError>
-    ensures { IfOk result (IsRuleTold layers.now (setting_rule_view rule.now).writes
+    ensures { IfOk result (IsRuleReported layers.now (setting_rule_view rule.now).writes
         rule.now.answers verdict) }
 {
     let table = rule.place.table(layers);
@@ -93,7 +93,7 @@ fn rules_with_verdicts(
     rules: &[SettingRule<'_>],
     verdicts: &[rinqebo_rules::Verdict],
 ) -> Result<Vec<Rule>, AllocError>
-    ensures { IfOk result (λ told. AreToldWith layers.now rules.now verdicts.now told.items) }
+    ensures { IfOk result (λ told. AreReportedWith layers.now rules.now verdicts.now told.items) }
 {
     let mut reported = Vec::new(alloc);
     for (rule, verdict) in rules.iter().zip(verdicts) {
@@ -110,7 +110,7 @@ fn reported_rules(
 ) -> Result<Vec<Rule>, AllocError>
     ensures { (asking : Asking) (written : List ReadRule)
         → map setting_rule_view rules.now ≡ map (judged_here asking) written
-        → IfOk result (λ told. AreRulesToldHere layers.now asking written told.items) }
+        → IfOk result (λ told. AreRulesReportedHere layers.now asking written told.items) }
 {
     let verdicts = verdicts_of(alloc, rules)?;
     rules_with_verdicts(alloc, layers, rules, &verdicts)
@@ -141,7 +141,7 @@ fn fallback_rule(
 ) -> Result<Rule, AllocError>
     ensures verdict { IfOk result (λ rule. rule.verdict ≡ told.Fallback) }
     ensures value { IfOk result (λ rule. option_map value_view rule.value
-        ≡ option_map (told_of setting) (fallback_of
+        ≡ option_map (reported_of setting) (fallback_of
         (fields_of config.now.config.profiles (borrowed_view chain.now)) mode setting)) }
 {
     let key = SettingKey::of(setting, mode);
@@ -219,7 +219,7 @@ fn reasons<'c>(
         session.now.engines.platforms configured profile.now test.now setting rules)) }
 {
     let chain = chain_of_profile(alloc, config, profile)?;
-    let asked = asked_of(alloc, session, profile, &chain, test.mode)?;
+    let asked = requested_of(alloc, session, profile, &chain, test.mode)?;
     let named = named_test(alloc, test)?;
     let key = SettingKey::of(setting, test.mode).text(alloc)?;
     let rules = rules_and_fallback(alloc, session, config, &chain, test, setting)?;

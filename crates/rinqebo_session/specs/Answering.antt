@@ -25,7 +25,7 @@ use Rattle.rinqebo_session.specs.declared.profile.Profile.{Profile}
 use Rattle.rinqebo_session.specs.declared.settings.SettingNumbers.{SettingNumbers}
 use Rattle.rinqebo_session.specs.declared.settings.TheConstants.{NO_NAME, UNDEFINED_NAME}
 use Rattle.rinqebo_session.specs.declared.status.TheConstants.{DONE}
-use Rattle.rinqebo_session.specs.declared.test.AskedTest.{AskedTest}
+use Rattle.rinqebo_session.specs.declared.test.RequestedTest.{RequestedTest}
 use Rattle.rinqebo_session.specs.declared.test.TestFault.{TestFault}
 
 -- the index of the group of a test among those that the configuration defines
@@ -71,7 +71,7 @@ pub record AreNumbersOf (known : List Group) (wrappers : List (Bor (List ℕ)))
 
 -- Numbers answer a test in a profile: they are those of the settings that the profile gives to it,
 -- and whether its default filter matches it.
-pub record IsAnswerOf (opened : Opened) (asked : AskedTest) (n : SettingNumbers) : Type 0 where
+pub record IsAnswerOf (opened : Opened) (asked : RequestedTest) (n : SettingNumbers) : Type 0 where
   pub test : Test
   pub mode : NextestRunMode
   pub is_test : IsTestOf asked test mode
@@ -82,16 +82,16 @@ pub record IsAnswerOf (opened : Opened) (asked : AskedTest) (n : SettingNumbers)
       n.in_default_filter ≡ flag_number (filter_holds filter test filter)
 
 -- A test is answered in an open profile; or it is not understood, and the status says so.
-pub record AnswersTest (opened : Opened) (asked : AskedTest) (n : SettingNumbers) : Type 0 where
+pub record AnswersTest (opened : Opened) (asked : RequestedTest) (n : SettingNumbers) : Type 0 where
   pub answered : n.status ≡ DONE → IsAnswerOf opened asked n
   pub refused : n.status ≢ DONE
       → (fault : TestFault) × IsTestFault asked fault × (n.status ≡ fault_status fault)
 
 -- what a profile answers; where it is not open, the status says why
-abbrev pub AnswersBy : Result Opened OpenFailure → AskedTest → SettingNumbers → Type 0
+abbrev pub AnswersBy : Result Opened OpenFailure → RequestedTest → SettingNumbers → Type 0
 AnswersBy (Ok opened) asked n = AnswersTest opened asked n
 AnswersBy (Err failure) asked n = n.status ≡ open_status failure
 
 -- what a profile answers
-abbrev pub Answers : Profile → AskedTest → SettingNumbers → Type 0
+abbrev pub Answers : Profile → RequestedTest → SettingNumbers → Type 0
 Answers profile asked n = AnswersBy profile.outcome asked n

@@ -9,7 +9,7 @@ use Rattle.nextest_engines.specs.Engines.{Binary, Test}
 use Rattle.nextest_engines.specs.declared.queries.BuildPlatform.{BuildPlatform}
 use Rattle.nextest_engines.specs.declared.queries.BuildPlatform.TheVariants.{Host, Target}
 use Rattle.rinqebo_session.specs.declared.status.TheConstants.{NOT_TEXT, UNKNOWN_NUMBER}
-use Rattle.rinqebo_session.specs.declared.test.AskedTest.{AskedTest}
+use Rattle.rinqebo_session.specs.declared.test.RequestedTest.{RequestedTest}
 use Rattle.rinqebo_session.specs.declared.test.TestFault.{TestFault}
 use Rattle.rinqebo_session.specs.declared.test.TestFault.TheVariants.{NotText, UnknownNumber}
 
@@ -27,7 +27,7 @@ abbrev pub mode_numbered : ℕ → Option NextestRunMode
 mode_numbered n = if n == 0 then Some in_test else (if n == 1 then Some in_benchmark else None)
 
 -- the binary of a test, on a platform
-abbrev pub binary_of : AskedTest → BuildPlatform → Binary
+abbrev pub binary_of : RequestedTest → BuildPlatform → Binary
 binary_of asked platform = record {
   package_id = asked.package.now;
   binary_id = asked.binary.now;
@@ -38,7 +38,7 @@ binary_of asked platform = record {
 
 -- A test is the one that is asked of, in a mode: its bytes are the texts, and its numbers stand for
 -- the platform and the mode.
-pub record IsTestOf (asked : AskedTest) (test : Test) (mode : NextestRunMode) : Type 0 where
+pub record IsTestOf (asked : RequestedTest) (test : Test) (mode : NextestRunMode) : Type 0 where
   pub platform : platform_numbered asked.platform ≡ Some test.binary.platform
   pub in_mode : mode_numbered asked.mode ≡ Some mode
   pub binary : test.binary ≡ binary_of asked test.binary.platform
@@ -49,13 +49,13 @@ abbrev pub IsNoText : List ℕ → TestFault → Type 0
 IsNoText bytes fault = (fault ≡ NotText) × (¬ IsUtf8 bytes)
 
 -- some bytes of a test's binary are no text, and that is the fault
-abbrev pub IsBytesFault : AskedTest → TestFault → Type 0
+abbrev pub IsBytesFault : RequestedTest → TestFault → Type 0
 IsBytesFault asked fault =
     IsNoText asked.package.now fault ⊎ IsNoText asked.binary.now fault
     ⊎ IsNoText asked.kind.now fault ⊎ IsNoText asked.target.now fault
 
 -- a test is not understood: a number of it stands for nothing, or some bytes of it are no text
-abbrev pub IsTestFault : AskedTest → TestFault → Type 0
+abbrev pub IsTestFault : RequestedTest → TestFault → Type 0
 IsTestFault asked UnknownNumber =
     (platform_numbered asked.platform ≡ None) ⊎ (mode_numbered asked.mode ≡ None)
 IsTestFault asked NotText =

@@ -21,4 +21,4 @@ pub use loading::{Config, Loaded};
 pub use profile::{Group, Opened, Profile};
 pub use session::Session;
 pub use settings::SettingNumbers;
-pub use test::{AskedTest, TestFault};
+pub use test::{RequestedTest, TestFault};

@@ -8,16 +8,16 @@ ghost use Rattle.rinqebo_session.specs.Readings.{readings};
 
 use crate::failure::Failure;
 use crate::features::features_of;
+use filter_engine::NextestFilters;
 use nextest_config::{
     BuildPlatforms, ConfigExperimental, ConfigFileSelection, ConfigParseError,
     DefaultConfigWarnings, NextestConfig, ParseContext,
 };
-use filter_engine::NextestFilters;
+use platform_language::TargetSpecs;
+use platform_table::Platform;
 use rinqebo_forms::{LoadRequest, filters_of, platforms_of};
 use std::alloc::Global;
 use std::collections::BTreeSet;
-use platform_language::TargetSpecs;
-use platform_table::Platform;
 
 /// A configuration whose filters and platforms are written in nextest's languages.
 pub type Config = NextestConfig<NextestFilters, TargetSpecs>;

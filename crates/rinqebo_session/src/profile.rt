@@ -15,16 +15,16 @@ use crate::loading::Loaded;
 use crate::session::Session;
 use crate::settings::{SettingNumbers, numbers_of};
 use crate::status::{DONE, UNKNOWN_NUMBER};
-use crate::test::{Asked, AskedTest};
+use crate::test::{Asked, RequestedTest};
+use filter_engine::{NextestFilters, NextestTally};
 use indexmap::IndexMap;
 use nextest_config::{
     CustomTestGroup, EvaluatableProfile, Filters, ScriptId, TestGroupConfig, TestThreads,
     WrapperScriptConfig,
 };
-use filter_engine::{NextestFilters, NextestTally};
+use platform_language::TargetSpecs;
 use std::alloc::{AllocError, Global};
 use std::collections::BTreeMap;
-use platform_language::TargetSpecs;
 
 /// A group that a configuration defines.
 #[derive(Clone, Copy, Debug, Drop)]
@@ -151,7 +151,7 @@ impl Opened<'_> {
     }
 
     /// The settings of a test, as numbers.
-    fn answer(&self, test: &AskedTest<'_>) -> SettingNumbers
+    fn answer(&self, test: &RequestedTest<'_>) -> SettingNumbers
         ensures { AnswersTest self.now test.now result }
     {
         let asked = match test.read() {
@@ -204,7 +204,7 @@ impl<'a> Profile<'a> {
     }
 
     /// The settings of a test, as numbers. It takes no memory.
-    pub fn ask(&self, test: AskedTest<'_>) -> SettingNumbers
+    pub fn ask(&self, test: RequestedTest<'_>) -> SettingNumbers
         ensures { Answers self.now test.entry result }
     {
         match &self.outcome {

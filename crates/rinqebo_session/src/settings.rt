@@ -8,14 +8,14 @@ ghost use Rattle.rinqebo_session.specs.Answering.{group_index, wrapper_index, th
 
 use crate::profile::Group;
 use crate::status::DONE;
-use nextest_config::{ScriptId, TestGroup, TestSettings, TestThreads};
 use filter_engine::NextestFilters;
+use nextest_config::{ScriptId, TestGroup, TestSettings, TestThreads};
+use platform_language::TargetSpecs;
 use rinqebo_forms::{
     Duration, GroupThreads, LeakNumbers, RetryNumbers, SlowNumbers, ThreadNumbers, flag_number,
     flaky_number, group_threads, leak_numbers, output_number, report_number, retry_numbers,
     slow_numbers, status_number, thread_numbers,
 };
-use platform_language::TargetSpecs;
 
 /// No name: the global group, or no wrapper.
 pub const NO_NAME: usize = 18446744073709551615;

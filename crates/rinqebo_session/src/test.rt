@@ -9,7 +9,7 @@ use nextest_config::{BinaryQuery, BuildPlatform, NextestRunMode, TestQuery};
 /// A test, and what is known of its binary. Its texts are UTF-8.
 #[repr(C)]
 #[derive(Clone, Copy, Debug, Drop)]
-pub struct AskedTest<'a> {
+pub struct RequestedTest<'a> {
     /// The id of the binary's package, as cargo writes it.
     pub package: &'a [u8],
     /// The id of the binary, as nextest writes it.
@@ -87,7 +87,7 @@ fn text_of(bytes: &[u8]) -> Result<&str, TestFault>
     }
 }
 
-impl<'a> AskedTest<'a> {
+impl<'a> RequestedTest<'a> {
     /// The binary, on a platform.
     fn binary_query(&self, platform: BuildPlatform) -> Result<BinaryQuery<'a>, TestFault>
         ensures ok { IfOk result (λ query. binary_view query ≡ binary_of self.now platform) }

@@ -7,8 +7,8 @@ ghost use Rattle.std.specs.Str.{bytes_eq};
 
 use nextest_engines::history::RuleHistory;
 use nextest_engines::{
-    BinaryQuery, EvalContext, FilterFault, Filters, FiltersetKind, Refusal, SpecFault, Specs, Tally,
-    TestQuery,
+    BinaryQuery, EvalContext, FilterFault, Filters, FiltersetKind, Refusal, SpecFault, Specs,
+    Tally, TestQuery,
 };
 use std::alloc::{AllocError, Global};
 use std::cell::Cell;

@@ -1,7 +1,7 @@
 //! Platforms of the table, and of what a compiler prints.
+use platform_table::{CfgLine, Platform, PlatformFault};
 use std::alloc::{AllocError, Global};
 use std::test::Fail;
-use platform_table::{CfgLine, Platform, PlatformFault};
 
 const PRINTED: &str =
     "overflow_checks\r\npanic=\"unwind\"\n\ntarget_arch=\"x86_64\"\ntarget_os=\"a\"b\"\ntarget_has_atomic\nunix";

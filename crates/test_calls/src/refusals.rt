@@ -123,7 +123,7 @@ fn is_in(error: &ConfigParseError, sections: &[ConfigCompileSection]) -> bool {
 }
 
 #[test]
-fn the_lowest_file_with_refused_filters_is_told(rt: HostRuntime) -> Result<(), Fail> {
+fn the_lowest_file_with_refused_filters_is_reported(rt: HostRuntime) -> Result<(), Fail> {
     let loaded = load_refused(rt.alloc());
     let Err(error) = loaded else {
         return Err(Fail::from(AllocError));

@@ -1,9 +1,9 @@
 //! The engine of platforms, called through its trait.
 use nextest_engines::{SpecFault, Specs};
-use std::alloc::{AllocError, Global};
-use std::test::Fail;
 use platform_language::TargetSpecs;
 use platform_table::Platform;
+use std::alloc::{AllocError, Global};
+use std::test::Fail;
 
 /// The value of a spec on a platform as it prints, or the message that refuses its text.
 fn answer<S: Specs>(

@@ -1,16 +1,16 @@
 //! A repository's file of usual shape: regexes, sets of packages, globs and platforms.
 use crate::inputs::{inputs_of, workspace_paths};
+use filter_engine::{NextestFilters, NextestTally, PackageGraph};
 use nextest_config::run::{ResolveFault, TestRow, resolve};
 use nextest_config::{
     BinaryQuery, BuildPlatform, BuildPlatforms, DefaultConfigWarnings, NextestRunMode,
     ParseContext, Setting, TestQuery,
 };
-use filter_engine::{NextestFilters, NextestTally, PackageGraph};
+use platform_language::TargetSpecs;
+use platform_table::Platform;
 use std::alloc::{AllocError, Global};
 use std::collections::BTreeSet;
 use std::test::Fail;
-use platform_language::TargetSpecs;
-use platform_table::Platform;
 
 /// Three members, of which `api` depends on `core`, and `cli` on none.
 const METADATA: &str = r#"{

@@ -1,6 +1,6 @@
 //! What the lines of a case say beside its files: the command lines that run, and what is printed.
-use test_cases::{Case, CaseError};
 use std::alloc::{AllocError, Global};
+use test_cases::{Case, CaseError};
 
 /// The command line of a run.
 #[derive(Drop)]

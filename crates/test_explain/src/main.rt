@@ -20,10 +20,10 @@ mod report;
 
 use case::Setup;
 use report::report_of;
-use test_cases::{Case, CaseError, read_cases};
 use std::alloc::{AllocError, Global};
 use std::io;
 use std::process::ExitCode;
+use test_cases::{Case, CaseError, read_cases};
 
 /// Reads the cases of a text, each with what its lines say.
 fn cases_of(alloc: Global, text: &str) -> Result<Vec<(Case<'_>, Setup<'_>)>, CaseError<'_>> {

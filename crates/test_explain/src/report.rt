@@ -1,8 +1,8 @@
 //! What is printed of a run.
 use crate::case::{Run, Setup};
 use nextest_explain::explain;
-use test_cases::{Beginnings, Case, text_of};
 use std::alloc::{AllocError, Global};
+use test_cases::{Beginnings, Case, text_of};
 
 /// What a run ended with.
 #[derive(Drop)]

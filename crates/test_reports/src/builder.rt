@@ -132,7 +132,7 @@ impl Builder {
         match line.word(0)? {
             "case" => self.begin(line),
             "source" => self.add_source(line),
-            "asked" => self.set_asked(line),
+            "asked" => self.set_requested(line),
             "explain" | "why" | "list" | "show-config" => self.set_command(line),
             "test" => self.add_test(line),
             "setting" => self.add_setting(line),
@@ -178,7 +178,7 @@ impl Builder {
         Ok(())
     }
 
-    fn set_asked(&mut self, line: &Line) -> Result<(), RowError> {
+    fn set_requested(&mut self, line: &Line) -> Result<(), RowError> {
         let mut chain = Vec::new(self.alloc);
         for profile in line.word(2)?.split(' ') {
             let profile = String::from_str(self.alloc, profile)?;

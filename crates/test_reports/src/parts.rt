@@ -26,7 +26,7 @@ pub fn answer_of(word: &str) -> Option<ConditionAnswer> {
         "yes" => Some(ConditionAnswer::Yes),
         "no" => Some(ConditionAnswer::No),
         "unknown" => Some(ConditionAnswer::Unknown),
-        "unasked" => Some(ConditionAnswer::Unasked),
+        "unasked" => Some(ConditionAnswer::Unrequested),
         _ => None,
     }
 }

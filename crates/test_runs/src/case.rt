@@ -1,7 +1,7 @@
 //! What the lines of a case say beside its files: the environment, and the command lines that run.
 use rinqebo_request::{Environment, RunVariables};
-use test_cases::{Case, CaseError};
 use std::alloc::{AllocError, Global};
+use test_cases::{Case, CaseError};
 
 /// The environment of a case, and the command lines of the runs over its files.
 #[derive(Drop)]

@@ -5,9 +5,9 @@ use nextest_files::FileReader;
 use rinqebo_files::gather;
 use rinqebo_request::{Command, parse};
 use rinqebo_run::{perform, print_schema, refuse_gathering, refuse_words};
-use test_cases::{Case, text_of};
 use std::alloc::{AllocError, Global};
 use std::io::{self, ErrorKind, Write};
+use test_cases::{Case, text_of};
 
 /// The standard output of a run, which takes so many bytes and is then closed.
 #[derive(Drop)]

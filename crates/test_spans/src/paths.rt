@@ -5,8 +5,7 @@
 //! `2..2 key 13..20 value 23..24`. A path without a place prints `none`.
 
 use nextest_places::{Lines, Step};
-use nextest_spans::PathSpans;
-use nextest_spans::Span;
+use nextest_spans::{PathSpans, Span};
 use std::alloc::{AllocError, Global};
 
 /// Where the value at a path is written in a text.

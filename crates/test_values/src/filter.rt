@@ -18,10 +18,10 @@
 //! double quotes, in which `\n`, `\r`, `\t`, `\"` and `\\` are written for characters.
 use crate::escapes::{Escapes, push_escaped, unescaped};
 use crate::row::{RowError, name_of};
-use nextest_engines::{BinaryQuery, BuildPlatform, FiltersetKind, TestQuery};
 use filter_engine::{
     FieldMatcher, Filterset, FiltersetFault, NextestFilters, PackageGraph, ParseFault,
 };
+use nextest_engines::{BinaryQuery, BuildPlatform, FiltersetKind, TestQuery};
 use std::alloc::{AllocError, Global};
 
 /// What is printed for a row, if it gives no packages.

@@ -23,11 +23,11 @@ mod schema;
 mod value;
 
 use filter_engine::NextestFilters;
+use platform_table::TargetRow;
 use row::RowError;
 use std::alloc::Global;
 use std::io;
 use std::process::ExitCode;
-use platform_table::TargetRow;
 
 /// What the rows of a line are about.
 #[derive(Clone, Copy)]

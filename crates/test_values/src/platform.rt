@@ -16,9 +16,9 @@
 //! | the platform is not known | `refused UnknownTriple` |
 use crate::escapes::{Escapes, push_escaped, unescaped};
 use crate::row::{RowError, name_of};
-use std::alloc::{AllocError, Global};
 use platform_language::{FaultKind, TargetSpec, TargetSpecError, TargetSpecFault};
 use platform_table::{Platform, PlatformFault, TargetRow};
+use std::alloc::{AllocError, Global};
 
 /// What is printed for a row, if it defines no triple.
 pub fn answer_to<'a>(

@@ -1,6 +1,6 @@
 //! What rows of all kinds have in common.
-use nextest_documents::TextFault;
 use filter_engine::MetadataFault;
+use nextest_documents::TextFault;
 use std::alloc::{AllocError, AllocFailed};
 
 /// Why a row has no answer.

@@ -1,9 +1,9 @@
 //! What readers of texts read.
 use super::{refusal, shown};
 use crate::row::RowError;
-use nextest_places::ids_in_order;
 use nextest_documents::{TextFault, lay_over, tree_from_text};
 use nextest_elements::{ConfigIdentifier, InvalidIdentifier, Key, ToolName, Tree, parse_duration};
+use nextest_places::ids_in_order;
 use nextest_scripts::{ScriptId, ShellWordsError, split_shell_words, validate_env_var_key};
 use std::alloc::{AllocError, Global};
 

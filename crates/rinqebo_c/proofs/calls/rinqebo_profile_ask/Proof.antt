@@ -30,8 +30,8 @@ use denote.Triple.Walked.{says, Stays, walk_of, stay_dropped, Goes-dropped, ends
 use Rattle.rinqebo_c.specs.Handles.{lent_profile, profile_row}
 use Rattle.rinqebo_session.specs.Answering.{Answers}
 use Rattle.rinqebo_session.proofs.profile.Profile.TheLaws as held
-use Rattle.rinqebo_session.specs.contracts.test.AskedTest as asked
-use Rattle.rinqebo_session.proofs.test.AskedTest.TheLaws as asked_laws
+use Rattle.rinqebo_session.specs.contracts.test.RequestedTest as asked
+use Rattle.rinqebo_session.proofs.test.RequestedTest.TheLaws as requested_laws
 use Rattle.rinqebo_session.specs.declared.settings.SettingNumbers.{SettingNumbers}
 use Rattle.rinqebo_session.specs.contracts.settings.SettingNumbers as answer
 use Rattle.rinqebo_session.proofs.settings.SettingNumbers.TheLaws as answered
@@ -64,7 +64,7 @@ rinqebo_profile_ask_spec 𝓤 𝓛 𝓜 𝓡 wired =
     let Post : Val → SProp 𝓤 = W.post z in
     let Test = asked.the_row (named_lft 1 0 tt κs) in
     let t = one (lone Test.mir) z.0.4.1.0
-    (((asked_laws.the_row_laws (named_lft 1 0 tt κs)).lawful 𝓛).typed test z.0.4.1.0 are.1.0) in
+    (((requested_laws.the_row_laws (named_lft 1 0 tt κs)).lawful 𝓛).typed test z.0.4.1.0 are.1.0) in
     let is_p = are.0 in
     qed 𝓛 (((‵ (flft κs.0 qs.0) ⊛ ‵ ftrue) ⊛ ‵ (owns (types_at f.signature.params κs) z.0.3 z.0.4))
     ∷ (‵ (lent_profile κ ι q k p x) ⊛ raw (fact 𝓤 (κ ⊑ ι))) ∷ []) ∵

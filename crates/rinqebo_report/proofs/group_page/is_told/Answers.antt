@@ -2,7 +2,7 @@ use Rattle.std.proofs.Common.{◌≡◌, ◌∙◌, ℕ, ◌<◌, Bool, true, Li
 use Rattle.std.proofs.lemmas.List.{get_or-map, length-map}
 use Rattle.std.proofs.lemmas.List.Folds.{list_any_at}
 use Rattle.std.specs.List.{list_any}
-use Rattle.rinqebo_report.specs.Groups.{has_told}
+use Rattle.rinqebo_report.specs.Groups.{has_reported}
 use Rattle.rinqebo_report.specs.declared.report.TestRows.{TestRows}
 use Rattle.rinqebo_report.proofs.group_page.is_told.Goals as goal
 
@@ -16,5 +16,5 @@ told_at p xs i x lt is has =
 
 pub returns-then-branch : goal.returns-then-branch
 returns-then-branch c =
-    told_at (has_told c.args.text.now) c.args.tests.now c.loop-test.test-index c.test-item.result
-    c.loop-test-test.true c.test-item.is (cc c.in_ok-has_told.ensures)
+    told_at (has_reported c.args.text.now) c.args.tests.now c.loop-test.test-index c.test-item.result
+    c.loop-test-test.true c.test-item.is (cc c.in_ok-has_reported.ensures)

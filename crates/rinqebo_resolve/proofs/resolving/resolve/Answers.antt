@@ -1,4 +1,4 @@
-use Rattle.rinqebo_resolve.proofs.Telling.{told_answer, told_kept}
+use Rattle.rinqebo_resolve.proofs.Telling.{reported_answer, reported_kept}
 use Rattle.rinqebo_resolve.proofs.resolving.resolve.Goals as goal
 
 pub returns-clause-resolved : goal.returns-clause-resolved
@@ -9,7 +9,7 @@ returns-clause-resolved c = record {
 }
 
 pub returns-clause-done : goal.returns-clause-done
-returns-clause-done c = told_answer _ _ _ _ _ (returns-clause-resolved c)
+returns-clause-done c = reported_answer _ _ _ _ _ (returns-clause-resolved c)
 
 pub returns-clause-kept : goal.returns-clause-kept
-returns-clause-kept c = told_kept _ _ _ _ _ (returns-clause-resolved c)
+returns-clause-kept c = reported_kept _ _ _ _ _ (returns-clause-resolved c)

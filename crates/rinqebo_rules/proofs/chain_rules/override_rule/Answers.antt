@@ -11,13 +11,13 @@ use Rattle.nextest_settings.specs.SettingValues.{by_kind}
 use Rattle.nextest_settings.specs.View.{override_ref_view, evaluated_override_view, meant_override}
 use Rattle.filter_engine.specs.Compiling.{names_of}
 use Rattle.filter_engine.specs.Engine.{filter_holds}
-use Rattle.rinqebo_rules.specs.Conditions.{is_met_by, told_by_facts, told_condition}
+use Rattle.rinqebo_rules.specs.Conditions.{is_met_by, reported_by_facts, reported_condition}
 use Rattle.rinqebo_rules.specs.RulePlaces.{id_place}
 use Rattle.rinqebo_rules.specs.SettingRules.{override_writes}
-use Rattle.rinqebo_rules.specs.SettingValues.{told_value}
+use Rattle.rinqebo_rules.specs.SettingValues.{reported_value}
 use Rattle.rinqebo_rules.specs.declared.verdict.RuleFacts.{RuleFacts}
 use Rattle.rinqebo_rules.proofs.Judged.{holds_meant, rule_judged}
-use Rattle.rinqebo_rules.proofs.ToldOf.{told_by_kind}
+use Rattle.rinqebo_rules.proofs.ReportedOf.{reported_by_kind}
 use Rattle.rinqebo_rules.proofs.chain_rules.override_rule.Goals as goal
 
 pub returns : goal.returns
@@ -27,7 +27,7 @@ returns c =
     let test = test_view asking.query.now in
     let rule = c.args.rule.now in
     let same = c.rule-written.ensures in
-    let value = told_by_kind s c.value-value.result _ (c.value-value.ensures
+    let value = reported_by_kind s c.value-value.result _ (c.value-value.ensures
     ∙ ap (λ written. option_map (by_kind s) (sets written c.args.mode s))
     (c.settings.ensures ∙ ap (λ r. (override_ref_view r).writes.settings) same)) in
     let place = c.of_override.ensures
@@ -47,10 +47,10 @@ returns c =
     rule_judged asking (override_writes s c.args.mode) (override_ref_view rule.rule) (evaluated_override_view rule) _
     refl refl (λ i. record { place = place i; value = value i })
     (c.is_on.ensures ∙ ap (λ p. is_on (evaluated_override_view rule) p) c.platform.ensures) holds
-    (c.is_some.ensures ∙ sym (is_held told_value c.value-value.result))
-    (c.answers_of.ensures.host ∙ ap (told_condition (λ s. is_met_by s asking.platforms.now.host))
+    (c.is_some.ensures ∙ sym (is_held reported_value c.value-value.result))
+    (c.answers_of.ensures.host ∙ ap (reported_condition (λ s. is_met_by s asking.platforms.now.host))
     (c.platforms.ensures.host ∙ ap (λ r. (override_ref_view r).host) same))
     (c.answers_of.ensures.target
-    ∙ ap (told_condition (λ s. is_met_by s (runs_on asking.platforms.now test.binary.platform)))
+    ∙ ap (reported_condition (λ s. is_met_by s (runs_on asking.platforms.now test.binary.platform)))
     (c.platforms.ensures.target ∙ ap (λ r. (override_ref_view r).target) same))
-    (c.answers_of.ensures.filter ∙ ap (λ b. told_by_facts b facts) (sym (is_held (λ f. f.now) c.filter.result) ∙ ap is_some filter))
+    (c.answers_of.ensures.filter ∙ ap (λ b. reported_by_facts b facts) (sym (is_held (λ f. f.now) c.filter.result) ∙ ap is_some filter))

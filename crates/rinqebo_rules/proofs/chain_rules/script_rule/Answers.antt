@@ -8,10 +8,10 @@ use Rattle.nextest_settings.specs.Queries.{test_query}
 use Rattle.nextest_settings.specs.View.{script_rule_ref_view, evaluated_script_rule_view, meant_script_rule}
 use Rattle.filter_engine.specs.Compiling.{names_of}
 use Rattle.filter_engine.specs.Engine.{filter_holds}
-use Rattle.rinqebo_rules.specs.Conditions.{is_met_by, told_by_facts, told_condition}
+use Rattle.rinqebo_rules.specs.Conditions.{is_met_by, reported_by_facts, reported_condition}
 use Rattle.rinqebo_rules.specs.RulePlaces.{script_place}
 use Rattle.rinqebo_rules.specs.SettingRules.{wrapper_written}
-use Rattle.rinqebo_rules.specs.SettingValues.{told_value}
+use Rattle.rinqebo_rules.specs.SettingValues.{reported_value}
 use Rattle.rinqebo_rules.specs.declared.verdict.RuleFacts.{RuleFacts}
 use Rattle.rinqebo_rules.proofs.Judged.{holds_meant, rule_judged}
 use Rattle.rinqebo_rules.proofs.chain_rules.script_rule.Goals as goal
@@ -39,11 +39,11 @@ returns c =
     rule_judged asking wrapper_written (script_rule_ref_view rule.rule) (evaluated_script_rule_view rule) _
     refl refl (λ i. record { place = place i; value = c.named_wrapper-value.ensures i })
     (c.is_on.ensures ∙ ap (λ p. is_on (evaluated_script_rule_view rule) p) c.platform.ensures) holds
-    (c.is_some.ensures ∙ sym (is_held told_value c.named_wrapper-value.result))
-    (c.answers_of.ensures.host ∙ ap (told_condition (λ s. is_met_by s asking.platforms.now.host))
+    (c.is_some.ensures ∙ sym (is_held reported_value c.named_wrapper-value.result))
+    (c.answers_of.ensures.host ∙ ap (reported_condition (λ s. is_met_by s asking.platforms.now.host))
     (c.platforms.ensures.host ∙ ap (λ r. (script_rule_ref_view r).host) same))
     (c.answers_of.ensures.target
-    ∙ ap (told_condition (λ s. is_met_by s (runs_on asking.platforms.now test.binary.platform)))
+    ∙ ap (reported_condition (λ s. is_met_by s (runs_on asking.platforms.now test.binary.platform)))
     (c.platforms.ensures.target ∙ ap (λ r. (script_rule_ref_view r).target) same))
     (c.answers_of.ensures.filter
-    ∙ ap (λ b. told_by_facts b facts) (sym (is_held (λ f. f.now) c.filter.result) ∙ ap is_some filter))
+    ∙ ap (λ b. reported_by_facts b facts) (sym (is_held (λ f. f.now) c.filter.result) ∙ ap is_some filter))

@@ -4,7 +4,7 @@ use Rattle.std.proofs.lemmas.Result.{IfOk-weaker}
 use Rattle.std.specs.List.{AllZip}
 use Rattle.nextest_grounds.specs.Layers.{keys_view}
 use Rattle.rinqebo_rules.specs.ProfileOrigins.{IsLayerOrigin}
-use Rattle.rinqebo_rules.proofs.ProfileOrigins.{name_at, some_of, some_told, told_by}
+use Rattle.rinqebo_rules.proofs.ProfileOrigins.{name_at, some_of, some_reported, reported_by}
 use Rattle.rinqebo_rules.proofs.grounds.written_origins.Goals as goal
 
 pub returns : goal.returns
@@ -24,7 +24,7 @@ returns c = λ near.
     let all = subst (λ ps. AllZip (IsLayerOrigin layers profile.now table name) ps origins.items)
     c.deref.ensures.value told in
     inl (
-      told_by layers (keys_view chain) table name grounds near profile.now origins.items same all,
-      some_told (IsLayerOrigin layers profile.now table name) grounds.layers.items origins.items some all,
+      reported_by layers (keys_view chain) table name grounds near profile.now origins.items same all,
+      some_reported (IsLayerOrigin layers profile.now table name) grounds.layers.items origins.items some all,
     ))
     c.origins_at.ensures

@@ -1,4 +1,4 @@
-use Rattle.std.proofs.Common.{refl, subst}
+use Rattle.std.proofs.Common.{subst}
 use Rattle.std.proofs.lemmas.List.{take_all}
 use Rattle.std.specs.List.{AllZip}
 use Rattle.rinqebo_rules.specs.KnownOrigins.{IsCopyOf}
@@ -7,7 +7,7 @@ use Rattle.rinqebo_rules.proofs.origins.all_copied.Goals as goal
 
 pub loop-origin-preserved : goal.loop-origin-preserved
 loop-origin-preserved c =
-    zip_more IsCopyOf c.args.origins.now c.loop-origin.origin-index _ _ c.loop-origin-test.true refl _ _ _
+    zip_more IsCopyOf c.args.origins.now c.loop-origin.origin-index _ _ c.loop-origin-test.true c.origin-item.is _ _ _
     c.loop-origin.invariant c.in_ok-copied.ensures c.in_ok-push.ensures.items
 
 pub returns : goal.returns

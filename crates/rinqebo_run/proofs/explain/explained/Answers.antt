@@ -20,4 +20,4 @@ returns c =
     (basis_here session c.new-origins.result _ _ c.new-origins.ensures c.deref.ensures.value
     ∙ ap (λ names. basis_of session (borrowed_view names)) c.deref-2.ensures.value)
     query.ensures.name query.ensures.binary query.ensures.platform told.binary told.name
-    c.in_ok-from_slice.ensures.items told.settings_told
+    c.in_ok-from_slice.ensures.items told.settings_reported

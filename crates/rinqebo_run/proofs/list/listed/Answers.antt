@@ -1,6 +1,6 @@
 use Rattle.std.proofs.Common.{ap}
 use Rattle.nextest_inheritance.specs.View.{borrowed_view}
-use Rattle.rinqebo_run.proofs.Listing.{listed_here, told_in}
+use Rattle.rinqebo_run.proofs.Listing.{listed_here, reported_in}
 use Rattle.rinqebo_run.proofs.list.listed.Goals as goal
 
 pub profile_on-requires : goal.profile_on-requires
@@ -12,4 +12,4 @@ returns g c =
     c.in_ok-on.on (borrowed_view c.in_ok-chain.chain.items) (borrowed_view c.deref.result.now) _ _ _ _
     c.in_ok-on.ensures (c.in_ok-chain.ensures c.requires) (ap borrowed_view c.deref.ensures.value)
     c.in_ok-rows.ensures.tests c.in_ok-rows.ensures.unused
-    (told_in _ _ _ _ c.deref-3.ensures.value c.in_ok-unused_origins.ensures) c.in_ok-scripts_of_list.ensures
+    (reported_in _ _ _ _ c.deref-3.ensures.value c.in_ok-unused_origins.ensures) c.in_ok-scripts_of_list.ensures

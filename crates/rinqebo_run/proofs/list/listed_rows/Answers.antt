@@ -7,7 +7,7 @@ use Rattle.nextest_inheritance.specs.View.{borrowed_view}
 use Rattle.nextest_profiles.specs.Meaning.{profile_meaning}
 use Rattle.nextest_settings.specs.Queries.{query_in}
 use Rattle.rinqebo_rules.specs.TestOrigins.{Basis}
-use Rattle.rinqebo_rules.specs.Rows.{AreTestsTold}
+use Rattle.rinqebo_rules.specs.Rows.{AreTestsReported}
 use Rattle.rinqebo_rules.specs.Unused.{AreUnusedIn}
 use Rattle.rinqebo_run.proofs.Listing.{basis_here}
 use Rattle.nextest_lists.specs.ListView.{list_view}
@@ -18,7 +18,7 @@ pub returns-clause-tests : goal.returns-clause-tests
 returns-clause-tests g c =
     let session = c.args.session.now in
     let Told : Basis → List Test → Type 0 = λ basis tests. IfOk c.list.result
-    (λ rows. AreTestsTold basis filter_holds c.args.mode (profile_meaning (marks_view names_of) c.args.profile.now)
+    (λ rows. AreTestsReported basis filter_holds c.args.mode (profile_meaning (marks_view names_of) c.args.profile.now)
     c.args.asked.now tests rows.tests.items) in
     subst (λ basis. Told basis (all_tests (list_view session.tests)))
     (basis_here session c.new-origins.result _ (borrowed_view c.args.chain.now) c.new-origins.ensures

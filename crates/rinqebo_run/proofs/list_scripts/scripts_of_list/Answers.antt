@@ -4,7 +4,7 @@ use Rattle.nextest_engines.specs.Engines.{binary_view, test_view}
 use Rattle.filter_engine.specs.Compiling.{names_of}
 use Rattle.filter_engine.specs.Engine.{filter_holds, filter_holds_binary}
 use Rattle.nextest_profiles.specs.Meaning.{profile_meaning}
-use Rattle.rinqebo_rules.specs.Scripts.{AreScriptsTold}
+use Rattle.rinqebo_rules.specs.Scripts.{AreScriptsReported}
 use Rattle.nextest_lists.specs.ListView.{list_view}
 use Rattle.nextest_lists.specs.Lists.{all_binaries}
 use Rattle.rinqebo_run.proofs.list_scripts.scripts_of_list.Goals as goal
@@ -14,8 +14,8 @@ returns c =
     let list = list_view c.args.session.now.tests in
     let profile = profile_meaning (marks_view names_of) c.args.profile.now in
     subst (λ tests. IfOk c.scripts_of.result
-    (AreScriptsTold filter_holds filter_holds_binary profile tests (all_binaries list)))
+    (AreScriptsReported filter_holds filter_holds_binary profile tests (all_binaries list)))
     (ap (map test_view) c.deref.ensures.value ∙ c.in_ok-tests.ensures)
     (subst (λ binaries. IfOk c.scripts_of.result
-    (AreScriptsTold filter_holds filter_holds_binary profile (map test_view c.deref.result.now) binaries))
+    (AreScriptsReported filter_holds filter_holds_binary profile (map test_view c.deref.result.now) binaries))
     (ap (map binary_view) c.deref-2.ensures.value ∙ c.in_ok-binaries.ensures) c.scripts_of.ensures)

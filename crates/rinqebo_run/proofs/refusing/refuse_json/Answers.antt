@@ -1,4 +1,4 @@
-use Rattle.rinqebo_run.proofs.Documents.{document_quiet, document_told, no_document}
+use Rattle.rinqebo_run.proofs.Documents.{document_quiet, document_reported, no_document}
 use Rattle.rinqebo_run.proofs.refusing.refuse_json.Goals as goal
 
 pub returns-in-Some-clause-quiet : goal.returns-in-Some-clause-quiet
@@ -9,7 +9,7 @@ returns-in-Some-clause-quiet g c =
 
 pub returns-in-Some-clause-document : goal.returns-in-Some-clause-document
 returns-in-Some-clause-document g c told =
-    document_told c.args.failure.now c.args.request.now c.in-Some.report.now _ _ _ _ c.requires.json
+    document_reported c.args.failure.now c.args.request.now c.in-Some.report.now _ _ _ _ c.requires.json
     c.in-Some.ensures c.status_of_failure-status.ensures c.refuse_page.ensures.status
     c.refuse_page.ensures.page told
 

@@ -1,4 +1,4 @@
-use Rattle.rinqebo_run.proofs.Writing.{stop_quiet, stop_silent, stop_status, stop_told}
+use Rattle.rinqebo_run.proofs.Writing.{stop_quiet, stop_silent, stop_status, stop_reported}
 use Rattle.rinqebo_run.proofs.run.answer_list.Goals as goal
 
 pub returns-in-Err-clause-status : goal.returns-in-Err-clause-status
@@ -15,4 +15,4 @@ returns-in-Err-clause-page g c answered =
 
 pub returns-in-Err-clause-cause : goal.returns-in-Err-clause-cause
 returns-in-Err-clause-cause g c =
-    stop_told c.args.request.now c.args.gathered.now _ _ c.in-Err.fault _ c.in-Err.ensures.err c.refuse_list.ensures
+    stop_reported c.args.request.now c.args.gathered.now _ _ c.in-Err.fault _ c.in-Err.ensures.err c.refuse_list.ensures

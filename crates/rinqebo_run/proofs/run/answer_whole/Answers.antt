@@ -1,6 +1,6 @@
 use Rattle.rinqebo_run.proofs.Documents.{answer_ends, one_of_four, refusal_quiet, refusal_told}
-use Rattle.rinqebo_run.proofs.Refused.{answer_told, failure_told}
-use Rattle.rinqebo_run.proofs.Statuses.{answer_status, answered_status, told_same, told_page, tells, failed_silent, failed_status}
+use Rattle.rinqebo_run.proofs.Refused.{answer_reported, failure_reported}
+use Rattle.rinqebo_run.proofs.Statuses.{answer_status, answered_status, reported_same, reported_page, tells, failed_silent, failed_status}
 use Rattle.rinqebo_run.proofs.run.answer_whole.Goals as goal
 
 pub returns-in-Ok-clause-status : goal.returns-in-Ok-clause-status
@@ -22,12 +22,12 @@ pub returns-in-Ok-clause-page : goal.returns-in-Ok-clause-page
 returns-in-Ok-clause-page g c answered =
     let q = c.args.request.now.question in
     tells c.args.request.now c.args.gathered.now c.in-Ok.answer.report _ _ _ _ c.in-Ok.ensures.ok
-    (told_same q _ _ c.tell_answer.ensures.status answered)
-    (told_page q _ c.tell_answer.ensures.page answered)
+    (reported_same q _ _ c.tell_answer.ensures.status answered)
+    (reported_page q _ c.tell_answer.ensures.page answered)
 
 pub returns-in-Ok-clause-cause : goal.returns-in-Ok-clause-cause
 returns-in-Ok-clause-cause g c =
-    answer_told c.args.request.now c.args.gathered.now c.in-Ok.answer.report _ _ c.in-Ok.ensures.ok
+    answer_reported c.args.request.now c.args.gathered.now c.in-Ok.answer.report _ _ c.in-Ok.ensures.ok
     c.tell_answer.ensures.status
 
 pub returns-in-Err-clause-status : goal.returns-in-Err-clause-status
@@ -50,5 +50,5 @@ returns-in-Err-clause-page g c answered =
 
 pub returns-in-Err-clause-cause : goal.returns-in-Err-clause-cause
 returns-in-Err-clause-cause g c =
-    failure_told c.args.request.now c.args.gathered.now c.in-Err.failure _ c.in-Err.ensures.err
+    failure_reported c.args.request.now c.args.gathered.now c.in-Err.failure _ c.in-Err.ensures.err
     c.refuse_in.ensures.status

@@ -5,7 +5,7 @@ use Rattle.nextest_settings.specs.Settings.{fallback_of}
 use Rattle.rinqebo_rules.specs.Conditions.{default_filter_here}
 use Rattle.rinqebo_rules.specs.RuleViews.{setting_rule_view}
 use Rattle.rinqebo_rules.specs.SettingRules.{rules_for}
-use Rattle.rinqebo_rules.specs.Told.{told_of}
+use Rattle.rinqebo_rules.specs.Told.{reported_of}
 use Rattle.rinqebo_run.proofs.Gathering.{reasons_here}
 use Rattle.rinqebo_run.proofs.why.rules_and_fallback.Goals as goal
 
@@ -26,7 +26,7 @@ returns c = λ configured name names same_config same_names.
     ∙ c.in_ok-rules.ensures _ _ c.in_ok-on.ensures.overrides c.in_ok-on.ensures.script_rules in
     let profiles = ap (λ g. g.profiles) (sym same_config) in
     let valued = c.in_ok-fallback.ensures.value
-    ∙ (λ i. option_map (told_of c.args.setting)
+    ∙ (λ i. option_map (reported_of c.args.setting)
     (fallback_of (fields_of (profiles i) (same_names i)) mode c.args.setting)) in
     reasons_here c.args.session.now.layers.items platforms c.args.test.now c.query_of-query.result c.args.setting _
     configured name names written c.in_ok-reported.reported.items c.in_ok-fallback.fallback _ default gathered

@@ -1,10 +1,9 @@
-use Rattle.std.proofs.Common.{◌≡◌, ◌∙◌}
 use Rattle.nextest_engines.specs.Engines.{test_view}
 use Rattle.nextest_profiles.specs.Meaning.{profile_meaning}
 use Rattle.nextest_settings.specs.Queries.{query_in, setting_origin, setting_value}
 use Rattle.nextest_settings.specs.SettingsView.{origin_at, value_at}
 use Rattle.rinqebo_rules.specs.TestOrigins.{wrapping_at, wrapping_id}
-use Rattle.rinqebo_rules.proofs.RowsMore.{told_alike, wrapping_alike}
+use Rattle.rinqebo_rules.proofs.RowsMore.{reported_alike, wrapping_alike}
 use Rattle.rinqebo_rules.proofs.lister.Lister.rows_of.Goals as goal
 
 pub returns-clause-told : goal.returns-clause-told
@@ -17,7 +16,7 @@ returns-clause-told g c =
     record {
       binary = c.in_ok-from_str.ensures.ok;
       name = c.in_ok-from_str-2.ensures.ok;
-      settings_told = told_alike c.args.origins.now (wrapping_at settings) (wrapping_id query profile)
+      settings_reported = reported_alike c.args.origins.now (wrapping_at settings) (wrapping_id query profile)
           (value_at settings) (setting_value query self.mode profile) (origin_at settings)
           (setting_origin query self.mode profile) self.mode self.asked.now c.in_ok-rows_of.field-0.items
           (wrapping_alike _ _ are.script_rule) are.values are.origins c.in_ok-rows_of.ensures.told;

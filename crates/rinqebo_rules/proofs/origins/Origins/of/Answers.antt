@@ -1,7 +1,10 @@
-use Rattle.std.proofs.Common.{◌≡◌, All, subst, sym}
+use Rattle.std.proofs.Common.{ℕ, All, List, Option, option_map, subst, sym}
 use Rattle.std.proofs.lemmas.List.Elements.{All-push}
-use Rattle.rinqebo_rules.proofs.Copies.{copies_at, copies_told}
+use Rattle.nextest_inheritance.specs.View.{borrowed_view}
+use Rattle.rinqebo_rules.proofs.Copies.{copies_at, copies_reported}
 use Rattle.rinqebo_rules.specs.KnownOrigins.{AreOriginsAt, IsKnown}
+use Rattle.rinqebo_rules.specs.RulePlaces.{Place, place_view}
+use Rattle.rinqebo_rules.specs.TestOrigins.{Basis}
 use Rattle.rinqebo_rules.proofs.origins.Origins.of.Goals as goal
 
 pub returns-in-Some-clause-told : goal.returns-in-Some-clause-told
@@ -10,15 +13,21 @@ returns-in-Some-clause-told c =
     let known : All (IsKnown basis) c.deref.result.now =
     subst (All (IsKnown basis)) (sym c.deref.ensures.value)
     (subst (λ b. All (IsKnown b) c.self.inside.known.items) c.self.view_is c.self.invariant) in
-    copies_told c.all_copied.result basis _ _ _ c.in-Some.origins.now c.all_copied.ensures
+    copies_reported c.all_copied.result basis _ _ _ c.in-Some.origins.now c.all_copied.ensures
     (c.in-Some.ensures basis known)
 
 pub invariant_of-self-2 : goal.invariant_of-self-2
-invariant_of-self-2 c = rw c.in_ok-push.ensures.items (All-push _ _ _ c.self.invariant c.in_ok-origins.ensures)
+invariant_of-self-2 c =
+    let basis : Basis = record { layers = c.self.inside.layers.now; chain = borrowed_view c.self.inside.chain.now } in
+    rw c.in_ok-push.ensures.items (All-push (IsKnown basis) _ _ c.self.invariant c.in_ok-origins.ensures)
 
 pub returns-clause-told : goal.returns-clause-told
 returns-clause-told c =
     let basis = c.args.self.now in
-    copies_at basis _ _ _ c.deref-2.result.now c.in_ok-copies.copies.items c.in_ok-copies.ensures
-    (subst (λ os. AreOriginsAt basis _ _ _ os) (sym c.deref-2.ensures.value)
-    (subst (λ b. AreOriginsAt b _ _ _ c.in_ok-origins.origins.items) c.self.view_is c.in_ok-origins.ensures))
+    let place : Option Place = option_map place_view c.args.rule in
+    let table : Option (List ℕ) = option_map (λ table. table.now) c.args.key.table in
+    let name : List ℕ = c.args.key.key.now in
+    copies_at basis place table name c.deref-2.result.now c.in_ok-copies.copies.items c.in_ok-copies.ensures
+    (subst (AreOriginsAt basis place table name) (sym c.deref-2.ensures.value)
+    (subst (λ b. AreOriginsAt b place table name c.in_ok-origins.origins.items) c.self.view_is
+    c.in_ok-origins.ensures))

@@ -7,7 +7,7 @@ use Rattle.nextest_inheritance.specs.View.{borrowed_view}
 use Rattle.nextest_profiles.specs.Meaning.{profile_meaning}
 use Rattle.nextest_settings.specs.Queries.{query_in}
 use Rattle.rinqebo_rules.specs.TestOrigins.{Basis}
-use Rattle.rinqebo_rules.specs.Rows.{AreTestsTold}
+use Rattle.rinqebo_rules.specs.Rows.{AreTestsReported}
 use Rattle.rinqebo_rules.specs.Unused.{AreUnusedIn}
 use Rattle.rinqebo_run.specs.Begun.{AreFirstWritten}
 use Rattle.rinqebo_run.specs.Written.{StopsList}
@@ -21,7 +21,7 @@ returns-clause-tests g c =
     let self = c.args.self.now in
     let list = self.list in
     let Told : Basis → List Test → Type 0 = λ basis tests. IfOk c.write_tests.result
-    (λ rows. AreTestsTold basis filter_holds list.mode (profile_meaning (marks_view names_of) c.args.on.now)
+    (λ rows. AreTestsReported basis filter_holds list.mode (profile_meaning (marks_view names_of) c.args.on.now)
     list.settings.now tests rows.tests.items) in
     subst (λ basis. Told basis (all_tests (list_view self.session.now.tests)))
     (basis_here self.session.now c.new-origins.result _ (borrowed_view c.args.chain.now) c.new-origins.ensures

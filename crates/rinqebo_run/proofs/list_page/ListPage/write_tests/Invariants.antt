@@ -7,7 +7,7 @@ use Rattle.filter_engine.specs.Compiling.{names_of}
 use Rattle.filter_engine.specs.Engine.{filter_holds}
 use Rattle.nextest_profiles.specs.Meaning.{profile_meaning}
 use Rattle.nextest_settings.specs.Queries.{query_in}
-use Rattle.rinqebo_rules.specs.Rows.{IsTestTold}
+use Rattle.rinqebo_rules.specs.Rows.{IsTestReported}
 use Rattle.rinqebo_run.specs.Begun.{tests_text}
 use Rattle.rinqebo_run.proofs.list_page.ListPage.write_tests.Given as goal
 
@@ -18,7 +18,7 @@ invariant-loop-query g l =
     let queries = take l.query-index l.queries in
     record {
       same : l.origins ≡ l.initial.origins;
-      told : AllZip (λ query. IsTestTold l.initial.origins (query_in filter_holds profile (test_view query))
+      told : AllZip (λ query. IsTestReported l.initial.origins (query_in filter_holds profile (test_view query))
           l.asking.mode profile l.asking.asked.now (test_view query)) queries l.tests.items;
       page : Appends (g.O.Write.contents l.initial.out) (g.O.Write.contents l.out)
           (tests_text l.self.head.now l.self.colour l.tests.items);

@@ -2,7 +2,7 @@
 ghost use Rattle.std.specs.Prelude.{◌≡◌, OnOk};
 ghost use Rattle.serde_json.specs.Data.{put as with_member, string};
 ghost use Rattle.serde_json.specs.View.{members_view};
-ghost use Rattle.rinqebo_report.specs.Document.{with_asked};
+ghost use Rattle.rinqebo_report.specs.Document.{with_requested};
 
 use crate::json_parts::{optional_text_json, texts_json};
 use crate::report::Asked;
@@ -24,14 +24,14 @@ pub(crate) fn put_text(
 }
 
 /// Puts among members a command, and what was asked for.
-pub(crate) fn put_asked(
+pub(crate) fn put_requested(
     members: &mut Map<String, Value>,
     alloc: Global,
     command: &str,
     asked: &Asked,
 ) -> Result<(), AllocError>
     ensures { OnOk result (members_view members.new.entries
-        ≡ with_asked command.now asked.now (members_view members.old.entries)) }
+        ≡ with_requested command.now asked.now (members_view members.old.entries)) }
 {
     put(members, alloc, "chain", texts_json(alloc, &asked.chain)?)?;
     put_text(members, alloc, "command", command)?;

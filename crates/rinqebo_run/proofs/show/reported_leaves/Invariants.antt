@@ -1,7 +1,7 @@
 use Rattle.std.proofs.Common.{map, take}
 use Rattle.nextest_grounds.specs.Entries.{leaf_view}
 use Rattle.rinqebo_run.specs.ShownConfig.{TellLeaves}
-use Rattle.rinqebo_run.proofs.show.told_leaves.Given as goal
+use Rattle.rinqebo_run.proofs.show.reported_leaves.Given as goal
 
 -- the leaves so far
 abbrev pub invariant-loop-leaf : goal.invariant-loop-leaf

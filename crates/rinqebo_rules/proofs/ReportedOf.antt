@@ -4,8 +4,8 @@ use Rattle.nextest_settings.specs.Settings.{ValueOf}
 use Rattle.nextest_settings.specs.SettingValues.{by_kind, setting_value_view}
 use Rattle.nextest_settings.specs.declared.setting.Setting.{Setting}
 use Rattle.nextest_settings.specs.declared.setting_value.SettingValue.{SettingValue}
-use Rattle.rinqebo_rules.specs.SettingValues.{told_value}
-use Rattle.rinqebo_rules.specs.Told.{told, told_of}
+use Rattle.rinqebo_rules.specs.SettingValues.{reported_value}
+use Rattle.rinqebo_rules.specs.Told.{told, reported_of}
 
 -- f, and then told
 through : {X Y Z : Type 0} (f : X → Y) (h : Y → Z) (o : Option X)
@@ -13,8 +13,8 @@ through : {X Y Z : Type 0} (f : X → Y) (h : Y → Z) (o : Option X)
 through f h None = refl
 through f h (Some x) = refl
 
-pub told_by_kind : (s : Setting) (held : Option SettingValue) (value : Option (ValueOf s))
+pub reported_by_kind : (s : Setting) (held : Option SettingValue) (value : Option (ValueOf s))
     → option_map setting_value_view held ≡ option_map (by_kind s) value
-    → option_map told_value held ≡ option_map (told_of s) value
-told_by_kind s held value same = through setting_value_view told held
+    → option_map reported_value held ≡ option_map (reported_of s) value
+reported_by_kind s held value same = through setting_value_view told held
     ∙ (ap (option_map told) same ∙ sym (through (by_kind s) told value))
