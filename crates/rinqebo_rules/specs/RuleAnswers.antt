@@ -16,8 +16,8 @@ use Rattle.rinqebo_rules.specs.Conditions.{reported_condition, is_met_by, filter
 use Rattle.rinqebo_rules.specs.SettingRules.{RuleFor, RuleValue, writes_it}
 use Rattle.rinqebo_rules.specs.Verdicts.{facts_of}
 
--- What the conditions of a rule say, which stands like this on the platforms of a build: its filter
--- is asked where these hold.
+-- What the conditions of a rule say that is this on the platforms of a build: its filter is
+-- evaluated where these hold.
 abbrev pub answers_on : {M K P W : Type 0} → (K → P → Option Bool) → BuildPlatforms P
     → QueryContext M → Compiled M K W → EvaluatedRule M W → Answers
 answers_on meets platforms query rule on = record {
@@ -45,7 +45,7 @@ pub record Judged : Type 0 where
   pub facts : RuleFacts
   pub answers : Answers
 
--- what is found out of a rule, which stands like this on the platforms of a build
+-- what is found out of a rule that is this on the platforms of a build
 abbrev pub judged : Asking → RuleFor (Filterset FieldMatcher) TargetSpec
     → EvaluatedRule (Filterset FieldMatcher) RuleValue → Judged
 judged asking rule on = record {
@@ -54,6 +54,6 @@ judged asking rule on = record {
   answers = answers_on is_met_by asking.platforms.now (requested_query asking) rule on;
 }
 
--- what is found out of a rule on the platforms of the build that is asked about
+-- what is found out of a rule on the platforms of the build
 abbrev pub judged_here : Asking → RuleFor (Filterset FieldMatcher) TargetSpec → Judged
 judged_here asking rule = judged asking rule (rule_on is_met_by asking.platforms.now rule)

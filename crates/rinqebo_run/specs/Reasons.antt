@@ -55,7 +55,7 @@ abbrev pub AreRulesReportedHere : List Layer → Asking → List ReadRule → Li
 AreRulesReportedHere layers asking rules told =
     AreRulesReported layers is_met_by asking.platforms.now (requested_query asking) rules told
 
--- rules as code holds them are told with verdicts
+-- rules as code holds them are reported with verdicts
 abbrev pub AreReportedWith : List Layer → List SettingRule → List Verdict → List Rule → Type 0
 AreReportedWith layers rules verdicts told = AllZip
     (λ (p : SettingRule × Verdict).
