@@ -3,6 +3,7 @@ pub mod Zips
 mod ProfileOrigins
 pub mod Finding
 pub mod VerdictsOf
+pub mod Judged
 pub mod ReportedOf
 pub mod Items
 pub mod Copies

@@ -2,7 +2,7 @@
 use Rattle.std.proofs.Common.{◌≡◌, ◌≢◌, ℕ, zero, suc, Bool, true, false, ◌&&◌, ◌||◌, cond, Option, Some, None, IfSome, is_some, List, [], ◌∷◌, ◌++◌, take, map, find, slice_get, refl, sym, ◌∙◌, ap, append_assoc}
 use Rattle.std.proofs.lemmas.List.{append-nil}
 use Rattle.nextest_settings.proofs.StandsFirst.{find-least, find-none}
-use Rattle.nextest_settings.specs.Deciding.{QueryContext, filter_holds, decides, winner, StandsFirst}
+use Rattle.nextest_settings.specs.Deciding.{QueryContext, filter_holds, rule_holds, decides, winner, StandsFirst}
 use Rattle.nextest_settings.specs.Platforms.{EvaluatedRule, is_on}
 use Rattle.rinqebo_rules.proofs.Finding.{in_take, to_take, none_found, first_found}
 use Rattle.rinqebo_rules.specs.Verdicts.{verdict_of, verdicts_after, verdicts_of, facts_of, IsDeciding}
@@ -11,7 +11,7 @@ use Rattle.rinqebo_rules.specs.declared.verdict.Verdict.{Verdict}
 use Rattle.rinqebo_rules.specs.declared.verdict.Verdict.TheVariants.{Decides}
 
 -- a verdict that decides has all for it
-only_decides : (a b c d : Bool) → verdict_by a b c d ≡ Decides → (((a && b) && c) ≡ true) × (d ≡ false)
+only_decides : (a b c d : Bool) → verdict_by a (a && b) c d ≡ Decides → (((a && b) && c) ≡ true) × (d ≡ false)
 only_decides false b c d e = absurd cc
 only_decides true false c d e = absurd cc
 only_decides true true false d e = absurd cc
@@ -19,7 +19,7 @@ only_decides true true true true e = absurd cc
 only_decides true true true false e = (refl, refl)
 
 -- and what has all for it decides
-decides_with_all : (a b c d : Bool) → ((a && b) && c) ≡ true → d ≡ false → verdict_by a b c d ≡ Decides
+decides_with_all : (a b c d : Bool) → ((a && b) && c) ≡ true → d ≡ false → verdict_by a (a && b) c d ≡ Decides
 decides_with_all false b c d e f = absurd cc
 decides_with_all true false c d e f = absurd cc
 decides_with_all true true false d e f = absurd cc
@@ -79,7 +79,8 @@ module _ {M W : Type 0} (query : QueryContext M) (wants : W → Bool) where
       let is : Some (verdict_of query wants (take n rules) rule) ≡ Some Decides =
       sym (verdict_at [] rules n rule at) ∙ e in
       let same : verdict_of query wants (take n rules) rule ≡ Decides = cc in
-      let all = only_decides _ _ _ _ same in
+      let all = only_decides (is_on rule query.platform) (filter_holds query.matches rule.filter) (wants rule.writes)
+      (is_some (winner query wants (take n rules))) same in
       let none = none_there (winner query wants (take n rules)) all.1 in
       record {
         holds = all.0;
@@ -94,7 +95,8 @@ module _ {M W : Type 0} (query : QueryContext M) (wants : W → Bool) where
       let none = none_found (decides query wants) (take n rules)
       (λ m y e. (let p = in_take rules n m y e in h.first m y p.0 p.1)) in
       verdict_at [] rules n rule at
-      ∙ ap Some (decides_with_all _ _ _ _ h.holds (ap is_some none))
+      ∙ ap Some (decides_with_all (is_on rule query.platform) (filter_holds query.matches rule.filter)
+      (wants rule.writes) (is_some (winner query wants (take n rules))) h.holds (ap is_some none))
 
   pub verdicts-nth : (rules : List (EvaluatedRule M W)) (n : ℕ) (rule : EvaluatedRule M W)
       → slice_get rules n ≡ Some rule
@@ -139,9 +141,9 @@ module _ {M W : Type 0} (query : QueryContext M) (wants : W → Bool) where
   facts_after before (r ∷ rules) decided e =
       let next : is_some (winner query wants (before ++ r ∷ [])) ≡ (decided || decides query wants r) =
       found_behind (decides query wants) before r ∙ ap (λ b. b || decides query wants r) e in
-      ap (λ b. verdict_by (is_on r query.platform) (filter_holds query.matches r.filter) (wants r.writes) b
+      ap (λ b. verdict_by (is_on r query.platform) (rule_holds query r) (wants r.writes) b
       ∷ verdicts_after query wants (before ++ r ∷ []) rules) e
-      ∙ ap (λ rest. verdict_by (is_on r query.platform) (filter_holds query.matches r.filter) (wants r.writes)
+      ∙ ap (λ rest. verdict_by (is_on r query.platform) (rule_holds query r) (wants r.writes)
       decided ∷ rest)
       (facts_after (before ++ r ∷ []) rules (decided || decides query wants r) next)
 

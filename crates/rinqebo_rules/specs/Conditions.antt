@@ -1,15 +1,15 @@
 -- What the conditions of a rule say of a test.
-use Rattle.std.specs.Prelude.{Bool, true, false, List, map, Option, None, Some}
+use Rattle.std.specs.Prelude.{Bool, true, false, if◌then◌else◌, List, map, Option, None, Some}
 use Rattle.filter_language.specs.Filtersets.{marks_view}
 use Rattle.filter_language.specs.declared.filterset.Filterset.{Filterset}
-use Rattle.nextest_engines.specs.Engines.{Test, test_view}
+use Rattle.nextest_engines.specs.Engines.{Test}
 use Rattle.nextest_engines.specs.declared.queries.BuildPlatforms.{BuildPlatforms}
 use Rattle.filter_engine.specs.Compiling.{names_of}
 use Rattle.filter_engine.specs.Engine.{filter_holds}
 use Rattle.filter_engine.specs.declared.compiling.FieldMatcher.{FieldMatcher}
 use Rattle.nextest_load.specs.Config.{ConfigModel}
 use Rattle.nextest_settings.specs.Chains.{overrides_of, nearest_filter, match_all_filter}
-use Rattle.nextest_settings.specs.Platforms.{runs_on, rule_on, default_filter_of}
+use Rattle.nextest_settings.specs.Platforms.{rule_on, default_filter_of}
 use Rattle.nextest_tables.specs.Written.{Name}
 use Rattle.rinqebo_report.specs.declared.report.ConditionAnswer.{ConditionAnswer}
 use Rattle.rinqebo_report.specs.declared.report.ConditionAnswer.TheVariants as says
@@ -18,7 +18,7 @@ use Rattle.platform_language.specs.Values.{spec_value}
 use Rattle.platform_language.specs.declared.expression.TargetSpec.{TargetSpec}
 use Rattle.platform_table.specs.Platforms.{platform_view}
 use Rattle.platform_table.specs.declared.Platform.{Platform}
-use Rattle.rinqebo_rules.specs.declared.conditions.Asking.{Asking}
+use Rattle.rinqebo_rules.specs.declared.verdict.RuleFacts.{RuleFacts}
 
 -- an answer that may be unknown, as it is told
 abbrev pub reported_answer : Option Bool → ConditionAnswer
@@ -40,36 +40,15 @@ abbrev pub filter_matches : Filterset FieldMatcher → Test → Filterset FieldM
 filter_matches filter test default =
     filter_holds (marks_view names_of filter) test (marks_view names_of default)
 
--- what the host says to a spec
-abbrev pub reported_host : Asking → Option TargetSpec → ConditionAnswer
-reported_host asking spec =
-    reported_condition (λ s. is_met_by s asking.platforms.now.host) spec
-
--- what the platform says to a spec on which the binary of the test runs
-abbrev pub reported_target : Asking → Option TargetSpec → ConditionAnswer
-reported_target asking spec = reported_condition
-    (λ s. is_met_by s (runs_on asking.platforms.now asking.test.now.platform)) spec
-
--- what a filter says of the test
-abbrev pub reported_filter : Asking → Option (Filterset FieldMatcher) → ConditionAnswer
-reported_filter asking filter = reported_condition
-    (λ f. Some (filter_matches f (test_view asking.query.now) asking.default_filter.now)) filter
-
--- An answer does not stand against a rule: one that is absent or unknown does not.
-abbrev pub is_met : ConditionAnswer → Bool
-is_met says.No = false
-is_met answer = true
-
--- A filter that says yes matches, and one that is absent.
-abbrev pub is_matched : ConditionAnswer → Bool
-is_matched says.Yes = true
-is_matched says.Absent = true
-is_matched answer = false
-
 -- A filter is asked where the platforms hold.
 abbrev pub requested_if : Bool → ConditionAnswer → ConditionAnswer
 requested_if true answer = answer
 requested_if false answer = says.Unrequested
+
+-- What the filter of a rule says, by whether the rule has one and by what is known of it.
+abbrev pub reported_by_facts : Bool → RuleFacts → ConditionAnswer
+reported_by_facts has_filter facts =
+    requested_if facts.is_on (if has_filter then reported_answer (Some facts.holds) else says.Absent)
 
 -- The default filter that counts for profiles of these names, on the platforms of a build.
 abbrev pub default_filter_here : BuildPlatforms Platform

@@ -1,8 +1,8 @@
 pub mod Conditions
 pub mod SettingRules
 pub mod RulePlaces
-pub mod RuleViews
 pub mod RuleAnswers
+pub mod RuleViews
 pub mod Origins
 pub mod Trees
 pub mod ProfileOrigins

@@ -2,6 +2,7 @@
 use Rattle.std.specs.Prelude.{Bool, true, false, if◌then◌else◌, is_some, List, map, Option, option_map}
 use Rattle.nextest_elements.specs.declared.run_mode.NextestRunMode.{NextestRunMode}
 use Rattle.nextest_rules.specs.Rules.{Compiled, OverrideUse, ScriptRuleUse}
+use Rattle.nextest_settings.specs.Platforms.{EvaluatedRule}
 use Rattle.nextest_settings.specs.Settings.{sets}
 use Rattle.nextest_settings.specs.declared.setting.Setting.{Setting}
 use Rattle.nextest_settings.specs.declared.setting.Setting.TheVariants as at
@@ -27,6 +28,16 @@ for_setting writes rule = record {
   host = rule.host;
   target = rule.target;
   filter = rule.filter;
+  writes = writes rule.writes;
+}
+
+-- a rule on the platforms of a build for a setting, the same way
+abbrev pub on_setting : {M W : Type 0} → (W → RuleValue) → EvaluatedRule M W
+    → EvaluatedRule M RuleValue
+on_setting writes rule = record {
+  filter = rule.filter;
+  for_host = rule.for_host;
+  for_target = rule.for_target;
   writes = writes rule.writes;
 }
 

@@ -1,6 +1,6 @@
 -- Verdicts on the rules of a profile.
 use Rattle.std.specs.Prelude.{◌≡◌, ◌<◌, ℕ, List, [], ◌∷◌, ◌++◌, Bool, true, false, Some, is_some, slice_get}
-use Rattle.nextest_settings.specs.Deciding.{QueryContext, filter_holds, decides, winner}
+use Rattle.nextest_settings.specs.Deciding.{QueryContext, rule_holds, decides, winner}
 use Rattle.nextest_settings.specs.Platforms.{EvaluatedRule, is_on}
 use Rattle.rinqebo_rules.specs.declared.verdict.RuleFacts.{RuleFacts}
 use Rattle.rinqebo_rules.specs.declared.verdict.Verdict.{Verdict}
@@ -10,7 +10,7 @@ use Rattle.rinqebo_rules.specs.VerdictsBy.{verdict_by}
 abbrev pub verdict_of : {M W : Type 0} → QueryContext M → (W → Bool) → List (EvaluatedRule M W)
     → EvaluatedRule M W → Verdict
 verdict_of query wants before rule =
-    verdict_by (is_on rule query.platform) (filter_holds query.matches rule.filter)
+    verdict_by (is_on rule query.platform) (rule_holds query rule)
     (wants rule.writes) (is_some (winner query wants before))
 
 -- the verdicts on rules behind others
@@ -29,7 +29,7 @@ verdicts_of query wants rules = verdicts_after query wants [] rules
 abbrev pub facts_of : {M W : Type 0} → QueryContext M → (W → Bool) → EvaluatedRule M W → RuleFacts
 facts_of query wants rule = record {
   is_on = is_on rule query.platform;
-  matches = filter_holds query.matches rule.filter;
+  holds = rule_holds query rule;
   writes = wants rule.writes;
 }
 

@@ -1,107 +1,137 @@
-//! The rules of a chain of profiles that may write a setting.
-ghost use Rattle.std.specs.Prelude.{◌≡◌, IfOk, map, option_map};
+//! The rules of a chain of profiles that may write a setting, and what they say of a test.
+ghost use Rattle.std.specs.Prelude.{◌≡◌, IfOk, List, map, option_map};
 ghost use Rattle.nextest_inheritance.specs.View.{borrowed_view};
-ghost use Rattle.nextest_rules.specs.View.{override_rule_view, script_rule_view};
 ghost use Rattle.nextest_settings.specs.Chains.{overrides_of, script_rules_of};
-ghost use Rattle.nextest_settings.specs.View.{override_ref_view, script_rule_ref_view};
+ghost use Rattle.nextest_settings.specs.View.{script_rule_ref_view};
+ghost use Rattle.rinqebo_rules.specs.Conditions.{default_filter_here, is_met_by};
+ghost use Rattle.rinqebo_rules.specs.RuleAnswers.{judged_here};
+ghost use Rattle.rinqebo_rules.specs.RuleViews.{AreOverridesOn, AreScriptRulesOn, ReadOverride, ReadScriptRule, judged_override, judged_script_rule, setting_rule_view};
+ghost use Rattle.rinqebo_rules.specs.SettingRules.{is_of_scripts, rules_for, wrapper_written};
 ghost use Rattle.rinqebo_rules.specs.SettingValues.{reported_value};
-ghost use Rattle.rinqebo_rules.specs.SettingRules.{for_setting, override_writes, wrapper_written, is_of_scripts, rules_for};
-ghost use Rattle.rinqebo_rules.specs.RuleViews.{setting_rule_view};
 
-use crate::conditions::Filter;
+use crate::conditions::{Answers, Asking, answers_of};
+use crate::holds::{override_holds, script_rule_holds};
 use crate::rule_places::RulePlace;
-use filter_engine::NextestFilters;
-use nextest_config::{
-    CompiledOverride, CompiledProfileScripts, NextestRunMode, PlatformSpecs, Setting,
+use crate::verdict::RuleFacts;
+use filter_engine::{NextestFilters, NextestTally};
+use nextest_config::{BuildPlatforms, NextestRunMode, Setting};
+use nextest_settings::{
+    EvaluatedOverride, EvaluatedRules, EvaluatedScriptRule, SettingValue, SettingValues,
+    nearest_filter, rules_of,
 };
-use nextest_settings::{SettingValue, SettingValues, rules_of};
 use platform_language::TargetSpecs;
+use platform_table::Platform;
 use rinqebo_load::Config;
 use std::alloc::{AllocError, Global};
 
-/// An override of a configuration.
-type Override = CompiledOverride<NextestFilters, TargetSpecs>;
+/// The rules of a chain on the platforms of a build.
+type Rules<'c> = EvaluatedRules<'c, NextestFilters, TargetSpecs>;
 
-/// A script rule of a configuration.
-type ScriptRule = CompiledProfileScripts<NextestFilters, TargetSpecs>;
+/// An override on the platforms of a build.
+type Override<'c> = EvaluatedOverride<'c, NextestFilters, TargetSpecs>;
 
-/// A rule that may write a setting, and what it writes for it.
+/// A script rule on the platforms of a build.
+type ScriptRule<'c> = EvaluatedScriptRule<'c, NextestFilters, TargetSpecs>;
+
+/// A rule that may write a setting, what it writes for it, and what it says of a test.
 #[derive(Clone, Copy)]
 pub struct SettingRule<'c> {
     /// Where it stands.
     pub place: RulePlace<'c>,
-    /// Its platform specs.
-    pub platforms: &'c PlatformSpecs<TargetSpecs>,
-    /// Its filter, if it has one.
-    pub filter: Option<&'c Filter>,
     /// What it writes for the setting, if it does.
     pub value: Option<SettingValue<'c>>,
+    /// What is known of it.
+    pub facts: RuleFacts,
+    /// What its conditions say.
+    pub answers: Answers,
 }
 
-/// An override, with what it writes for a setting.
-fn override_rule(rule: &Override, setting: Setting, mode: NextestRunMode) -> SettingRule<'_>
-    ensures { setting_rule_view result
-        ≡ for_setting (override_writes setting mode) (override_rule_view rule.now) }
-{
-    SettingRule {
-        place: RulePlace::of_override(rule.id()),
-        platforms: rule.platforms(),
-        filter: rule.filter(),
-        value: rule.settings().value(setting, mode),
-    }
-}
-
-/// Overrides, with what each writes for a setting.
-fn override_rules<'c>(
-    alloc: Global,
-    overrides: &[&'c Override],
+/// An override, with what it writes for a setting, held against a test.
+fn override_rule<'c>(
+    rule: &Override<'c>,
     setting: Setting,
     mode: NextestRunMode,
-) -> Result<Vec<SettingRule<'c>>, AllocError>
-    ensures { IfOk result (λ rules. map setting_rule_view rules.items
-        ≡ map (for_setting (override_writes setting mode)) (map override_ref_view overrides.now)) }
+    asking: &Asking<'_, '_>,
+) -> SettingRule<'c>
+    ensures { setting_rule_view result ≡ judged_override asking.now setting mode rule.now }
 {
-    let mut rules = Vec::new(alloc);
-    for rule in overrides {
-        rules.push(override_rule(*rule, setting, mode))?;
+    let written = rule.rule();
+    let value = written.settings().value(setting, mode);
+    let mut tally = NextestTally::new();
+    let facts = RuleFacts {
+        is_on: rule.is_on(asking.platform()),
+        holds: override_holds(rule, 0, asking.query, &asking.context(), &mut tally),
+        writes: value.is_some(),
+    };
+    SettingRule {
+        place: RulePlace::of_override(written.id()),
+        value,
+        facts,
+        answers: answers_of(written.platforms(), written.filter(), facts, asking),
     }
-    Ok(rules)
+}
+
+/// Overrides, with what each writes for a setting, held against a test.
+fn override_rules<'c>(
+    alloc: Global,
+    overrides: &[Override<'c>],
+    setting: Setting,
+    mode: NextestRunMode,
+    asking: &Asking<'_, '_>,
+) -> Result<Vec<SettingRule<'c>>, AllocError>
+    ensures { IfOk result (λ found. map setting_rule_view found.items
+        ≡ map (judged_override asking.now setting mode) overrides.now) }
+{
+    let mut found = Vec::new(alloc);
+    for rule in overrides {
+        found.push(override_rule(rule, setting, mode, asking))?;
+    }
+    Ok(found)
 }
 
 /// The run wrapper that a script rule names.
-fn named_wrapper(rule: &ScriptRule) -> Option<SettingValue<'_>>
+fn named_wrapper<'c>(rule: &ScriptRule<'c>) -> Option<SettingValue<'c>>
     ensures { option_map reported_value result
-        ≡ (wrapper_written (script_rule_view rule.now).writes).value }
+        ≡ (wrapper_written (script_rule_ref_view rule.now.rule).writes).value }
 {
-    match rule.run_wrapper() {
+    match rule.rule().run_wrapper() {
         Some(id) => Some(SettingValue::Wrapper(id)),
         None => None,
     }
 }
 
-/// A script rule, with the run wrapper that it names.
-fn script_rule(rule: &ScriptRule) -> SettingRule<'_>
-    ensures { setting_rule_view result ≡ for_setting wrapper_written (script_rule_view rule.now) }
+/// A script rule, with the run wrapper that it names, held against a test.
+fn script_rule<'c>(rule: &ScriptRule<'c>, asking: &Asking<'_, '_>) -> SettingRule<'c>
+    ensures { setting_rule_view result ≡ judged_script_rule asking.now rule.now }
 {
+    let written = rule.rule();
+    let value = named_wrapper(rule);
+    let mut tally = NextestTally::new();
+    let facts = RuleFacts {
+        is_on: rule.is_on(asking.platform()),
+        holds: script_rule_holds(rule, 0, asking.query, &asking.context(), &mut tally),
+        writes: value.is_some(),
+    };
     SettingRule {
-        place: RulePlace::of_script(rule.id()),
-        platforms: rule.platforms(),
-        filter: rule.filter(),
-        value: named_wrapper(rule),
+        place: RulePlace::of_script(written.id()),
+        value,
+        facts,
+        answers: answers_of(written.platforms(), written.filter(), facts, asking),
     }
 }
 
-/// Script rules, with the run wrapper that each names.
+/// Script rules, with the run wrapper that each names, held against a test.
 fn script_rules<'c>(
     alloc: Global,
-    rules: &[&'c ScriptRule],
+    rules: &[ScriptRule<'c>],
+    asking: &Asking<'_, '_>,
 ) -> Result<Vec<SettingRule<'c>>, AllocError>
     ensures { IfOk result (λ found. map setting_rule_view found.items
-        ≡ map (for_setting wrapper_written) (map script_rule_ref_view rules.now)) }
+        ≡ map (judged_script_rule asking.now) rules.now) }
 {
     let mut found = Vec::new(alloc);
     for rule in rules {
-        found.push(script_rule(*rule))?;
+        found.push(script_rule(rule, asking))?;
     }
     Ok(found)
 }
@@ -113,22 +143,46 @@ fn is_of_scripts(setting: Setting) -> bool
     matches!(setting, Setting::RunWrapper)
 }
 
-/// The rules of a chain that may write a setting, in order: script rules name run wrappers, and
-/// overrides write all other settings.
-pub fn rules_for<'c>(
+/// The rules of a chain on the platforms of a build, and the default filter that counts there.
+pub fn rules_on<'c>(
     alloc: Global,
     config: &'c Config,
     chain: &[&'c str],
+    platforms: &BuildPlatforms<Platform>,
+) -> Result<EvaluatedRules<'c, NextestFilters, TargetSpecs>, AllocError>
+    ensures overrides { let layers = config.now.config.layers in
+        IfOk result (λ rules. AreOverridesOn is_met_by platforms.now
+        (overrides_of layers (borrowed_view chain.now)) rules.overrides.items) }
+    ensures script_rules { let layers = config.now.config.layers in
+        IfOk result (λ rules. AreScriptRulesOn is_met_by platforms.now
+        (script_rules_of layers (borrowed_view chain.now)) rules.script_rules.items) }
+    ensures default_filter { IfOk result (λ rules. rules.default_filter.expr.now
+        ≡ default_filter_here platforms.now config.now.config (borrowed_view chain.now)) }
+{
+    let layers = config.layers();
+    let rules = rules_of(alloc, layers, chain)?;
+    let nearest = nearest_filter(layers, chain);
+    rules.evaluate(alloc, platforms, nearest, config.match_all())
+}
+
+/// Of the rules of a chain those that may write a setting, in order, held against a test: script
+/// rules name run wrappers, and overrides write all other settings.
+pub fn rules_for<'c>(
+    alloc: Global,
+    rules: &EvaluatedRules<'c, NextestFilters, TargetSpecs>,
     setting: Setting,
     mode: NextestRunMode,
+    asking: &Asking<'_, '_>,
 ) -> Result<Vec<SettingRule<'c>>, AllocError>
-    ensures { let layers = config.now.config.layers in let names = borrowed_view chain.now in
-        IfOk result (λ rules. map setting_rule_view rules.items
-        ≡ rules_for setting mode (overrides_of layers names) (script_rules_of layers names)) }
+    ensures { (overrides : List ReadOverride) (script_rules : List ReadScriptRule)
+        → AreOverridesOn is_met_by asking.now.platforms.now overrides rules.now.overrides.items
+        → AreScriptRulesOn is_met_by asking.now.platforms.now script_rules
+        rules.now.script_rules.items
+        → IfOk result (λ found. map setting_rule_view found.items
+        ≡ map (judged_here asking.now) (rules_for setting mode overrides script_rules)) }
 {
-    let rules = rules_of(alloc, config.layers(), chain)?;
     if is_of_scripts(setting) {
-        return script_rules(alloc, &rules.script_rules);
+        return script_rules(alloc, &rules.script_rules, asking);
     }
-    override_rules(alloc, &rules.overrides, setting, mode)
+    override_rules(alloc, &rules.overrides, setting, mode, asking)
 }

@@ -1,20 +1,18 @@
 //! The conditions of rules, and what they say of a test.
-ghost use Rattle.std.specs.Prelude.{◌≡◌, ◌&&◌, IfOk, option_map};
-ghost use Rattle.nextest_inheritance.specs.View.{borrowed_view};
+ghost use Rattle.std.specs.Prelude.{◌≡◌, is_some};
+ghost use Rattle.nextest_engines.specs.Engines.{test_view};
 ghost use Rattle.nextest_settings.specs.Platforms.{runs_on};
-ghost use Rattle.rinqebo_rules.specs.Conditions.{reported_condition, is_met_by, reported_host, reported_target, reported_filter, is_met, is_matched, requested_if, default_filter_here};
+ghost use Rattle.rinqebo_rules.specs.Conditions.{is_met_by, reported_by_facts, reported_condition};
 
-use filter_engine::{NextestFilters, NextestTally};
+use crate::verdict::RuleFacts;
+use filter_engine::NextestFilters;
 use nextest_config::{
     BuildPlatform, BuildPlatforms, EvalContext, Filters, PlatformSpecs, Specs, TestQuery,
 };
-use nextest_settings::{default_filter_of, evaluate_overrides, nearest_filter, rules_of};
+use nextest_settings::runs_on;
 use platform_language::TargetSpecs;
 use platform_table::Platform;
-use rinqebo_load::Config;
 use rinqebo_report::ConditionAnswer;
-use rinqebo_request::TestName;
-use std::alloc::{AllocError, Global};
 
 /// A filter that was read.
 pub type Filter = <NextestFilters as Filters>::Expr;
@@ -24,12 +22,28 @@ pub type Filter = <NextestFilters as Filters>::Expr;
 pub struct Asking<'a, 't> {
     /// The platforms of the build.
     pub platforms: &'a BuildPlatforms<Platform>,
-    /// The test, as words name it.
-    pub test: &'a TestName<'t>,
-    /// The same test, as filters see it.
+    /// The test, as filters see it.
     pub query: &'a TestQuery<'t>,
     /// What `default()` means in a filter.
     pub default_filter: &'a Filter,
+}
+
+impl<'a> Asking<'a, '_> {
+    /// For what the binary of the test is built.
+    pub(crate) fn platform(&self) -> BuildPlatform
+        ensures { result ≡ (test_view self.now.query.now).binary.platform }
+    {
+        self.query.binary_query.platform
+    }
+
+    /// What filters are evaluated with.
+    pub(crate) fn context(&self) -> EvalContext<'a, Filter>
+        ensures { result.default_filter.now ≡ self.now.default_filter.now }
+    {
+        EvalContext {
+            default_filter: self.default_filter,
+        }
+    }
 }
 
 /// What the conditions of a rule say.
@@ -39,31 +53,8 @@ pub struct Answers {
     pub host: ConditionAnswer,
     /// What the platform says on which the binary runs.
     pub target: ConditionAnswer,
-    /// What the filter says: it is asked where both platforms hold.
+    /// What the filter says: it is asked where the platforms of the rule hold.
     pub filter: ConditionAnswer,
-}
-
-impl Answers {
-    /// Whether the platforms of the rule hold.
-    pub fn is_on(self) -> bool
-        ensures { result ≡ (is_met self.host && is_met self.target) }
-    {
-        is_met(self.host) && is_met(self.target)
-    }
-
-    /// Whether the filter of the rule matches. A rule without one matches.
-    pub fn matches(self) -> bool
-        ensures { result ≡ is_matched self.filter }
-    {
-        matches!(self.filter, ConditionAnswer::Yes | ConditionAnswer::Absent)
-    }
-}
-
-/// Whether a condition does not stand against a rule.
-fn is_met(answer: ConditionAnswer) -> bool
-    ensures { result ≡ is_met answer }
-{
-    !matches!(answer, ConditionAnswer::No)
 }
 
 /// What a platform says to a spec.
@@ -80,75 +71,38 @@ fn spec_answer(spec: &Option<<TargetSpecs as Specs>::Spec>, platform: &Platform)
     }
 }
 
-/// The platform on which binaries run that are built for a platform.
-fn runs_on(platforms: &BuildPlatforms<Platform>, build: BuildPlatform) -> &Platform
-    ensures { result.now ≡ runs_on platforms.now build }
+/// What the filter of a rule says, if it has one, by what is known of the rule.
+fn filter_answer(has_filter: bool, facts: RuleFacts) -> ConditionAnswer
+    ensures { result ≡ reported_by_facts has_filter facts }
 {
-    match (build, &platforms.target) {
-        (BuildPlatform::Target, Some(target)) => target,
-        (BuildPlatform::Target, None) | (BuildPlatform::Host, _) => &platforms.host,
-    }
-}
-
-/// What a filter says of a test.
-fn filter_answer(filter: Option<&Filter>, asking: &Asking<'_, '_>) -> ConditionAnswer
-    ensures { result ≡ reported_filter asking.now (option_map (λ filter. filter.now) filter.entry) }
-{
-    let Some(filter) = filter else {
-        return ConditionAnswer::Absent;
-    };
-    let cx = EvalContext {
-        default_filter: asking.default_filter,
-    };
-    let mut tally = NextestTally::new();
-    if <NextestFilters as Filters>::matches_test(filter, 0, asking.query, &cx, &mut tally) {
+    if !facts.is_on {
+        ConditionAnswer::Unrequested
+    } else if !has_filter {
+        ConditionAnswer::Absent
+    } else if facts.holds {
         ConditionAnswer::Yes
     } else {
         ConditionAnswer::No
     }
 }
 
-/// What the conditions of a rule say. The filter is asked where the platforms hold.
-pub fn answers_of(
+/// What the conditions of a rule say, of which these facts are known.
+pub(crate) fn answers_of(
     specs: &PlatformSpecs<TargetSpecs>,
     filter: Option<&Filter>,
+    facts: RuleFacts,
     asking: &Asking<'_, '_>,
 ) -> Answers
-    ensures host { result.host ≡ reported_host asking.now specs.now.host }
-    ensures target { result.target ≡ reported_target asking.now specs.now.target }
-    ensures filter { result.filter ≡ requested_if (is_met result.host && is_met result.target)
-        (reported_filter asking.now (option_map (λ filter. filter.now) filter.entry)) }
+    ensures host { result.host
+        ≡ reported_condition (λ s. is_met_by s asking.now.platforms.now.host) specs.now.host }
+    ensures target { let platform = runs_on asking.now.platforms.now
+        (test_view asking.now.query.now).binary.platform in
+        result.target ≡ reported_condition (λ s. is_met_by s platform) specs.now.target }
+    ensures filter { result.filter ≡ reported_by_facts (is_some filter.entry) facts }
 {
-    let host = spec_answer(&specs.host, &asking.platforms.host);
-    let target = spec_answer(
-        &specs.target,
-        runs_on(asking.platforms, asking.test.platform),
-    );
-    let filter = if is_met(host) && is_met(target) {
-        filter_answer(filter, asking)
-    } else {
-        ConditionAnswer::Unrequested
-    };
     Answers {
-        host,
-        target,
-        filter,
+        host: spec_answer(&specs.host, &asking.platforms.host),
+        target: spec_answer(&specs.target, runs_on(asking.platforms, asking.platform())),
+        filter: filter_answer(filter.is_some(), facts),
     }
-}
-
-/// The default filter that counts for a chain of profiles on the platforms of a build.
-pub fn default_filter<'c>(
-    alloc: Global,
-    config: &'c Config,
-    chain: &[&'c str],
-    platforms: &BuildPlatforms<Platform>,
-) -> Result<&'c Filter, AllocError>
-    ensures { IfOk result (λ filter. filter.now
-        ≡ default_filter_here platforms.now config.now.config (borrowed_view chain.now)) }
-{
-    let layers = config.layers();
-    let rules = rules_of(alloc, layers, chain)?;
-    let evaluated = evaluate_overrides(alloc, &rules.overrides, platforms)?;
-    let nearest = nearest_filter(layers, chain);
-    Ok(default_filter_of(&evaluated, nearest, config.match_all()).expr)
 }

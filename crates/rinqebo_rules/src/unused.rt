@@ -1,14 +1,14 @@
 //! The rules of a profile that hold for none of the tests of a list.
-ghost use Rattle.std.specs.Prelude.{◌≡◌, ◌+◌, ◌<◌, ◌^◌, IfOk, length, map, option_map};
+ghost use Rattle.std.specs.Prelude.{◌≡◌, ◌+◌, ◌<◌, ◌^◌, IfOk, length, map};
 ghost use Rattle.nextest_engines.specs.Engines.{test_view};
 ghost use Rattle.nextest_profiles.specs.Meaning.{profile_meaning};
 ghost use Rattle.nextest_rules.specs.View.{id_view, script_rule_id_view};
-ghost use Rattle.nextest_settings.specs.Deciding.{filter_holds, rule_holds};
 ghost use Rattle.nextest_settings.specs.Engines.{test_query_by};
 ghost use Rattle.nextest_settings.specs.Queries.{query_in};
 ghost use Rattle.nextest_settings.specs.View.{meant_override, meant_script_rule};
 ghost use Rattle.rinqebo_rules.specs.Unused.{is_used, unused_among, AreUnusedIn};
 
+use crate::holds::{override_holds, script_rule_holds};
 use nextest_engines::{EvalContext, Filters, Specs, TestQuery};
 use nextest_profiles::EvaluatableProfile;
 use nextest_rules::{OverrideId, ScriptRuleId};
@@ -22,53 +22,6 @@ pub struct UnusedRules<'c> {
     pub overrides: Vec<&'c OverrideId>,
     /// Those of its script rules, in order.
     pub script_rules: Vec<&'c ScriptRuleId>,
-}
-
-/// Whether the filter of a rule matches a test, if it has one. Then its number goes into the tally.
-fn matches_test<F: Filters>(
-    filter: Option<&F::Expr>,
-    number: usize,
-    query: &TestQuery<'_>,
-    cx: &EvalContext<'_, F::Expr>,
-    tally: &mut F::Tally,
-) -> bool
-    ensures { let query = test_query_by F.Filters cx.now.default_filter.now query.now in
-        result ≡ filter_holds query.matches (option_map (λ expr. F.meaning expr.now) filter.entry) }
-{
-    match filter {
-        None => true,
-        Some(expr) => F::matches_test(expr, number, query, cx, tally),
-    }
-}
-
-/// Whether an override holds for a test.
-fn override_holds<F: Filters, S: Specs>(
-    rule: &EvaluatedOverride<'_, F, S>,
-    number: usize,
-    query: &TestQuery<'_>,
-    cx: &EvalContext<'_, F::Expr>,
-    tally: &mut F::Tally,
-) -> bool
-    ensures { let query = test_query_by F.Filters cx.now.default_filter.now query.now in
-        result ≡ rule_holds query (meant_override F.meaning rule.now) }
-{
-    rule.is_on(query.binary_query.platform)
-        && matches_test::<F>(rule.rule().filter(), number, query, cx, tally)
-}
-
-/// Whether a script rule holds for a test.
-fn script_rule_holds<F: Filters, S: Specs>(
-    rule: &EvaluatedScriptRule<'_, F, S>,
-    number: usize,
-    query: &TestQuery<'_>,
-    cx: &EvalContext<'_, F::Expr>,
-    tally: &mut F::Tally,
-) -> bool
-    ensures { let query = test_query_by F.Filters cx.now.default_filter.now query.now in
-        result ≡ rule_holds query (meant_script_rule F.meaning rule.now) }
-{
-    rule.is_on(query.binary_query.platform)
-        && matches_test::<F>(rule.rule().filter(), number, query, cx, tally)
 }
 
 /// Whether an override holds for some of the tests. It is evaluated for one after another, up to

@@ -1,7 +1,8 @@
 //! Verdicts of rules.
-ghost use Rattle.std.specs.Prelude.{◌≡◌, false, IfOk};
+ghost use Rattle.std.specs.Prelude.{◌≡◌, false, map, IfOk};
 ghost use Rattle.rinqebo_rules.specs.VerdictsBy.{decides_by, verdict_by, verdicts_by};
 
+use crate::chain_rules::SettingRule;
 use std::alloc::{AllocError, Global};
 
 /// The verdict of a rule for a test and a setting.
@@ -24,8 +25,8 @@ pub enum Verdict {
 pub struct RuleFacts {
     /// Whether its platforms hold.
     pub is_on: bool,
-    /// Whether its filter matches. A rule without one matches.
-    pub matches: bool,
+    /// Whether it holds: its platforms do, and its filter matches if it has one.
+    pub holds: bool,
     /// Whether it writes the setting.
     pub writes: bool,
 }
@@ -35,16 +36,16 @@ impl RuleFacts {
     fn decides(self) -> bool
         ensures { result ≡ decides_by self }
     {
-        self.is_on && self.matches && self.writes
+        self.holds && self.writes
     }
 
     /// What comes of the rule, where one before it decides or none.
     fn verdict(self, is_decided: bool) -> Verdict
-        ensures { result ≡ verdict_by self.is_on self.matches self.writes is_decided }
+        ensures { result ≡ verdict_by self.is_on self.holds self.writes is_decided }
     {
         if !self.is_on {
             Verdict::PlatformNo
-        } else if !self.matches {
+        } else if !self.holds {
             Verdict::FilterNo
         } else if !self.writes {
             Verdict::SetsNothing
@@ -57,14 +58,15 @@ impl RuleFacts {
 }
 
 /// The verdict of each rule, in their order.
-pub fn verdicts_of(alloc: Global, rules: &[RuleFacts]) -> Result<Vec<Verdict>, AllocError>
-    ensures { IfOk result (λ verdicts. verdicts.items ≡ verdicts_by false rules.now) }
+pub fn verdicts_of(alloc: Global, rules: &[SettingRule<'_>]) -> Result<Vec<Verdict>, AllocError>
+    ensures { IfOk result (λ verdicts. verdicts.items
+        ≡ verdicts_by false (map (λ rule. rule.facts) rules.now)) }
 {
     let mut verdicts = Vec::new(alloc);
     let mut is_decided = false;
     for rule in rules {
-        verdicts.push(rule.verdict(is_decided))?;
-        is_decided = is_decided || rule.decides();
+        verdicts.push(rule.facts.verdict(is_decided))?;
+        is_decided = is_decided || rule.facts.decides();
     }
     Ok(verdicts)
 }

@@ -3,7 +3,6 @@ use Rattle.std.proofs.Common.{◌≡◌, ℕ, List, [], ◌∷◌, ◌++◌, opt
 use Rattle.filter_language.specs.Filtersets.{marks_view}
 use Rattle.filter_language.specs.declared.filterset.Filterset.{Filterset}
 use Rattle.nextest_engines.specs.Engines.{test_view}
-use Rattle.nextest_engines.specs.declared.queries.BuildPlatform.{BuildPlatform}
 use Rattle.nextest_engines.specs.declared.queries.BuildPlatforms.{BuildPlatforms}
 use Rattle.nextest_engines.specs.declared.queries.TestQuery.{TestQuery}
 use Rattle.filter_engine.specs.Compiling.{names_of}
@@ -12,6 +11,7 @@ use Rattle.nextest_inheritance.specs.Parents.{with_default}
 use Rattle.nextest_load.specs.Load.{Loaded}
 use Rattle.nextest_settings.specs.Chains.{fields_of, overrides_of, script_rules_of}
 use Rattle.nextest_settings.specs.Profile.{Configured, profile_of}
+use Rattle.nextest_settings.specs.Queries.{test_query}
 use Rattle.nextest_settings.specs.Settings.{fallback_of}
 use Rattle.nextest_settings.specs.declared.setting.Setting.{Setting}
 use Rattle.nextest_tables.specs.FileTexts.{names_in, IsIn}
@@ -48,8 +48,7 @@ pub reasons_here : (layers : List FileLayer) (platforms : BuildPlatforms Platfor
     (script_rules_of c.config.layers (with_default names))
     → (test_view query).name ≡ test.name.now → (test_view query).binary.binary_id ≡ test.binary.now
     → (test_view query).binary.platform ≡ test.platform
-    → AreRulesReported layers is_met_by platforms
-    (record { platform = test.platform; matches = λ f. filter_matches f (test_view query) default }) read before
+    → AreRulesReported layers is_met_by platforms (test_query filter_matches default (test_view query)) read before
     → fallback.verdict ≡ told.Fallback
     → option_map value_view fallback.value
     ≡ option_map (reported_of s) (fallback_of (fields_of c.config.profiles (with_default names)) test.mode s)
@@ -58,9 +57,8 @@ pub reasons_here : (layers : List FileLayer) (platforms : BuildPlatforms Platfor
 reasons_here layers platforms test query s default c name names read before fallback rules same gathered named binary on
     here last valued are =
     let asked = test_view query in
-    let Told : BuildPlatform → Filterset FieldMatcher → List ReadRule → Type 0 =
-    λ p d rs. AreRulesReported layers is_met_by platforms
-    (record { platform = p; matches = λ f. filter_matches f asked d }) rs before in
+    let Told : Filterset FieldMatcher → List ReadRule → Type 0 =
+    λ d rs. AreRulesReported layers is_met_by platforms (test_query filter_matches d asked) rs before in
     record {
       asked = asked;
       name = named;
@@ -69,9 +67,8 @@ reasons_here layers platforms test query s default c name names read before fall
       before = before;
       fallback = fallback;
       are = are;
-      rules_reported = subst (Told asked.binary.platform (default_filter_here platforms c.config (with_default names)))
-          gathered (subst (λ d. Told asked.binary.platform d read) same
-          (subst (λ p. Told p default read) (sym on) here));
+      rules_reported = subst (Told (default_filter_here platforms c.config (with_default names))) gathered
+          (subst (λ d. Told d read) same here);
       fallback_reported = last;
       fallback_value = valued;
     }

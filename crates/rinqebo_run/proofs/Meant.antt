@@ -13,52 +13,25 @@ use Rattle.nextest_profiles.proofs.MeaningOfTexts.{overrides_meaning, script_rul
 use Rattle.nextest_profiles.specs.Meaning.{with_config, configured_meaning}
 use Rattle.nextest_rules.specs.Meaning.{rule_meaning, override_meaning, script_rule_meaning}
 use Rattle.nextest_rules.specs.Rules.{Compiled, OverrideUse, ScriptRuleUse}
-use Rattle.nextest_settings.specs.Deciding.{QueryContext, filter_holds}
-use Rattle.nextest_settings.specs.Platforms.{spec_holds, specs_hold, runs_on, rule_on, by_platform}
+use Rattle.nextest_settings.specs.Deciding.{QueryContext}
+use Rattle.nextest_settings.specs.Platforms.{spec_holds, specs_hold, runs_on, rule_on, is_on, by_platform}
 use Rattle.nextest_settings.specs.Profile.{Configured, profile_of, profile_on}
 use Rattle.nextest_settings.specs.declared.setting.Setting.{Setting}
 use Rattle.nextest_tables.specs.Written.{Name}
 use Rattle.rinqebo_files.specs.declared.layers.Layer.{Layer as FileLayer}
 use Rattle.rinqebo_report.specs.declared.report.Rule.{Rule}
 use Rattle.rinqebo_request.specs.declared.request.TestName.{TestName}
+use Rattle.rinqebo_rules.proofs.Judged.{filter_meant}
 use Rattle.rinqebo_rules.proofs.VerdictsOf.{verdicts-facts}
+use Rattle.rinqebo_run.proofs.Pairs.{zip_moved}
 use Rattle.rinqebo_rules.specs.Verdicts.{facts_of, verdicts_of}
 use Rattle.rinqebo_rules.specs.VerdictsBy.{verdicts_by}
 use Rattle.rinqebo_rules.specs.declared.verdict.Verdict.{Verdict}
-use Rattle.rinqebo_rules.specs.Conditions.{reported_condition, is_met, requested_if}
-use Rattle.rinqebo_rules.specs.RuleAnswers.{answers_by, answers_reported}
-use Rattle.rinqebo_run.specs.Reasons.{IsRuleReported, AreRulesReported, verdicts_here, AreRulesReportedHere}
-use Rattle.rinqebo_rules.specs.RuleViews.{Rule as ReadRule, setting_rule_view}
+use Rattle.rinqebo_rules.specs.Conditions.{reported_condition, requested_if}
+use Rattle.rinqebo_rules.specs.RuleAnswers.{answers_by}
+use Rattle.rinqebo_run.specs.Reasons.{IsRuleReported, AreRulesReported}
 use Rattle.rinqebo_rules.specs.SettingRules.{RuleFor, writes_it, for_setting, override_writes, wrapper_written, is_of_scripts, rules_for}
 use Rattle.rinqebo_run.specs.TellsReasons.{AreReasons, AreReasonsIn}
-use Rattle.rinqebo_rules.specs.declared.chain_rules.SettingRule.{SettingRule}
-use Rattle.rinqebo_rules.specs.declared.conditions.Asking.{Asking}
-
--- what is told of pairs is told of them with the first of each turned into something else
-pub zip_moved : {A B V Y : Type 0} (h : A → B) (R : A × V → Y → Type 0) (S : B × V → Y → Type 0)
-    → ((x : A) (v : V) (y : Y) → R (x, v) y → S (h x, v) y) → (xs : List A) (vs : List V) (ys : List Y)
-    → AllZip R (zip xs vs) ys → AllZip S (zip (map h xs) vs) ys
-zip_moved h R S moved [] vs [] all = tt
-zip_moved h R S moved [] vs (y ∷ ys) all = absurd all
-zip_moved h R S moved (x ∷ xs) [] [] all = tt
-zip_moved h R S moved (x ∷ xs) [] (y ∷ ys) all = absurd all
-zip_moved h R S moved (x ∷ xs) (v ∷ vs) [] all = absurd all
-zip_moved h R S moved (x ∷ xs) (v ∷ vs) (y ∷ ys) all = (moved x v y all.0, zip_moved h R S moved xs vs ys all.1)
-
--- a rule as code holds it is told with a verdict, for what is asked
-abbrev pub IsReportedHere : List FileLayer → Asking → SettingRule × Verdict → Rule → Type 0
-IsReportedHere layers asking p =
-    IsRuleReported layers (setting_rule_view p.0).writes (answers_reported asking (setting_rule_view p.0)) p.1
-
--- the rules that are told are those that code holds
-pub reported_here : (layers : List FileLayer) (asking : Asking) (rules : List SettingRule) (verdicts : List Verdict)
-    (told : List Rule) → verdicts ≡ verdicts_here asking (map setting_rule_view rules)
-    → AllZip (IsReportedHere layers asking) (zip rules verdicts) told
-    → AreRulesReportedHere layers asking (map setting_rule_view rules) told
-reported_here layers asking rules verdicts told same all =
-    let R : ReadRule × Verdict → Rule → Type 0 = λ p. IsRuleReported layers p.0.writes (answers_reported asking p.0) p.1 in
-    subst (λ vs. AllZip R (zip (map setting_rule_view rules) vs) told) same
-    (zip_moved setting_rule_view (IsReportedHere layers asking) R (λ r v rule is. is) rules verdicts told all)
 
 -- what is made of one of two lists
 map_if : {X Y : Type 0} (h : X → Y) (b : Bool) (xs ys : List X)
@@ -94,16 +67,17 @@ module _ {E N M K P : Type 0} (f : E → M) (g : N → K) (meets : K → P → O
     abbrev pub read_query : QueryContext E
     read_query = record { platform = query.platform; matches = λ e. query.matches (f e) }
 
-    filter_meant : (o : Option E)
-        → filter_holds (λ e. query.matches (f e)) o ≡ filter_holds query.matches (option_map f o)
-    filter_meant None = refl
-    filter_meant (Some e) = refl
-
     reported_meant : (o : Option E)
         → reported_condition (λ e. Some (query.matches (f e))) o
         ≡ reported_condition (λ m. Some (query.matches m)) (option_map f o)
     reported_meant None = refl
     reported_meant (Some e) = refl
+
+    -- whether a rule is on the platforms of the build
+    on_meant : {W : Type 0} (r : Compiled E N W)
+        → is_on (rule_on read_meets platforms r) query.platform
+        ≡ is_on (rule_on meets platforms (rule_meaning f g (λ w. w) r)) query.platform
+    on_meant r = λ i. by_platform (specs_meant Host r.host r.target i) (specs_meant Target r.host r.target i) query.platform
 
     -- what the conditions of a rule say
     answers_meant : {W : Type 0} (r : Compiled E N W)
@@ -115,15 +89,15 @@ module _ {E N M K P : Type 0} (f : E → M) (g : N → K) (meets : K → P → O
         λ i. record {
           host = host i;
           target = target i;
-          filter = requested_if (is_met (host i) && is_met (target i)) (reported_meant r.filter i);
+          filter = requested_if (on_meant r i) (reported_meant r.filter i);
         }
 
     facts_meant : (r : RuleFor E N)
         → facts_of read_query writes_it (rule_on read_meets platforms r)
         ≡ facts_of query writes_it (rule_on meets platforms (rule_meaning f g (λ w. w) r))
     facts_meant r = λ i. record {
-      is_on = by_platform (specs_meant Host r.host r.target i) (specs_meant Target r.host r.target i) query.platform;
-      matches = filter_meant r.filter i;
+      is_on = on_meant r i;
+      holds = on_meant r i && filter_meant f query.matches r.filter (~ i);
       writes = writes_it r.writes;
     }
 

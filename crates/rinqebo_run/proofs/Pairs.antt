@@ -1,5 +1,5 @@
 -- What is told of the pairs of two lists, one after another.
-use Rattle.std.proofs.Common.{◌≡◌, ◌<◌, ◌+◌, ◌∙◌, ℕ, List, [], ◌∷◌, ◌++◌, ap, arith, get_or, length, min, subst, sym, take}
+use Rattle.std.proofs.Common.{◌≡◌, ◌<◌, ◌+◌, ◌∙◌, ℕ, List, [], ◌∷◌, ◌++◌, ap, arith, get_or, length, map, min, subst, sym, take}
 use Rattle.std.proofs.lemmas.List.{take_all, take_more}
 use Rattle.std.proofs.lemmas.Slice.Zip.{all_zipped_more, get_or-zip, length-zip}
 use Rattle.std.specs.List.{AllZip, zip}
@@ -22,3 +22,25 @@ pub pairs_all : {A B Y : Type 0} (R : A × B → Y → Type 0) (ks : List A) (vs
     → n ≡ min (length ks) (length vs) → AllZip R (take n (zip ks vs)) ys → AllZip R (zip ks vs) ys
 pairs_all R ks vs n ys all told =
     subst (λ xs. AllZip R xs ys) (take_all n (zip ks vs) (omega (arith, length-zip ks vs))) told
+
+-- what is told of pairs is told of them with the first of each turned into something else
+pub zip_moved : {A B V Y : Type 0} (h : A → B) (R : A × V → Y → Type 0) (S : B × V → Y → Type 0)
+    → ((x : A) (v : V) (y : Y) → R (x, v) y → S (h x, v) y) → (xs : List A) (vs : List V) (ys : List Y)
+    → AllZip R (zip xs vs) ys → AllZip S (zip (map h xs) vs) ys
+zip_moved h R S moved [] vs [] all = tt
+zip_moved h R S moved [] vs (y ∷ ys) all = absurd all
+zip_moved h R S moved (x ∷ xs) [] [] all = tt
+zip_moved h R S moved (x ∷ xs) [] (y ∷ ys) all = absurd all
+zip_moved h R S moved (x ∷ xs) (v ∷ vs) [] all = absurd all
+zip_moved h R S moved (x ∷ xs) (v ∷ vs) (y ∷ ys) all = (moved x v y all.0, zip_moved h R S moved xs vs ys all.1)
+
+-- and the other way round
+pub zip_back : {A B V Y : Type 0} (h : A → B) (R : A × V → Y → Type 0) (S : B × V → Y → Type 0)
+    → ((x : A) (v : V) (y : Y) → S (h x, v) y → R (x, v) y) → (xs : List A) (vs : List V) (ys : List Y)
+    → AllZip S (zip (map h xs) vs) ys → AllZip R (zip xs vs) ys
+zip_back h R S moved [] vs [] all = tt
+zip_back h R S moved [] vs (y ∷ ys) all = absurd all
+zip_back h R S moved (x ∷ xs) [] [] all = tt
+zip_back h R S moved (x ∷ xs) [] (y ∷ ys) all = absurd all
+zip_back h R S moved (x ∷ xs) (v ∷ vs) [] all = absurd all
+zip_back h R S moved (x ∷ xs) (v ∷ vs) (y ∷ ys) all = (moved x v y all.0, zip_back h R S moved xs vs ys all.1)

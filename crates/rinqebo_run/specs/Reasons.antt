@@ -1,11 +1,9 @@
 -- What comes of the rules of a setting, and how it is told.
 use Rattle.std.specs.Prelude.{◌≡◌, Bool, List, [], map, Option, option_map}
 use Rattle.std.specs.List.{AllZip, zip}
-use Rattle.filter_language.specs.declared.filterset.Filterset.{Filterset}
 use Rattle.nextest_engines.specs.declared.queries.BuildPlatforms.{BuildPlatforms}
-use Rattle.filter_engine.specs.declared.compiling.FieldMatcher.{FieldMatcher}
 use Rattle.nextest_settings.specs.Deciding.{QueryContext}
-use Rattle.nextest_settings.specs.Platforms.{EvaluatedRule, rule_on}
+use Rattle.nextest_settings.specs.Platforms.{rule_on}
 use Rattle.rinqebo_files.specs.declared.layers.Layer.{Layer}
 use Rattle.rinqebo_report.specs.declared.report.Rule.{Rule}
 use Rattle.rinqebo_report.specs.declared.report.Verdict as report
@@ -17,8 +15,9 @@ use Rattle.rinqebo_rules.specs.declared.verdict.Verdict.TheVariants as verdicts
 use Rattle.rinqebo_rules.specs.Conditions.{is_met_by}
 use Rattle.rinqebo_rules.specs.Origins.{IsOriginOf}
 use Rattle.rinqebo_rules.specs.RuleAnswers.{answers_by, requested_query}
-use Rattle.rinqebo_rules.specs.RuleViews.{Rule as ReadRule}
+use Rattle.rinqebo_rules.specs.RuleViews.{setting_rule_view, Rule as ReadRule}
 use Rattle.rinqebo_rules.specs.SettingRules.{RuleFor, RuleValue, writes_it}
+use Rattle.rinqebo_rules.specs.declared.chain_rules.SettingRule.{SettingRule}
 use Rattle.rinqebo_rules.specs.declared.conditions.Answers.{Answers}
 use Rattle.rinqebo_rules.specs.declared.conditions.Asking.{Asking}
 
@@ -51,17 +50,14 @@ AreRulesReported {M} {K} layers meets platforms query rules told = AllZip
     (zip rules (verdicts_of query writes_it (map (rule_on meets platforms) rules)))
     told
 
--- a rule on the platforms of the build
-abbrev pub rule_here : Asking → ReadRule → EvaluatedRule (Filterset FieldMatcher) RuleValue
-rule_here asking rule = rule_on is_met_by asking.platforms.now rule
-
--- What comes of rules for a setting, in their order: of the one that decides, those before it and
--- those behind it.
-abbrev pub verdicts_here : Asking → List ReadRule → List Verdict
-verdicts_here asking rules =
-    verdicts_of (requested_query asking) writes_it (map (rule_here asking) rules)
-
 -- rules for a setting are told, each with what comes of it for what is asked
 abbrev pub AreRulesReportedHere : List Layer → Asking → List ReadRule → List Rule → Type 0
 AreRulesReportedHere layers asking rules told =
     AreRulesReported layers is_met_by asking.platforms.now (requested_query asking) rules told
+
+-- rules as code holds them are reported with verdicts
+abbrev pub AreReportedWith : List Layer → List SettingRule → List Verdict → List Rule → Type 0
+AreReportedWith layers rules verdicts told = AllZip
+    (λ (p : SettingRule × Verdict).
+    IsRuleReported layers (setting_rule_view p.0).writes p.0.answers p.1)
+    (zip rules verdicts) told

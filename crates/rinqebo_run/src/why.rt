@@ -12,11 +12,12 @@ ghost use Rattle.nextest_tables.specs.Written.{Name};
 ghost use Rattle.rinqebo_report.specs.declared.report.Verdict.TheVariants as told;
 ghost use Rattle.rinqebo_request.specs.Keys.{key_text};
 ghost use Rattle.rinqebo_rules.specs.Conditions.{is_met_by, filter_matches};
-ghost use Rattle.rinqebo_run.specs.Reasons.{page_verdict, IsRuleReported, verdicts_here, AreRulesReportedHere};
-ghost use Rattle.rinqebo_rules.specs.RuleAnswers.{answers_reported, facts_reported};
+ghost use Rattle.rinqebo_run.specs.Reasons.{page_verdict, AreRulesReportedHere, AreReportedWith, IsRuleReported};
+ghost use Rattle.rinqebo_rules.specs.RuleAnswers.{judged_here};
 ghost use Rattle.rinqebo_findings.specs.Failures.{IsFailureAbout};
 ghost use Rattle.rinqebo_findings.specs.Reports.{IsReportOf};
-ghost use Rattle.rinqebo_rules.specs.RuleViews.{setting_rule_view};
+ghost use Rattle.rinqebo_rules.specs.RuleViews.{setting_rule_view, Rule as ReadRule};
+ghost use Rattle.rinqebo_rules.specs.declared.conditions.Asking.{Asking};
 ghost use Rattle.rinqebo_run.specs.TellsReasons.{AreReasons, AreReasonsIn, IfWhy, IsTestNamed, TellsReasons};
 ghost use Rattle.rinqebo_rules.specs.Told.{reported_of, value_view};
 ghost use Rattle.platform_language.specs.declared.expression.TargetSpec.{TargetSpec};
@@ -30,8 +31,8 @@ use rinqebo_load::{Config, Failure, Session, chain_of_profile};
 use rinqebo_report::{Condition, ConditionAnswer, Content, Origin, Report, Rule, TestId, Verdict};
 use rinqebo_request::{SettingKey, TestName};
 use rinqebo_rules::{
-    Asking, RuleFacts, SettingRule, answers_to, default_filter, facts_of, fallback_of_chain,
-    profile_grounds, query_of, reported_if_set, reported_platform, rules_for, verdicts_of,
+    Asking, SettingRule, fallback_of_chain, profile_grounds, query_of, reported_if_set,
+    reported_platform, rules_for, rules_on, verdicts_of,
 };
 use std::alloc::{AllocError, Global};
 
@@ -67,15 +68,13 @@ fn reported_rule(
     alloc: Global,
     layers: &[Layer],
     rule: &SettingRule<'_>,
-    asking: &Asking<'_, '_>,
     verdict: rinqebo_rules::Verdict,
 ) -> Result<Rule, AllocError>
-    ensures { let view = setting_rule_view rule.now in
-        IfOk result
-        (IsRuleReported layers.now view.writes (answers_reported asking.now view) verdict) }
+    ensures { IfOk result (IsRuleReported layers.now (setting_rule_view rule.now).writes
+        rule.now.answers verdict) }
 {
     let table = rule.place.table(layers);
-    let answers = answers_to(rule, asking);
+    let answers = rule.answers;
     Ok(Rule {
         verdict: reported_verdict(verdict),
         origin: rule.place.origin(alloc, layers)?,
@@ -87,66 +86,34 @@ fn reported_rule(
     })
 }
 
-/// What is known of each rule.
-fn all_facts(
-    alloc: Global,
-    rules: &[SettingRule<'_>],
-    asking: &Asking<'_, '_>,
-) -> Result<Vec<RuleFacts>, AllocError>
-    ensures { IfOk result (λ facts. facts.items
-        ≡ map (facts_reported asking.now) (map setting_rule_view rules.now)) }
-{
-    let mut facts = Vec::new(alloc);
-    for rule in rules {
-        facts.push(facts_of(rule, asking))?;
-    }
-    Ok(facts)
-}
-
-/// What comes of each rule.
-fn all_verdicts(
-    alloc: Global,
-    rules: &[SettingRule<'_>],
-    asking: &Asking<'_, '_>,
-) -> Result<Vec<rinqebo_rules::Verdict>, AllocError>
-    ensures { IfOk result (λ verdicts. verdicts.items
-        ≡ verdicts_here asking.now (map setting_rule_view rules.now)) }
-{
-    let facts = all_facts(alloc, rules, asking)?;
-    verdicts_of(alloc, &facts)
-}
-
 /// Rules with their verdicts.
 fn rules_with_verdicts(
     alloc: Global,
     layers: &[Layer],
     rules: &[SettingRule<'_>],
     verdicts: &[rinqebo_rules::Verdict],
-    asking: &Asking<'_, '_>,
 ) -> Result<Vec<Rule>, AllocError>
-    ensures { verdicts.now ≡ verdicts_here asking.now (map setting_rule_view rules.now)
-        → IfOk result (λ told.
-        AreRulesReportedHere layers.now asking.now (map setting_rule_view rules.now) told.items) }
+    ensures { IfOk result (λ told. AreReportedWith layers.now rules.now verdicts.now told.items) }
 {
     let mut reported = Vec::new(alloc);
     for (rule, verdict) in rules.iter().zip(verdicts) {
-        reported.push(reported_rule(alloc, layers, rule, asking, *verdict)?)?;
+        reported.push(reported_rule(alloc, layers, rule, *verdict)?)?;
     }
     Ok(reported)
 }
 
-/// Rules, each with its verdict.
+/// Rules that are held against a test, each with its verdict.
 fn reported_rules(
     alloc: Global,
     layers: &[Layer],
     rules: &[SettingRule<'_>],
-    asking: &Asking<'_, '_>,
 ) -> Result<Vec<Rule>, AllocError>
-    ensures { IfOk result (λ told.
-        AreRulesReportedHere layers.now asking.now (map setting_rule_view rules.now) told.items) }
+    ensures { (asking : Asking) (written : List ReadRule)
+        → map setting_rule_view rules.now ≡ map (judged_here asking) written
+        → IfOk result (λ told. AreRulesReportedHere layers.now asking written told.items) }
 {
-    let verdicts = all_verdicts(alloc, rules, asking)?;
-    rules_with_verdicts(alloc, layers, rules, &verdicts, asking)
+    let verdicts = verdicts_of(alloc, rules)?;
+    rules_with_verdicts(alloc, layers, rules, &verdicts)
 }
 
 /// The first of some origins, or built in where there is none, and the others.
@@ -210,15 +177,14 @@ fn rules_and_fallback<'c>(
 {
     let platforms = &session.engines.platforms;
     let query = query_of(test);
-    let default_filter = default_filter(alloc, config, chain, platforms)?;
+    let on = rules_on(alloc, config, chain, platforms)?;
     let asking = Asking {
         platforms,
-        test,
         query: &query,
-        default_filter,
+        default_filter: on.default_filter.expr,
     };
-    let rules = rules_for(alloc, config, chain, setting, test.mode)?;
-    let mut reported = reported_rules(alloc, &session.layers, &rules, &asking)?;
+    let rules = rules_for(alloc, &on, setting, test.mode, &asking)?;
+    let mut reported = reported_rules(alloc, &session.layers, &rules)?;
     let fallback = fallback_rule(alloc, session, config, chain, setting, test.mode)?;
     reported.push(fallback)?;
     Ok(reported)

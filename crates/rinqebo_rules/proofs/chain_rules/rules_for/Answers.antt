@@ -1,10 +1,13 @@
 use Rattle.std.proofs.Common.{◌≡◌, ◌∙◌, Bool, true, false, ap, if◌then◌else◌, map, sym}
-use Rattle.nextest_inheritance.specs.View.{borrowed_view}
-use Rattle.nextest_settings.specs.Chains.{overrides_of, script_rules_of}
-use Rattle.nextest_settings.specs.View.{override_ref_view, script_rule_ref_view}
+use Rattle.nextest_settings.specs.Platforms.{rule_on}
+use Rattle.nextest_settings.specs.View.{override_ref_view, script_rule_ref_view, evaluated_override_view, evaluated_script_rule_view}
+use Rattle.rinqebo_rules.proofs.Judged.{made_of_both}
+use Rattle.rinqebo_rules.proofs.Listing.{made_twice}
 use Rattle.rinqebo_rules.proofs.Results.{ok_same}
+use Rattle.rinqebo_rules.specs.Conditions.{is_met_by}
+use Rattle.rinqebo_rules.specs.RuleAnswers.{judged, judged_here}
 use Rattle.rinqebo_rules.specs.RuleViews.{setting_rule_view}
-use Rattle.rinqebo_rules.specs.SettingRules.{for_setting, override_writes, wrapper_written}
+use Rattle.rinqebo_rules.specs.SettingRules.{for_setting, on_setting, override_writes, wrapper_written}
 use Rattle.rinqebo_rules.proofs.chain_rules.rules_for.Goals as goal
 
 -- the first of two, by a test that holds
@@ -16,19 +19,25 @@ second_chosen : {X : Type 0} (b t : Bool) (x y : X) → t ≡ b → t ≡ false 
 second_chosen b t x y same is = ap (λ b. if b then x else y) (sym is ∙ same)
 
 pub returns-then-is_of_scripts : goal.returns-then-is_of_scripts
-returns-then-is_of_scripts c =
-    let names = borrowed_view c.args.chain.now in
-    let scripts = ap (map script_rule_ref_view) c.deref.ensures.value ∙ c.in_ok-rules.ensures.script_rules
-    ∙ ap (λ ls. script_rules_of ls names) c.layers.ensures in
-    ok_same (λ rules. map setting_rule_view rules.items) c.script_rules.result _ _
-    (ap (map (for_setting wrapper_written)) scripts
-    ∙ first_chosen _ _ _ _ c.is_of_scripts.ensures c.if-is_of_scripts.true) c.script_rules.ensures
+returns-then-is_of_scripts c = λ overrides scripts on scripts_on.
+    let asking = c.args.asking.now in
+    let held = c.args.rules.now.script_rules.items in
+    let w = wrapper_written in
+    ok_same (λ found. map setting_rule_view found.items) c.script_rules.result _ _
+    (made_of_both (λ rule on. judged asking (for_setting w rule) (on_setting w on)) (λ e. script_rule_ref_view e.rule)
+    evaluated_script_rule_view (rule_on is_met_by asking.platforms.now) held scripts scripts_on.written scripts_on.on
+    ∙ sym (made_twice (judged_here asking) (for_setting w) scripts)
+    ∙ ap (map (judged_here asking)) (first_chosen _ _ _ _ c.is_of_scripts.ensures c.if-is_of_scripts.true))
+    (rw c.deref.ensures.value at c.script_rules.ensures)
 
 pub returns : goal.returns
-returns c =
-    let names = borrowed_view c.args.chain.now in
-    let overrides = ap (map override_ref_view) c.deref-2.ensures.value ∙ c.in_ok-rules.ensures.overrides
-    ∙ ap (λ ls. overrides_of ls names) c.layers.ensures in
-    ok_same (λ rules. map setting_rule_view rules.items) c.override_rules.result _ _
-    (ap (map (for_setting (override_writes c.args.setting c.args.mode))) overrides
-    ∙ second_chosen _ _ _ _ c.is_of_scripts.ensures c.if-is_of_scripts.false) c.override_rules.ensures
+returns c = λ overrides scripts on scripts_on.
+    let asking = c.args.asking.now in
+    let held = c.args.rules.now.overrides.items in
+    let w = override_writes c.args.setting c.args.mode in
+    ok_same (λ found. map setting_rule_view found.items) c.override_rules.result _ _
+    (made_of_both (λ rule on. judged asking (for_setting w rule) (on_setting w on)) (λ e. override_ref_view e.rule)
+    evaluated_override_view (rule_on is_met_by asking.platforms.now) held overrides on.written on.on
+    ∙ sym (made_twice (judged_here asking) (for_setting w) overrides)
+    ∙ ap (map (judged_here asking)) (second_chosen _ _ _ _ c.is_of_scripts.ensures c.if-is_of_scripts.false))
+    (rw c.deref-2.ensures.value at c.override_rules.ensures)

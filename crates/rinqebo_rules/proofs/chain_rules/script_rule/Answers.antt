@@ -1,13 +1,49 @@
-use Rattle.std.proofs.Common.{◌∙◌, ap}
+use Rattle.std.proofs.Common.{◌∙◌, ap, is_some, refl, sym}
+use Rattle.filter_language.specs.Filtersets.{marks_view}
+use Rattle.nextest_engines.specs.Engines.{test_view}
+use Rattle.nextest_settings.proofs.Held.{is_held}
+use Rattle.nextest_settings.specs.Deciding.{rule_holds}
+use Rattle.nextest_settings.specs.Platforms.{is_on, runs_on}
+use Rattle.nextest_settings.specs.Queries.{test_query}
+use Rattle.nextest_settings.specs.View.{script_rule_ref_view, evaluated_script_rule_view, meant_script_rule}
+use Rattle.filter_engine.specs.Compiling.{names_of}
+use Rattle.filter_engine.specs.Engine.{filter_holds}
+use Rattle.rinqebo_rules.specs.Conditions.{is_met_by, reported_by_facts, reported_condition}
 use Rattle.rinqebo_rules.specs.RulePlaces.{script_place}
+use Rattle.rinqebo_rules.specs.SettingRules.{wrapper_written}
+use Rattle.rinqebo_rules.specs.SettingValues.{reported_value}
+use Rattle.rinqebo_rules.specs.declared.verdict.RuleFacts.{RuleFacts}
+use Rattle.rinqebo_rules.proofs.Judged.{holds_meant, rule_judged}
 use Rattle.rinqebo_rules.proofs.chain_rules.script_rule.Goals as goal
 
 pub returns : goal.returns
 returns c =
-    let place = c.of_script.ensures ∙ ap script_place c.id.ensures in
-    λ i. record {
-      host = c.platforms.ensures.host i;
-      target = c.platforms.ensures.target i;
-      filter = c.filter.ensures i;
-      writes = record { place = place i; value = c.named_wrapper.ensures i };
-    }
+    let asking = c.args.asking.now in
+    let test = test_view asking.query.now in
+    let rule = c.args.rule.now in
+    let same = c.rule-written.ensures in
+    let place = c.of_script.ensures
+    ∙ ap script_place (c.id.ensures ∙ ap (λ r. (script_rule_ref_view r).writes.id) same) in
+    let filter = c.filter.ensures ∙ ap (λ r. (script_rule_ref_view r).filter) same in
+    let holds = c.script_rule_holds.ensures
+    ∙ (λ i. rule_holds (test_query filter_holds (marks_view names_of (c.context.ensures i)) test)
+    (meant_script_rule (marks_view names_of) rule))
+    ∙ holds_meant (marks_view names_of) (λ u. u)
+    (λ m. filter_holds m test (marks_view names_of asking.default_filter.now)) test.binary.platform
+    (evaluated_script_rule_view rule) in
+    let facts : RuleFacts = record {
+      is_on = c.is_on.result;
+      holds = c.script_rule_holds.result;
+      writes = c.is_some.result;
+    } in
+    rule_judged asking wrapper_written (script_rule_ref_view rule.rule) (evaluated_script_rule_view rule) _
+    refl refl (λ i. record { place = place i; value = c.named_wrapper-value.ensures i })
+    (c.is_on.ensures ∙ ap (λ p. is_on (evaluated_script_rule_view rule) p) c.platform.ensures) holds
+    (c.is_some.ensures ∙ sym (is_held reported_value c.named_wrapper-value.result))
+    (c.answers_of.ensures.host ∙ ap (reported_condition (λ s. is_met_by s asking.platforms.now.host))
+    (c.platforms.ensures.host ∙ ap (λ r. (script_rule_ref_view r).host) same))
+    (c.answers_of.ensures.target
+    ∙ ap (reported_condition (λ s. is_met_by s (runs_on asking.platforms.now test.binary.platform)))
+    (c.platforms.ensures.target ∙ ap (λ r. (script_rule_ref_view r).target) same))
+    (c.answers_of.ensures.filter
+    ∙ ap (λ b. reported_by_facts b facts) (sym (is_held (λ f. f.now) c.filter.result) ∙ ap is_some filter))

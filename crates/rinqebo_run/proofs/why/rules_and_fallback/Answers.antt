@@ -1,4 +1,4 @@
-use Rattle.std.proofs.Common.{◌∙◌, ap, map, option_map, sym}
+use Rattle.std.proofs.Common.{◌∙◌, ap, map, option_map, subst, sym}
 use Rattle.nextest_inheritance.specs.View.{borrowed_view}
 use Rattle.nextest_settings.specs.Chains.{fields_of, overrides_of, script_rules_of}
 use Rattle.nextest_settings.specs.Settings.{fallback_of}
@@ -14,20 +14,23 @@ returns c = λ configured name names same_config same_names.
     let platforms = c.args.session.now.engines.platforms in
     let mode = c.args.test.now.mode in
     let layers = ap (λ g. g.layers) (sym same_config) in
-    let default = c.in_ok-default_filter.ensures
+    let default = c.in_ok-on.ensures.default_filter
     ∙ ap (λ g. default_filter_here platforms g (borrowed_view c.args.chain.now)) (sym same_config)
     ∙ ap (default_filter_here platforms configured.config) same_names in
-    let gathered = ap (map setting_rule_view) c.deref-2.ensures.value ∙ c.in_ok-rules.ensures
-    ∙ (λ i. rules_for c.args.setting mode (overrides_of (layers i) (same_names i))
-    (script_rules_of (layers i) (same_names i))) in
-    let layers_here = c.deref.ensures.value in
+    let written = rules_for c.args.setting mode
+    (overrides_of c.args.config.now.config.layers (borrowed_view c.args.chain.now))
+    (script_rules_of c.args.config.now.config.layers (borrowed_view c.args.chain.now)) in
+    let gathered = λ i. rules_for c.args.setting mode (overrides_of (layers i) (same_names i))
+    (script_rules_of (layers i) (same_names i)) in
+    let judged = ap (map setting_rule_view) c.deref-2.ensures.value
+    ∙ c.in_ok-rules.ensures _ _ c.in_ok-on.ensures.overrides c.in_ok-on.ensures.script_rules in
     let profiles = ap (λ g. g.profiles) (sym same_config) in
     let valued = c.in_ok-fallback.ensures.value
     ∙ (λ i. option_map (reported_of c.args.setting)
     (fallback_of (fields_of (profiles i) (same_names i)) mode c.args.setting)) in
-    reasons_here c.args.session.now.layers.items platforms c.args.test.now c.query_of-query.result c.args.setting _ configured name names _
-    c.in_ok-reported.reported.items c.in_ok-fallback.fallback _ default gathered c.query_of-query.ensures.name
-    c.query_of-query.ensures.binary c.query_of-query.ensures.platform
-    (rw layers_here at c.in_ok-reported.ensures)
+    reasons_here c.args.session.now.layers.items platforms c.args.test.now c.query_of-query.result c.args.setting _
+    configured name names written c.in_ok-reported.reported.items c.in_ok-fallback.fallback _ default gathered
+    c.query_of-query.ensures.name c.query_of-query.ensures.binary c.query_of-query.ensures.platform
+    (rw c.deref.ensures.value at c.in_ok-reported.ensures _ written judged)
     c.in_ok-fallback.ensures.verdict valued
     c.in_ok-push.ensures.items

@@ -1,0 +1,38 @@
+//! Whether rules hold for a test.
+ghost use Rattle.std.specs.Prelude.{◌≡◌};
+ghost use Rattle.nextest_settings.specs.Deciding.{rule_holds};
+ghost use Rattle.nextest_settings.specs.Engines.{test_query_by};
+ghost use Rattle.nextest_settings.specs.View.{meant_override, meant_script_rule};
+
+use nextest_engines::{EvalContext, Filters, Specs, TestQuery};
+use nextest_settings::{EvaluatedOverride, EvaluatedScriptRule, matches_test};
+
+/// Whether an override holds for a test.
+pub(crate) fn override_holds<F: Filters, S: Specs>(
+    rule: &EvaluatedOverride<'_, F, S>,
+    number: usize,
+    query: &TestQuery<'_>,
+    cx: &EvalContext<'_, F::Expr>,
+    tally: &mut F::Tally,
+) -> bool
+    ensures { let query = test_query_by F.Filters cx.now.default_filter.now query.now in
+        result ≡ rule_holds query (meant_override F.meaning rule.now) }
+{
+    rule.is_on(query.binary_query.platform)
+        && matches_test::<F>(rule.rule().filter(), number, query, cx, tally)
+}
+
+/// Whether a script rule holds for a test.
+pub(crate) fn script_rule_holds<F: Filters, S: Specs>(
+    rule: &EvaluatedScriptRule<'_, F, S>,
+    number: usize,
+    query: &TestQuery<'_>,
+    cx: &EvalContext<'_, F::Expr>,
+    tally: &mut F::Tally,
+) -> bool
+    ensures { let query = test_query_by F.Filters cx.now.default_filter.now query.now in
+        result ≡ rule_holds query (meant_script_rule F.meaning rule.now) }
+{
+    rule.is_on(query.binary_query.platform)
+        && matches_test::<F>(rule.rule().filter(), number, query, cx, tally)
+}
