@@ -22,18 +22,18 @@ returns c = λ configured name names same_config same_names.
     (overrides_of c.args.config.now.config.layers (borrowed_view c.args.chain.now))
     (script_rules_of c.args.config.now.config.layers (borrowed_view c.args.chain.now)) in
     let gathered : written ≡ rules_for c.args.setting mode
-        (overrides_of configured.config.layers (with_default names))
-        (script_rules_of configured.config.layers (with_default names)) =
+    (overrides_of configured.config.layers (with_default names))
+    (script_rules_of configured.config.layers (with_default names)) =
     λ i. rules_for c.args.setting mode (overrides_of (layers i) (same_names i))
     (script_rules_of (layers i) (same_names i)) in
     let judged = ap (map setting_rule_view) c.deref-2.ensures.value
     ∙ c.in_ok-rules.ensures _ _ c.in_ok-on.ensures.overrides c.in_ok-on.ensures.script_rules in
     let profiles = ap (λ g. g.profiles) (sym same_config) in
     let fallbacks : option_map (reported_of c.args.setting)
-        (fallback_of (fields_of c.args.config.now.config.profiles (borrowed_view c.args.chain.now)) mode
-        c.args.setting)
-        ≡ option_map (reported_of c.args.setting)
-        (fallback_of (fields_of configured.config.profiles (with_default names)) mode c.args.setting) =
+    (fallback_of (fields_of c.args.config.now.config.profiles (borrowed_view c.args.chain.now)) mode
+    c.args.setting)
+    ≡ option_map (reported_of c.args.setting)
+    (fallback_of (fields_of configured.config.profiles (with_default names)) mode c.args.setting) =
     λ i. option_map (reported_of c.args.setting)
     (fallback_of (fields_of (profiles i) (same_names i)) mode c.args.setting) in
     let valued = c.in_ok-fallback.ensures.value ∙ fallbacks in
