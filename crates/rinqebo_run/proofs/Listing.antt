@@ -99,7 +99,7 @@ module _ {E N M K P : Type 0} (f : E → M) (g : N → K) (meets : K → P → O
   }
 
 -- what origins are looked up in
-based : List Name → List FileLayer → Basis
+abbrev based : List Name → List FileLayer → Basis
 based chain layers = record { layers = layers; chain = chain }
 
 -- origins are looked up in the layers of a session

@@ -48,7 +48,7 @@ returns-in_err-text-clause-err g c =
     let asking = c.args.asking.now in
     let self = c.args.self.now in
     let before = c.loop-query.invariant in
-    passed_stop _ c.from_residual-in_err-text.result faults.Memory c.from_residual-in_err-text.ensures.1
+    passed_stop _ c.from_residual.result faults.Memory c.from_residual.ensures.1
     (inl (first_so_far c.args.origins.now asking.mode (profile_meaning (marks_view names_of) asking.profile.now) asking.asked.now
     self.head.now self.colour c.args.queries.now c.loop-query.query-index c.loop-query.tests.items _ _ before.told
     before.page))
