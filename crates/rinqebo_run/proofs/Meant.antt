@@ -97,7 +97,7 @@ module _ {E N M K P : Type 0} (f : E → M) (g : N → K) (meets : K → P → O
         ≡ facts_of query writes_it (rule_on meets platforms (rule_meaning f g (λ w. w) r))
     facts_meant r = λ i. record {
       is_on = on_meant r i;
-      holds = on_meant r i && filter_meant f query.matches r.filter (~ i);
+      holds = on_meant r i && sym (filter_meant f query.matches r.filter) i;
       writes = writes_it r.writes;
     }
 

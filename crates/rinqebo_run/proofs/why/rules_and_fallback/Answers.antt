@@ -1,4 +1,5 @@
-use Rattle.std.proofs.Common.{◌∙◌, ap, map, option_map, subst, sym}
+use Rattle.std.proofs.Common.{◌≡◌, ◌∙◌, ap, map, option_map, sym}
+use Rattle.nextest_inheritance.specs.Parents.{with_default}
 use Rattle.nextest_inheritance.specs.View.{borrowed_view}
 use Rattle.nextest_settings.specs.Chains.{fields_of, overrides_of, script_rules_of}
 use Rattle.nextest_settings.specs.Settings.{fallback_of}
@@ -20,7 +21,11 @@ returns c = λ configured name names same_config same_names.
     let written = rules_for c.args.setting mode
     (overrides_of c.args.config.now.config.layers (borrowed_view c.args.chain.now))
     (script_rules_of c.args.config.now.config.layers (borrowed_view c.args.chain.now)) in
-    let gathered = λ i. rules_for c.args.setting mode (overrides_of (layers i) (same_names i))
+    let names_here = with_default names in
+    let gathered : written
+        ≡ rules_for c.args.setting mode (overrides_of configured.config.layers names_here)
+        (script_rules_of configured.config.layers names_here) =
+    λ i. rules_for c.args.setting mode (overrides_of (layers i) (same_names i))
     (script_rules_of (layers i) (same_names i)) in
     let judged = ap (map setting_rule_view) c.deref-2.ensures.value
     ∙ c.in_ok-rules.ensures _ _ c.in_ok-on.ensures.overrides c.in_ok-on.ensures.script_rules in
