@@ -48,7 +48,8 @@ requested_if false answer = says.Unrequested
 -- What the filter of a rule says, by whether the rule has one and by what is known of it.
 abbrev pub reported_by_facts : Bool → RuleFacts → ConditionAnswer
 reported_by_facts has_filter facts =
-    requested_if facts.is_on (if has_filter then reported_answer (Some facts.holds) else says.Absent)
+    requested_if facts.is_on
+    (if has_filter then reported_answer (Some facts.holds) else says.Absent)
 
 -- The default filter that counts for profiles of these names, on the platforms of a build.
 abbrev pub default_filter_here : BuildPlatforms Platform

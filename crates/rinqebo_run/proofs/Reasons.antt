@@ -1,5 +1,5 @@
 -- What is told of rules is what comes of them.
-use Rattle.std.proofs.Common.{◌≡◌, ◌∙◌, false, List, [], ◌∷◌, map, ap, subst, sym}
+use Rattle.std.proofs.Common.{◌≡◌, ◌∙◌, false, List, map, ap, subst, sym}
 use Rattle.std.specs.List.{AllZip, zip}
 use Rattle.nextest_settings.specs.Platforms.{rule_on}
 use Rattle.rinqebo_files.specs.declared.layers.Layer.{Layer}

@@ -1,4 +1,4 @@
-use Rattle.std.proofs.Common.{◌≡◌, ◌∙◌, ap, map, option_map, subst, sym}
+use Rattle.std.proofs.Common.{◌≡◌, ◌∙◌, ap, map, option_map, sym}
 use Rattle.nextest_inheritance.specs.Parents.{with_default}
 use Rattle.nextest_inheritance.specs.View.{borrowed_view}
 use Rattle.nextest_settings.specs.Chains.{fields_of, overrides_of, script_rules_of}
@@ -21,22 +21,18 @@ returns c = λ configured name names same_config same_names.
     let written = rules_for c.args.setting mode
     (overrides_of c.args.config.now.config.layers (borrowed_view c.args.chain.now))
     (script_rules_of c.args.config.now.config.layers (borrowed_view c.args.chain.now)) in
-    let gathered : written ≡ rules_for c.args.setting mode
-    (overrides_of configured.config.layers (with_default names))
-    (script_rules_of configured.config.layers (with_default names)) =
+    let names_here = with_default names in
+    let gathered : written
+        ≡ rules_for c.args.setting mode (overrides_of configured.config.layers names_here)
+        (script_rules_of configured.config.layers names_here) =
     λ i. rules_for c.args.setting mode (overrides_of (layers i) (same_names i))
     (script_rules_of (layers i) (same_names i)) in
     let judged = ap (map setting_rule_view) c.deref-2.ensures.value
     ∙ c.in_ok-rules.ensures _ _ c.in_ok-on.ensures.overrides c.in_ok-on.ensures.script_rules in
     let profiles = ap (λ g. g.profiles) (sym same_config) in
-    let fallbacks : option_map (reported_of c.args.setting)
-    (fallback_of (fields_of c.args.config.now.config.profiles (borrowed_view c.args.chain.now)) mode
-    c.args.setting)
-    ≡ option_map (reported_of c.args.setting)
-    (fallback_of (fields_of configured.config.profiles (with_default names)) mode c.args.setting) =
-    λ i. option_map (reported_of c.args.setting)
-    (fallback_of (fields_of (profiles i) (same_names i)) mode c.args.setting) in
-    let valued = c.in_ok-fallback.ensures.value ∙ fallbacks in
+    let valued = c.in_ok-fallback.ensures.value
+    ∙ (λ i. option_map (reported_of c.args.setting)
+    (fallback_of (fields_of (profiles i) (same_names i)) mode c.args.setting)) in
     reasons_here c.args.session.now.layers.items platforms c.args.test.now c.query_of-query.result c.args.setting _
     configured name names written c.in_ok-reported.reported.items c.in_ok-fallback.fallback _ default gathered
     c.query_of-query.ensures.name c.query_of-query.ensures.binary c.query_of-query.ensures.platform
