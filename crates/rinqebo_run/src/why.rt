@@ -24,7 +24,11 @@ ghost use Rattle.platform_language.specs.declared.expression.TargetSpec.{TargetS
 
 use crate::asked::requested_of;
 use crate::idle::findings_on;
-use nextest_config::{DefaultConfigWarnings, NextestRunMode, Setting};
+use filter_engine::NextestFilters;
+use nextest_config::{
+    BuildPlatforms, DefaultConfigWarnings, Filters, NextestRunMode, Setting, TestQuery,
+};
+use platform_table::Platform;
 use rinqebo_files::{Layer, host_text, target_text, text_at};
 use rinqebo_findings::{config_with, report_of};
 use rinqebo_load::{Config, Failure, Session, chain_of_profile};
@@ -159,6 +163,23 @@ fn fallback_rule(
     })
 }
 
+/// What the rules of a chain are held against.
+fn asking_of<'a, 't>(
+    platforms: &'a BuildPlatforms<Platform>,
+    query: &'a TestQuery<'t>,
+    default_filter: &'a <NextestFilters as Filters>::Expr,
+) -> Asking<'a, 't>
+    ensures platforms { result.platforms ≡ platforms.entry }
+    ensures query { result.query ≡ query.entry }
+    ensures default_filter { result.default_filter ≡ default_filter.entry }
+{
+    Asking {
+        platforms,
+        query,
+        default_filter,
+    }
+}
+
 /// All rules of a setting, and then what counts where none decides.
 fn rules_and_fallback<'c>(
     alloc: Global,
@@ -178,11 +199,7 @@ fn rules_and_fallback<'c>(
     let platforms = &session.engines.platforms;
     let query = query_of(test);
     let on = rules_on(alloc, config, chain, platforms)?;
-    let asking = Asking {
-        platforms,
-        query: &query,
-        default_filter: on.default_filter.expr,
-    };
+    let asking = asking_of(platforms, &query, on.default_filter.expr);
     let rules = rules_for(alloc, &on, setting, test.mode, &asking)?;
     let mut reported = reported_rules(alloc, &session.layers, &rules)?;
     let fallback = fallback_rule(alloc, session, config, chain, setting, test.mode)?;

@@ -23,8 +23,8 @@ returns c = λ configured name names same_config same_names.
     (script_rules_of c.args.config.now.config.layers (borrowed_view c.args.chain.now)) in
     let names_here = with_default names in
     let gathered : written
-        ≡ rules_for c.args.setting mode (overrides_of configured.config.layers names_here)
-        (script_rules_of configured.config.layers names_here) =
+    ≡ rules_for c.args.setting mode (overrides_of configured.config.layers names_here)
+    (script_rules_of configured.config.layers names_here) =
     λ i. rules_for c.args.setting mode (overrides_of (layers i) (same_names i))
     (script_rules_of (layers i) (same_names i)) in
     let judged = ap (map setting_rule_view) c.deref-2.ensures.value
@@ -33,9 +33,15 @@ returns c = λ configured name names same_config same_names.
     let valued = c.in_ok-fallback.ensures.value
     ∙ (λ i. option_map (reported_of c.args.setting)
     (fallback_of (fields_of (profiles i) (same_names i)) mode c.args.setting)) in
+    let told = rw (
+      c.deref.ensures.value,
+      c.asking_of-asking.ensures.platforms,
+      c.asking_of-asking.ensures.query,
+      c.asking_of-asking.ensures.default_filter,
+    ) at c.in_ok-reported.ensures c.asking_of-asking.result written judged in
     reasons_here c.args.session.now.layers.items platforms c.args.test.now c.query_of-query.result c.args.setting _
     configured name names written c.in_ok-reported.reported.items c.in_ok-fallback.fallback _ default gathered
     c.query_of-query.ensures.name c.query_of-query.ensures.binary c.query_of-query.ensures.platform
-    (rw c.deref.ensures.value at c.in_ok-reported.ensures _ written judged)
+    told
     c.in_ok-fallback.ensures.verdict valued
     c.in_ok-push.ensures.items
