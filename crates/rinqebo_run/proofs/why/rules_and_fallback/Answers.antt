@@ -28,7 +28,8 @@ returns c = λ configured name names same_config same_names.
     λ i. rules_for c.args.setting mode (overrides_of (layers i) (same_names i))
     (script_rules_of (layers i) (same_names i)) in
     let judged = ap (map setting_rule_view) c.deref-2.ensures.value
-    ∙ c.in_ok-rules.ensures _ _ c.in_ok-on.ensures.overrides c.in_ok-on.ensures.script_rules in
+    ∙ c.in_ok-rules.ensures _ _ (rw c.asking_of-asking.ensures.platforms c.in_ok-on.ensures.overrides)
+    (rw c.asking_of-asking.ensures.platforms c.in_ok-on.ensures.script_rules) in
     let profiles = ap (λ g. g.profiles) (sym same_config) in
     let valued = c.in_ok-fallback.ensures.value
     ∙ (λ i. option_map (reported_of c.args.setting)
@@ -38,7 +39,7 @@ returns c = λ configured name names same_config same_names.
       c.asking_of-asking.ensures.platforms,
       c.asking_of-asking.ensures.query,
       c.asking_of-asking.ensures.default_filter,
-    ) at c.in_ok-reported.ensures c.asking_of-asking.result written judged in
+    ) at (c.in_ok-reported.ensures c.asking_of-asking.result written judged) in
     reasons_here c.args.session.now.layers.items platforms c.args.test.now c.query_of-query.result c.args.setting _
     configured name names written c.in_ok-reported.reported.items c.in_ok-fallback.fallback _ default gathered
     c.query_of-query.ensures.name c.query_of-query.ensures.binary c.query_of-query.ensures.platform
