@@ -5,12 +5,12 @@ ghost use Rattle.nextest_load.specs.ConfigView.{groups_view, scripts_view};
 ghost use Rattle.nextest_rules.specs.Rules.{at_name};
 ghost use Rattle.nextest_settings.specs.FilterView.{filter_view};
 ghost use Rattle.nextest_settings.specs.GroupView.{membership_group};
-ghost use Rattle.nextest_settings.specs.Queries.{query_in, binary_query, evaluated_for_test, list_wrapper_of, evaluated_for_list, enabled_scripts, group_of, AnswerForBinaries};
+ghost use Rattle.nextest_settings.specs.Queries.{query_in, binary_query, evaluated_for_test, list_wrapper_of, listing_rule, evaluated_for_list, enabled_scripts, group_of, AnswerForBinaries};
 ghost use Rattle.nextest_settings.specs.ListView.{list_wrapper_at};
 ghost use Rattle.nextest_settings.specs.SetupView.{setup_scripts_view, setup_scripts_rules_view};
 ghost use Rattle.nextest_settings.specs.Settings.{slow_timeout_in, global_timeout_in};
 ghost use Rattle.nextest_settings.specs.Values.{nearest};
-ghost use Rattle.nextest_settings.specs.View.{evaluated_override_view, evaluated_script_rule_view, meant_script_rule};
+ghost use Rattle.nextest_settings.specs.View.{evaluated_override_view, evaluated_script_rule_view, meant_script_rule, script_rule_ref_view};
 ghost use Rattle.nextest_profiles.specs.Junit.{IsReportWhereSet};
 ghost use Rattle.nextest_profiles.specs.Known.{KnowsScripts, evaluated_use};
 ghost use Rattle.nextest_profiles.specs.Meaning.{profile_meaning};
@@ -24,6 +24,7 @@ use nextest_elements::{
 };
 use nextest_engines::{BinaryQuery, EvalContext, Filters, Specs, Tally, TestQuery};
 use nextest_load::ScriptConfig;
+use nextest_rules::CompiledProfileScripts;
 use nextest_settings::{
     CompiledDefaultFilter, EvaluatedRules, ListSettings, PrecomputedGroupMembership, SettingSource,
     SetupScripts, TestSettings,
@@ -312,6 +313,28 @@ impl<'cfg, F: Filters, S: Specs> EvaluatableProfile<'cfg, F, S> {
     {
         self.rules
             .list_settings_for(self.facts.scripts(), query, tally)
+    }
+
+    /// The script rule that names the list wrapper of a binary: the first one that matches it and
+    /// names one. Script rules whose filters are evaluated go into the tally, numbered on from the
+    /// overrides.
+    pub fn list_wrapper_rule(
+        &self,
+        query: &BinaryQuery<'_>,
+        tally: &mut F::Tally,
+    ) -> Option<&'cfg CompiledProfileScripts<F, S>>
+        ensures rule { let profile = profile_meaning F.meaning self.now in
+            let binary = binary_query F.holds_binary profile.default_filter.filter
+            (binary_view query.now) in
+            option_map (λ rule. (script_rule_ref_view rule).writes) result
+            ≡ option_map (λ rule. rule.writes) (listing_rule binary profile.script_rules) }
+        ensures tally { let profile = profile_meaning F.meaning self.now in
+            let binary = binary_query F.holds_binary profile.default_filter.filter
+            (binary_view query.now) in
+            F.Tally.numbers tally.new ≡ F.Tally.numbers tally.old
+            ++ evaluated_for_list binary profile }
+    {
+        self.rules.list_wrapper_rule(query, tally)
     }
 
     /// The setup scripts that tests enable, in the order in which they run.

@@ -5,14 +5,15 @@ ghost use Rattle.nextest_rules.specs.Rules.{at_name};
 ghost use Rattle.nextest_scripts.specs.ScriptTexts.{wrapper_script_view};
 ghost use Rattle.nextest_settings.specs.Engines.{binary_query_by};
 ghost use Rattle.nextest_settings.specs.ListView.{list_wrapper_at};
-ghost use Rattle.nextest_settings.specs.Queries.{AnswerForBinaries, list_wrapper_by, listed_by};
-ghost use Rattle.nextest_settings.specs.View.{meant_script_rule, KnowsListWrappers};
+ghost use Rattle.nextest_settings.specs.Queries.{AnswerForBinaries, list_wrapper_by, listed_by, listing_rule};
+ghost use Rattle.nextest_settings.specs.View.{meant_script_rule, script_rule_ref_view, KnowsListWrappers};
 
 use crate::evaluated::EvaluatedRules;
 use crate::index::Wrapper;
-use crate::wrappers::list_wrapper;
+use crate::wrappers::{list_wrapper, list_wrapper_rule};
 use nextest_engines::{BinaryQuery, EvalContext, Filters, Specs, Tally};
 use nextest_load::ScriptConfig;
+use nextest_rules::CompiledProfileScripts;
 use nextest_scripts::WrapperScriptConfig;
 
 /// The settings of a binary that lists its tests.
@@ -91,6 +92,38 @@ impl<'cfg, F: Filters, S: Specs> EvaluatedRules<'cfg, F, S> {
                 tally,
             ),
             mark: None,
+        }
+    }
+
+    /// The script rule that names the list wrapper of a binary: the first one that matches it and
+    /// names one. Script rules whose filters are evaluated go into the tally, numbered on from the
+    /// overrides.
+    pub fn list_wrapper_rule(
+        &self,
+        query: &BinaryQuery<'_>,
+        tally: &mut F::Tally,
+    ) -> Option<&'cfg CompiledProfileScripts<F, S>>
+        requires { AnswerForBinaries F.holds_binary
+            (map (meant_script_rule F.meaning) self.now.script_rules.items) }
+        ensures rule { let query = binary_query_by F.Filters
+            self.now.default_filter.expr.now query.now in
+            option_map (λ rule. (script_rule_ref_view rule).writes) result
+            ≡ option_map (λ rule. rule.writes)
+            (listing_rule query (map (meant_script_rule F.meaning) self.now.script_rules.items)) }
+        ensures tally { let query = binary_query_by F.Filters
+            self.now.default_filter.expr.now query.now in
+            F.Tally.numbers tally.new ≡ F.Tally.numbers tally.old
+            ++ listed_by query (length self.now.overrides.items)
+            (map (meant_script_rule F.meaning) self.now.script_rules.items) }
+    {
+        let cx = EvalContext {
+            default_filter: self.default_filter.expr,
+        };
+        let rows = self.wrapper_rows(query.platform, Wrapper::List);
+        let first = self.overrides.len();
+        match list_wrapper_rule(&self.script_rules, rows, first, query, &cx, tally) {
+            Some(found) => Some(found.rule),
+            None => None,
         }
     }
 }

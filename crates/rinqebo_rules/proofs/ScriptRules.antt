@@ -9,7 +9,7 @@ use Rattle.nextest_rules.specs.declared.overrides.CompiledProfileScripts.{Compil
 use Rattle.nextest_scripts.specs.ScriptId.{script_text}
 use Rattle.nextest_scripts.specs.declared.script_id.ScriptId.{ScriptId}
 use Rattle.nextest_settings.specs.Profile.{EvaluatableModel}
-use Rattle.nextest_settings.specs.Queries.{binary_query, list_wrapper_by, list_wrapper_of}
+use Rattle.nextest_settings.specs.Queries.{list_wrapper_of}
 use Rattle.nextest_settings.specs.View.{evaluated_script_rule_meaning, evaluated_script_rule_view, meant_script_rule}
 use Rattle.nextest_settings.specs.declared.platforms.EvaluatedRule.{EvaluatedRule as EvaluatedRule'}
 use Rattle.nextest_tables.specs.Written.{Name}
@@ -25,17 +25,6 @@ pub meant_scripts : {F S E T N P M : Type 0} (f : E → M) (profile : Evaluatabl
 meant_scripts f profile rules same =
     sym (made_twice (evaluated_script_rule_meaning f) evaluated_script_rule_view rules)
     ∙ ap (map (evaluated_script_rule_meaning f)) same
-
--- the list wrapper by the script rules of a profile is the one that it gives
-pub wrapper_here : {F S E T N P M : Type 0} (f : E → M) (matches : BinaryMatch M) (binary : Binary)
-    (profile : EvaluatableModel E) (default : E) (rules : List (EvaluatedRule' (CompiledProfileScripts F S E T N P)))
-    (id : Option Name) → default ≡ profile.default_filter.filter
-    → map evaluated_script_rule_view rules ≡ profile.script_rules
-    → id ≡ list_wrapper_by (binary_query matches (f default) binary) (map (meant_script_rule f) rules)
-    → id ≡ list_wrapper_of (binary_in matches (profile_meaning f profile) binary) (profile_meaning f profile)
-wrapper_here f matches binary profile default rules id beside are is =
-    is ∙ ap (λ d. list_wrapper_by (binary_query matches (f d) binary) (map (meant_script_rule f) rules)) beside
-    ∙ ap (list_wrapper_by (binary_in matches (profile_meaning f profile) binary)) (meant_scripts f profile rules are)
 
 -- the list wrapper that a profile gives a binary, with the binary's id
 pub wrapper_given : {M : Type 0} (matches : BinaryMatch M) (profile : EvaluatableModel M) (binary : Binary)

@@ -1,75 +1,16 @@
 //! The scripts of a list: the setup scripts that its tests enable, and what wraps its binaries.
-ghost use Rattle.std.specs.Prelude.{◌≡◌, IfOk, filter_map, is_some, map, option_map, string_bytes};
+ghost use Rattle.std.specs.Prelude.{◌≡◌, IfOk, filter_map, map, option_map, string_bytes};
 ghost use Rattle.nextest_engines.specs.Engines.{binary_view, test_view};
 ghost use Rattle.nextest_profiles.specs.Meaning.{profile_meaning};
 ghost use Rattle.nextest_scripts.specs.ScriptId.{script_text};
-ghost use Rattle.nextest_settings.specs.Deciding.{decides, filter_holds};
-ghost use Rattle.nextest_settings.specs.Engines.{binary_query_by};
-ghost use Rattle.nextest_settings.specs.Queries.{list_wrapper_by, list_wrapper_of};
-ghost use Rattle.nextest_settings.specs.View.{meant_script_rule};
+ghost use Rattle.nextest_settings.specs.Queries.{list_wrapper_of};
 ghost use Rattle.rinqebo_rules.specs.Scripts.{binary_in, enabled_ids, wrapper_at, wrapper_view, AreScriptsReported};
 
-use nextest_engines::{BinaryQuery, EvalContext, Filters, Specs, TestQuery};
+use nextest_engines::{BinaryQuery, Filters, Specs, TestQuery};
 use nextest_profiles::EvaluatableProfile;
 use nextest_scripts::ScriptId;
-use nextest_settings::EvaluatedScriptRule;
 use rinqebo_report::{ListScripts, ListWrapper};
 use std::alloc::{AllocError, Global};
-
-/// Whether the filter of a script rule matches a binary, if it has one. One that depends on the test
-/// does not.
-fn matches_binary<F: Filters>(
-    filter: Option<&F::Expr>,
-    number: usize,
-    query: &BinaryQuery<'_>,
-    cx: &EvalContext<'_, F::Expr>,
-    tally: &mut F::Tally,
-) -> bool
-    ensures { let query = binary_query_by F.Filters cx.now.default_filter.now query.now in
-        result ≡ filter_holds query.matches (option_map (λ expr. F.meaning expr.now) filter.entry) }
-{
-    match filter {
-        None => true,
-        Some(expr) => F::matches_binary(expr, number, query, cx, tally).unwrap_or(false),
-    }
-}
-
-/// Whether a script rule names a list wrapper and holds for a binary. Where it names one, its
-/// platforms hold and it has a filter, its number goes into the tally.
-fn wraps<F: Filters, S: Specs>(
-    rule: &EvaluatedScriptRule<'_, F, S>,
-    number: usize,
-    query: &BinaryQuery<'_>,
-    cx: &EvalContext<'_, F::Expr>,
-    tally: &mut F::Tally,
-) -> bool
-    ensures { let query = binary_query_by F.Filters cx.now.default_filter.now query.now in
-        result ≡ decides query (λ uses. is_some uses.scripts.list_wrapper)
-        (meant_script_rule F.meaning rule.now) }
-{
-    rule.rule().list_wrapper().is_some()
-        && rule.is_on(query.platform)
-        && matches_binary::<F>(rule.rule().filter(), number, query, cx, tally)
-}
-
-/// The list wrapper of a binary: that of the first script rule which names one and holds.
-fn first_wrapper<'c, F: Filters, S: Specs>(
-    rules: &[EvaluatedScriptRule<'c, F, S>],
-    query: &BinaryQuery<'_>,
-    cx: &EvalContext<'_, F::Expr>,
-    tally: &mut F::Tally,
-) -> Option<&'c ScriptId>
-    ensures { let query = binary_query_by F.Filters cx.now.default_filter.now query.now in
-        option_map (λ id. script_text id.now) result
-        ≡ list_wrapper_by query (map (meant_script_rule F.meaning) rules.now) }
-{
-    for (number, rule) in rules.iter().enumerate() {
-        if wraps(rule, number, query, cx, tally) {
-            return rule.rule().list_wrapper();
-        }
-    }
-    None
-}
 
 /// The list wrapper that a profile gives a binary.
 fn wrapper_of<'c, F: Filters, S: Specs>(
@@ -81,8 +22,10 @@ fn wrapper_of<'c, F: Filters, S: Specs>(
         option_map (λ id. script_text id.now) result
         ≡ list_wrapper_of (binary_in F.holds_binary profile (binary_view query.now)) profile }
 {
-    let cx = profile.filterset_ecx();
-    first_wrapper(&profile.rules().script_rules, query, &cx, tally)
+    match profile.list_wrapper_rule(query, tally) {
+        Some(rule) => rule.list_wrapper(),
+        None => None,
+    }
 }
 
 /// The list wrappers of the binaries that have one, in their order.
