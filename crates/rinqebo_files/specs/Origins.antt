@@ -6,8 +6,8 @@ use Rattle.nextest_places.specs.Place.{HasNoPlace, IsPlaceOfPath}
 use Rattle.nextest_places.specs.declared.place.Lines.{Lines}
 use Rattle.nextest_places.specs.declared.step.Step.{Step}
 use Rattle.nextest_sources.specs.Sources.{Source, SourceKind, tool_file, organisation_file, explicit_file, discovered_file}
-use Rattle.rinqebo_report.specs.declared.origin.Lines.{Lines as ReportedLines}
-use Rattle.rinqebo_report.specs.declared.origin.Place.{Place}
+use Rattle.rinqebo_report.specs.declared.origin.FileLines.{FileLines}
+use Rattle.rinqebo_report.specs.declared.origin.FilePlace.{FilePlace}
 use Rattle.rinqebo_report.specs.declared.origin.Source.{Source as ReportedSource}
 use Rattle.rinqebo_report.specs.declared.origin.SourceKind.{SourceKind as ReportedKind}
 use Rattle.rinqebo_report.specs.declared.origin.SourceKind.TheVariants as told
@@ -41,7 +41,7 @@ HasNoFile layers file = AllByRecursion (λ layer. reported_file layer.source ≢
 
 -- Lines are those that bring what stands at a path of a text: there are none without a text, and
 -- where the path has no place in it.
-abbrev pub AreLinesAt : Option (List ℕ) → List Step → Option ReportedLines → Type 0
+abbrev pub AreLinesAt : Option (List ℕ) → List Step → Option FileLines → Type 0
 AreLinesAt None path lines = lines ≡ None
 AreLinesAt (Some text) path None = HasNoPlace path text
 AreLinesAt (Some text) path (Some lines) =
@@ -49,7 +49,7 @@ AreLinesAt (Some text) path (Some lines) =
 
 -- A place is that of a path in the layer at a position: it tells the position, and the lines that
 -- bring what stands at the path of its text.
-pub record IsPathPlace (layers : List Layer) (position : ℕ) (path : List Step) (place : Place)
+pub record IsPathPlace (layers : List Layer) (position : ℕ) (path : List Step) (place : FilePlace)
     : Type 0 where
   pub source : place.source ≡ position
   pub lines : AreLinesAt (option_and_then (λ layer. layer.places) (slice_get layers position)) path

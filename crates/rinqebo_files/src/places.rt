@@ -4,30 +4,30 @@ ghost use Rattle.rinqebo_files.specs.Origins.{AreLinesAt, IsPathPlace};
 use crate::layers::Layer;
 use nextest_config::Tree;
 use nextest_places::Step;
-use rinqebo_report::{Lines, Place};
+use rinqebo_report::{FileLines, FilePlace};
 use std::alloc::{AllocError, Global};
 use std::collections::BTreeMap;
 
 /// The lines of a layer that define the value at a path, as they are reported.
-fn lines_in(layer: &Layer, path: &[Step]) -> Option<Lines>
+fn lines_in(layer: &Layer, path: &[Step]) -> Option<FileLines>
     ensures { AreLinesAt layer.now.places path.now result }
 {
     let lines = layer.places.as_ref()?.lines_at(path)?;
-    Some(Lines {
+    Some(FileLines {
         first: lines.first as u64,
         last: lines.last as u64,
     })
 }
 
 /// The place of the value at a path in the layer at a position.
-pub fn path_place(layers: &[Layer], source: usize, path: &[Step]) -> Place
+pub fn path_place(layers: &[Layer], source: usize, path: &[Step]) -> FilePlace
     ensures { IsPathPlace layers.now source path.now result }
 {
     let lines = match layers.get(source) {
         Some(layer) => lines_in(layer, path),
         None => None,
     };
-    Place {
+    FilePlace {
         source,
         lines,
         range: None,
@@ -141,7 +141,7 @@ fn ways_of<'t>(alloc: Global, tree: &'t Tree, path: &'t str) -> Result<Vec<Way<'
 }
 
 /// Those of two lines that come first.
-fn earlier(one: Option<Lines>, other: Option<Lines>) -> Option<Lines> {
+fn earlier(one: Option<FileLines>, other: Option<FileLines>) -> Option<FileLines> {
     match (one, other) {
         (Some(one), Some(other)) if other.first < one.first => Some(other),
         (Some(lines), _) | (None, Some(lines)) => Some(lines),
@@ -150,7 +150,11 @@ fn earlier(one: Option<Lines>, other: Option<Lines>) -> Option<Lines> {
 }
 
 /// The lines of a layer that define the value at a path that is spelled as text.
-fn spelled_lines(alloc: Global, layer: &Layer, path: &str) -> Result<Option<Lines>, AllocError> {
+fn spelled_lines(
+    alloc: Global,
+    layer: &Layer,
+    path: &str,
+) -> Result<Option<FileLines>, AllocError> {
     let Some(tree) = layer.tree() else {
         return Ok(None);
     };
@@ -169,12 +173,12 @@ pub fn spelled_place(
     layers: &[Layer],
     source: usize,
     path: &str,
-) -> Result<Place, AllocError> {
+) -> Result<FilePlace, AllocError> {
     let lines = match layers.get(source) {
         Some(layer) => spelled_lines(alloc, layer, path)?,
         None => None,
     };
-    Ok(Place {
+    Ok(FilePlace {
         source,
         lines,
         range: None,
@@ -186,10 +190,10 @@ pub fn highest_place(
     alloc: Global,
     layers: &[Layer],
     path: &str,
-) -> Result<Option<Place>, AllocError> {
+) -> Result<Option<FilePlace>, AllocError> {
     for (source, layer) in layers.iter().enumerate().rev() {
         if let Some(lines) = spelled_lines(alloc, layer, path)? {
-            return Ok(Some(Place {
+            return Ok(Some(FilePlace {
                 source,
                 lines: Some(lines),
                 range: None,

@@ -6,7 +6,7 @@ use nextest_config::{
 };
 use nextest_places::Step;
 use rinqebo_files::{host_text, profile_table, rule_table, target_text, text_at};
-use rinqebo_report::{Expression, Span};
+use rinqebo_report::{CharSpan, RefusedExpression};
 use std::alloc::{AllocError, Global};
 use std::ops::Range;
 
@@ -16,10 +16,14 @@ fn characters_before(text: &str, byte: usize) -> usize {
 }
 
 /// A refused text, and the part of it that is at fault.
-fn expression(alloc: Global, text: &str, bytes: &Range<usize>) -> Result<Expression, AllocError> {
-    Ok(Expression {
+fn expression(
+    alloc: Global,
+    text: &str,
+    bytes: &Range<usize>,
+) -> Result<RefusedExpression, AllocError> {
+    Ok(RefusedExpression {
         text: String::from_str(alloc, text)?,
-        span: Some(Span {
+        span: Some(CharSpan {
             from: characters_before(text, bytes.start),
             to: characters_before(text, bytes.end),
         }),

@@ -3,7 +3,7 @@ use crate::findings::{SourceAt, finding, finding_at};
 use crate::paths::path_text;
 use nextest_places::Step;
 use rinqebo_files::{Layer, path_place};
-use rinqebo_report::{Finding, Level, Place};
+use rinqebo_report::{FilePlace, Finding, Level};
 use std::alloc::{AllocError, Global};
 
 /// What is refused: the source, and the name of what is wrong. Findings go behind the others.
@@ -32,7 +32,7 @@ impl Refused<'_, '_> {
         let text = path_text(alloc, path)?;
         let message = format!(in alloc; "{text}: {wrong}")?;
         let mut found = finding_at(alloc, Level::Error, self.code, self.source, path, message)?;
-        if let Some(Place { lines: None, .. }) = found.place {
+        if let Some(FilePlace { lines: None, .. }) = found.place {
             if let Some(place) = highest_place(self.source.layers, path) {
                 found.place = Some(place);
             }
@@ -65,7 +65,7 @@ impl Refused<'_, '_> {
 }
 
 /// The place of a path in the highest layer that writes it.
-fn highest_place(layers: &[Layer], path: &[Step<'_>]) -> Option<Place> {
+fn highest_place(layers: &[Layer], path: &[Step<'_>]) -> Option<FilePlace> {
     for (source, _layer) in layers.iter().enumerate().rev() {
         let place = path_place(layers, source, path);
         if place.lines.is_some() {
