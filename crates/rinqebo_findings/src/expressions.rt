@@ -1,6 +1,6 @@
 //! Filters and platforms that are refused, with the part that is wrong.
 use crate::refused::Refused;
-use filter_engine::{FaultKind, fault_words};
+use filter_engine::FaultKind;
 use nextest_config::{
     ConfigCompileError, ConfigCompileErrorKind, ConfigCompileSection, Refusal, Tree,
 };
@@ -32,7 +32,7 @@ fn expression(
 
 /// What to do about a refused filter, where that is not plain.
 fn filter_help(label: &str) -> Option<&'static str> {
-    if label == fault_words(FaultKind::NoPackageGraph) {
+    if label == FaultKind::NoPackageGraph.label() {
         return Some(
             "pass `--metadata F`, where F has what `cargo metadata --format-version 1` prints",
         );
