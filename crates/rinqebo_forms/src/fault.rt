@@ -109,7 +109,7 @@ impl fmt::Display for ExpectedValue {
 #[derive(Clone, Copy, Debug, PartialEq, Eq, Drop, Error)]
 pub enum RequestFault {
     /// The text isn't JSON.
-    #[error("the request is no JSON")]
+    #[error("the request is not valid JSON")]
     NotJson,
     /// The value at the path isn't the one that is wanted, or is missing.
     #[error("expected {0} at `{1}`")]
