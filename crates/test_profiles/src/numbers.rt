@@ -1,13 +1,13 @@
 //! The rules whose filters are evaluated for tests and binaries.
-use crate::case::Case;
 use crate::lines::Lines;
 use crate::run::Profile;
+use crate::setup::Setup;
 use nextest_config::{BinaryQuery, NextestRunMode, TestQuery};
 use toy_engines::filters::ToyTally;
 
 /// Adds the numbers of the rules whose filters are evaluated for each test, in both modes, and for
 /// each binary.
-pub fn add_numbers(lines: &mut Lines<'_>, case: &Case<'_>, profile: &Profile<'_>) {
+pub fn add_numbers(lines: &mut Lines<'_>, case: &Setup<'_>, profile: &Profile<'_>) {
     for test in &case.tests {
         add_numbers_of_test(lines, profile, test);
     }

@@ -1,5 +1,5 @@
 //! One run: a case, and the profile that is asked.
-use crate::case::Case;
+use crate::setup::Setup;
 use nextest_config::{
     BuildPlatforms, ConfigExperimental, ConfigFileSelection, EarlyProfile, EvaluatableProfile,
     NextestConfig, ParseContext,
@@ -25,7 +25,7 @@ pub const ENGINES: ParseContext<'static, ToyFilters, ToySpecs> = ParseContext {
 #[derive(Drop)]
 pub struct Run<'a> {
     pub alloc: Global,
-    pub case: &'a Case<'a>,
+    pub case: &'a Setup<'a>,
     pub profile: &'a str,
     pub features: &'a BTreeSet<ConfigExperimental>,
     pub platforms: &'a BuildPlatforms<String>,
@@ -51,7 +51,7 @@ pub fn all_features(alloc: Global) -> Result<BTreeSet<ConfigExperimental>, Alloc
 }
 
 /// The platforms of a case's build.
-pub fn platforms_of(alloc: Global, case: &Case<'_>) -> Result<BuildPlatforms<String>, AllocError> {
+pub fn platforms_of(alloc: Global, case: &Setup<'_>) -> Result<BuildPlatforms<String>, AllocError> {
     let mut platforms = BuildPlatforms {
         host: String::from_str(alloc, case.host)?,
         target: None,
