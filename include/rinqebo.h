@@ -26,9 +26,9 @@ enum rinqebo_status {
     RINQEBO_DONE = 0,           // the call did what it is for
     RINQEBO_REFUSED = 1,        // the configuration is refused
     RINQEBO_SMALL = 2,          // the buffer is too small: it is left as it was, and *needed says what it takes
-    RINQEBO_NOT_TEXT = 3,       // bytes are no UTF-8
+    RINQEBO_NOT_TEXT = 3,       // bytes are not valid UTF-8
     RINQEBO_MEMORY = 4,         // malloc gave nothing
-    RINQEBO_NOT_UNDERSTOOD = 5, // the request is no JSON, or not of its form
+    RINQEBO_NOT_UNDERSTOOD = 5, // the request is not valid JSON, or not of its form
     RINQEBO_NO_ENGINES = 6,     // the metadata, a machine or the list of tests of the request is not understood
     RINQEBO_NO_PROFILE = 7,     // there is no such profile
     RINQEBO_NOT_LOADED = 8,     // the session holds no configuration
@@ -71,7 +71,7 @@ size_t rinqebo_session_size(void);
 // where a FILE is {"path": TEXT, "outcome": WORD, "text": TEXT or null}: what came of reading it, with the word
 //   "text"                           its text
 //   "not-found", "not-a-directory"   null: there is none, or a part of its path is no directory
-//   "failed"                         a message: anything else, as bytes that are no UTF-8
+//   "failed"                         a message: anything else, as bytes that are not valid UTF-8
 // The repository's file is "config-file", which a user named, and else "file", which alone may be missing. The file
 // of an organisation, "organisation-config-file", lies between those of tools and the repository's.
 // Its status is DONE, REFUSED, NOT_TEXT, MEMORY, NOT_UNDERSTOOD or NO_ENGINES.

@@ -165,7 +165,7 @@ static int check_run(void) {
     if (!ends_with(RUN_REQUEST("", "cj", LIST), RINQEBO_NO_PROFILE, "cj")) return 52;
     if (!ends_with(RUN_REQUEST("", "ci", "{}"), RINQEBO_NO_ENGINES, "rust-suites")) return 53;
     if (!ends_with("{}", RINQEBO_NOT_UNDERSTOOD, "`profile`")) return 54;
-    if (!ends_with("", RINQEBO_NOT_UNDERSTOOD, "no JSON")) return 55;
+    if (!ends_with("", RINQEBO_NOT_UNDERSTOOD, "not valid JSON")) return 55;
     if (!ends_with("\xff", RINQEBO_NOT_TEXT, "")) return 56;
     uint8_t answer[4] = {'w', 'x', 'y', 'z'};
     size_t needed = 0;

@@ -16,7 +16,7 @@ pub enum Error {
     NoProfile(Refusal),
     /// Memory was refused.
     Memory,
-    /// The request is no UTF-8.
+    /// The request is not valid UTF-8.
     NotText,
     /// A number that this version does not know.
     Unknown(u32),
@@ -44,7 +44,7 @@ impl fmt::Display for Error {
             Error::NotUnderstood(reason) => write!(f, "the request is not understood: {reason}"),
             Error::NoEngines(reason) => write!(f, "metadata, machines or tests are not understood: {reason}"),
             Error::NoProfile(refusal) => f.write_str(&refusal.reason),
-            Error::NotText => f.write_str("the request is no UTF-8"),
+            Error::NotText => f.write_str("the request is not valid UTF-8"),
             Error::Memory => f.write_str("out of memory"),
             Error::Unknown(status) => write!(f, "status {status}"),
         }

@@ -144,7 +144,7 @@ fn refusals_tell_why() {
     assert_eq!(unknown, Error::NoEngines("platform `no-such-triple`: unknown target triple".to_owned()));
     let mut sources = Sources::of_file("/w", "", TRIPLE);
     sources.metadata = Some("{".to_owned());
-    assert_eq!(Config::load(&sources).err(), Some(Error::NoEngines("the metadata is no JSON".to_owned())));
+    assert_eq!(Config::load(&sources).err(), Some(Error::NoEngines("the metadata is not valid JSON".to_owned())));
     let missing = config().profile("cj").err().unwrap();
     let told = matches!(&missing, Error::NoProfile(refusal) if refusal.reason.contains("`cj` not found"));
     assert!(told, "{missing}");
@@ -284,7 +284,7 @@ fn an_outcome_goes_with_its_text() {
         // The word is read first.
         assert_eq!(told("found", json!(7)), format!("expected {words} at `{place}.outcome`"));
         for outcome in ["text", "failed"] {
-            assert_eq!(told(outcome, json!(null)), format!("expected a text at `{place}.text`"));
+            assert_eq!(told(outcome, json!(null)), format!("expected a string at `{place}.text`"));
         }
         for outcome in ["not-found", "not-a-directory"] {
             assert_eq!(told(outcome, json!("")), format!("expected null at `{place}.text`"));
@@ -389,11 +389,11 @@ fn files_are_as_the_disk_has_them() {
 
 #[test]
 fn bytes_that_are_no_request() {
-    assert_eq!(Config::from_json(b"").err(), Some(Error::NotUnderstood("the request is no JSON".to_owned())));
-    assert_eq!(Config::from_json(b"{").err(), Some(Error::NotUnderstood("the request is no JSON".to_owned())));
+    assert_eq!(Config::from_json(b"").err(), Some(Error::NotUnderstood("the request is not valid JSON".to_owned())));
+    assert_eq!(Config::from_json(b"{").err(), Some(Error::NotUnderstood("the request is not valid JSON".to_owned())));
     assert_eq!(Config::from_json(b"\xff").err(), Some(Error::NotText));
     for bytes in [b"".as_slice(), b"{", b"[1", b"\x00"] {
-        assert_eq!(resolve_json(bytes).err(), Some(Error::NotUnderstood("the request is no JSON".to_owned())));
+        assert_eq!(resolve_json(bytes).err(), Some(Error::NotUnderstood("the request is not valid JSON".to_owned())));
     }
     assert_eq!(resolve_json(b"\xff\xfe").err(), Some(Error::NotText));
     assert_eq!(place_of(resolve_json(b"7").err()), "profile");
@@ -513,7 +513,7 @@ fn a_run_without_engines_says_which() {
     let list = example("list.json");
     let reason = "platform `no-such-triple`: unknown target triple";
     assert_eq!(ask("no-such-triple", None, &list), Error::NoEngines(reason.to_owned()));
-    assert_eq!(ask(TRIPLE, Some("{"), &list), Error::NoEngines("the metadata is no JSON".to_owned()));
+    assert_eq!(ask(TRIPLE, Some("{"), &list), Error::NoEngines("the metadata is not valid JSON".to_owned()));
     let Error::NoEngines(reason) = ask(TRIPLE, None, "{}") else { panic!("it is no list") };
     assert!(reason.starts_with("no list of tests in `list`: ") && reason.contains("rust-suites"), "{reason}");
 }

@@ -9,7 +9,6 @@ ghost use Rattle.filter_engine.specs.Engine.{Filter, read_filter, everything, fi
 ghost use Rattle.filter_engine.specs.Refusals.{IsSpanOf, Says, SaysFirstFault};
 
 use crate::compiling::FieldMatcher;
-use crate::words::fault_words;
 use filter_language::{Filterset, FiltersetFault, ParseFault};
 use filter_packages::PackageGraph;
 use nextest_engines::history::RuleHistory;
@@ -70,7 +69,7 @@ fn span_of(alloc: Global, fault: FiltersetFault) -> Result<LabeledSpan, AllocErr
     let start = fault.span.start;
     Ok(LabeledSpan {
         bytes: start..start + fault.span.length,
-        label: String::from_str(alloc, fault_words(fault.kind))?,
+        label: String::from_str(alloc, fault.kind.label())?,
     })
 }
 

@@ -8,7 +8,6 @@
 mod compiling;
 mod engine;
 mod names;
-mod words;
 
 pub use compiling::FieldMatcher;
 pub use engine::{NextestFilters, NextestTally};
@@ -17,4 +16,3 @@ pub use filter_language::{
 };
 pub use filter_packages::{MetadataFault, PackageGraph};
 pub use names::NamePattern;
-pub use words::fault_words;

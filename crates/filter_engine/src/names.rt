@@ -6,21 +6,21 @@ ghost use Rattle.filter_matchers.specs.Matches.{question_of};
 ghost use Rattle.filter_engine.specs.Names.{question_in, regex_question, glob_question, asks};
 
 use filter_language::{PatternFault, Sign};
-use filter_matchers::{GlobFault, NameMatcher, RegexFault};
+use filter_matchers::{GlobFault, PatternMatcher, RegexFault};
 use nextest_engines::NameMatcher as NameTest;
 use std::alloc::{AllocError, Global};
 
 /// What a predicate asks of a name.
 #[derive(Drop)]
 pub struct NamePattern {
-    matcher: NameMatcher,
+    matcher: PatternMatcher,
 }
 
 /// Asks for a name that is this text.
 fn equal(alloc: Global, text: &str) -> Result<NamePattern, AllocError>
     ensures { IfOk result (λ pattern. question_of pattern.matcher ≡ asked.equal text.now) }
 {
-    let matcher = NameMatcher::equal(alloc, text)?;
+    let matcher = PatternMatcher::equal(alloc, text)?;
     Ok(NamePattern { matcher })
 }
 
@@ -28,7 +28,7 @@ fn equal(alloc: Global, text: &str) -> Result<NamePattern, AllocError>
 fn contains(alloc: Global, text: &str) -> Result<NamePattern, AllocError>
     ensures { IfOk result (λ pattern. question_of pattern.matcher ≡ asked.contains text.now) }
 {
-    let matcher = NameMatcher::contains(alloc, text)?;
+    let matcher = PatternMatcher::contains(alloc, text)?;
     Ok(NamePattern { matcher })
 }
 
@@ -38,7 +38,7 @@ fn glob(alloc: Global, text: &str) -> Result<Result<NamePattern, PatternFault>, 
     ensures { IfOk result (λ found. result_map_both (λ p. question_of p.matcher) (λ f. f) found
         ≡ glob_question text.now) }
 {
-    match NameMatcher::glob(alloc, text) {
+    match PatternMatcher::glob(alloc, text) {
         Ok(matcher) => Ok(Ok(NamePattern { matcher })),
         Err(GlobFault::Malformed) => Ok(Err(PatternFault::Malformed)),
         Err(GlobFault::TooLarge) => Ok(Err(PatternFault::TooLarge)),
@@ -52,7 +52,7 @@ fn regex(alloc: Global, text: &str) -> Result<Result<NamePattern, PatternFault>,
     ensures { IfOk result (λ found. result_map_both (λ p. question_of p.matcher) (λ f. f) found
         ≡ regex_question text.now) }
 {
-    match NameMatcher::regex(alloc, text) {
+    match PatternMatcher::regex(alloc, text) {
         Ok(matcher) => Ok(Ok(NamePattern { matcher })),
         Err(RegexFault::Malformed) => Ok(Err(PatternFault::Malformed)),
         Err(RegexFault::TooLarge) => Ok(Err(PatternFault::TooLarge)),

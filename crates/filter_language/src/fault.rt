@@ -211,8 +211,8 @@ impl FaultKind {
         }
     }
 
-    /// What would be right.
-    fn label(self) -> &'static str
+    /// Why a text is refused, in a few words: the label of its span.
+    pub fn label(self) -> &'static str
         ensures { result.now ≡ label self }
     {
         match self {

@@ -72,7 +72,7 @@ fn last_joint<M>(marks: &[Mark<M>], is_or: bool) -> Option<usize>
             Mark::Close => open = open.saturating_sub(1),
             Mark::Or if open == 0 && is_or => last = Some(place),
             Mark::And | Mark::Minus if open == 0 && !is_or => last = Some(place),
-            _ => {}
+            Mark::Predicate(_) | Mark::Not | Mark::And | Mark::Or | Mark::Minus => {}
         }
     }
     last

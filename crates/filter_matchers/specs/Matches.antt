@@ -3,8 +3,8 @@ use Rattle.std.specs.Prelude.{◌≡◌, ℕ, List, string_bytes}
 use Rattle.std.specs.Str.Iter.{HasSubslice}
 use Rattle.filter_matchers.specs.Globs.{GlobMatches}
 use Rattle.filter_matchers.specs.RegexTexts.{RegexMatches}
-use Rattle.filter_matchers.specs.declared.name_matcher.NameMatcher.{NameMatcher}
-use Rattle.filter_matchers.specs.declared.name_matcher.NameMatcher.TheVariants.{Equal, Contains, Glob, Regex}
+use Rattle.filter_matchers.specs.declared.name_matcher.PatternMatcher.{PatternMatcher}
+use Rattle.filter_matchers.specs.declared.name_matcher.PatternMatcher.TheVariants.{Equal, Contains, Glob, Regex}
 
 -- What is asked of a name: to equal a text, to have it as a part, that a glob takes it, or that a
 -- regular expression has a match in it.
@@ -22,7 +22,7 @@ Matches (glob text) name = GlobMatches text name
 Matches (regex text) name = RegexMatches text name
 
 -- what a matcher asks
-abbrev pub question_of : NameMatcher → NameQuestion
+abbrev pub question_of : PatternMatcher → NameQuestion
 question_of (Equal text) = equal (string_bytes text)
 question_of (Contains text) = contains text
 question_of (Glob text) = glob text

@@ -15,7 +15,7 @@ use std::alloc::{AllocError, Global};
 
 /// What a filter asks of a name.
 #[derive(Drop)]
-pub enum NameMatcher {
+pub enum PatternMatcher {
     /// The name is this text.
     Equal(String),
     /// The text is a part of the name.
@@ -26,19 +26,19 @@ pub enum NameMatcher {
     Regex(RegexMatcher),
 }
 
-impl NameMatcher {
+impl PatternMatcher {
     /// Asks for a name that is this text.
-    pub fn equal(alloc: Global, text: &str) -> Result<NameMatcher, AllocError>
+    pub fn equal(alloc: Global, text: &str) -> Result<PatternMatcher, AllocError>
         ensures { IfOk result (λ matcher. question_of matcher ≡ asked.equal text.now) }
     {
-        Ok(NameMatcher::Equal(String::from_str(alloc, text)?))
+        Ok(PatternMatcher::Equal(String::from_str(alloc, text)?))
     }
 
     /// Asks for a name of which this text is a part.
-    pub fn contains(alloc: Global, text: &str) -> Result<NameMatcher, AllocError>
+    pub fn contains(alloc: Global, text: &str) -> Result<PatternMatcher, AllocError>
         ensures { IfOk result (λ matcher. question_of matcher ≡ asked.contains text.now) }
     {
-        Ok(NameMatcher::Contains(PartMatcher::new(alloc, text)?))
+        Ok(PatternMatcher::Contains(PartMatcher::new(alloc, text)?))
     }
 
     /// Asks for a name that the glob of this text takes.
@@ -47,7 +47,7 @@ impl NameMatcher {
     ///
     /// [`GlobFault::Malformed`] where the text writes no glob, [`GlobFault::TooLarge`] where its
     /// automaton may take more than 16,384 states, and [`GlobFault::Memory`] where memory ran out.
-    pub fn glob(alloc: Global, text: &str) -> Result<NameMatcher, GlobFault>
+    pub fn glob(alloc: Global, text: &str) -> Result<PatternMatcher, GlobFault>
         ensures asks { IfOk result (λ matcher. question_of matcher ≡ asked.glob text.now) }
         ensures written { OnOk result (IsGlob text.now) }
         ensures small { OnOk result (glob_size text.now ≤ most_states) }
@@ -55,7 +55,7 @@ impl NameMatcher {
         ensures large { result ≡ Err GlobFault.TooLarge
             → IsGlob text.now × (most_states < glob_size text.now) }
     {
-        Ok(NameMatcher::Glob(GlobMatcher::parse(alloc, text)?))
+        Ok(PatternMatcher::Glob(GlobMatcher::parse(alloc, text)?))
     }
 
     /// Asks for a name in which the regular expression of this text has a match.
@@ -65,7 +65,7 @@ impl NameMatcher {
     /// [`RegexFault::Malformed`] where the text writes no regular expression,
     /// [`RegexFault::TooLarge`] where its automaton may take more than 16,384 states, and
     /// [`RegexFault::Memory`] where memory ran out.
-    pub fn regex(alloc: Global, text: &str) -> Result<NameMatcher, RegexFault>
+    pub fn regex(alloc: Global, text: &str) -> Result<PatternMatcher, RegexFault>
         ensures asks { IfOk result (λ matcher. question_of matcher ≡ asked.regex text.now) }
         ensures written { OnOk result (IsRegex text.now) }
         ensures small { OnOk result (regex_size text.now ≤ most_states) }
@@ -73,7 +73,7 @@ impl NameMatcher {
         ensures large { result ≡ Err RegexFault.TooLarge
             → IsRegex text.now × (most_states < regex_size text.now) }
     {
-        Ok(NameMatcher::Regex(RegexMatcher::parse(alloc, text)?))
+        Ok(PatternMatcher::Regex(RegexMatcher::parse(alloc, text)?))
     }
 
     /// Whether a name has what is asked.
@@ -81,10 +81,10 @@ impl NameMatcher {
         ensures { IsTrue result ↔ Matches (question_of self.now) name.now }
     {
         match self {
-            NameMatcher::Equal(text) => text.as_str() == name,
-            NameMatcher::Contains(part) => part.has_match(name),
-            NameMatcher::Glob(glob) => glob.has_match(name),
-            NameMatcher::Regex(regex) => regex.has_match(name),
+            PatternMatcher::Equal(text) => text.as_str() == name,
+            PatternMatcher::Contains(part) => part.has_match(name),
+            PatternMatcher::Glob(glob) => glob.has_match(name),
+            PatternMatcher::Regex(regex) => regex.has_match(name),
         }
     }
 }

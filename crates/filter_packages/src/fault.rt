@@ -53,7 +53,7 @@ impl fmt::Display for Place {
 #[derive(Clone, Copy, Debug, PartialEq, Eq, Drop, Error)]
 pub enum MetadataFault {
     /// The text isn't JSON.
-    #[error("the metadata is no JSON")]
+    #[error("the metadata is not valid JSON")]
     NotJson,
     /// The value at the path isn't of the type that is wanted, or is missing.
     #[error("expected {0} at `{1}`")]

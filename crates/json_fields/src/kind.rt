@@ -50,8 +50,8 @@ impl fmt::Display for Kind {
             Kind::Null => "`null`",
             Kind::Boolean => "a boolean",
             Kind::Number => "a number",
-            Kind::Text => "a text",
-            Kind::List => "a list",
+            Kind::Text => "a string",
+            Kind::List => "an array",
             Kind::Object => "an object",
         })
     }
@@ -81,9 +81,9 @@ impl fmt::Display for Wanted {
         f.write_str(match self {
             Wanted::Null => "null",
             Wanted::Flag => "true or false",
-            Wanted::Text => "a text",
-            Wanted::TextOrNull => "a text or null",
-            Wanted::List => "a list",
+            Wanted::Text => "a string",
+            Wanted::TextOrNull => "a string or null",
+            Wanted::List => "an array",
             Wanted::Object => "an object",
             Wanted::ObjectOrNull => "an object or null",
         })

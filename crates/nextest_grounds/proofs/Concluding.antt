@@ -166,14 +166,14 @@ module _ (ls : List (Option (Bor Tree))) (keys : List (List ℕ)) (wh : Bool) wh
   abbrev One : Path → Region × ℕ → Option Leaf → Type 0
   One = IsFound (layers_view ls) keys wh
 
-  abbrev Entry : Path → Region × ℕ → Leaf → Type 0
-  Entry = IsEntry (layers_view ls) keys wh
+  abbrev LayerLeaf : Path → Region × ℕ → Leaf → Type 0
+  LayerLeaf = IsEntry (layers_view ls) keys wh
 
-  own : (p : Path) (w : Region × ℕ) (leaf : Leaf) → One p w (Some leaf) → Entry p w leaf
+  own : (p : Path) (w : Region × ℕ) (leaf : Leaf) → One p w (Some leaf) → LayerLeaf p w leaf
   own p w leaf is = is
 
   -- an entry is found
-  found_at : (p : Path) (w : Region × ℕ) (leaf : Leaf) → Entry p w leaf → (o : Option Leaf) (os : List (Option Leaf))
+  found_at : (p : Path) (w : Region × ℕ) (leaf : Leaf) → LayerLeaf p w leaf → (o : Option Leaf) (os : List (Option Leaf))
       → One p w o → In leaf (somes (o ∷ os))
   found_at p w leaf entry None os none = absurd (none leaf entry)
   found_at p w leaf entry (Some l) os is = here_at leaf l (somes os) (one_entry ls p w keys wh leaf l entry is)
@@ -182,7 +182,7 @@ module _ (ls : List (Option (Bor Tree))) (keys : List (List ℕ)) (wh : Bool) wh
   behind leaf None os i = i
   behind leaf (Some l) os i = there i
 
-  found_in : (p : Path) (w : Region × ℕ) (leaf : Leaf) → Entry p w leaf → (ws : List (Region × ℕ))
+  found_in : (p : Path) (w : Region × ℕ) (leaf : Leaf) → LayerLeaf p w leaf → (ws : List (Region × ℕ))
       (os : List (Option Leaf)) → AllZip (One p) ws os → In w ws → In leaf (somes os)
   found_in p w leaf entry [] os all i = elim i [ ]
   found_in p w leaf entry (v ∷ ws) [] all i = absurd all
@@ -196,7 +196,7 @@ module _ (ls : List (Option (Bor Tree))) (keys : List (List ℕ)) (wh : Bool) wh
     writer : Region × ℕ
     in_paths : In path ps
     in_writers : In writer ws
-    entry : Entry path writer leaf
+    entry : LayerLeaf path writer leaf
 
   placed : (ws : List (Region × ℕ)) (qs : List Path) (leaves : List Leaf) → AreAllFound One ws qs leaves
       → (leaf : Leaf) → In leaf leaves → Placed qs ws leaf
@@ -213,12 +213,12 @@ module _ (ls : List (Option (Bor Tree))) (keys : List (List ℕ)) (wh : Bool) wh
               entry = b.entry;
             }
         | inr at ↦
-            let (w, is_one, entry) = some_writer (One p) (Entry p) (own p) ws adds.found adds.each leaf at in
+            let (w, is_one, entry) = some_writer (One p) (LayerLeaf p) (own p) ws adds.found adds.each leaf at in
             record { path = p; writer = w; in_paths = in_back p ps (p ∷ []) here; in_writers = is_one; entry = entry }
       ]
 
   complete : (ws : List (Region × ℕ)) (qs : List Path) (leaves : List Leaf) → AreAllFound One ws qs leaves
-      → (q : Path) (w : Region × ℕ) (leaf : Leaf) → In q qs → In w ws → Entry q w leaf → In leaf leaves
+      → (q : Path) (w : Region × ℕ) (leaf : Leaf) → In q qs → In w ws → LayerLeaf q w leaf → In leaf leaves
   complete ws l ms at_none q w leaf i at entry = elim i [ ]
   complete ws l ms (at_more {ps = ps} {p = p} {old = old} {new = new} rest adds) q w leaf i at entry =
       let Q : List Leaf → Type 0 = In leaf in
@@ -226,16 +226,16 @@ module _ (ls : List (Option (Bor Tree))) (keys : List (List ℕ)) (wh : Bool) wh
         | inl before ↦ in_front leaf old (somes adds.found) (complete ws ps old rest q w leaf before at entry)
         | inr last ↦
             in_back leaf old (somes adds.found)
-            (found_in p w leaf (subst (λ r. Entry r w leaf) (only q p last) entry) ws adds.found adds.each at)
+            (found_in p w leaf (subst (λ r. LayerLeaf r w leaf) (only q p last) entry) ws adds.found adds.each at)
       ])
 
   -- two entries in their order
-  in_order : (p q : Path) (v w : Region × ℕ) (a b : Leaf) → Entry p v a → Entry q w b
+  in_order : (p q : Path) (v w : Region × ℕ) (a b : Leaf) → LayerLeaf p v a → LayerLeaf q w b
       → ordering_then (path_cmp p q) (writer_cmp v w) ≡ Less → leaf_cmp a b ≡ Less
   in_order p q v w a b x y less =
       rw (x.at.path, y.at.path, x.at.region, y.at.region, x.at.layer, y.at.layer) less
 
-  later : (p : Path) (v : Region × ℕ) (a : Leaf) → Entry p v a → (ws : List (Region × ℕ)) (os : List (Option Leaf))
+  later : (p : Path) (v : Region × ℕ) (a : Leaf) → LayerLeaf p v a → (ws : List (Region × ℕ)) (os : List (Option Leaf))
       → AllZip (One p) ws os → AllByRecursion (λ w. writer_cmp v w ≡ Less) ws
       → AllByRecursion (λ b. leaf_cmp a b ≡ Less) (somes os)
   later p v a x [] [] all less = tt
@@ -268,7 +268,7 @@ module _ (ls : List (Option (Bor Tree))) (keys : List (List ℕ)) (wh : Bool) wh
       (all_from (λ a. AllByRecursion (λ b. leaf_cmp a b ≡ Less) (somes adds.found)) old (λ a i.
       let x = placed ws ps old rest a i in
       all_from (λ b. leaf_cmp a b ≡ Less) (somes adds.found) (λ b j.
-      let (w, is_one, y) = some_writer (One p) (Entry p) (own p) ws adds.found adds.each b j in
+      let (w, is_one, y) = some_writer (One p) (LayerLeaf p) (own p) ws adds.found adds.each b j in
       in_order x.path p x.writer w a b x.entry y
       (ap (λ o. ordering_then o (writer_cmp x.writer w))
       (all_at (λ r. path_cmp r p ≡ Less) x.path ps below x.in_paths))))))

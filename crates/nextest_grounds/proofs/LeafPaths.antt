@@ -11,11 +11,11 @@ use Rattle.nextest_documents.specs.Shown.{Path, a_leaf, node_at}
 use Rattle.nextest_grounds.specs.Leaves.{leaf_paths, member_paths}
 use Rattle.nextest_grounds.proofs.Lists.{In, here, in_front, in_back, in_map}
 
-abbrev pub Entry : Type 0
-Entry = String Global × Tree
+abbrev pub LayerLeaf : Type 0
+LayerLeaf = String Global × Tree
 
 -- the leaves of one entry more
-pub member_paths-last : (done : List Entry) (e : Entry)
+pub member_paths-last : (done : List LayerLeaf) (e : LayerLeaf)
     → member_paths (entries_view (done ++ e ∷ []))
     ≡ member_paths (entries_view done) ++ map (λ p. string_bytes e.0 ∷ p) (leaf_paths (tree_view e.1))
 member_paths-last [] e = append-nil (map (λ p. string_bytes e.0 ∷ p) (leaf_paths (tree_view e.1)))
@@ -34,7 +34,7 @@ behind front k (p ∷ ps) =
     ∙ ap (λ qs. (front ++ k ∷ p) ∷ qs) (behind front k ps)
 
 -- the paths so far with those of one entry more
-pub one_more : (front longer : Path) (e : Entry) (done : List Entry) (old so_far new : List Path)
+pub one_more : (front longer : Path) (e : LayerLeaf) (done : List LayerLeaf) (old so_far new : List Path)
     → longer ≡ front ++ string_bytes e.0 ∷ []
     → so_far ≡ old ++ map (λ p. front ++ p) (member_paths (entries_view done))
     → new ≡ so_far ++ map (λ p. longer ++ p) (leaf_paths (tree_view e.1))

@@ -11,7 +11,7 @@ use Rattle.nextest_documents.specs.Shown.{Path, a_leaf, node_at}
 use Rattle.nextest_grounds.specs.Grounds.{Writes}
 use Rattle.nextest_grounds.specs.Layers.{IsShownBy, keys_view}
 use Rattle.nextest_grounds.specs.Sections.{Region, section_view, base_path, nearer_than, regions, region_cmp, is_told, value_path}
-use Rattle.nextest_grounds.specs.declared.entries.Entry.{Entry}
+use Rattle.nextest_grounds.specs.declared.entries.LayerLeaf.{LayerLeaf}
 
 -- keys with a dot between each two
 abbrev pub dotted : Path → List ℕ
@@ -37,7 +37,7 @@ pub record Leaf : Type 0 where
   pub layer : ℕ
   pub hidden : Bool
 
-abbrev pub leaf_view : Entry → Leaf
+abbrev pub leaf_view : LayerLeaf → Leaf
 leaf_view entry = record {
   path = keys_view entry.path.items;
   value = tree_view entry.value.now;

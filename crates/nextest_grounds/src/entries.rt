@@ -24,7 +24,7 @@ use std::collections::BTreeSet;
 
 /// A leaf that a layer writes.
 #[derive(Drop)]
-pub struct Entry<'t> {
+pub struct LayerLeaf<'t> {
     /// The keys that lead to it, from the table of its profile on, or of a table beside the
     /// profiles from the root on.
     pub path: Vec<&'t str>,
@@ -227,7 +227,7 @@ fn entry_of<'t>(
     query: Query<'t>,
     writer: Writer<'t>,
     path: &[&'t str],
-) -> Result<Option<Entry<'t>>, AllocError>
+) -> Result<Option<LayerLeaf<'t>>, AllocError>
     ensures { IfOk result (λ found. IsFound (layers_view query.entry.layers.now)
         (keys_view query.entry.keys.now) query.entry.with_hidden (keys_view path.now)
         (writer_view writer.entry) (option_map leaf_view found)) }
@@ -242,7 +242,7 @@ fn entry_of<'t>(
     if is_hidden && !query.with_hidden {
         return Ok(None);
     }
-    Ok(Some(Entry {
+    Ok(Some(LayerLeaf {
         path: Vec::from_slice(alloc, path)?,
         value,
         section: writer.section,
@@ -257,7 +257,7 @@ fn add_entries<'t>(
     query: Query<'t>,
     writers: &[Writer<'t>],
     path: &[&'t str],
-    entries: &mut Vec<Entry<'t>>,
+    entries: &mut Vec<LayerLeaf<'t>>,
 ) -> Result<(), AllocError>
     ensures { OnOk result (AddsFound (IsFound (layers_view query.entry.layers.now)
         (keys_view query.entry.keys.now) query.entry.with_hidden (keys_view path.now))
@@ -278,7 +278,7 @@ fn entries_at<'t>(
     query: Query<'t>,
     writers: &[Writer<'t>],
     paths: &BTreeSet<Vec<&'t str>>,
-) -> Result<Vec<Entry<'t>>, AllocError>
+) -> Result<Vec<LayerLeaf<'t>>, AllocError>
     ensures found { IfOk result (λ entries. AreAllFound
         (IsFound (layers_view query.entry.layers.now) (keys_view query.entry.keys.now)
         query.entry.with_hidden) (map writer_view writers.now) (paths_view paths.now.keys)
@@ -305,7 +305,7 @@ pub fn entries_of<'t>(
     chain: &'t [&'t str],
     keys: &'t [&'t str],
     with_hidden: bool,
-) -> Result<Vec<Entry<'t>>, AllocError>
+) -> Result<Vec<LayerLeaf<'t>>, AllocError>
     ensures { IfOk result (λ entries. AreEntries (layers_view layers.entry.now)
         (keys_view chain.entry.now) (keys_view keys.entry.now) with_hidden
         (map leaf_view entries.items)) }

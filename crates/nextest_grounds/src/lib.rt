@@ -13,7 +13,7 @@ mod leaves;
 mod section;
 mod spelling;
 
-pub use entries::{Entry, entries_of};
+pub use entries::{LayerLeaf, entries_of};
 pub use grounds::{Grounds, grounds_of};
 pub use layer::layer_of;
 pub use section::Section;

@@ -8,7 +8,7 @@ use thiserror::Error;
 #[derive(Debug, Drop, Error)]
 pub enum ListFault {
     /// The text isn't JSON.
-    #[error("line {line}, column {column}: no JSON")]
+    #[error("line {line}, column {column}: not valid JSON")]
     NotJson {
         /// The line of the first error, from 1.
         line: usize,

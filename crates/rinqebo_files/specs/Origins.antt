@@ -13,8 +13,8 @@ use Rattle.nextest_spans.specs.declared.position.ColumnUnit.TheVariants.{Char}
 use Rattle.nextest_spans.specs.declared.position.Position.{Position}
 use Rattle.nextest_spans.specs.declared.token.Span.{Span}
 use Rattle.nextest_sources.specs.Sources.{Source, SourceKind, tool_file, organisation_file, explicit_file, discovered_file}
-use Rattle.rinqebo_report.specs.declared.origin.Lines.{Lines as ReportedLines}
-use Rattle.rinqebo_report.specs.declared.origin.Place.{Place}
+use Rattle.rinqebo_report.specs.declared.origin.FileLines.{FileLines}
+use Rattle.rinqebo_report.specs.declared.origin.FilePlace.{FilePlace}
 use Rattle.rinqebo_report.specs.declared.origin.Position.{Position as ReportedPosition}
 use Rattle.rinqebo_report.specs.declared.origin.Range.{Range}
 use Rattle.rinqebo_report.specs.declared.origin.Source.{Source as ReportedSource}
@@ -52,7 +52,7 @@ HasNoFile layers file = AllByRecursion (λ layer. reported_file layer.source ≢
 
 -- Lines are those that define the value at a path of a text: there are none without a text, and
 -- where the path has no place in it.
-abbrev pub AreLinesAt : Option (List ℕ) → List Step → Option ReportedLines → Type 0
+abbrev pub AreLinesAt : Option (List ℕ) → List Step → Option FileLines → Type 0
 AreLinesAt None path lines = lines ≡ None
 AreLinesAt (Some text) path None = HasNoPlace path text
 AreLinesAt (Some text) path (Some lines) =
@@ -90,18 +90,18 @@ IsRangeAt part (Some text) path range =
 -- A place is that of the value at a path of a text, or of its key: it has the source, the lines that
 -- define the value, and the range of the value or of the key.
 pub record IsPlaceIn (part : SpanPart) (text : Option (List ℕ)) (source : ℕ) (path : List Step)
-    (place : Place) : Type 0 where
+    (place : FilePlace) : Type 0 where
   pub source : place.source ≡ source
   pub lines : AreLinesAt text path place.lines
   pub range : IsRangeAt part text path place.range
 
 -- a place is that of the value at a path in the layer at a position, or of its key
-abbrev pub IsPartPlace : SpanPart → List Layer → ℕ → List Step → Place → Type 0
+abbrev pub IsPartPlace : SpanPart → List Layer → ℕ → List Step → FilePlace → Type 0
 IsPartPlace part layers position path place =
     IsPlaceIn part (option_and_then (λ layer. layer.places) (slice_get layers position)) position
     path place
 
 -- A place is that of a path in the layer at a position. Its range is that of the value, or else that
 -- of the key.
-abbrev pub IsPathPlace : List Layer → ℕ → List Step → Place → Type 0
+abbrev pub IsPathPlace : List Layer → ℕ → List Step → FilePlace → Type 0
 IsPathPlace layers position path place = IsPartPlace parts.Value layers position path place

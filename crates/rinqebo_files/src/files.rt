@@ -186,7 +186,7 @@ fn text_of(
     let reason = match outcome {
         ReadOutcome::Text(text) => return Ok(text),
         ReadOutcome::NotFound => String::from_str(alloc, "no such file")?,
-        ReadOutcome::NotADirectory => String::from_str(alloc, "a part of it is no folder")?,
+        ReadOutcome::NotADirectory => String::from_str(alloc, "a part of it is not a directory")?,
         ReadOutcome::Failed(message) => message,
     };
     let file = NamedFile::new(alloc, Some(path), option)?;

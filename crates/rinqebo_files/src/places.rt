@@ -1,13 +1,13 @@
 //! The places of the values at paths of files.
 ghost use Rattle.std.specs.Prelude.{◌≡◌, ◌+◌, ◌^◌, ◌<◌, Some};
 ghost use Rattle.std.specs.Str.{IsCharBoundary};
-ghost use Rattle.rinqebo_files.specs.Origins.{IsPartPlace, IsPathPlace, IsPlaceIn, part_span, range_of, reported_position};
+ghost use Rattle.rinqebo_files.specs.Origins.{IsPartPlace, IsPathPlace, IsPlaceIn, part_span, range_of};
 
 use crate::layers::Layer;
 use nextest_config::Tree;
 use nextest_places::Step;
-use nextest_spans::{PathSpan, PathSpans, Position as TextPosition, Span};
-use rinqebo_report::{Lines, Place, Position, Range};
+use nextest_spans::{PathSpan, PathSpans, Span};
+use rinqebo_report::{FileLines, FilePlace, Position, Range};
 use std::alloc::{AllocError, Global};
 use std::collections::BTreeMap;
 
@@ -32,14 +32,14 @@ impl SpanPart {
     }
 }
 
-/// A position, as it is reported: its line and its column from 1.
-fn reported(at: TextPosition) -> Position
-    requires { at.line + at.column + 1 < 2 ^ 64 }
-    ensures { result ≡ reported_position at }
+/// A position of a text, as it is reported: its line and its column from 1.
+fn reported(line: usize, column: usize) -> Position
+    requires { line + column + 1 < 2 ^ 64 }
+    ensures { result ≡ record { line = line + 1; column = column + 1 } }
 {
     Position {
-        line: at.line as u64 + 1,
-        column: at.column as u64 + 1,
+        line: line as u64 + 1,
+        column: column as u64 + 1,
     }
 }
 
@@ -49,21 +49,23 @@ fn range_of(spans: &PathSpans, span: Span) -> Range
     requires end { IsCharBoundary spans.now span.end }
     ensures { result ≡ range_of spans.now span }
 {
+    let start = spans.position_at(span.start);
+    let end = spans.position_at(span.end);
     Range {
-        start: reported(spans.position_at(span.start)),
-        end: reported(spans.position_at(span.end)),
+        start: reported(start.line, start.column),
+        end: reported(end.line, end.column),
     }
 }
 
 /// The place of the value at a path of a text, or of its key, in a source.
 #[tactic(auto, using(crate::proofs::Ranges::part_is_whole))]
-fn place_of_part(spans: &PathSpans, source: usize, path: &[Step], part: SpanPart) -> Place
+fn place_of_part(spans: &PathSpans, source: usize, path: &[Step], part: SpanPart) -> FilePlace
     ensures { IsPlaceIn part (Some spans.now) source path.now result }
 {
     let Some(found) = spans.at(path) else {
-        return Place::in_source(source);
+        return FilePlace::in_source(source);
     };
-    let lines = Lines {
+    let lines = FileLines {
         first: found.lines.first as u64,
         last: found.lines.last as u64,
     };
@@ -71,7 +73,7 @@ fn place_of_part(spans: &PathSpans, source: usize, path: &[Step], part: SpanPart
         Some(span) => Some(range_of(spans, span)),
         None => None,
     };
-    Place {
+    FilePlace {
         source,
         lines: Some(lines),
         range,
@@ -79,28 +81,28 @@ fn place_of_part(spans: &PathSpans, source: usize, path: &[Step], part: SpanPart
 }
 
 /// The place of the value at a path of a layer, or of its key, in a source.
-fn place_in(layer: &Layer, source: usize, path: &[Step], part: SpanPart) -> Place
+fn place_in(layer: &Layer, source: usize, path: &[Step], part: SpanPart) -> FilePlace
     ensures { IsPlaceIn part layer.now.places source path.now result }
 {
     match &layer.places {
         Some(spans) => place_of_part(spans, source, path, part),
-        None => Place::in_source(source),
+        None => FilePlace::in_source(source),
     }
 }
 
 /// The place of the value at a path, or of its key, in the layer at a position.
-pub fn part_place(layers: &[Layer], source: usize, path: &[Step], part: SpanPart) -> Place
+pub fn part_place(layers: &[Layer], source: usize, path: &[Step], part: SpanPart) -> FilePlace
     ensures { IsPartPlace part layers.now source path.now result }
 {
     match layers.get(source) {
         Some(layer) => place_in(layer, source, path, part),
-        None => Place::in_source(source),
+        None => FilePlace::in_source(source),
     }
 }
 
 /// The place of the value at a path in the layer at a position. Its range is the value's, or else
 /// the key's.
-pub fn path_place(layers: &[Layer], source: usize, path: &[Step]) -> Place
+pub fn path_place(layers: &[Layer], source: usize, path: &[Step]) -> FilePlace
     ensures { IsPathPlace layers.now source path.now result }
 {
     part_place(layers, source, path, SpanPart::Value)
@@ -213,7 +215,7 @@ fn ways_of<'t>(alloc: Global, tree: &'t Tree, path: &'t str) -> Result<Vec<Way<'
 }
 
 /// The one of two places in a source that begins on an earlier line.
-fn earlier(one: Place, other: Place) -> Place {
+fn earlier(one: FilePlace, other: FilePlace) -> FilePlace {
     match (one.lines, other.lines) {
         (Some(lines), Some(others)) if others.first < lines.first => other,
         (None, Some(_)) => other,
@@ -227,8 +229,8 @@ fn spelled_in(
     layer: &Layer,
     source: usize,
     path: &str,
-) -> Result<Place, AllocError> {
-    let mut place = Place::in_source(source);
+) -> Result<FilePlace, AllocError> {
+    let mut place = FilePlace::in_source(source);
     let Some(tree) = layer.tree() else {
         return Ok(place);
     };
@@ -246,10 +248,10 @@ pub fn spelled_place(
     layers: &[Layer],
     source: usize,
     path: &str,
-) -> Result<Place, AllocError> {
+) -> Result<FilePlace, AllocError> {
     match layers.get(source) {
         Some(layer) => spelled_in(alloc, layer, source, path),
-        None => Ok(Place::in_source(source)),
+        None => Ok(FilePlace::in_source(source)),
     }
 }
 
@@ -258,7 +260,7 @@ pub fn highest_place(
     alloc: Global,
     layers: &[Layer],
     path: &str,
-) -> Result<Option<Place>, AllocError> {
+) -> Result<Option<FilePlace>, AllocError> {
     for (source, layer) in layers.iter().enumerate().rev() {
         let place = spelled_in(alloc, layer, source, path)?;
         if place.lines.is_some() {

@@ -5,7 +5,7 @@ use nextest_places::Step;
 use nextest_shape::{Pattern, Shape, TextShape, file_shape};
 use std::alloc::{AllocError, Global};
 
-/// A whole number in its range, in words.
+/// An integer in its range, in words.
 fn number_words(
     alloc: Global,
     least: Option<i64>,
@@ -13,15 +13,15 @@ fn number_words(
 ) -> Result<String, AllocError> {
     match (least, greatest) {
         (Some(least), Some(greatest)) => {
-            format!(in alloc; "a whole number from {least} to {greatest}")
+            format!(in alloc; "an integer from {least} to {greatest}")
         }
-        (Some(least), None) => format!(in alloc; "a whole number from {least} on"),
-        (None, Some(greatest)) => format!(in alloc; "a whole number up to {greatest}"),
-        (None, None) => String::from_str(alloc, "a whole number"),
+        (Some(least), None) => format!(in alloc; "an integer of at least {least}"),
+        (None, Some(greatest)) => format!(in alloc; "an integer of at most {greatest}"),
+        (None, None) => String::from_str(alloc, "an integer"),
     }
 }
 
-/// A text of a pattern, in words.
+/// A string of a pattern, in words.
 fn pattern_words(pattern: Pattern) -> &'static str {
     match pattern {
         Pattern::Duration => "a duration such as `60s`",
@@ -50,10 +50,10 @@ fn shape_words(alloc: Global, shape: &Shape) -> Result<String, AllocError> {
     match shape {
         Shape::Boolean => String::from_str(alloc, "`true`, `false`"),
         Shape::Integer { least, greatest } => number_words(alloc, *least, *greatest),
-        Shape::Text(TextShape::Any) => String::from_str(alloc, "a text"),
+        Shape::Text(TextShape::Any) => String::from_str(alloc, "a string"),
         Shape::Text(TextShape::OneOf(words)) => quoted_words(alloc, *words),
         Shape::Text(TextShape::Of(pattern)) => String::from_str(alloc, pattern_words(*pattern)),
-        Shape::List { .. } => String::from_str(alloc, "a list"),
+        Shape::List { .. } => String::from_str(alloc, "an array"),
         Shape::Table(_) | Shape::Map { .. } => String::from_str(alloc, "a table"),
         Shape::Anything | Shape::Either(_) => String::from_str(alloc, "anything"),
     }

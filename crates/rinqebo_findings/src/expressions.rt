@@ -1,12 +1,12 @@
 //! Filters and platforms that are refused, with the part that is wrong.
 use crate::refused::Refused;
-use filter_engine::{FaultKind, fault_words};
+use filter_engine::FaultKind;
 use nextest_config::{
     ConfigCompileError, ConfigCompileErrorKind, ConfigCompileSection, Refusal, Tree,
 };
 use nextest_places::Step;
 use rinqebo_files::{host_text, profile_table, rule_table, target_text, text_at};
-use rinqebo_report::{Expression, Span};
+use rinqebo_report::{CharSpan, RefusedExpression};
 use std::alloc::{AllocError, Global};
 use std::ops::Range;
 
@@ -16,10 +16,14 @@ fn characters_before(text: &str, byte: usize) -> usize {
 }
 
 /// A refused text, and the part of it that is at fault.
-fn expression(alloc: Global, text: &str, bytes: &Range<usize>) -> Result<Expression, AllocError> {
-    Ok(Expression {
+fn expression(
+    alloc: Global,
+    text: &str,
+    bytes: &Range<usize>,
+) -> Result<RefusedExpression, AllocError> {
+    Ok(RefusedExpression {
         text: String::from_str(alloc, text)?,
-        span: Some(Span {
+        span: Some(CharSpan {
             from: characters_before(text, bytes.start),
             to: characters_before(text, bytes.end),
         }),
@@ -28,7 +32,7 @@ fn expression(alloc: Global, text: &str, bytes: &Range<usize>) -> Result<Express
 
 /// What to do about a refused filter, where that is not plain.
 fn filter_help(label: &str) -> Option<&'static str> {
-    if label == fault_words(FaultKind::NoPackageGraph) {
+    if label == FaultKind::NoPackageGraph.label() {
         return Some(
             "pass `--metadata F`, where F has what `cargo metadata --format-version 1` prints",
         );

@@ -5,7 +5,7 @@ use crate::refused_values::Fault;
 use nextest_config::{ConfigSource, ConfigWarning, DefaultConfigWarnings, Tree};
 use nextest_places::Step;
 use rinqebo_files::{Layer, NoDocument, SpanPart, part_place, place_of};
-use rinqebo_report::{Finding, Level, Place};
+use rinqebo_report::{FilePlace, Finding, Level};
 use std::alloc::{AllocError, Global};
 
 /// A source of a run, by its position among the layers, if it is known.
@@ -29,12 +29,12 @@ impl<'l, 't> SourceAt<'l, 't> {
     }
 
     /// The place of the whole source.
-    fn place(self) -> Option<Place> {
-        Some(Place::in_source(self.position?))
+    fn place(self) -> Option<FilePlace> {
+        Some(FilePlace::in_source(self.position?))
     }
 
     /// The place of a part of what stands at a path in the source.
-    fn place_at(self, path: &[Step<'_>], part: SpanPart) -> Option<Place> {
+    fn place_at(self, path: &[Step<'_>], part: SpanPart) -> Option<FilePlace> {
         Some(part_place(self.layers, self.position?, path, part))
     }
 }

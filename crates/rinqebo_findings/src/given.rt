@@ -24,11 +24,11 @@ fn tree_at<'t>(tree: &'t Tree, path: &[Step<'_>]) -> Option<&'t Tree> {
 fn kind_words(tree: &Tree) -> &'static str {
     match tree {
         Tree::Table(_) => "a table",
-        Tree::Array(_) => "a list",
-        Tree::Text(_) => "a text",
-        Tree::Int(_) => "a whole number",
-        Tree::Bool(_) => "a truth value",
-        Tree::Opaque => "a fraction or a date",
+        Tree::Array(_) => "an array",
+        Tree::Text(_) => "a string",
+        Tree::Int(_) => "an integer",
+        Tree::Bool(_) => "a boolean",
+        Tree::Opaque => "a float or a date",
     }
 }
 

@@ -16,7 +16,7 @@ use nextest_config::{
 use nextest_places::Step;
 use rinqebo_files::{Layer, SpanPart, place_at};
 use rinqebo_load::Session;
-use rinqebo_report::{Finding, Lines};
+use rinqebo_report::{FileLines, Finding};
 use rinqebo_request::name_hint;
 use std::alloc::{AllocError, Global};
 use std::collections::BTreeSet;
@@ -58,7 +58,7 @@ fn add_no_document(refused: &mut Refused<'_, '_>, message: &str) -> Result<(), A
     let mut found = refused.finding(on_one_line(alloc, fault.reason.as_str())?)?;
     if let (Some(place), Some(position)) = (&mut found.place, fault.position) {
         let line = from_one(position.line);
-        place.lines = Some(Lines {
+        place.lines = Some(FileLines {
             first: line,
             last: line,
         });

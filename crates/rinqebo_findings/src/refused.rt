@@ -3,7 +3,7 @@ use crate::findings::{SourceAt, finding, finding_at};
 use crate::paths::path_text;
 use nextest_places::Step;
 use rinqebo_files::{Layer, SpanPart, part_place};
-use rinqebo_report::{Finding, Level, Place};
+use rinqebo_report::{FilePlace, Finding, Level};
 use std::alloc::{AllocError, Global};
 
 /// What is refused: the source, and the name of what is wrong. Findings go behind the others.
@@ -39,7 +39,7 @@ impl Refused<'_, '_> {
         let message = format!(in alloc; "{text}: {wrong}")?;
         let level = Level::Error;
         let mut found = finding_at(alloc, level, self.code, self.source, path, part, message)?;
-        if let Some(Place { lines: None, .. }) = found.place {
+        if let Some(FilePlace { lines: None, .. }) = found.place {
             if let Some(place) = highest_place(self.source.layers, path, part) {
                 found.place = Some(place);
             }
@@ -89,7 +89,7 @@ impl Refused<'_, '_> {
 }
 
 /// The place of a part of what stands at a path in the highest layer that writes it.
-fn highest_place(layers: &[Layer], path: &[Step<'_>], part: SpanPart) -> Option<Place> {
+fn highest_place(layers: &[Layer], path: &[Step<'_>], part: SpanPart) -> Option<FilePlace> {
     for (source, _layer) in layers.iter().enumerate().rev() {
         let place = part_place(layers, source, path, part);
         if place.lines.is_some() {

@@ -83,7 +83,7 @@ impl Place {
 
 /// The value that is wanted at a path.
 #[derive(Clone, Copy, Debug, PartialEq, Eq, Drop)]
-pub enum Wanted {
+pub enum ExpectedValue {
     /// A JSON value of a type.
     Value(json_fields::Wanted),
     /// The name of a tool.
@@ -94,13 +94,13 @@ pub enum Wanted {
     Mode,
 }
 
-impl fmt::Display for Wanted {
+impl fmt::Display for ExpectedValue {
     fn fmt<W: fmt::Write>(&self, f: &mut fmt::Formatter<W>) -> fmt::Result {
         match self {
-            Wanted::Value(wanted) => write!(f, "{wanted}"),
-            Wanted::ToolName => f.write_str("the name of a tool"),
-            Wanted::Outcome => f.write_str("text, not-found, not-a-directory or failed"),
-            Wanted::Mode => f.write_str("test or benchmark"),
+            ExpectedValue::Value(wanted) => write!(f, "{wanted}"),
+            ExpectedValue::ToolName => f.write_str("the name of a tool"),
+            ExpectedValue::Outcome => f.write_str("text, not-found, not-a-directory or failed"),
+            ExpectedValue::Mode => f.write_str("test or benchmark"),
         }
     }
 }
@@ -109,11 +109,11 @@ impl fmt::Display for Wanted {
 #[derive(Clone, Copy, Debug, PartialEq, Eq, Drop, Error)]
 pub enum RequestFault {
     /// The text isn't JSON.
-    #[error("the request is no JSON")]
+    #[error("the request is not valid JSON")]
     NotJson,
     /// The value at the path isn't the one that is wanted, or is missing.
     #[error("expected {0} at `{1}`")]
-    Expected(Wanted, Place),
+    Expected(ExpectedValue, Place),
     /// An allocation failed.
     #[error("out of memory")]
     Memory,
@@ -122,12 +122,12 @@ pub enum RequestFault {
 impl From<Misfit<Place>> for RequestFault {
     ghost use Rattle.std.specs.Prelude.{◌≡◌};
     ghost use Rattle.rinqebo_forms.specs.declared.fault.RequestFault.TheVariants.{Expected};
-    ghost use Rattle.rinqebo_forms.specs.declared.fault.Wanted.TheVariants.{Value};
+    ghost use Rattle.rinqebo_forms.specs.declared.fault.ExpectedValue.TheVariants.{Value};
 
     ghost from_gives = { λ misfit fault. fault ≡ Expected (Value misfit.wanted) misfit.place };
 
     fn from(misfit: Misfit<Place>) -> Self {
-        RequestFault::Expected(Wanted::Value(misfit.wanted), misfit.place)
+        RequestFault::Expected(ExpectedValue::Value(misfit.wanted), misfit.place)
     }
 }
 

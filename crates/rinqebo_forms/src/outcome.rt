@@ -5,7 +5,7 @@ ghost use Rattle.nextest_sources.specs.Sources.{outcome_view};
 ghost use Rattle.rinqebo_forms.specs.Reading.{Reads};
 ghost use Rattle.rinqebo_forms.specs.Requests.{kind_at, kind_of, outcome_in, outcome_of};
 
-use crate::fault::{Holder, Place, RequestFault, Wanted};
+use crate::fault::{ExpectedValue, Holder, Place, RequestFault};
 use crate::values::string_at;
 use nextest_sources::ReadOutcome;
 use serde_json::Value;
@@ -47,7 +47,7 @@ fn kind_at(value: &Value, place: Place) -> Result<OutcomeKind, RequestFault>
 {
     match kind_of(place.of(value).text()?) {
         Some(kind) => Ok(kind),
-        None => Err(RequestFault::Expected(Wanted::Outcome, place)),
+        None => Err(RequestFault::Expected(ExpectedValue::Outcome, place)),
     }
 }
 

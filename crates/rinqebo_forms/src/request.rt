@@ -6,7 +6,7 @@ ghost use Rattle.rinqebo_forms.specs.Reading.{Reads};
 ghost use Rattle.rinqebo_forms.specs.Requests.{config_file_in, file_in, tool_in, tools_in, machine_in, machine_view, switches_in, target_in, request_in, request_view, request_of, organisation_file_in, tool_name_in};
 ghost use Rattle.nextest_texts.specs.IdentifierText.{tool_name_text};
 
-use crate::fault::{Holder, Place, RequestFault, Wanted};
+use crate::fault::{ExpectedValue, Holder, Place, RequestFault};
 use crate::outcome::outcome_in;
 use crate::values::{optional_string_at, string_at};
 use nextest_sources::{ConfigPath, ConfigPaths, FileInput, ToolConfigFile};
@@ -103,7 +103,7 @@ fn tool_name_in(alloc: Global, value: &Value, holder: Holder) -> Result<ToolName
     match ToolName::new(alloc, place.of(value).text()?) {
         Ok(name) => Ok(name),
         Err(InvalidIdentifier::Memory) => Err(RequestFault::Memory),
-        Err(_) => Err(RequestFault::Expected(Wanted::ToolName, place)),
+        Err(_) => Err(RequestFault::Expected(ExpectedValue::ToolName, place)),
     }
 }
 

@@ -4,7 +4,7 @@ ghost use Rattle.serde_json.specs.View.{view};
 ghost use Rattle.rinqebo_forms.specs.Reading.{Reads};
 ghost use Rattle.rinqebo_forms.specs.Runs.{mode_at, mode_of, run_in, run_of, run_view};
 
-use crate::fault::{Place, RequestFault, Wanted};
+use crate::fault::{ExpectedValue, Place, RequestFault};
 use crate::request::{LoadRequest, at};
 use crate::values::string_at;
 use nextest_elements::NextestRunMode;
@@ -43,7 +43,7 @@ fn mode_at(value: &Value, place: Place) -> Result<NextestRunMode, RequestFault>
 {
     match mode_of(place.of(value).text()?) {
         Some(mode) => Ok(mode),
-        None => Err(RequestFault::Expected(Wanted::Mode, place)),
+        None => Err(RequestFault::Expected(ExpectedValue::Mode, place)),
     }
 }
 

@@ -7,15 +7,15 @@ use Rattle.serde_json.specs.Read.{max_depth}
 use Rattle.serde_json.specs.Written.{has_float}
 use Rattle.rinqebo_report.specs.Document.{common_members, with_requested, with_content, document_data}
 use Rattle.rinqebo_report.specs.Documents.{count_data, text_data, optional_text_data, optional_count_data, list_data, pair_data, lines_data, range_data, scalar_data, value_data, optional_value_data, part_data, kind_data, origin_data, setting_data, test_data, test_id_data, entry_data, rule_data, tool_data, source_data, unreached_data, wrapper_data, place_source_data, place_lines_data, place_range_data, span_data, expression_data, expression_span_data, finding_data}
-use Rattle.rinqebo_report.specs.declared.finding.Expression.{Expression}
+use Rattle.rinqebo_report.specs.declared.finding.RefusedExpression.{RefusedExpression}
 use Rattle.rinqebo_report.specs.declared.finding.Finding.{Finding}
-use Rattle.rinqebo_report.specs.declared.finding.Span.{Span}
-use Rattle.rinqebo_report.specs.declared.origin.Lines.{Lines}
+use Rattle.rinqebo_report.specs.declared.finding.CharSpan.{CharSpan}
+use Rattle.rinqebo_report.specs.declared.origin.FileLines.{FileLines}
 use Rattle.rinqebo_report.specs.declared.origin.Origin.{Origin}
 use Rattle.rinqebo_report.specs.declared.origin.Origin.TheVariants as origins
 use Rattle.rinqebo_report.specs.declared.origin.Part.{Part}
 use Rattle.rinqebo_report.specs.declared.origin.Part.TheVariants.{Fields, Override, Script}
-use Rattle.rinqebo_report.specs.declared.origin.Place.{Place}
+use Rattle.rinqebo_report.specs.declared.origin.FilePlace.{FilePlace}
 use Rattle.rinqebo_report.specs.declared.origin.Range.{Range}
 use Rattle.rinqebo_report.specs.declared.origin.Source.{Source}
 use Rattle.rinqebo_report.specs.declared.origin.SourceKind.{SourceKind}
@@ -31,7 +31,7 @@ use Rattle.rinqebo_report.specs.declared.report.SettingRow.{SettingRow}
 use Rattle.rinqebo_report.specs.declared.report.TestId.{TestId}
 use Rattle.rinqebo_report.specs.declared.report.TestRows.{TestRows}
 use Rattle.rinqebo_report.specs.declared.report.Unreached.{Unreached}
-use Rattle.rinqebo_report.specs.declared.value.Field.{Field}
+use Rattle.rinqebo_report.specs.declared.value.TableMember.{TableMember}
 use Rattle.rinqebo_report.specs.declared.value.Scalar.{Scalar}
 use Rattle.rinqebo_report.specs.declared.value.Scalar.TheVariants as scalars
 use Rattle.rinqebo_report.specs.declared.value.Value.{Value}
@@ -65,7 +65,7 @@ texts n xs = exact_list n text_data (text n) xs
 pair : (n l m : ℕ) → IsExact (n + 1) (pair_data l m)
 pair n l m = record { nests = omega arith; whole = refl }
 
-lines : (n : ℕ) (l : Option Lines) → IsExact (n + 1) (lines_data l)
+lines : (n : ℕ) (l : Option FileLines) → IsExact (n + 1) (lines_data l)
 lines n None = exact_null (n + 1)
 lines n (Some l) = pair n l.first l.last
 
@@ -87,7 +87,7 @@ value : (n : ℕ) (v : Value) → IsExact (n + 1) (value_data v)
 value n (values.Scalar s) = scalar (n + 1) s
 value n (values.Texts xs) = texts n xs.items
 value n (values.Table fields) =
-    exact_object n (exact_puts n (λ (field : Field). string_bytes field.key)
+    exact_object n (exact_puts n (λ (field : TableMember). string_bytes field.key)
     (λ field. scalar_data field.value) (λ field. scalar n field.value) fields.items no_members (no_more n))
 
 optional_value : (n : ℕ) (v : Option Value) → IsExact (n + 1) (optional_value_data v)
@@ -169,27 +169,27 @@ source s = exact_object 0
 unreached : (u : Unreached) → IsExact 2 (unreached_data u)
 unreached u = exact_object 1 (and_member _ (texts 0 u.checks.items) (and_member _ (count 1 u.source) (no_more 1)))
 
-place_source : (n : ℕ) (p : Option Place) → IsExact n (place_source_data p)
+place_source : (n : ℕ) (p : Option FilePlace) → IsExact n (place_source_data p)
 place_source n None = exact_null n
 place_source n (Some p) = count n p.source
 
-place_lines : (n : ℕ) (p : Option Place) → IsExact (n + 1) (place_lines_data p)
+place_lines : (n : ℕ) (p : Option FilePlace) → IsExact (n + 1) (place_lines_data p)
 place_lines n None = exact_null (n + 1)
 place_lines n (Some p) = lines n p.lines
 
-place_range : (n : ℕ) (p : Option Place) → IsExact (n + 2) (place_range_data p)
+place_range : (n : ℕ) (p : Option FilePlace) → IsExact (n + 2) (place_range_data p)
 place_range n None = exact_null (n + 2)
 place_range n (Some p) = range n p.range
 
-span : (n : ℕ) (s : Option Span) → IsExact (n + 1) (span_data s)
+span : (n : ℕ) (s : Option CharSpan) → IsExact (n + 1) (span_data s)
 span n None = exact_null (n + 1)
 span n (Some s) = pair n s.from s.to
 
-expression : (n : ℕ) (e : Option Expression) → IsExact n (expression_data e)
+expression : (n : ℕ) (e : Option RefusedExpression) → IsExact n (expression_data e)
 expression n None = exact_null n
 expression n (Some e) = text n e.text
 
-expression_span : (n : ℕ) (e : Option Expression) → IsExact (n + 1) (expression_span_data e)
+expression_span : (n : ℕ) (e : Option RefusedExpression) → IsExact (n + 1) (expression_span_data e)
 expression_span n None = exact_null (n + 1)
 expression_span n (Some e) = span n e.span
 

@@ -4,15 +4,15 @@ use Rattle.std.specs.declared.alloc.Global.{Global}
 use Rattle.serde_json.specs.Data.{Data, null, boolean, number, unsigned, string, array, object, no_items, item, Members, no_members, member, put}
 use Rattle.serde_json.specs.Find.{of_integer}
 use Rattle.serde_json.specs.View.{items_of}
-use Rattle.rinqebo_report.specs.declared.finding.Expression.{Expression}
+use Rattle.rinqebo_report.specs.declared.finding.RefusedExpression.{RefusedExpression}
 use Rattle.rinqebo_report.specs.declared.finding.Finding.{Finding}
-use Rattle.rinqebo_report.specs.declared.finding.Span.{Span}
-use Rattle.rinqebo_report.specs.declared.origin.Lines.{Lines}
+use Rattle.rinqebo_report.specs.declared.finding.CharSpan.{CharSpan}
+use Rattle.rinqebo_report.specs.declared.origin.FileLines.{FileLines}
 use Rattle.rinqebo_report.specs.declared.origin.Origin.{Origin}
 use Rattle.rinqebo_report.specs.declared.origin.Origin.TheVariants as origins
 use Rattle.rinqebo_report.specs.declared.origin.Part.{Part}
 use Rattle.rinqebo_report.specs.declared.origin.Part.TheVariants.{Fields, Override, Script}
-use Rattle.rinqebo_report.specs.declared.origin.Place.{Place}
+use Rattle.rinqebo_report.specs.declared.origin.FilePlace.{FilePlace}
 use Rattle.rinqebo_report.specs.declared.origin.Position.{Position}
 use Rattle.rinqebo_report.specs.declared.origin.Range.{Range}
 use Rattle.rinqebo_report.specs.declared.origin.Source.{Source}
@@ -27,7 +27,7 @@ use Rattle.rinqebo_report.specs.declared.report.SettingRow.{SettingRow}
 use Rattle.rinqebo_report.specs.declared.report.TestId.{TestId}
 use Rattle.rinqebo_report.specs.declared.report.TestRows.{TestRows}
 use Rattle.rinqebo_report.specs.declared.report.Unreached.{Unreached}
-use Rattle.rinqebo_report.specs.declared.value.Field.{Field}
+use Rattle.rinqebo_report.specs.declared.value.TableMember.{TableMember}
 use Rattle.rinqebo_report.specs.declared.value.Scalar.{Scalar}
 use Rattle.rinqebo_report.specs.declared.value.Scalar.TheVariants as scalars
 use Rattle.rinqebo_report.specs.declared.value.Value.{Value}
@@ -62,7 +62,7 @@ abbrev pub pair_data : ℕ → ℕ → Data
 pair_data m n = array (item (count_data m) (item (count_data n) no_items))
 
 -- lines, or null
-abbrev pub lines_data : Option Lines → Data
+abbrev pub lines_data : Option FileLines → Data
 lines_data None = null
 lines_data (Some lines) = pair_data lines.first lines.last
 
@@ -84,7 +84,7 @@ scalar_data (scalars.Text text) = text_data text
 scalar_data (scalars.Duration n) = string (duration_text n)
 
 -- members, with one of a table
-abbrev pub with_field : Members → Field → Members
+abbrev pub with_field : Members → TableMember → Members
 with_field members field = put (string_bytes field.key) (scalar_data field.value) members
 
 -- a value
@@ -217,32 +217,32 @@ unreached_data unreached =
     (member (codes "source") (count_data unreached.source) no_members))
 
 -- the place of a finding's source, or null
-abbrev pub place_source_data : Option Place → Data
+abbrev pub place_source_data : Option FilePlace → Data
 place_source_data None = null
 place_source_data (Some place) = count_data place.source
 
 -- the lines of a finding, or null
-abbrev pub place_lines_data : Option Place → Data
+abbrev pub place_lines_data : Option FilePlace → Data
 place_lines_data None = null
 place_lines_data (Some place) = lines_data place.lines
 
 -- the range of a finding, or null
-abbrev pub place_range_data : Option Place → Data
+abbrev pub place_range_data : Option FilePlace → Data
 place_range_data None = null
 place_range_data (Some place) = range_data place.range
 
 -- a span, or null
-abbrev pub span_data : Option Span → Data
+abbrev pub span_data : Option CharSpan → Data
 span_data None = null
 span_data (Some span) = pair_data span.from span.to
 
 -- the text of an expression, or null
-abbrev pub expression_data : Option Expression → Data
+abbrev pub expression_data : Option RefusedExpression → Data
 expression_data None = null
 expression_data (Some expression) = text_data expression.text
 
 -- the span of an expression, or null
-abbrev pub expression_span_data : Option Expression → Data
+abbrev pub expression_span_data : Option RefusedExpression → Data
 expression_span_data None = null
 expression_span_data (Some expression) = span_data expression.span
 

@@ -2,8 +2,8 @@
 use Rattle.std.specs.Prelude.{ℕ, ◌==◌, List, [], ◌∷◌, ◌++◌, Option, None, Some, option_map, option_and_then, slice_get, flat_map, encode_utf8, codes, decimal, string_bytes, if◌then◌else◌}
 use Rattle.std.specs.Str.{chars}
 use Rattle.rinqebo_report.specs.declared.finding.Finding.{Finding}
-use Rattle.rinqebo_report.specs.declared.origin.Lines.{Lines}
-use Rattle.rinqebo_report.specs.declared.origin.Place.{Place}
+use Rattle.rinqebo_report.specs.declared.origin.FileLines.{FileLines}
+use Rattle.rinqebo_report.specs.declared.origin.FilePlace.{FilePlace}
 use Rattle.rinqebo_report.specs.declared.origin.Range.{Range}
 use Rattle.rinqebo_report.specs.declared.origin.Source.{Source}
 use Rattle.rinqebo_report.specs.declared.report.Report.{Report}
@@ -27,7 +27,7 @@ property_char c =
     else message_char c)
 
 -- lines, as properties
-abbrev pub lines_property : Option Lines → List ℕ
+abbrev pub lines_property : Option FileLines → List ℕ
 lines_property None = []
 lines_property (Some lines) =
     codes "line=" ++ (decimal lines.first
@@ -42,7 +42,7 @@ columns_property range =
     else []
 
 -- where in its file something is, as properties: its range, or else its lines
-abbrev pub range_property : Option Range → Option Lines → List ℕ
+abbrev pub range_property : Option Range → Option FileLines → List ℕ
 range_property (Some range) lines =
     lines_property (Some (record { first = range.start.line; last = range.end.line }))
     ++ columns_property range
@@ -53,14 +53,14 @@ abbrev pub file_at : List Source → ℕ → Option (List ℕ)
 file_at sources n = option_map string_bytes (option_and_then (λ s. s.path) (slice_get sources n))
 
 -- a file below the folder of a workflow, and a place in it, as properties
-abbrev pub path_property : List ℕ → Place → Option (List ℕ) → List ℕ
+abbrev pub path_property : List ℕ → FilePlace → Option (List ℕ) → List ℕ
 path_property workspace place None = []
 path_property workspace place (Some path) =
     codes "file=" ++ (flat_map property_char (chars (below workspace path))
     ++ (codes "," ++ range_property place.range place.lines))
 
 -- a place, as properties
-abbrev pub file_property : List ℕ → List Source → Option Place → List ℕ
+abbrev pub file_property : List ℕ → List Source → Option FilePlace → List ℕ
 file_property workspace sources None = []
 file_property workspace sources (Some place) =
     path_property workspace place (file_at sources place.source)

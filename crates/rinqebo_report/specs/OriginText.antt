@@ -1,12 +1,12 @@
 -- Origins as pages show them.
 use Rattle.std.specs.Prelude.{ℕ, ◌-◌, ◌==◌, Bool, true, false, List, [], ◌∷◌, ◌++◌, Option, None, Some, option_and_then, unwrap_or, slice_get, slice_index, length, codes, decimal, flat_map, String, string_bytes, if◌then◌else◌}
 use Rattle.std.specs.declared.alloc.Global.{Global}
-use Rattle.rinqebo_report.specs.declared.origin.Lines.{Lines}
+use Rattle.rinqebo_report.specs.declared.origin.FileLines.{FileLines}
 use Rattle.rinqebo_report.specs.declared.origin.Origin.{Origin}
 use Rattle.rinqebo_report.specs.declared.origin.Origin.TheVariants as origins
 use Rattle.rinqebo_report.specs.declared.origin.Part.{Part}
 use Rattle.rinqebo_report.specs.declared.origin.Part.TheVariants.{Fields, Override, Script}
-use Rattle.rinqebo_report.specs.declared.origin.Place.{Place}
+use Rattle.rinqebo_report.specs.declared.origin.FilePlace.{FilePlace}
 use Rattle.rinqebo_report.specs.declared.origin.Position.{Position}
 use Rattle.rinqebo_report.specs.declared.origin.Range.{Range}
 use Rattle.rinqebo_report.specs.declared.origin.Source.{Source}
@@ -48,7 +48,7 @@ abbrev pub path_at : List ℕ → List Source → ℕ → List ℕ
 path_at root sources n = path_text root (option_and_then (λ s. s.path) (slice_get sources n))
 
 -- a colon and lines: the last one where it is another than the first
-abbrev pub lines_text : Option Lines → List ℕ
+abbrev pub lines_text : Option FileLines → List ℕ
 lines_text None = []
 lines_text (Some lines) =
     codes ":" ++ (decimal lines.first
@@ -60,7 +60,7 @@ position_text position =
     codes ":" ++ (decimal position.line ++ (codes ":" ++ decimal position.column))
 
 -- where in its file something is: where its range starts, or else its lines
-abbrev pub range_text : Option Range → Option Lines → List ℕ
+abbrev pub range_text : Option Range → Option FileLines → List ℕ
 range_text (Some range) lines = position_text range.start
 range_text None lines = lines_text lines
 
@@ -82,7 +82,7 @@ tool_text None = []
 tool_text (Some name) = codes " (tool " ++ (name ++ codes ")")
 
 -- a place: the path, where in the file it is, and the tool
-abbrev pub place_text : List ℕ → List Source → Place → List ℕ
+abbrev pub place_text : List ℕ → List Source → FilePlace → List ℕ
 place_text root sources place =
     path_at root sources place.source
     ++ (range_text place.range place.lines ++ tool_text (tool_at sources place.source))

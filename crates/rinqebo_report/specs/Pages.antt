@@ -3,14 +3,14 @@ use Rattle.std.specs.Prelude.{ℕ, ◌+◌, ◌-◌, max, Bool, true, false, Lis
 use Rattle.std.specs.declared.alloc.Global.{Global}
 use Rattle.std.specs.Str.{chars}
 use Rattle.unicode_width.specs.Width.{str_width}
-use Rattle.rinqebo_report.specs.declared.finding.Expression.{Expression}
+use Rattle.rinqebo_report.specs.declared.finding.RefusedExpression.{RefusedExpression}
 use Rattle.rinqebo_report.specs.declared.finding.Finding.{Finding}
 use Rattle.rinqebo_report.specs.declared.finding.Level.{Level}
 use Rattle.rinqebo_report.specs.declared.finding.Level.TheVariants as levels
-use Rattle.rinqebo_report.specs.declared.finding.Span.{Span}
-use Rattle.rinqebo_report.specs.declared.origin.Lines.{Lines}
+use Rattle.rinqebo_report.specs.declared.finding.CharSpan.{CharSpan}
+use Rattle.rinqebo_report.specs.declared.origin.FileLines.{FileLines}
 use Rattle.rinqebo_report.specs.declared.origin.Origin.{Origin}
-use Rattle.rinqebo_report.specs.declared.origin.Place.{Place}
+use Rattle.rinqebo_report.specs.declared.origin.FilePlace.{FilePlace}
 use Rattle.rinqebo_report.specs.declared.origin.Range.{Range}
 use Rattle.rinqebo_report.specs.declared.origin.Source.{Source}
 use Rattle.rinqebo_report.specs.declared.piece.Style.TheVariants as styles
@@ -22,8 +22,8 @@ use Rattle.rinqebo_report.specs.declared.report.ConditionAnswer.TheVariants as a
 use Rattle.rinqebo_report.specs.declared.report.Content.{Content}
 use Rattle.rinqebo_report.specs.declared.report.Content.TheVariants as contents
 use Rattle.rinqebo_report.specs.declared.report.Entry.{Entry}
-use Rattle.rinqebo_report.specs.declared.report.Platform.{Platform}
-use Rattle.rinqebo_report.specs.declared.report.Platform.TheVariants as platforms
+use Rattle.rinqebo_report.specs.declared.report.BuiltFor.{BuiltFor}
+use Rattle.rinqebo_report.specs.declared.report.BuiltFor.TheVariants as platforms
 use Rattle.rinqebo_report.specs.declared.report.Report.{Report}
 use Rattle.rinqebo_report.specs.declared.report.Rule.{Rule}
 use Rattle.rinqebo_report.specs.declared.report.RunMode.{RunMode}
@@ -84,12 +84,12 @@ mode_word modes.Test = codes "test"
 mode_word modes.Benchmark = codes "benchmark"
 
 -- the word of a platform
-abbrev pub platform_word : Platform → List ℕ
+abbrev pub platform_word : BuiltFor → List ℕ
 platform_word platforms.Host = codes "host"
 platform_word platforms.Target = codes "target"
 
 -- the triple of a platform: without a target, what is built for it runs on the host
-abbrev pub triple_of : Asked → Platform → List ℕ
+abbrev pub triple_of : Asked → BuiltFor → List ℕ
 triple_of asked platforms.Host = string_bytes asked.host
 triple_of asked platforms.Target = string_bytes (unwrap_or asked.target asked.host)
 
@@ -267,18 +267,18 @@ column_text None = []
 column_text (Some column) = codes ":" ++ decimal column
 
 -- a colon, the first of lines, and a column there
-abbrev pub line_text : Option Lines → Option ℕ → List ℕ
+abbrev pub line_text : Option FileLines → Option ℕ → List ℕ
 line_text None column = []
 line_text (Some lines) column = codes ":" ++ (decimal lines.first ++ column_text column)
 
 -- where in its file a finding is: where its range starts, or else the first of its lines, and a
 -- column there
-abbrev pub spot_text : Option Range → Option Lines → Option ℕ → List ℕ
+abbrev pub spot_text : Option Range → Option FileLines → Option ℕ → List ℕ
 spot_text (Some range) lines column = position_text range.start
 spot_text None lines column = line_text lines column
 
 -- where a finding is, before what is told
-abbrev pub finding_place : List ℕ → List Source → Option Place → Option ℕ → List ℕ
+abbrev pub finding_place : List ℕ → List Source → Option FilePlace → Option ℕ → List ℕ
 finding_place root sources None column = []
 finding_place root sources (Some place) column =
     path_at root sources place.source
@@ -305,14 +305,14 @@ abbrev pub shown_width : List ℕ → ℕ → ℕ
 shown_width text n = width (flat_map shown_char (take n (chars text)))
 
 -- a caret below each character of a span, and one at least
-abbrev pub caret_runs : List ℕ → Option Span → List Run
+abbrev pub caret_runs : List ℕ → Option CharSpan → List Run
 caret_runs text None = []
 caret_runs text (Some span) =
     plain (codes "    ") ∷ repeated 32 (shown_width text span.from)
     ∷ repeated 94 (max 1 (shown_width text span.to - shown_width text span.from)) ∷ ending ∷ []
 
 -- an expression, and carets below its span
-abbrev pub expression_runs : Option Expression → List Run
+abbrev pub expression_runs : Option RefusedExpression → List Run
 expression_runs None = []
 expression_runs (Some expression) =
     plain (codes "    ") ∷ plain (string_bytes expression.text) ∷ ending

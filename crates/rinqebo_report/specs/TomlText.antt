@@ -5,7 +5,7 @@ use Rattle.std.specs.declared.alloc.Global.{Global}
 use Rattle.std.specs.Fmt.{digit_glyph, signed_decimal}
 use Rattle.std.specs.List.{list_all}
 use Rattle.std.specs.Str.{chars}
-use Rattle.rinqebo_report.specs.declared.value.Field.{Field}
+use Rattle.rinqebo_report.specs.declared.value.TableMember.{TableMember}
 use Rattle.rinqebo_report.specs.declared.value.Scalar.{Scalar}
 use Rattle.rinqebo_report.specs.declared.value.Scalar.TheVariants as scalars
 use Rattle.rinqebo_report.specs.declared.value.Value.{Value}
@@ -50,7 +50,7 @@ scalar_text (scalars.Text text) = quoted (string_bytes text)
 scalar_text (scalars.Duration n) = 34 ∷ (duration_text n ++ 34 ∷ [])
 
 -- a member of a table
-abbrev pub field_text : Field → List ℕ
+abbrev pub field_text : TableMember → List ℕ
 field_text field = string_bytes field.key ++ (codes " = " ++ scalar_text field.value)
 
 -- a text of a list

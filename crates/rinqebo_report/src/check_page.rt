@@ -6,8 +6,8 @@ ghost use Rattle.rinqebo_report.specs.Pieces.{page_text};
 ghost use Rattle.rinqebo_report.specs.declared.report.Content.{Content};
 
 use crate::explain_page::width;
-use crate::finding::{Expression, Finding, Level, Span};
-use crate::origin::{Lines, Place, Range, Source};
+use crate::finding::{CharSpan, Finding, Level, RefusedExpression};
+use crate::origin::{FileLines, FilePlace, Range, Source};
 use crate::origin_text::{add_position, path_at};
 use crate::piece::{Colour, Piece, Style, add_char, add_pieces};
 use crate::report::{Report, Unreached};
@@ -47,13 +47,17 @@ impl Level {
 }
 
 /// Writes a colon, the first of lines, and a column there.
-fn add_line(out: &mut String, lines: Option<Lines>, column: Option<u64>) -> Result<(), AllocError>
+fn add_line(
+    out: &mut String,
+    lines: Option<FileLines>,
+    column: Option<u64>,
+) -> Result<(), AllocError>
     ensures { OnOk result (string_bytes out.new
         ≡ string_bytes out.old ++ line_text lines column) }
 {
     match (lines, column) {
-        (Some(Lines { first, .. }), Some(column)) => write!(out, ":{first}:{column}"),
-        (Some(Lines { first, .. }), None) => write!(out, ":{first}"),
+        (Some(FileLines { first, .. }), Some(column)) => write!(out, ":{first}:{column}"),
+        (Some(FileLines { first, .. }), None) => write!(out, ":{first}"),
         (None, _) => Ok(()),
     }
 }
@@ -62,7 +66,7 @@ fn add_line(out: &mut String, lines: Option<Lines>, column: Option<u64>) -> Resu
 fn add_spot(
     out: &mut String,
     range: Option<Range>,
-    lines: Option<Lines>,
+    lines: Option<FileLines>,
     column: Option<u64>,
 ) -> Result<(), AllocError>
     ensures { OnOk result (string_bytes out.new
@@ -79,7 +83,7 @@ fn finding_place(
     alloc: Global,
     root: &str,
     sources: &[Source],
-    place: Option<Place>,
+    place: Option<FilePlace>,
     column: Option<u64>,
 ) -> Result<String, AllocError>
     ensures { IfOk result (λ text. string_bytes text
@@ -180,12 +184,12 @@ fn add_carets(
     out: &mut String,
     colour: Colour,
     text: &str,
-    span: Option<Span>,
+    span: Option<CharSpan>,
 ) -> Result<(), AllocError>
     ensures { OnOk result (string_bytes out.new ≡ string_bytes out.old
         ++ page_text colour (caret_runs text.now span)) }
 {
-    let Some(Span { from, to }) = span else {
+    let Some(CharSpan { from, to }) = span else {
         return Ok(());
     };
     let before = shown_width(alloc, text, from)?;
@@ -207,7 +211,7 @@ fn add_expression(
     alloc: Global,
     out: &mut String,
     colour: Colour,
-    expression: &Option<Expression>,
+    expression: &Option<RefusedExpression>,
 ) -> Result<(), AllocError>
     ensures { OnOk result (string_bytes out.new ≡ string_bytes out.old
         ++ page_text colour (expression_runs expression.now)) }

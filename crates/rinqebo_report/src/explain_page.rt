@@ -11,7 +11,7 @@ use crate::json_requested::put_requested;
 use crate::origin::Source;
 use crate::origin_text::origins_text;
 use crate::piece::{Colour, Piece, Style, add_pieces};
-use crate::report::{Asked, Platform, RunMode, SettingRow, TestRows};
+use crate::report::{Asked, BuiltFor, RunMode, SettingRow, TestRows};
 use crate::toml_text::value_text;
 use serde_json::{Map, Value, json, put};
 use std::alloc::{AllocError, Global};
@@ -61,24 +61,24 @@ impl RunMode {
     }
 }
 
-impl Platform {
+impl BuiltFor {
     /// Its word.
     pub(crate) fn word(self) -> &'static str
         ensures { result.now ≡ platform_word self }
     {
         match self {
-            Platform::Host => "host",
-            Platform::Target => "target",
+            BuiltFor::Host => "host",
+            BuiltFor::Target => "target",
         }
     }
 }
 
 /// The triple of a platform: without a target, what is built for it runs on the host.
-fn triple_of(asked: &Asked, platform: Platform) -> &str
+fn triple_of(asked: &Asked, platform: BuiltFor) -> &str
     ensures { result.now ≡ triple_of asked.now platform }
 {
     match (platform, &asked.target) {
-        (Platform::Target, Some(target)) => target.as_str(),
+        (BuiltFor::Target, Some(target)) => target.as_str(),
         _ => asked.host.as_str(),
     }
 }
@@ -98,7 +98,7 @@ fn add_chain(out: &mut String, chain: &[String]) -> Result<(), AllocError>
 }
 
 /// Writes what a test runs on.
-fn add_run(out: &mut String, asked: &Asked, platform: Platform) -> Result<(), AllocError>
+fn add_run(out: &mut String, asked: &Asked, platform: BuiltFor) -> Result<(), AllocError>
     ensures { OnOk result (string_bytes out.new ≡ string_bytes out.old
         ++ (codes ", " ++ (mode_word asked.now.mode ++ (codes ", " ++ (platform_word platform
         ++ (codes " " ++ triple_of asked.now platform)))))) }

@@ -1,5 +1,5 @@
 //! What is wrong with a file.
-use crate::origin::Place;
+use crate::origin::FilePlace;
 
 /// How bad it is.
 #[derive(Clone, Copy)]
@@ -12,7 +12,7 @@ pub enum Level {
 
 /// A part of a text, in characters from 0.
 #[derive(Clone, Copy)]
-pub struct Span {
+pub struct CharSpan {
     /// The first character.
     pub from: usize,
     /// The one behind the last.
@@ -21,11 +21,11 @@ pub struct Span {
 
 /// An expression that is refused.
 #[derive(Drop)]
-pub struct Expression {
+pub struct RefusedExpression {
     /// How the file writes it.
     pub text: String,
     /// The part that is wrong.
-    pub span: Option<Span>,
+    pub span: Option<CharSpan>,
 }
 
 /// What is wrong, and where.
@@ -36,7 +36,7 @@ pub struct Finding {
     /// The name of what is wrong.
     pub code: String,
     /// Where it is, if that is known.
-    pub place: Option<Place>,
+    pub place: Option<FilePlace>,
     /// The column in the first line, from 1.
     pub column: Option<u64>,
     /// The keys that lead to it, with dots between them.
@@ -44,7 +44,7 @@ pub struct Finding {
     /// What is told, on one line.
     pub message: String,
     /// The expression that is refused, if one is.
-    pub expression: Option<Expression>,
+    pub expression: Option<RefusedExpression>,
     /// What would be right there.
     pub expected: Option<String>,
     /// What to do.

@@ -4,7 +4,7 @@ ghost use Rattle.std.specs.Str.{chars};
 ghost use Rattle.rinqebo_report.specs.Github.{message_char, property_char, file_at, path_property, file_property, lines_property, columns_property, range_property, properties_text, github_line, github_text};
 
 use crate::finding::Finding;
-use crate::origin::{Lines, Place, Range, Source};
+use crate::origin::{FileLines, FilePlace, Range, Source};
 use crate::origin_text::below;
 use crate::report::Report;
 use std::alloc::{AllocError, Global};
@@ -56,11 +56,11 @@ fn add_property(out: &mut String, text: &str) -> Result<(), AllocError>
 }
 
 /// Writes the properties of lines.
-fn add_lines(out: &mut String, lines: Option<Lines>) -> Result<(), AllocError>
+fn add_lines(out: &mut String, lines: Option<FileLines>) -> Result<(), AllocError>
     ensures { OnOk result (string_bytes out.new ≡ string_bytes out.old ++ lines_property lines) }
 {
     match lines {
-        Some(Lines { first, last }) => write!(out, "line={first},endLine={last},"),
+        Some(FileLines { first, last }) => write!(out, "line={first},endLine={last},"),
         None => Ok(()),
     }
 }
@@ -78,14 +78,18 @@ fn add_columns(out: &mut String, range: Range) -> Result<(), AllocError>
 }
 
 /// Writes the properties of a range, or else of lines.
-fn add_range(out: &mut String, range: Option<Range>, lines: Option<Lines>) -> Result<(), AllocError>
+fn add_range(
+    out: &mut String,
+    range: Option<Range>,
+    lines: Option<FileLines>,
+) -> Result<(), AllocError>
     ensures { OnOk result (string_bytes out.new
         ≡ string_bytes out.old ++ range_property range lines) }
 {
     let Some(range) = range else {
         return add_lines(out, lines);
     };
-    let lines = Lines {
+    let lines = FileLines {
         first: range.start.line,
         last: range.end.line,
     };
@@ -112,7 +116,7 @@ fn file_at(sources: &[Source], source: usize) -> Option<&str>
 fn add_path(
     out: &mut String,
     workspace: &str,
-    place: Place,
+    place: FilePlace,
     path: Option<&str>,
 ) -> Result<(), AllocError>
     ensures { OnOk result (string_bytes out.new ≡ string_bytes out.old
@@ -132,7 +136,7 @@ fn add_file(
     out: &mut String,
     workspace: &str,
     sources: &[Source],
-    place: Option<Place>,
+    place: Option<FilePlace>,
 ) -> Result<(), AllocError>
     ensures { OnOk result (string_bytes out.new
         ≡ string_bytes out.old ++ file_property workspace.now sources.now place) }

@@ -3,14 +3,14 @@ ghost use Rattle.std.specs.Prelude.{◌≡◌, IfOk, OnOk};
 ghost use Rattle.serde_json.specs.View.{members_view, view};
 ghost use Rattle.rinqebo_report.specs.Documents.{list_data, place_source_data, place_lines_data, place_range_data, span_data, expression_data, expression_span_data, with_fault, with_site, with_expression, with_advice, finding_data};
 
-use crate::finding::{Expression, Finding, Span};
+use crate::finding::{CharSpan, Finding, RefusedExpression};
 use crate::json_parts::{lines_json, optional_count_json, optional_text_json, range_json};
-use crate::origin::Place;
+use crate::origin::FilePlace;
 use serde_json::{Map, Value, json, put};
 use std::alloc::{AllocError, Global};
 
 /// The place of a finding's source, or null.
-fn place_source_json(place: Option<Place>) -> Value
+fn place_source_json(place: Option<FilePlace>) -> Value
     ensures { view result ≡ place_source_data place }
 {
     match place {
@@ -20,7 +20,7 @@ fn place_source_json(place: Option<Place>) -> Value
 }
 
 /// The lines of a finding, or null.
-fn place_lines_json(alloc: Global, place: Option<Place>) -> Result<Value, AllocError>
+fn place_lines_json(alloc: Global, place: Option<FilePlace>) -> Result<Value, AllocError>
     ensures { IfOk result (λ value. view value ≡ place_lines_data place) }
 {
     match place {
@@ -30,7 +30,7 @@ fn place_lines_json(alloc: Global, place: Option<Place>) -> Result<Value, AllocE
 }
 
 /// The range of a finding, or null.
-fn place_range_json(alloc: Global, place: Option<Place>) -> Result<Value, AllocError>
+fn place_range_json(alloc: Global, place: Option<FilePlace>) -> Result<Value, AllocError>
     ensures { IfOk result (λ value. view value ≡ place_range_data place) }
 {
     match place {
@@ -40,7 +40,10 @@ fn place_range_json(alloc: Global, place: Option<Place>) -> Result<Value, AllocE
 }
 
 /// The text of an expression, or null.
-fn expression_json(alloc: Global, expression: &Option<Expression>) -> Result<Value, AllocError>
+fn expression_json(
+    alloc: Global,
+    expression: &Option<RefusedExpression>,
+) -> Result<Value, AllocError>
     ensures { IfOk result (λ value. view value ≡ expression_data expression.now) }
 {
     match expression {
@@ -50,17 +53,20 @@ fn expression_json(alloc: Global, expression: &Option<Expression>) -> Result<Val
 }
 
 /// A span, or null.
-fn span_json(alloc: Global, span: Option<Span>) -> Result<Value, AllocError>
+fn span_json(alloc: Global, span: Option<CharSpan>) -> Result<Value, AllocError>
     ensures { IfOk result (λ value. view value ≡ span_data span) }
 {
     match span {
-        Some(Span { from, to }) => json!(in alloc; [from, to]),
+        Some(CharSpan { from, to }) => json!(in alloc; [from, to]),
         None => Ok(Value::Null),
     }
 }
 
 /// The span of an expression, or null.
-fn expression_span_json(alloc: Global, expression: &Option<Expression>) -> Result<Value, AllocError>
+fn expression_span_json(
+    alloc: Global,
+    expression: &Option<RefusedExpression>,
+) -> Result<Value, AllocError>
     ensures { IfOk result (λ value. view value ≡ expression_span_data expression.now) }
 {
     match expression {

@@ -5,11 +5,11 @@ ghost use Rattle.serde_json.specs.View.{members_view, view};
 ghost use Rattle.rinqebo_report.specs.Documents.{count_data, text_data, optional_text_data, optional_count_data, list_data, lines_data, range_data, scalar_data, with_field, value_data, optional_value_data, part_word, part_data, kind_data, origin_data, setting_data, with_setting, test_data, test_id_data, entry_data, answer_word, rule_data, kind_word, tool_data, source_data, unreached_data, wrapper_data};
 
 use crate::duration::add_duration;
-use crate::origin::{Lines, Origin, Part, Place, Range, Source, SourceKind, Written};
+use crate::origin::{FileLines, FilePlace, Origin, Part, Range, Source, SourceKind, Written};
 use crate::report::{
     ConditionAnswer, Entry, ListWrapper, Rule, SettingRow, TestId, TestRows, Unreached,
 };
-use crate::value::{Field, Scalar, Value as SettingValue};
+use crate::value::{Scalar, TableMember, Value as SettingValue};
 use serde_json::{Map, Value, json, put};
 use std::alloc::{AllocError, Global};
 
@@ -45,11 +45,11 @@ pub(crate) fn texts_json(alloc: Global, texts: &[String]) -> Result<Value, Alloc
 }
 
 /// Lines, or null.
-pub(crate) fn lines_json(alloc: Global, lines: Option<Lines>) -> Result<Value, AllocError>
+pub(crate) fn lines_json(alloc: Global, lines: Option<FileLines>) -> Result<Value, AllocError>
     ensures { IfOk result (λ value. view value ≡ lines_data lines) }
 {
     match lines {
-        Some(Lines { first, last }) => json!(in alloc; [first, last]),
+        Some(FileLines { first, last }) => json!(in alloc; [first, last]),
         None => Ok(Value::Null),
     }
 }
@@ -83,7 +83,7 @@ fn scalar_json(alloc: Global, scalar: &Scalar) -> Result<Value, AllocError>
 }
 
 /// A table.
-fn fields_json(alloc: Global, fields: &[Field]) -> Result<Value, AllocError>
+fn fields_json(alloc: Global, fields: &[TableMember]) -> Result<Value, AllocError>
     ensures { IfOk result (λ value.
         view value ≡ object (fold with_field no_members fields.now)) }
 {
@@ -173,7 +173,7 @@ fn written_json(alloc: Global, written: &Written) -> Result<Value, AllocError>
 }
 
 /// What is written in a file beside all profiles.
-fn beside_json(alloc: Global, place: Place) -> Result<Value, AllocError>
+fn beside_json(alloc: Global, place: FilePlace) -> Result<Value, AllocError>
     ensures { IfOk result (λ value. view value ≡ kind_data (codes "file") null
         (lines_data place.lines) null (range_data place.range) (count_data place.source)) }
 {

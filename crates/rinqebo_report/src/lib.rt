@@ -27,16 +27,18 @@ mod toml_text;
 mod value;
 mod why_page;
 
-pub use finding::{Expression, Finding, Level, Span};
+pub use finding::{CharSpan, Finding, Level, RefusedExpression};
 pub use format::{Format, render, render_findings};
 pub use hint::nearest_name;
 pub use json_document::{document, render_json};
 pub use laws::{law_colours, law_durations};
 pub use list_page::{render_list_end, render_listed};
-pub use origin::{Lines, Origin, Part, Place, Position, Range, Source, SourceKind, Written};
+pub use origin::{
+    FileLines, FilePlace, Origin, Part, Position, Range, Source, SourceKind, Written,
+};
 pub use piece::Colour;
 pub use report::{
-    Asked, Condition, ConditionAnswer, Content, Entry, ListScripts, ListWrapper, Platform, Report,
+    Asked, BuiltFor, Condition, ConditionAnswer, Content, Entry, ListScripts, ListWrapper, Report,
     Rule, RunMode, SettingRow, TestId, TestRows, Unreached, Verdict,
 };
-pub use value::{Field, Scalar, Value};
+pub use value::{Scalar, TableMember, Value};

@@ -27,7 +27,7 @@ pub struct Source {
 
 /// Lines of a file.
 #[derive(Clone, Copy)]
-pub struct Lines {
+pub struct FileLines {
     /// The first line, from 1.
     pub first: u64,
     /// The last line: the first one where there is one alone.
@@ -54,21 +54,21 @@ pub struct Range {
 
 /// A place in a file.
 #[derive(Clone, Copy)]
-pub struct Place {
+pub struct FilePlace {
     /// The place of the source among those of the report, from 0.
     pub source: usize,
     /// The lines, if they are known.
-    pub lines: Option<Lines>,
+    pub lines: Option<FileLines>,
     /// The range in these lines, if it is known.
     pub range: Option<Range>,
 }
 
-impl Place {
+impl FilePlace {
     /// A place in a source of which nothing more is known.
-    pub fn in_source(source: usize) -> Place
+    pub fn in_source(source: usize) -> FilePlace
         ensures { result ≡ record { source = source; lines = None; range = None } }
     {
-        Place {
+        FilePlace {
             source,
             lines: None,
             range: None,
@@ -91,7 +91,7 @@ pub enum Part {
 #[derive(Drop)]
 pub struct Written {
     /// Where it stands.
-    pub place: Place,
+    pub place: FilePlace,
     /// The profile under which it stands.
     pub profile: String,
     /// What of the profile it is.
@@ -108,5 +108,5 @@ pub enum Origin {
     /// A file writes it, under a profile.
     Written(Written),
     /// A file writes it beside all profiles.
-    File(Place),
+    File(FilePlace),
 }

@@ -3,7 +3,9 @@ ghost use Rattle.std.specs.Prelude.{◌≡◌, ◌++◌, MatchOption, None, Some
 ghost use Rattle.rinqebo_report.specs.Joined.{joined};
 ghost use Rattle.rinqebo_report.specs.OriginText.{after_prefix, ends_with_slash, below, path_at, lines_text, position_text, range_text, tool_at, tool_text, place_text, part_text, written_text, origin_text, all_origins_text};
 
-use crate::origin::{Lines, Origin, Part, Place, Position, Range, Source, SourceKind, Written};
+use crate::origin::{
+    FileLines, FilePlace, Origin, Part, Position, Range, Source, SourceKind, Written,
+};
 use crate::toml_text::add_key;
 use std::alloc::{AllocError, Global};
 use std::fmt::Write;
@@ -54,10 +56,10 @@ pub(crate) fn path_at<'a>(root: &str, sources: &'a [Source], source: usize) -> &
 }
 
 /// Writes a colon and lines.
-fn add_lines(out: &mut String, lines: Option<Lines>) -> Result<(), AllocError>
+fn add_lines(out: &mut String, lines: Option<FileLines>) -> Result<(), AllocError>
     ensures { OnOk result (string_bytes out.new ≡ string_bytes out.old ++ lines_text lines) }
 {
-    let Some(Lines { first, last }) = lines else {
+    let Some(FileLines { first, last }) = lines else {
         return Ok(());
     };
     if first == last {
@@ -76,7 +78,11 @@ pub(crate) fn add_position(out: &mut String, position: Position) -> Result<(), A
 }
 
 /// Writes where a range starts, or else lines.
-fn add_range(out: &mut String, range: Option<Range>, lines: Option<Lines>) -> Result<(), AllocError>
+fn add_range(
+    out: &mut String,
+    range: Option<Range>,
+    lines: Option<FileLines>,
+) -> Result<(), AllocError>
     ensures { OnOk result (string_bytes out.new ≡ string_bytes out.old ++ range_text range lines) }
 {
     match range {
@@ -116,7 +122,7 @@ fn add_place(
     out: &mut String,
     root: &str,
     sources: &[Source],
-    place: Place,
+    place: FilePlace,
 ) -> Result<(), AllocError>
     ensures { OnOk result (string_bytes out.new
         ≡ string_bytes out.old ++ place_text root.now sources.now place) }

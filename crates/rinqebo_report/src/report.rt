@@ -14,7 +14,7 @@ pub enum RunMode {
 
 /// For what a binary is built.
 #[derive(Clone, Copy)]
-pub enum Platform {
+pub enum BuiltFor {
     /// For the machine that builds.
     Host,
     /// For the machine that is built for.
@@ -55,7 +55,7 @@ pub struct TestRows {
     /// Its name within the binary.
     pub name: String,
     /// For what the binary is built.
-    pub platform: Platform,
+    pub platform: BuiltFor,
     /// What is told of it. The keys are apart from each other.
     pub settings: Vec<SettingRow>,
 }
@@ -68,7 +68,7 @@ pub struct TestId {
     /// Its name within the binary.
     pub name: String,
     /// For what the binary is built.
-    pub platform: Platform,
+    pub platform: BuiltFor,
 }
 
 /// A leaf of the configuration.

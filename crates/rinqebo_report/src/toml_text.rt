@@ -6,7 +6,7 @@ ghost use Rattle.rinqebo_report.specs.Joined.{joined};
 ghost use Rattle.rinqebo_report.specs.TomlText.{hex_digit, toml_char, quoted, is_bare_byte, is_bare as bare_test, key_text, scalar_text, field_text, item_text, value_text};
 
 use crate::duration::add_duration;
-use crate::value::{Field, Scalar, Value};
+use crate::value::{Scalar, TableMember, Value};
 use std::alloc::{AllocError, Global};
 use std::fmt::Write;
 
@@ -110,7 +110,7 @@ fn add_items(out: &mut String, items: &[String]) -> Result<(), AllocError>
 }
 
 /// Writes a member of a table.
-fn add_field(out: &mut String, field: &Field) -> Result<(), AllocError>
+fn add_field(out: &mut String, field: &TableMember) -> Result<(), AllocError>
     ensures { OnOk result (string_bytes out.new ≡ string_bytes out.old ++ field_text field.now) }
 {
     out.push_str(field.key.as_str())?;
@@ -119,7 +119,7 @@ fn add_field(out: &mut String, field: &Field) -> Result<(), AllocError>
 }
 
 /// Writes members of a table.
-fn add_fields(out: &mut String, fields: &[Field]) -> Result<(), AllocError>
+fn add_fields(out: &mut String, fields: &[TableMember]) -> Result<(), AllocError>
     ensures { OnOk result (string_bytes out.new
         ≡ string_bytes out.old ++ joined (codes ", ") field_text fields.now) }
 {

@@ -15,7 +15,7 @@ pub enum Scalar {
 
 /// A member of a table.
 #[derive(Drop)]
-pub struct Field {
+pub struct TableMember {
     /// Its key, which stands on pages as it is.
     pub key: String,
     /// Its value.
@@ -30,5 +30,5 @@ pub enum Value {
     /// A list of texts.
     Texts(Vec<String>),
     /// A table, whose keys are apart from each other.
-    Table(Vec<Field>),
+    Table(Vec<TableMember>),
 }

@@ -60,7 +60,7 @@ fn tool_name(alloc: Global, name: &str) -> Result<ToolName, ParseStop> {
         Ok(tool) => Ok(tool),
         Err(InvalidIdentifier::Memory) => Err(ParseStop::Memory),
         Err(fault) => {
-            let message = format!(in alloc; "`{name}` is no name of a tool: {fault}")?;
+            let message = format!(in alloc; "`{name}` is not a valid tool name: {fault}")?;
             Err(usage(alloc, message.as_str(), None)?)
         }
     }

@@ -7,8 +7,8 @@ use Rattle.nextest_settings.specs.Platforms.{EvaluatedRule, is_on}
 use Rattle.rinqebo_rules.proofs.Finding.{in_take, to_take, none_found, first_found}
 use Rattle.rinqebo_rules.specs.Verdicts.{verdict_of, verdicts_after, verdicts_of, facts_of, IsDeciding}
 use Rattle.rinqebo_rules.specs.VerdictsBy.{verdict_by, verdicts_by}
-use Rattle.rinqebo_rules.specs.declared.verdict.Verdict.{Verdict}
-use Rattle.rinqebo_rules.specs.declared.verdict.Verdict.TheVariants.{Decides}
+use Rattle.rinqebo_rules.specs.declared.verdict.RuleVerdict.{RuleVerdict}
+use Rattle.rinqebo_rules.specs.declared.verdict.RuleVerdict.TheVariants.{Decides}
 
 -- a verdict that decides has all for it
 only_decides : (a b c d : Bool) → verdict_by a (a && b) c d ≡ Decides → (((a && b) && c) ≡ true) × (d ≡ false)
@@ -65,7 +65,7 @@ module _ {M W : Type 0} (query : QueryContext M) (wants : W → Bool) where
       ∙ ap (λ front. Some (verdict_of query wants front rule)) (append_assoc before (r ∷ []) (take n rules))
 
   -- and where there is a verdict, there is a rule
-  rule_at : (before rules : List (EvaluatedRule M W)) (n : ℕ) (v : Verdict)
+  rule_at : (before rules : List (EvaluatedRule M W)) (n : ℕ) (v : RuleVerdict)
       → slice_get (verdicts_after query wants before rules) n ≡ Some v
       → (rule : EvaluatedRule M W) × (slice_get rules n ≡ Some rule)
   rule_at before [] n v e = absurd cc

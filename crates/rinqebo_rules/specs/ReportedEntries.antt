@@ -8,7 +8,7 @@ use Rattle.rinqebo_rules.specs.LeafValue.{IsValueOf}
 use Rattle.rinqebo_report.specs.declared.origin.Origin.{Origin}
 use Rattle.rinqebo_report.specs.declared.origin.Origin.TheVariants as origins
 use Rattle.rinqebo_report.specs.declared.origin.Part.TheVariants.{Fields}
-use Rattle.rinqebo_report.specs.declared.origin.Place.{Place}
+use Rattle.rinqebo_report.specs.declared.origin.FilePlace.{FilePlace}
 use Rattle.rinqebo_report.specs.declared.origin.Written.{Written}
 use Rattle.rinqebo_report.specs.declared.report.Entry.{Entry}
 
@@ -23,21 +23,21 @@ profile_of (of_profile nearer name) = Some name
 profile_of beside = None
 
 -- A file writes a leaf at a place, under its profile.
-pub record IsUnderProfile (leaf : Leaf) (place : Place) (written : Written) : Type 0 where
+pub record IsUnderProfile (leaf : Leaf) (place : FilePlace) (written : Written) : Type 0 where
   pub by_file : 0 < leaf.layer
   pub place_is : written.place ≡ place
   pub profile : profile_of leaf.region ≡ Some (string_bytes written.profile)
   pub part : written.part ≡ Fields
 
 -- A file writes a leaf at a place, beside all profiles.
-pub record IsBesideProfiles (leaf : Leaf) (place found : Place) : Type 0 where
+pub record IsBesideProfiles (leaf : Leaf) (place found : FilePlace) : Type 0 where
   pub by_file : 0 < leaf.layer
   pub place_is : found ≡ place
   pub region : profile_of leaf.region ≡ None
 
 -- An origin tells what writes a leaf: the lowest layer is the table of defaults, and each other one
 -- is a file.
-abbrev pub IsOriginOf : Leaf → Place → Origin → Type 0
+abbrev pub IsOriginOf : Leaf → FilePlace → Origin → Type 0
 IsOriginOf leaf place origins.BuiltIn = ⊥
 IsOriginOf leaf place origins.DefaultTable = leaf.layer ≡ 0
 IsOriginOf leaf place (origins.Written written) = IsUnderProfile leaf place written
@@ -45,7 +45,7 @@ IsOriginOf leaf place (origins.File found) = IsBesideProfiles leaf place found
 
 -- An entry tells a leaf whose layer has it at a place: its key, its value, what writes it, and
 -- whether it is hidden.
-pub record IsEntryOf (leaf : Leaf) (place : Place) (entry : Entry) : Type 0 where
+pub record IsEntryOf (leaf : Leaf) (place : FilePlace) (entry : Entry) : Type 0 where
   pub key : string_bytes entry.key ≡ dotted leaf.path
   pub value : IsValueOf leaf.value entry.value
   pub origin : IsOriginOf leaf place entry.origin

@@ -17,7 +17,7 @@ use Rattle.nextest_settings.specs.Settings.{ValueOf}
 use Rattle.nextest_settings.specs.SettingValues as kinds
 use Rattle.nextest_settings.specs.SettingValues.{ValueByKind, by_kind}
 use Rattle.nextest_settings.specs.declared.setting.Setting.{Setting}
-use Rattle.rinqebo_report.specs.declared.value.Field.{Field}
+use Rattle.rinqebo_report.specs.declared.value.TableMember.{TableMember}
 use Rattle.rinqebo_report.specs.declared.value.Scalar.{Scalar}
 use Rattle.rinqebo_report.specs.declared.value.Scalar.TheVariants as scalars
 use Rattle.rinqebo_report.specs.declared.value.Value.{Value}
@@ -50,7 +50,7 @@ scalar_view (scalars.Text t) = text (string_bytes t)
 scalar_view (scalars.Duration n) = duration n
 
 -- what contracts see of a member of a table
-abbrev pub field_view : Field → ReportedField
+abbrev pub field_view : TableMember → ReportedField
 field_view f = record { key = string_bytes f.key; value = scalar_view f.value }
 
 -- what contracts see of a value

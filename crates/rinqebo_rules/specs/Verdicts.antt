@@ -3,26 +3,26 @@ use Rattle.std.specs.Prelude.{◌≡◌, ◌<◌, ℕ, List, [], ◌∷◌, ◌+
 use Rattle.nextest_settings.specs.Deciding.{QueryContext, rule_holds, decides, winner}
 use Rattle.nextest_settings.specs.Platforms.{EvaluatedRule, is_on}
 use Rattle.rinqebo_rules.specs.declared.verdict.RuleFacts.{RuleFacts}
-use Rattle.rinqebo_rules.specs.declared.verdict.Verdict.{Verdict}
+use Rattle.rinqebo_rules.specs.declared.verdict.RuleVerdict.{RuleVerdict}
 use Rattle.rinqebo_rules.specs.VerdictsBy.{verdict_by}
 
 -- the verdict on a rule behind others, for something that rules may write
 abbrev pub verdict_of : {M W : Type 0} → QueryContext M → (W → Bool) → List (EvaluatedRule M W)
-    → EvaluatedRule M W → Verdict
+    → EvaluatedRule M W → RuleVerdict
 verdict_of query wants before rule =
     verdict_by (is_on rule query.platform) (rule_holds query rule)
     (wants rule.writes) (is_some (winner query wants before))
 
 -- the verdicts on rules behind others
 abbrev pub verdicts_after : {M W : Type 0} → QueryContext M → (W → Bool)
-    → List (EvaluatedRule M W) → List (EvaluatedRule M W) → List Verdict
+    → List (EvaluatedRule M W) → List (EvaluatedRule M W) → List RuleVerdict
 verdicts_after query wants before [] = []
 verdicts_after query wants before (rule ∷ rules) =
     verdict_of query wants before rule ∷ verdicts_after query wants (before ++ rule ∷ []) rules
 
 -- the verdicts on rules, each behind those before it
 abbrev pub verdicts_of : {M W : Type 0} → QueryContext M → (W → Bool) → List (EvaluatedRule M W)
-    → List Verdict
+    → List RuleVerdict
 verdicts_of query wants rules = verdicts_after query wants [] rules
 
 -- what is known of a rule

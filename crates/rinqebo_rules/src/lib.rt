@@ -40,5 +40,5 @@ pub use scripts::scripts_of;
 pub use trees::trees_of;
 pub use unused::{UnusedRules, unused_rules};
 pub use unused_laws::law_unused;
-pub use verdict::{RuleFacts, Verdict, verdicts_of};
+pub use verdict::{RuleFacts, RuleVerdict, verdicts_of};
 pub use verdict_laws::law_verdicts;

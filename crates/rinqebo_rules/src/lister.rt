@@ -13,7 +13,7 @@ use crate::unused::{UnusedRules, unused_rules};
 use nextest_elements::NextestRunMode;
 use nextest_engines::{BuildPlatform, Filters, Specs, TestQuery};
 use nextest_profiles::EvaluatableProfile;
-use rinqebo_report::{Platform, TestRows};
+use rinqebo_report::{BuiltFor, TestRows};
 use rinqebo_request::RequestedSettings;
 use std::alloc::{AllocError, Global};
 
@@ -38,10 +38,10 @@ pub struct ListedRows<'c> {
 }
 
 /// For what a binary is built, as it is reported.
-pub fn reported_platform(platform: BuildPlatform) -> Platform {
+pub fn reported_platform(platform: BuildPlatform) -> BuiltFor {
     match platform {
-        BuildPlatform::Host => Platform::Host,
-        BuildPlatform::Target => Platform::Target,
+        BuildPlatform::Host => BuiltFor::Host,
+        BuildPlatform::Target => BuiltFor::Target,
     }
 }
 

@@ -8,9 +8,9 @@ ghost use Rattle.rinqebo_rules.specs.LeafValue.{is_tellable};
 ghost use Rattle.rinqebo_rules.specs.ReportedEntries.{step_key, profile_of, IsOriginOf, IsEntryOf};
 
 use crate::leaf_value::reported_value;
-use nextest_grounds::{Entry, Section, key_text};
+use nextest_grounds::{LayerLeaf, Section, key_text};
 use nextest_places::Step;
-use rinqebo_report::{Origin, Part, Place, Written};
+use rinqebo_report::{FilePlace, Origin, Part, Written};
 use std::alloc::{AllocError, Global};
 
 /// The path of the table in which a section stands.
@@ -27,7 +27,7 @@ fn base_steps<'t>(alloc: Global, section: Section<'t>) -> Result<Vec<Step<'t>>, 
 }
 
 /// The path of a leaf from the root of its layer on: there its lines are looked for.
-pub fn steps_of<'t>(alloc: Global, entry: &Entry<'t>) -> Result<Vec<Step<'t>>, AllocError>
+pub fn steps_of<'t>(alloc: Global, entry: &LayerLeaf<'t>) -> Result<Vec<Step<'t>>, AllocError>
     ensures { IfOk result (λ steps. map step_key steps.items
         ≡ map Some (base_path (section_view entry.now.section) ++ keys_view entry.now.path.items)) }
 {
@@ -39,7 +39,7 @@ pub fn steps_of<'t>(alloc: Global, entry: &Entry<'t>) -> Result<Vec<Step<'t>>, A
 }
 
 /// The name of the profile under which a leaf stands, if it stands under one.
-fn profile_name<'t>(entry: &Entry<'t>) -> Option<&'t str>
+fn profile_name<'t>(entry: &LayerLeaf<'t>) -> Option<&'t str>
     ensures { option_map (λ name. name.now) result
         ≡ profile_of (section_view entry.now.section) }
 {
@@ -50,7 +50,7 @@ fn profile_name<'t>(entry: &Entry<'t>) -> Option<&'t str>
 }
 
 /// What writes a leaf. The lowest layer is the table of defaults.
-fn origin_of(alloc: Global, entry: &Entry<'_>, place: Place) -> Result<Origin, AllocError>
+fn origin_of(alloc: Global, entry: &LayerLeaf<'_>, place: FilePlace) -> Result<Origin, AllocError>
     ensures { IfOk result (IsOriginOf (leaf_view entry.now) place) }
 {
     if entry.layer == 0 {
@@ -70,8 +70,8 @@ fn origin_of(alloc: Global, entry: &Entry<'_>, place: Place) -> Result<Origin, A
 /// value can't be told.
 pub fn reported_entry(
     alloc: Global,
-    entry: &Entry<'_>,
-    place: Place,
+    entry: &LayerLeaf<'_>,
+    place: FilePlace,
 ) -> Result<Option<rinqebo_report::Entry>, AllocError>
     ensures { IfOk result (λ told. MatchOption told
         (is_tellable (tree_view entry.now.value.now) ≡ false)

@@ -7,7 +7,7 @@ use nextest_config::{
     LeakTimeout, RetryPolicy, SlowTimeout, TestGroup, TestPriority, ThreadsRequired,
 };
 use nextest_settings::SettingValue;
-use rinqebo_report::{Field, Scalar, Value};
+use rinqebo_report::{Scalar, TableMember, Value};
 use std::alloc::{AllocError, Global};
 
 /// A number as one of TOML. Files write no greater one.
@@ -27,7 +27,7 @@ fn text_value(text: String) -> Value
 /// Adds a member of a table.
 fn add_field(
     alloc: Global,
-    fields: &mut Vec<Field>,
+    fields: &mut Vec<TableMember>,
     key: &str,
     value: Scalar,
 ) -> Result<(), AllocError>
@@ -35,14 +35,14 @@ fn add_field(
         ≡ map field_view fields.old.items ++ one key.now (scalar_view value)) }
 {
     let key = String::from_str(alloc, key)?;
-    fields.push(Field { key, value })?;
+    fields.push(TableMember { key, value })?;
     Ok(())
 }
 
 /// Adds a duration that may be absent.
 fn add_duration(
     alloc: Global,
-    fields: &mut Vec<Field>,
+    fields: &mut Vec<TableMember>,
     key: &str,
     duration: Option<u128>,
 ) -> Result<(), AllocError>
@@ -58,7 +58,7 @@ fn add_duration(
 /// Adds a count that may be absent.
 fn add_count(
     alloc: Global,
-    fields: &mut Vec<Field>,
+    fields: &mut Vec<TableMember>,
     key: &str,
     number: Option<u64>,
 ) -> Result<(), AllocError>
@@ -74,7 +74,7 @@ fn add_count(
 /// Adds that something is so, or nothing.
 fn add_if_true(
     alloc: Global,
-    fields: &mut Vec<Field>,
+    fields: &mut Vec<TableMember>,
     key: &str,
     is_so: bool,
 ) -> Result<(), AllocError>

@@ -7,7 +7,7 @@ use std::alloc::{AllocError, Global};
 
 /// The verdict of a rule for a test and a setting.
 #[derive(Clone, Copy, PartialEq, Eq)]
-pub enum Verdict {
+pub enum RuleVerdict {
     /// Its platforms do not hold.
     PlatformNo,
     /// They hold, and its filter does not match.
@@ -40,25 +40,25 @@ impl RuleFacts {
     }
 
     /// What comes of the rule, where one before it decides or none.
-    fn verdict(self, is_decided: bool) -> Verdict
+    fn verdict(self, is_decided: bool) -> RuleVerdict
         ensures { result ≡ verdict_by self.is_on self.holds self.writes is_decided }
     {
         if !self.is_on {
-            Verdict::PlatformNo
+            RuleVerdict::PlatformNo
         } else if !self.holds {
-            Verdict::FilterNo
+            RuleVerdict::FilterNo
         } else if !self.writes {
-            Verdict::SetsNothing
+            RuleVerdict::SetsNothing
         } else if is_decided {
-            Verdict::DecidedBefore
+            RuleVerdict::DecidedBefore
         } else {
-            Verdict::Decides
+            RuleVerdict::Decides
         }
     }
 }
 
 /// The verdict of each rule, in their order.
-pub fn verdicts_of(alloc: Global, rules: &[SettingRule<'_>]) -> Result<Vec<Verdict>, AllocError>
+pub fn verdicts_of(alloc: Global, rules: &[SettingRule<'_>]) -> Result<Vec<RuleVerdict>, AllocError>
     ensures { IfOk result (λ verdicts. verdicts.items
         ≡ verdicts_by false (map (λ rule. rule.facts) rules.now)) }
 {

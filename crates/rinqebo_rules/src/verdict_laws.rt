@@ -5,7 +5,7 @@ ghost use Rattle.nextest_settings.specs.Deciding.{QueryContext, decides, winner}
 ghost use Rattle.nextest_settings.specs.Platforms.{EvaluatedRule};
 ghost use Rattle.rinqebo_rules.specs.Verdicts.{facts_of, verdicts_of, IsDeciding};
 ghost use Rattle.rinqebo_rules.specs.VerdictsBy.{verdicts_by};
-ghost use Rattle.rinqebo_rules.specs.declared.verdict.Verdict.{Verdict};
+ghost use Rattle.rinqebo_rules.specs.declared.verdict.RuleVerdict.{RuleVerdict};
 
 use nextest_engines::Filters;
 
@@ -17,16 +17,16 @@ pub fn law_verdicts<F: Filters>()
         (rules : List (EvaluatedRule F.Meaning (OverrideUse F.Meaning))) (n : ℕ)
         (rule : EvaluatedRule F.Meaning (OverrideUse F.Meaning))
         → slice_get rules n ≡ Some rule
-        → (slice_get (verdicts_of query wants rules) n ≡ Some Verdict.Decides)
+        → (slice_get (verdicts_of query wants rules) n ≡ Some RuleVerdict.Decides)
         ↔ IsDeciding query wants rules n rule }
     ensures winner { (query : QueryContext F.Meaning) (wants : OverrideUse F.Meaning → Bool)
         (rules : List (EvaluatedRule F.Meaning (OverrideUse F.Meaning))) (n : ℕ)
-        → slice_get (verdicts_of query wants rules) n ≡ Some Verdict.Decides
+        → slice_get (verdicts_of query wants rules) n ≡ Some RuleVerdict.Decides
         → winner query wants rules ≡ slice_get rules n }
     ensures none { (query : QueryContext F.Meaning) (wants : OverrideUse F.Meaning → Bool)
         (rules : List (EvaluatedRule F.Meaning (OverrideUse F.Meaning)))
         → (winner query wants rules ≡ None)
-        ↔ ((n : ℕ) → slice_get (verdicts_of query wants rules) n ≢ Some Verdict.Decides) }
+        ↔ ((n : ℕ) → slice_get (verdicts_of query wants rules) n ≢ Some RuleVerdict.Decides) }
     ensures facts { (query : QueryContext F.Meaning) (wants : OverrideUse F.Meaning → Bool)
         (rules : List (EvaluatedRule F.Meaning (OverrideUse F.Meaning)))
         → verdicts_of query wants rules ≡ verdicts_by false (map (facts_of query wants) rules) }

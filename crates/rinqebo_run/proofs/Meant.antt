@@ -26,7 +26,7 @@ use Rattle.rinqebo_rules.proofs.VerdictsOf.{verdicts-facts}
 use Rattle.rinqebo_run.proofs.Pairs.{zip_moved}
 use Rattle.rinqebo_rules.specs.Verdicts.{facts_of, verdicts_of}
 use Rattle.rinqebo_rules.specs.VerdictsBy.{verdicts_by}
-use Rattle.rinqebo_rules.specs.declared.verdict.Verdict.{Verdict}
+use Rattle.rinqebo_rules.specs.declared.verdict.RuleVerdict.{RuleVerdict}
 use Rattle.rinqebo_rules.specs.Conditions.{reported_condition, requested_if}
 use Rattle.rinqebo_rules.specs.RuleAnswers.{answers_by}
 use Rattle.rinqebo_run.specs.Reasons.{IsRuleReported, AreRulesReported}
@@ -121,9 +121,9 @@ module _ {E N M K P : Type 0} (f : E → M) (g : N → K) (meets : K → P → O
         → AreRulesReported layers read_meets platforms read_query rs rules
         → AreRulesReported layers meets platforms query (map (rule_meaning f g (λ w. w)) rs) rules
     rules_meant layers rs rules all =
-        let R : RuleFor E N × Verdict → Rule → Type 0 =
+        let R : RuleFor E N × RuleVerdict → Rule → Type 0 =
         λ p. IsRuleReported layers p.0.writes (answers_by read_meets platforms read_query p.0) p.1 in
-        let S : RuleFor M K × Verdict → Rule → Type 0 =
+        let S : RuleFor M K × RuleVerdict → Rule → Type 0 =
         λ p. IsRuleReported layers p.0.writes (answers_by meets platforms query p.0) p.1 in
         subst (λ vs. AllZip S (zip (map (rule_meaning f g (λ w. w)) rs) vs) rules) (verdicts_meant rs)
         (zip_moved (rule_meaning f g (λ w. w)) R S

@@ -14,7 +14,7 @@ use Rattle.rinqebo_rules.specs.Verdicts.{facts_of, verdicts_of}
 use Rattle.rinqebo_rules.specs.VerdictsBy.{verdicts_by}
 use Rattle.rinqebo_rules.specs.declared.chain_rules.SettingRule.{SettingRule}
 use Rattle.rinqebo_rules.specs.declared.conditions.Asking.{Asking}
-use Rattle.rinqebo_rules.specs.declared.verdict.Verdict.{Verdict}
+use Rattle.rinqebo_rules.specs.declared.verdict.RuleVerdict.{RuleVerdict}
 use Rattle.rinqebo_run.proofs.Pairs.{zip_back, zip_moved}
 use Rattle.rinqebo_run.specs.Reasons.{AreRulesReportedHere, AreReportedWith, IsRuleReported}
 
@@ -41,10 +41,10 @@ reported_here layers asking written rules told same all =
     let query = requested_query asking in
     let platforms = asking.platforms.now in
     let verdicts = verdicts_by false (map (λ rule. rule.facts) rules) in
-    let Held : SettingRule × Verdict → Rule → Type 0 =
+    let Held : SettingRule × RuleVerdict → Rule → Type 0 =
     λ p. IsRuleReported layers (setting_rule_view p.0).writes p.0.answers p.1 in
-    let Found : Judged × Verdict → Rule → Type 0 = λ p. IsRuleReported layers p.0.writes p.0.answers p.1 in
-    let Told : ReadRule × Verdict → Rule → Type 0 =
+    let Found : Judged × RuleVerdict → Rule → Type 0 = λ p. IsRuleReported layers p.0.writes p.0.answers p.1 in
+    let Told : ReadRule × RuleVerdict → Rule → Type 0 =
     λ p. IsRuleReported layers p.0.writes (answers_by is_met_by platforms query p.0) p.1 in
     subst (λ vs. AllZip Told (zip written vs) told) (reported_verdicts asking rules written same)
     (zip_back (judged_here asking) Told Found (λ r v rule is. is) written verdicts told

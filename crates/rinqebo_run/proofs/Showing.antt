@@ -5,7 +5,7 @@ use Rattle.std.proofs.lemmas.List.Elements.{filter-append}
 use Rattle.std.proofs.lemmas.Slice.Zip.{all_zipped_more}
 use Rattle.std.specs.List.{AllZip}
 use Rattle.nextest_grounds.specs.Entries.{Leaf, leaf_view}
-use Rattle.nextest_grounds.specs.declared.entries.Entry.{Entry as Found}
+use Rattle.nextest_grounds.specs.declared.entries.LayerLeaf.{LayerLeaf as Found}
 use Rattle.rinqebo_rules.specs.LeafValue.{is_tellable}
 use Rattle.rinqebo_report.specs.declared.report.Entry.{Entry}
 use Rattle.rinqebo_run.specs.ShownConfig.{TellsLeaf, TellLeaves}

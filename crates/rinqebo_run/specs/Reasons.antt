@@ -10,8 +10,8 @@ use Rattle.rinqebo_report.specs.declared.report.Verdict as report
 use Rattle.rinqebo_report.specs.declared.report.Verdict.TheVariants as told
 use Rattle.rinqebo_rules.specs.Told.{value_view}
 use Rattle.rinqebo_rules.specs.Verdicts.{verdicts_of}
-use Rattle.rinqebo_rules.specs.declared.verdict.Verdict.{Verdict}
-use Rattle.rinqebo_rules.specs.declared.verdict.Verdict.TheVariants as verdicts
+use Rattle.rinqebo_rules.specs.declared.verdict.RuleVerdict.{RuleVerdict}
+use Rattle.rinqebo_rules.specs.declared.verdict.RuleVerdict.TheVariants as verdicts
 use Rattle.rinqebo_rules.specs.Conditions.{is_met_by}
 use Rattle.rinqebo_rules.specs.Origins.{IsOriginOf}
 use Rattle.rinqebo_rules.specs.RuleAnswers.{answers_by, requested_query}
@@ -22,7 +22,7 @@ use Rattle.rinqebo_rules.specs.declared.conditions.Answers.{Answers}
 use Rattle.rinqebo_rules.specs.declared.conditions.Asking.{Asking}
 
 -- a verdict, as it is told
-abbrev pub page_verdict : Verdict → report.Verdict
+abbrev pub page_verdict : RuleVerdict → report.Verdict
 page_verdict verdicts.PlatformNo = told.PlatformNo
 page_verdict verdicts.FilterNo = told.FilterNo
 page_verdict verdicts.SetsNothing = told.SetsNothing
@@ -32,7 +32,7 @@ page_verdict verdicts.Decides = told.Decides
 -- A rule is reported: its verdict, its place in the layers, what its conditions say, and what it writes
 -- for a setting.
 pub record IsRuleReported (layers : List Layer) (written : RuleValue) (answers : Answers)
-    (verdict : Verdict) (rule : Rule) : Type 0 where
+    (verdict : RuleVerdict) (rule : Rule) : Type 0 where
   pub verdict_reported : rule.verdict ≡ page_verdict verdict
   pub origin : IsOriginOf layers written.place [] rule.origin
   pub others : rule.others.items ≡ []
@@ -45,7 +45,7 @@ pub record IsRuleReported (layers : List Layer) (written : RuleValue) (answers :
 abbrev pub AreRulesReported : {M K P : Type 0} → List Layer → (K → P → Option Bool)
     → BuildPlatforms P → QueryContext M → List (RuleFor M K) → List Rule → Type 0
 AreRulesReported {M} {K} layers meets platforms query rules told = AllZip
-    (λ (p : RuleFor M K × Verdict).
+    (λ (p : RuleFor M K × RuleVerdict).
     IsRuleReported layers p.0.writes (answers_by meets platforms query p.0) p.1)
     (zip rules (verdicts_of query writes_it (map (rule_on meets platforms) rules)))
     told
@@ -56,8 +56,8 @@ AreRulesReportedHere layers asking rules told =
     AreRulesReported layers is_met_by asking.platforms.now (requested_query asking) rules told
 
 -- rules as code holds them are reported with verdicts
-abbrev pub AreReportedWith : List Layer → List SettingRule → List Verdict → List Rule → Type 0
+abbrev pub AreReportedWith : List Layer → List SettingRule → List RuleVerdict → List Rule → Type 0
 AreReportedWith layers rules verdicts told = AllZip
-    (λ (p : SettingRule × Verdict).
+    (λ (p : SettingRule × RuleVerdict).
     IsRuleReported layers (setting_rule_view p.0).writes p.0.answers p.1)
     (zip rules verdicts) told

@@ -11,7 +11,7 @@ use Rattle.nextest_tree.specs.Node.{Node}
 use Rattle.rinqebo_rules.specs.LeafValue.{is_tellable}
 use Rattle.rinqebo_rules.specs.ReportedEntries.{IsEntryOf}
 use Rattle.rinqebo_rules.specs.Trees.{trees_of}
-use Rattle.rinqebo_report.specs.declared.origin.Place.{Place}
+use Rattle.rinqebo_report.specs.declared.origin.FilePlace.{FilePlace}
 use Rattle.rinqebo_report.specs.declared.report.Content.{Content}
 use Rattle.rinqebo_report.specs.declared.report.Content.TheVariants as contents
 use Rattle.rinqebo_report.specs.declared.report.Entry.{Entry}
@@ -22,7 +22,7 @@ use Rattle.rinqebo_load.specs.declared.session.Session.{Session}
 
 -- An entry tells a leaf, at a place in the file of the leaf's layer.
 pub record TellsLeaf (leaf : Leaf) (entry : Entry) : Type 0 where
-  pub place : Place
+  pub place : FilePlace
   pub source : place.source ≡ leaf.layer
   pub is_entry : IsEntryOf leaf place entry
 

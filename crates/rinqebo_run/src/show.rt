@@ -16,7 +16,7 @@ use crate::asked::requested_of;
 use crate::idle::findings_on;
 use crate::status::Status;
 use nextest_config::{DefaultConfigWarnings, NextestRunMode};
-use nextest_grounds::{Entry as Leaf, entries_of};
+use nextest_grounds::{LayerLeaf, entries_of};
 use rinqebo_files::{Layer, path_place};
 use rinqebo_findings::{config_with, report_of};
 use rinqebo_load::{Config, Failure, Session, chain_of_profile};
@@ -29,7 +29,7 @@ use std::alloc::{AllocError, Global};
 fn reported_leaf(
     alloc: Global,
     layers: &[Layer],
-    leaf: &Leaf<'_>,
+    leaf: &LayerLeaf<'_>,
 ) -> Result<Option<Entry>, AllocError>
     ensures { IfOk result (λ told. MatchOption told
         (is_tellable (leaf_view leaf.now).value ≡ false) (TellsLeaf (leaf_view leaf.now))) }
@@ -43,7 +43,7 @@ fn reported_leaf(
 fn reported_leaves(
     alloc: Global,
     layers: &[Layer],
-    leaves: &[Leaf<'_>],
+    leaves: &[LayerLeaf<'_>],
 ) -> Result<Vec<Entry>, AllocError>
     ensures { IfOk result (λ entries. TellLeaves (map leaf_view leaves.now) entries.items) }
 {

@@ -55,15 +55,15 @@ fn condition(
 }
 
 /// A verdict, as it is reported.
-fn reported_verdict(verdict: rinqebo_rules::Verdict) -> Verdict
+fn reported_verdict(verdict: rinqebo_rules::RuleVerdict) -> Verdict
     ensures { result ≡ page_verdict verdict }
 {
     match verdict {
-        rinqebo_rules::Verdict::PlatformNo => Verdict::PlatformNo,
-        rinqebo_rules::Verdict::FilterNo => Verdict::FilterNo,
-        rinqebo_rules::Verdict::SetsNothing => Verdict::SetsNothing,
-        rinqebo_rules::Verdict::DecidedBefore => Verdict::DecidedBefore,
-        rinqebo_rules::Verdict::Decides => Verdict::Decides,
+        rinqebo_rules::RuleVerdict::PlatformNo => Verdict::PlatformNo,
+        rinqebo_rules::RuleVerdict::FilterNo => Verdict::FilterNo,
+        rinqebo_rules::RuleVerdict::SetsNothing => Verdict::SetsNothing,
+        rinqebo_rules::RuleVerdict::DecidedBefore => Verdict::DecidedBefore,
+        rinqebo_rules::RuleVerdict::Decides => Verdict::Decides,
     }
 }
 
@@ -72,7 +72,7 @@ fn reported_rule(
     alloc: Global,
     layers: &[Layer],
     rule: &SettingRule<'_>,
-    verdict: rinqebo_rules::Verdict,
+    verdict: rinqebo_rules::RuleVerdict,
 ) -> Result<Rule, AllocError>
     ensures { IfOk result (IsRuleReported layers.now (setting_rule_view rule.now).writes
         rule.now.answers verdict) }
@@ -95,7 +95,7 @@ fn rules_with_verdicts(
     alloc: Global,
     layers: &[Layer],
     rules: &[SettingRule<'_>],
-    verdicts: &[rinqebo_rules::Verdict],
+    verdicts: &[rinqebo_rules::RuleVerdict],
 ) -> Result<Vec<Rule>, AllocError>
     ensures { IfOk result (λ told. AreReportedWith layers.now rules.now verdicts.now told.items) }
 {

@@ -95,7 +95,7 @@ abbrev pub FailsUnderstood : List ℕ → Failure → Type 0
 FailsUnderstood request failure =
     (asked : RequestText) × (request_of request ≡ Some asked) × IsFailureBy asked failure
 
--- why the bytes of a request give no configuration: they are no UTF-8, they are not understood, or
+-- why the bytes of a request give no configuration: they are not valid UTF-8, they are not understood, or
 -- what they ask for fails; want of memory aside
 abbrev pub IsFailureOf : List ℕ → Failure → Type 0
 IsFailureOf request failures.NotText = ¬ IsUtf8 request

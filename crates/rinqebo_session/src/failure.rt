@@ -13,8 +13,8 @@ use thiserror::Error;
 /// Why a session holds no configuration.
 #[derive(Debug, Drop, Error)]
 pub enum Failure {
-    /// The request is no UTF-8.
-    #[error("the request is no UTF-8")]
+    /// The request is not valid UTF-8.
+    #[error("the request is not valid UTF-8")]
     NotText,
     /// The request is not understood.
     #[error("{0}")]
@@ -104,8 +104,8 @@ pub enum OpenFailure {
     /// The session holds no configuration.
     #[error("the session holds no configuration")]
     NotLoaded,
-    /// The name is no UTF-8.
-    #[error("the name of the profile is no UTF-8")]
+    /// The name is not valid UTF-8.
+    #[error("the name of the profile is not valid UTF-8")]
     NotText,
     /// There is no profile of the name.
     #[error("{0}")]

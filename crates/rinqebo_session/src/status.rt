@@ -6,11 +6,11 @@ pub const DONE: u32 = 0;
 pub const REFUSED: u32 = 1;
 /// The buffer is too small.
 pub const SMALL: u32 = 2;
-/// Bytes are no UTF-8.
+/// Bytes are not valid UTF-8.
 pub const NOT_TEXT: u32 = 3;
 /// Memory was refused.
 pub const MEMORY: u32 = 4;
-/// The request is no JSON, or not of its form.
+/// The request is not valid JSON, or not of its form.
 pub const NOT_UNDERSTOOD: u32 = 5;
 /// The metadata or a machine of the request is not understood.
 pub const NO_ENGINES: u32 = 6;

@@ -29,7 +29,7 @@ pub struct RequestedTest<'a> {
 /// Why a test is not understood.
 #[derive(Clone, Copy, Debug, PartialEq, Eq, Drop)]
 pub enum TestFault {
-    /// A text of it is no UTF-8.
+    /// A text of it is not valid UTF-8.
     NotText,
     /// The number of its platform or its mode stands for nothing.
     UnknownNumber,

@@ -19,7 +19,7 @@ fn faults(rt: HostRuntime) -> Result<(), Fail> {
     let expected = MetadataFault::Expected(Wanted::Text, Place::PackageName(1));
     assert_eq!(rt; fault, expected);
     let text = format!(in rt.alloc(); "{fault}")?;
-    assert_eq!(rt; text.as_str(), "expected a text at `packages[1].name`");
+    assert_eq!(rt; text.as_str(), "expected a string at `packages[1].name`");
     let unresolved = r#"{"packages": [], "workspace_members": [], "resolve": null}"#;
     let fault = fault_of(&rt, unresolved).ok_or("no fault")?;
     let expected = MetadataFault::Expected(Wanted::Object, Place::Resolve);

@@ -36,12 +36,12 @@ fn says_what_is_expected(rt: HostRuntime) -> Result<(), Fail> {
     let usual = request_with(alloc, "further", "0")?;
     assert!(rt; LoadRequest::read(alloc, usual.as_str()).is_ok());
     for (key, value, reason) in [
-        ("root", "null", "expected a text at `root`"),
+        ("root", "null", "expected a string at `root`"),
         ("file", "[]", "expected an object at `file`"),
         (
             "file",
             r#"{"path": "/f", "outcome": "text", "text": null}"#,
-            "expected a text at `file.text`",
+            "expected a string at `file.text`",
         ),
         (
             "file",
@@ -58,7 +58,7 @@ fn says_what_is_expected(rt: HostRuntime) -> Result<(), Fail> {
             "[]",
             "expected an object or null at `organisation-config-file`",
         ),
-        ("tools", "{}", "expected a list at `tools`"),
+        ("tools", "{}", "expected an array at `tools`"),
         ("features", "null", "expected an object at `features`"),
         (
             "features",
@@ -70,12 +70,12 @@ fn says_what_is_expected(rt: HostRuntime) -> Result<(), Fail> {
             r#"{"setup-scripts": false}"#,
             "expected true or false at `features.wrapper-scripts`",
         ),
-        ("metadata", "{}", "expected a text or null at `metadata`"),
+        ("metadata", "{}", "expected a string or null at `metadata`"),
         ("host", r#""t""#, "expected an object at `host`"),
         (
             "host",
             r#"{"triple": "t", "cfg": false}"#,
-            "expected a text or null at `host.cfg`",
+            "expected a string or null at `host.cfg`",
         ),
         ("target", "[]", "expected an object or null at `target`"),
     ] {

@@ -4,9 +4,9 @@ use crate::parts::{
     answer_of, expression_of, origin_of, place_of, scalar_of, verdict_of, written_of,
 };
 use rinqebo_report::{
-    Asked, Condition, ConditionAnswer, Content, Entry, Field, Finding, Level, ListScripts,
-    ListWrapper, Origin, Platform, Report, Rule, RunMode, SettingRow, Source, SourceKind, TestId,
-    TestRows, Unreached, Value,
+    Asked, BuiltFor, Condition, ConditionAnswer, Content, Entry, Finding, Level, ListScripts,
+    ListWrapper, Origin, Report, Rule, RunMode, SettingRow, Source, SourceKind, TableMember,
+    TestId, TestRows, Unreached, Value,
 };
 use std::alloc::{AllocError, Global};
 use std::mem;
@@ -201,8 +201,8 @@ impl Builder {
 
     fn add_test(&mut self, line: &Line) -> Result<(), RowError> {
         let platform = match line.word(3)? {
-            "host" => Platform::Host,
-            "target" => Platform::Target,
+            "host" => BuiltFor::Host,
+            "target" => BuiltFor::Target,
             _ => return Err(RowError::NoRow),
         };
         let test = TestRows {
@@ -328,7 +328,7 @@ impl Builder {
     }
 
     fn add_field(&mut self, line: &Line) -> Result<(), RowError> {
-        let field = Field {
+        let field = TableMember {
             key: line.text(self.alloc, 1)?,
             value: scalar_of(self.alloc, line, 2)?,
         };
@@ -404,7 +404,7 @@ impl Builder {
 }
 
 /// Adds a member to a value, which is to be a table.
-fn push_field(value: &mut Value, field: Field) -> Result<(), RowError> {
+fn push_field(value: &mut Value, field: TableMember) -> Result<(), RowError> {
     match value {
         Value::Table(fields) => {
             fields.push(field).map_err(AllocError::from)?;
@@ -415,7 +415,7 @@ fn push_field(value: &mut Value, field: Field) -> Result<(), RowError> {
 }
 
 /// Adds a member to a value, which is to be there.
-fn push_optional_field(value: &mut Option<Value>, field: Field) -> Result<(), RowError> {
+fn push_optional_field(value: &mut Option<Value>, field: TableMember) -> Result<(), RowError> {
     match value {
         Some(value) => push_field(value, field),
         None => Err(RowError::NoRow),

@@ -1,8 +1,8 @@
 //! Parts of a report, by the words of a line.
 use crate::line::{Line, RowError};
 use rinqebo_report::{
-    ConditionAnswer, Expression, Lines, Origin, Part, Place, Position, Range, Scalar, Span,
-    Verdict, Written,
+    CharSpan, ConditionAnswer, FileLines, FilePlace, Origin, Part, Position, Range,
+    RefusedExpression, Scalar, Verdict, Written,
 };
 use std::alloc::Global;
 
@@ -70,15 +70,15 @@ fn range_of(line: &Line, place: usize) -> Result<Option<Range>, RowError> {
 
 /// The place whose source is the word at a place of the line, whose lines follow, and whose range
 /// is at another.
-pub fn place_of(line: &Line, place: usize, range: usize) -> Result<Place, RowError> {
+pub fn place_of(line: &Line, place: usize, range: usize) -> Result<FilePlace, RowError> {
     let source = line.number(place)? as usize;
     let first = line.optional_number(place.saturating_add(1))?;
     let last = line.optional_number(place.saturating_add(2))?;
     let lines = match (first, last) {
-        (Some(first), Some(last)) => Some(Lines { first, last }),
+        (Some(first), Some(last)) => Some(FileLines { first, last }),
         _ => None,
     };
-    Ok(Place {
+    Ok(FilePlace {
         source,
         lines,
         range: range_of(line, range)?,
@@ -112,17 +112,17 @@ pub fn written_of(alloc: Global, line: &Line, place: usize) -> Result<Origin, Ro
 }
 
 /// The expression of a line.
-pub fn expression_of(alloc: Global, line: &Line) -> Result<Expression, RowError> {
+pub fn expression_of(alloc: Global, line: &Line) -> Result<RefusedExpression, RowError> {
     let from = line.optional_number(2)?;
     let to = line.optional_number(3)?;
     let span = match (from, to) {
-        (Some(from), Some(to)) => Some(Span {
+        (Some(from), Some(to)) => Some(CharSpan {
             from: from as usize,
             to: to as usize,
         }),
         _ => None,
     };
-    Ok(Expression {
+    Ok(RefusedExpression {
         text: line.text(alloc, 1)?,
         span,
     })

@@ -157,7 +157,13 @@ fn shown_token(alloc: Global, token: &Token) -> Result<String, AllocError> {
                 None => shown.push('?')?,
             }
         }
-        _ => {}
+        TokenKind::TableHeader
+        | TokenKind::ElementHeader
+        | TokenKind::Open(_)
+        | TokenKind::Close(_)
+        | TokenKind::String
+        | TokenKind::Word
+        | TokenKind::Other => {}
     }
     Ok(shown)
 }

@@ -133,7 +133,7 @@ impl<const ROOM: usize> Search<'_, ROOM> {
                     states.insert(next);
                 }
             }
-            _ => {}
+            State::ByteRange(_) | State::Sparse { .. } | State::Fail => {}
         }
         false
     }

@@ -2,14 +2,14 @@ use Rattle.std.proofs.Common.{◌≡◌, [], ◌∷◌, ◌++◌, map, string_by
 use Rattle.nextest_tree.specs.View.{tree_view}
 use Rattle.nextest_grounds.specs.Layers.{keys_view}
 use Rattle.nextest_grounds.specs.Leaves.{paths_view, leaf_paths}
-use Rattle.nextest_grounds.proofs.LeafPaths.{Entry, one_more}
+use Rattle.nextest_grounds.proofs.LeafPaths.{LayerLeaf, one_more}
 use Rattle.nextest_grounds.proofs.leaves.+add_leaf_paths.Goals as goal
 
 pub add_member_paths-loop-key-preserved : goal.add_member_paths-loop-key-preserved
 add_member_paths-loop-key-preserved t c =
     let l = c.loop-key in
     let done = l.invariant.0 in
-    let e : Entry = (c.in-Some.key.now, c.in-Some.member.now) in
+    let e : LayerLeaf = (c.in-Some.key.now, c.in-Some.member.now) in
     let left = c.next.new.self in
     let front = keys_view c.args.path.now in
     let longer = keys_view c.in_ok-longer.longer.items in
