@@ -12,8 +12,11 @@ pub mod Walk
 pub mod Rising
 pub mod Stepping
 pub mod PositionTurns
+pub mod Lined
 pub mod Escapes
 pub mod PositionWalk
 mod Examples
 pub mod Reopened
 pub mod Climbing
+pub mod Leading
+pub mod Marks

@@ -9,7 +9,7 @@ use Rattle.std.proofs.lemmas.Bool.Decides.{nat_tests}
 use Rattle.std.proofs.lemmas.List.{append-nil, drop_all, drop-append-le, drop-take, length_push, length-take-le, reverse-append, take-append-drop, take-take}
 use Rattle.std.proofs.lemmas.List.Sums.{sum_by_push, suffix_len-le-length}
 use Rattle.std.proofs.lemmas.Str.{IsUtf8-between, IsUtf8-take, chars-append, encodes-append, encodes-chars, length-encode, len_utf8_bounds}
-use Rattle.nextest_spans.specs.declared.position.Position.{Position}
+use Rattle.nextest_spans.specs.declared.position.TextPosition.{TextPosition}
 use Rattle.nextest_spans.specs.declared.position.ColumnUnit.{ColumnUnit}
 use Rattle.nextest_spans.specs.declared.position.ColumnUnit.TheVariants.{Byte, Char, Utf16}
 use Rattle.nextest_spans.specs.Law.{PositionsRise}
@@ -34,7 +34,7 @@ after_last_push p xs c =
     ]
 
 same_position : (a b c d : ℕ) → a ≡ c → b ≡ d
-    → ◌≡◌ {A = Position} (record { line = a; column = b }) (record { line = c; column = d })
+    → ◌≡◌ {A = TextPosition} (record { line = a; column = b }) (record { line = c; column = d })
 same_position a b c d e f = rw (e, f) refl
 
 pub behind_char : (unit : ColumnUnit) (cs : List ℕ) (c : ℕ)
@@ -56,7 +56,7 @@ behind_char unit cs c =
           rw miss (same_position _ _ _ _ line (ap (sum_by (width unit)) column ∙ sum_by_push (width unit) (after_last is_line_feed cs) c))
     ]
 
-width_bounds : (unit : ColumnUnit) (c : ℕ) → (0 < width unit c) × (width unit c ≤ len_utf8 c)
+pub width_bounds : (unit : ColumnUnit) (c : ℕ) → (0 < width unit c) × (width unit c ≤ len_utf8 c)
 width_bounds Byte c = ((len_utf8_bounds c).0, omega arith)
 width_bounds Char c = (omega arith, (len_utf8_bounds c).0)
 width_bounds Utf16 c =
@@ -64,7 +64,7 @@ width_bounds Utf16 c =
     let room : width Utf16 c ≤ len_utf8 c = grind (arith, nat_tests) in
     (some, room)
 
-before_behind : (unit : ColumnUnit) (at : Position) (c : ℕ) → IsBefore at (behind unit at c)
+before_behind : (unit : ColumnUnit) (at : TextPosition) (c : ℕ) → IsBefore at (behind unit at c)
 before_behind unit at c =
     elim (cases_Bool (c == 10)) [
       | inl hit ↦ rw hit (inl (omega arith))
@@ -73,7 +73,7 @@ before_behind unit at c =
           rw miss (inr (refl, omega (arith, some)))
     ]
 
-pub before_trans : (a b c : Position) → IsBefore a b → IsBefore b c → IsBefore a c
+pub before_trans : (a b c : TextPosition) → IsBefore a b → IsBefore b c → IsBefore a c
 before_trans a b c (inl h) (inl k) = inl (omega arith)
 before_trans a b c (inl h) (inr k) = inl (omega (arith, h, k.0))
 before_trans a b c (inr h) (inl k) = inl (omega (arith, h.0, k))

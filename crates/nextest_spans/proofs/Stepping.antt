@@ -5,14 +5,14 @@ use Rattle.std.specs.Char.{len_utf8}
 use Rattle.std.specs.Str.{IsCharBoundary, IsUtf8, chars}
 use Rattle.std.proofs.lemmas.List.{append-nil, get_or-drop, length-take-le, take-append-drop, take_at, take_all}
 use Rattle.std.proofs.lemmas.Str.{IsCharBoundary-after_ascii, IsCharBoundary-past_char, IsCharBoundary-start, IsUtf8-between, IsUtf8-drop, IsUtf8-take, char_from_byte, chars-append, chars-nil, chars_past_char, encode_ascii, encode_same, encodes-chars, inside_one, length-encode, len_utf8_bounds}
-use Rattle.nextest_spans.specs.declared.position.Position.{Position}
+use Rattle.nextest_spans.specs.declared.position.TextPosition.{TextPosition}
 use Rattle.nextest_spans.specs.declared.position.ColumnUnit.{ColumnUnit}
 use Rattle.nextest_spans.specs.Positions.{IsBefore, IsByteAt, IsInLineEnd, IsPlace, IsStep, over_char, over_line_end, behind, position_behind, position_of}
 use Rattle.nextest_spans.proofs.Rising.{before_trans, behind_char, position_fits, positions_rise, some_chars, take_between}
 
 -- ---- what the code reads
 
-pub at_char : (unit : ColumnUnit) (at : Position) (rest more : List ℕ) (c n : ℕ) (next : Position) → rest ≡ encode_utf8 c ++ more → ¬ (c ≡ 13)
+pub at_char : (unit : ColumnUnit) (at : TextPosition) (rest more : List ℕ) (c n : ℕ) (next : TextPosition) → rest ≡ encode_utf8 c ++ more → ¬ (c ≡ 13)
     → n ≡ len_utf8 c → next ≡ behind unit at c → IsStep unit rest at n next
 at_char unit at rest more c n next is other len_is next_is =
     rw (len_is, next_is) (over_char c more is (λ in_end.
@@ -21,7 +21,7 @@ at_char unit at rest more c n next is other len_is next_is =
     let size : length rest ≡ len_utf8 c + length more = ap length is ∙ length-append (encode_utf8 c) more ∙ ap (λ n. n + length more) (length-encode c) in
     other (char_from_byte rest more c is (omega (arith, first)) (omega (arith, size, one.0)) ∙ first)))
 
-pub at_lone_return : (unit : ColumnUnit) (at : Position) (rest more : List ℕ) (c n : ℕ) (next : Position) → rest ≡ encode_utf8 c ++ more
+pub at_lone_return : (unit : ColumnUnit) (at : TextPosition) (rest more : List ℕ) (c n : ℕ) (next : TextPosition) → rest ≡ encode_utf8 c ++ more
     → ¬ (get_or rest 1 0 ≡ 10) → n ≡ len_utf8 c → next ≡ behind unit at c → IsStep unit rest at n next
 at_lone_return unit at rest more c n next is other len_is next_is =
     rw (len_is, next_is) (over_char c more is (λ in_end. other in_end.before))
@@ -30,7 +30,7 @@ second_is : (more : List ℕ) → get_or more 0 0 ≡ 10 → (r : List ℕ) × (
 second_is [] h = absurd (omega (arith, h))
 second_is (c ∷ r) h = (r, rw h refl)
 
-pub at_line_end : (unit : ColumnUnit) (at : Position) (rest more : List ℕ) (c : ℕ) (mid next : Position) → rest ≡ encode_utf8 c ++ more → c ≡ 13
+pub at_line_end : (unit : ColumnUnit) (at : TextPosition) (rest more : List ℕ) (c : ℕ) (mid next : TextPosition) → rest ≡ encode_utf8 c ++ more → c ≡ 13
     → get_or rest 1 0 ≡ 10 → mid ≡ behind unit at c → next ≡ behind unit mid 10 → IsStep unit rest at 2 next
 at_line_end unit at rest more c mid next is cr feed mid_is next_is =
     let front : rest ≡ 13 ∷ more =
@@ -39,12 +39,12 @@ at_line_end unit at rest more c mid next is cr feed mid_is next_is =
     let (r, more_is) = second_is more second in
     let whole : rest ≡ 13 ∷ 10 ∷ r = front ∙ ap (λ (xs : List ℕ). 13 ∷ xs) more_is in
     let led : next ≡ behind unit (behind unit at 13) 10 =
-    next_is ∙ ap (λ (p : Position). behind unit p 10) (mid_is ∙ ap (λ (n : ℕ). behind unit at n) cr) in
-    subst (λ (p : Position). IsStep unit rest at 2 p) (sym led) (over_line_end r whole)
+    next_is ∙ ap (λ (p : TextPosition). behind unit p 10) (mid_is ∙ ap (λ (n : ℕ). behind unit at n) cr) in
+    subst (λ (p : TextPosition). IsStep unit rest at 2 p) (sym led) (over_line_end r whole)
 
 -- ---- what a step leads to
 
-pub record Stepped (unit : ColumnUnit) (text : List ℕ) (byte len : ℕ) (next : Position) : Type 0 where
+pub record Stepped (unit : ColumnUnit) (text : List ℕ) (byte len : ℕ) (next : TextPosition) : Type 0 where
   pub some : 0 < len
   pub within : byte + len ≤ length text
   pub place : IsPlace text (byte + len)
@@ -161,7 +161,7 @@ module _ (unit : ColumnUnit) (text : List ℕ) (byte : ℕ) (utf8 : IsUtf8 text)
       apart : (b : ℕ) → byte < b → (byte + 2 ≤ b) ⊎ (b ≡ byte + 1)
       apart b less = grind arith
 
-  pub stepped : {rest : List ℕ} {at : Position} {len : ℕ} {next : Position} → IsStep unit rest at len next → rest ≡ drop byte text
+  pub stepped : {rest : List ℕ} {at : TextPosition} {len : ℕ} {next : TextPosition} → IsStep unit rest at len next → rest ≡ drop byte text
       → at ≡ position_of unit text byte → Stepped unit text byte len next
   stepped (over_char c more is alone) e p =
       rw p (over_one c more (sym e ∙ is) (subst (λ xs. ¬ IsInLineEnd xs 1) e alone))
@@ -179,11 +179,11 @@ pub start_position : (unit : ColumnUnit) (text : List ℕ) → position_of unit 
 unfolding position_behind chars
 start_position unit text = refl
 
-pub start_reached : (p : Position) → ¬ IsBefore p (record { line = 0; column = 0 })
+pub start_reached : (p : TextPosition) → ¬ IsBefore p (record { line = 0; column = 0 })
 start_reached p (inl h) = absurd (omega (arith, h))
 start_reached p (inr h) = absurd (omega (arith, h.1))
 
-before_all : (unit : ColumnUnit) (text : List ℕ) (p : Position) (a b : ℕ) → IsUtf8 text → IsPlace text a → IsPlace text b → a ≤ b
+before_all : (unit : ColumnUnit) (text : List ℕ) (p : TextPosition) (a b : ℕ) → IsUtf8 text → IsPlace text a → IsPlace text b → a ≤ b
     → IsBefore p (position_of unit text a) → IsBefore p (position_of unit text b)
 before_all unit text p a b utf8 at_a at_b less h =
     elim (apart a b less) [
@@ -195,38 +195,38 @@ before_all unit text p a b utf8 at_a at_b less h =
     apart a b less = grind arith
 
 -- the walk ends where the next place stands behind the position
-pub stops : (unit : ColumnUnit) (text : List ℕ) (p at : Position) (byte len : ℕ) (next : Position) → IsUtf8 text → IsPlace text byte
+pub stops : (unit : ColumnUnit) (text : List ℕ) (p at : TextPosition) (byte len : ℕ) (next : TextPosition) → IsUtf8 text → IsPlace text byte
     → at ≡ position_of unit text byte → ¬ IsBefore p at → Stepped unit text byte len next → IsBefore p next → IsByteAt unit text p byte
 stops unit text p at byte len next utf8 here at_is reached step beyond = record {
   place = here;
-  reached = λ h. reached (subst (λ (q : Position). IsBefore p q) (sym at_is) h);
+  reached = λ h. reached (subst (λ (q : TextPosition). IsBefore p q) (sym at_is) h);
   last = λ b there less.
       before_all unit text p (byte + len) b utf8 step.place there (step.none_within b there less)
-      (subst (λ (q : Position). IsBefore p q) (sym step.position) beyond);
+      (subst (λ (q : TextPosition). IsBefore p q) (sym step.position) beyond);
 }
 
 -- or at the text's end
-pub stops_at_end : (unit : ColumnUnit) (text : List ℕ) (p at : Position) (byte : ℕ) → IsPlace text byte
+pub stops_at_end : (unit : ColumnUnit) (text : List ℕ) (p at : TextPosition) (byte : ℕ) → IsPlace text byte
     → at ≡ position_of unit text byte → ¬ IsBefore p at → drop byte text ≡ [] → IsByteAt unit text p byte
 stops_at_end unit text p at byte here at_is reached over = record {
   place = here;
-  reached = λ h. reached (subst (λ (q : Position). IsBefore p q) (sym at_is) h);
+  reached = λ h. reached (subst (λ (q : TextPosition). IsBefore p q) (sym at_is) h);
   last = λ b there less. absurd (omega (arith, there.boundary.0, ap length over, length-drop byte text, less));
 }
 
 -- what a step asks
-pub step_fits : (unit : ColumnUnit) (text rest : List ℕ) (at : Position) (byte : ℕ) → IsUtf8 text → IsPlace text byte
+pub step_fits : (unit : ColumnUnit) (text rest : List ℕ) (at : TextPosition) (byte : ℕ) → IsUtf8 text → IsPlace text byte
     → at ≡ position_of unit text byte → rest ≡ drop byte text → at.line + at.column + length rest ≤ length text
 step_fits unit text rest at byte utf8 here at_is rest_is =
     let fits = position_fits unit text byte utf8 here.boundary in
     rw (at_is, rest_is) (omega (arith, fits, length-drop byte text, here.boundary.0))
 
-never_before : (p : Position) → IsBefore p p → ⊥
+never_before : (p : TextPosition) → IsBefore p p → ⊥
 never_before p (inl h) = absurd (omega (arith, h))
 never_before p (inr h) = absurd (omega (arith, h.1))
 
 -- the byte at the position of a place is that place
-pub byte_again : (unit : ColumnUnit) (text : List ℕ) (p : Position) (r : ℕ) → IsUtf8 text → IsByteAt unit text p r
+pub byte_again : (unit : ColumnUnit) (text : List ℕ) (p : TextPosition) (r : ℕ) → IsUtf8 text → IsByteAt unit text p r
     → (byte : ℕ) → IsPlace text byte → position_of unit text byte ≡ p → r ≡ byte
 byte_again unit text p r utf8 is byte at same =
     elim (apart r byte) [

@@ -8,5 +8,6 @@ pub mod Positions
 pub mod Offsets
 pub mod Pieces
 pub mod Law
+pub mod Lines
 pub mod Paths
 pub mod Spans

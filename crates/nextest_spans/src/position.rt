@@ -32,36 +32,36 @@ impl ColumnUnit {
 /// A position in a text. A line ends with a line feed, and a carriage return right before that
 /// belongs to the line's end.
 #[derive(Clone, Copy, Debug, PartialEq, Eq)]
-pub struct Position {
+pub struct TextPosition {
     /// The line, from 0.
     pub line: usize,
     /// The units before the position on its line, so from 0.
     pub column: usize,
 }
 
-impl Position {
+impl TextPosition {
     /// The start of a text.
-    pub const START: Position = Position { line: 0, column: 0 };
+    pub const START: TextPosition = TextPosition { line: 0, column: 0 };
 
     /// Whether the position stands on an earlier line than the other one, or earlier on its line.
-    pub fn is_before(self, other: Position) -> bool
+    pub fn is_before(self, other: TextPosition) -> bool
         ensures { IsTrue result ↔ IsBefore self other }
     {
         self.line < other.line || (self.line == other.line && self.column < other.column)
     }
 
     /// The position behind a character at this one.
-    pub(crate) fn behind(self, c: char, unit: ColumnUnit) -> Position
+    pub(crate) fn behind(self, c: char, unit: ColumnUnit) -> TextPosition
         requires { self.line + self.column + 4 < 2 ^ 64 }
         ensures { result ≡ behind unit self c }
     {
         if c == '\n' {
-            return Position {
+            return TextPosition {
                 line: self.line + 1,
                 column: 0,
             };
         }
-        Position {
+        TextPosition {
             line: self.line,
             column: self.column + unit.width(c),
         }
@@ -72,19 +72,34 @@ impl Position {
 ///
 /// The byte is the first one of a character or the text's end (`str::floor_char_boundary` leads
 /// there). Within a line's end, the carriage return counts as a character of the line.
-pub fn position_at(text: &str, byte: usize, unit: ColumnUnit) -> Position
+pub fn position_at(text: &str, byte: usize, unit: ColumnUnit) -> TextPosition
     requires { IsCharBoundary text.now byte }
-    ensures { result ≡ position_of unit text.now byte }
+    ensures position { result ≡ position_of unit text.now byte }
+    ensures fits { result.line + result.column + 1 < 2 ^ 64 }
 {
     end_of(&text[..byte], unit)
 }
 
 /// The position of a text's end.
-fn end_of(text: &str, unit: ColumnUnit) -> Position
+fn end_of(text: &str, unit: ColumnUnit) -> TextPosition
     ensures { result ≡ position_behind unit (chars text.now) }
 {
-    let mut byte = 0;
-    let mut at = Position::START;
+    end_from(text, 0, TextPosition::START, unit)
+}
+
+/// The position of a text's end, given a place in the text and its position.
+pub(crate) fn end_from(
+    text: &str,
+    place: usize,
+    start: TextPosition,
+    unit: ColumnUnit,
+) -> TextPosition
+    requires place { IsPlace text.now place }
+    requires position { start ≡ position_of unit text.now place }
+    ensures { result ≡ position_behind unit (chars text.now) }
+{
+    let mut byte = place;
+    let mut at = start;
     'places: while let Some(step) = next_step(&text[byte..], at, unit) {
         byte += step.len;
         at = step.next;
@@ -96,13 +111,13 @@ fn end_of(text: &str, unit: ColumnUnit) -> Position
 /// most the end of the position's line, before the line feed and a carriage return right before
 /// that, and at most the text's end. Within a character's units it is the byte before that
 /// character.
-pub fn byte_at(text: &str, position: Position, unit: ColumnUnit) -> usize
+pub fn byte_at(text: &str, position: TextPosition, unit: ColumnUnit) -> usize
     ensures last { IsByteAt unit text.now position result }
     ensures inverse { (byte : ℕ) → IsPlace text.now byte
         → position_of unit text.now byte ≡ position → result ≡ byte }
 {
     let mut byte = 0;
-    let mut at = Position::START;
+    let mut at = TextPosition::START;
     'places: while let Some(step) = next_step(&text[byte..], at, unit) {
         if position.is_before(step.next) {
             return byte;

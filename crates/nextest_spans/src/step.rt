@@ -2,7 +2,7 @@
 ghost use Rattle.std.specs.Prelude.{◌≡◌, ◌+◌, ◌++◌, ◌^◌, ◌<◌, [], List, ℕ, MatchOption, encode_utf8, length};
 ghost use Rattle.nextest_spans.specs.Positions.{IsStep};
 
-use crate::position::{ColumnUnit, Position};
+use crate::position::{ColumnUnit, TextPosition};
 use toml_parser::text::byte_at;
 
 /// A step from one place of a text to the next.
@@ -11,12 +11,12 @@ pub(crate) struct Step {
     /// How many bytes it goes over, at least one.
     pub(crate) len: usize,
     /// The position that it leads to.
-    pub(crate) next: Position,
+    pub(crate) next: TextPosition,
 }
 
 /// The step from a place with the position `at`, behind which the text has `rest`, or `None` at
 /// its end.
-pub(crate) fn next_step(rest: &str, at: Position, unit: ColumnUnit) -> Option<Step>
+pub(crate) fn next_step(rest: &str, at: TextPosition, unit: ColumnUnit) -> Option<Step>
     requires { at.line + at.column + length rest.now + 8 < 2 ^ 64 }
     ensures { MatchOption result (rest.now ≡ [])
         (λ step. IsStep unit rest.now at step.len step.next) }

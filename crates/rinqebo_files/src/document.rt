@@ -7,14 +7,14 @@ ghost use Rattle.rinqebo_files.specs.Layers.{text_read};
 use nextest_config::{ReadOutcome, Tree};
 use nextest_documents::{DocumentFault, TextFault, tree_from_text};
 use nextest_places::Places;
-use nextest_spans::{ColumnUnit, Position, position_at};
+use nextest_spans::{ColumnUnit, PathSpans, TextPosition, position_at};
 use std::alloc::{AllocError, Global};
 
 /// Why a text is not a TOML document.
 #[derive(Drop)]
 pub struct NoDocument {
     /// Where the text is at fault: columns count characters.
-    pub position: Option<Position>,
+    pub position: Option<TextPosition>,
     /// The reason, as the reader of TOML words it.
     pub reason: String,
 }
@@ -35,8 +35,8 @@ impl NoDocument {
     }
 }
 
-/// Returns the places in a text, with its tree, and why it is not a document, if it is not one. A
-/// text that is a document is parsed once.
+/// Returns the lines of a text's paths, with its tree, and why it is not a document, if it is not
+/// one. A text that is a document is parsed once for these.
 fn places_in<'t>(
     alloc: Global,
     text: &'t str,
@@ -58,13 +58,15 @@ fn places_in<'t>(
 pub fn read_places<'t>(
     alloc: Global,
     outcome: &'t ReadOutcome,
-) -> Result<(Option<Places<'t>>, Option<NoDocument>), AllocError>
+) -> Result<(Option<PathSpans<'t>>, Option<NoDocument>), AllocError>
     ensures { IfOk result (λ read. read.0 ≡ text_read outcome.entry.now) }
 {
     match outcome {
         ReadOutcome::Text(text) => {
-            let (places, fault) = places_in(alloc, text.as_str())?;
-            Ok((Some(places), fault))
+            let text = text.as_str();
+            let (places, fault) = places_in(alloc, text)?;
+            let spans = PathSpans::of_places(alloc, text, places)?;
+            Ok((Some(spans), fault))
         }
         ReadOutcome::NotFound | ReadOutcome::NotADirectory | ReadOutcome::Failed(_) => {
             Ok((None, None))

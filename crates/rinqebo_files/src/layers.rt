@@ -10,7 +10,7 @@ use crate::files::Gathered;
 use nextest_config::{
     ConfigPath, ConfigSource, ConfigSourceKind, FileInput, IdentifierOwner, ToolConfigFile, Tree,
 };
-use nextest_places::Places;
+use nextest_spans::PathSpans;
 use nextest_tables::default_tree;
 use rinqebo_report::{Source, SourceKind};
 use std::alloc::{AllocError, Global};
@@ -20,8 +20,9 @@ use std::alloc::{AllocError, Global};
 pub struct Layer<'t> {
     /// What brings it, and the path of its file, as reports tell them.
     pub source: Source,
-    /// The places in the text of its file, if there is one. The defaults have none.
-    pub places: Option<Places<'t>>,
+    /// Where the values at its paths are written in the text of its file, if there is one. The
+    /// defaults have none.
+    pub places: Option<PathSpans<'t>>,
     /// The table of the defaults, which have no text.
     pub defaults: Option<Tree>,
     /// Why its text is not a document, if it is not one.
