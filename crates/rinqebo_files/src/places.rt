@@ -255,7 +255,7 @@ pub fn spelled_place(
     }
 }
 
-/// The place of what stands at a path that is told as text, in the highest layer that writes it.
+/// The place of the value at a path that is spelled as text, in the highest layer that writes it.
 pub fn highest_place(
     alloc: Global,
     layers: &[Layer],
