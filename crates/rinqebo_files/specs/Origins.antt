@@ -89,9 +89,9 @@ IsRangeAt part (Some text) path range =
 
 -- A place is that of the value at a path of a text, or of its key: it has the source, the lines that
 -- define the value, and the range of the value or of the key.
-pub record IsPlaceIn (part : SpanPart) (text : Option (List ℕ)) (source : ℕ) (path : List Step)
+pub record IsPlaceIn (part : SpanPart) (text : Option (List ℕ)) (position : ℕ) (path : List Step)
     (place : FilePlace) : Type 0 where
-  pub source : place.source ≡ source
+  pub source : place.source ≡ position
   pub lines : AreLinesAt text path place.lines
   pub range : IsRangeAt part text path place.range
 

@@ -33,7 +33,7 @@ impl<'l, 't> SourceAt<'l, 't> {
         Some(FilePlace::in_source(self.position?))
     }
 
-    /// The place of a part of what stands at a path in the source.
+    /// The place of the value at a path of the source, or of its key.
     fn place_at(self, path: &[Step<'_>], part: SpanPart) -> Option<FilePlace> {
         Some(part_place(self.layers, self.position?, path, part))
     }
@@ -60,7 +60,7 @@ pub fn finding(
     })
 }
 
-/// A finding about a part of what stands at a path of a source.
+/// A finding about the value at a path of a source, or about its key.
 pub fn finding_at(
     alloc: Global,
     level: Level,

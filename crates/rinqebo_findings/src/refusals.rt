@@ -92,7 +92,7 @@ fn wrong_element(
     }
 }
 
-/// The part that is wrong of what stands where a table or a value is refused.
+/// Whether the key is wrong or the value, where a table or a value is refused.
 fn wrong_part(cause: &ElementCause) -> SpanPart {
     match cause {
         ElementCause::Missing(_) | ElementCause::UnknownField => SpanPart::Key,

@@ -25,7 +25,7 @@ impl Refused<'_, '_> {
         Ok(())
     }
 
-    /// A finding about a part of what stands at a path, told as the path and what is wrong there. A
+    /// A finding about the value at a path or about its key: the path, and what is wrong there. A
     /// source that does not write the path is refused for what it makes of those below it: the
     /// highest one counts that does.
     pub fn part_at(
@@ -88,7 +88,7 @@ impl Refused<'_, '_> {
     }
 }
 
-/// The place of a part of what stands at a path in the highest layer that writes it.
+/// The place of the value at a path, or of its key, in the highest layer that writes it.
 fn highest_place(layers: &[Layer], path: &[Step<'_>], part: SpanPart) -> Option<FilePlace> {
     for (source, _layer) in layers.iter().enumerate().rev() {
         let place = part_place(layers, source, path, part);
