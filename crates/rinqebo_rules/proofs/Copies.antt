@@ -26,7 +26,7 @@ module _ (layers : List Layer) where
     part_reported = same.2 ∙ is.part_reported;
     path = is.path;
     spelled = is.spelled;
-    place_reported = subst (IsPathPlace layers at is.path) (sym same.0) is.place_reported;
+    place_reported = subst (λ place. IsPathPlace layers at is.path place) (sym same.0) is.place_reported;
   }
 
   -- a copy of the origin of a rule
