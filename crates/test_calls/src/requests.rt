@@ -3,29 +3,51 @@ use rinqebo_forms::LoadRequest;
 use std::alloc::{AllocError, Global};
 use std::test::Fail;
 
-/// The members of a request that is understood.
-const MEMBERS: [(&str, &str); 9] = [
-    ("root", r#""/w""#),
-    ("file", r#"{"path": "/f", "outcome": "text", "text": ""}"#),
-    ("config-file", "null"),
-    ("organisation-config-file", "null"),
-    ("tools", "[]"),
-    (
-        "features",
-        r#"{"setup-scripts": false, "wrapper-scripts": false}"#,
-    ),
-    ("metadata", "null"),
-    ("host", r#"{"triple": "t", "cfg": null}"#),
-    ("target", "null"),
-];
+/// A request whose member of a key has another value than one that is understood.
+#[derive(Drop)]
+struct Changed<'a> {
+    alloc: Global,
+    key: &'a str,
+    value: &'a str,
+    text: String,
+}
 
-/// That request, with another value for a member.
-fn request_with(alloc: Global, key: &str, value: &str) -> Result<String, AllocError> {
-    let mut text = String::from_str(alloc, "{\"further\": 0")?;
-    for (member, usual) in MEMBERS {
-        let value = if member == key { value } else { usual };
-        text.push_str(format!(in alloc; ", \"{member}\": {value}")?.as_str())?;
+impl<'a> Changed<'a> {
+    /// Adds a member, with its usual value unless it is the one that has another.
+    fn with(mut self, member: &str, usual: &str) -> Result<Changed<'a>, AllocError> {
+        let value = if member == self.key {
+            self.value
+        } else {
+            usual
+        };
+        let member = format!(in self.alloc; ", \"{member}\": {value}")?;
+        self.text.push_str(member.as_str())?;
+        Ok(self)
     }
+}
+
+/// A request that is understood, with another value for a member.
+fn request_with(alloc: Global, key: &str, value: &str) -> Result<String, AllocError> {
+    let changed = Changed {
+        alloc,
+        key,
+        value,
+        text: String::from_str(alloc, "{\"further\": 0")?,
+    };
+    let mut text = changed
+        .with("root", r#""/w""#)?
+        .with("file", r#"{"path": "/f", "outcome": "text", "text": ""}"#)?
+        .with("config-file", "null")?
+        .with("organisation-config-file", "null")?
+        .with("tools", "[]")?
+        .with(
+            "features",
+            r#"{"setup-scripts": false, "wrapper-scripts": false}"#,
+        )?
+        .with("metadata", "null")?
+        .with("host", r#"{"triple": "t", "cfg": null}"#)?
+        .with("target", "null")?
+        .text;
     text.push_str("}")?;
     Ok(text)
 }
