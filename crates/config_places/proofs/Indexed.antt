@@ -53,7 +53,7 @@ pub none_yet : (text : List ℕ) (low : ℕ) → NoDocumentBetween text low (low
 none_yet text low n more less = absurd (omega (arith, more, less))
 
 module _ (path : List Step) (text : List ℕ) where
-  -- a front that brings what stands at the path
+  -- a front that defines the value at the path
   front_brings : (low : ℕ) (lines : Lines) → lines.first ≡ suc low → low < lines.last → IsDocument text low
       → is_there_by path text low ≡ false → is_there_by path text lines.last ≡ true
       → NoDocumentBetween text low lines.last → IsPlaceOfPath path text lines

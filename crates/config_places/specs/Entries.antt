@@ -50,7 +50,7 @@ aim_along kind (part ∷ parts) entered at (Position i ∷ path) =
     if nat_lt at entered then aim_along kind (part ∷ parts) entered (suc at) path else Elsewhere
 
 -- What some entries have to do with a path that is not there before them: the lines of the one that
--- brings what stands there, or how the path stands behind them.
+-- defines its value, or how far the path is behind them.
 pub data Outcome : Type 0 where
   found : Lines → Outcome
   waits : List Mark → Outcome

@@ -55,7 +55,7 @@ first_with path [] = None
 first_with path (front ∷ fronts) =
     if has_path path (tree_view front.document) then Some front.lines else first_with path fronts
 
--- the lines behind the entries that bring what stands at a path
+-- the lines behind the entries that define the value at a path
 abbrev pub lines_behind : List Front → Lines → List Step → Lines
 lines_behind fronts rest path = unwrap_or (first_with path fronts) rest
 

@@ -7,7 +7,7 @@ use Rattle.config_places.specs.declared.step.Step.{Step}
 use Rattle.config_places.specs.Order.{IsOrder}
 use Rattle.config_places.specs.Path.{has_path}
 
--- What stands in whole lines that are a document stands in each document that begins with them.
+-- What whole lines that are a document define is in each document that begins with them.
 abbrev pub LongerDocumentsKeep : Type 0
 LongerDocumentsKeep =
     (text more : List ℕ) (short long : Node) (path : Path)

@@ -12,7 +12,7 @@ pub data Mark : Type 0 where
   by_key : List ℕ → Mark
   into : ℕ → Mark
 
--- Something stands at the path, or nothing ever will, or nothing does by now.
+-- The path has a value, or never will, or has none by now.
 pub data State : Type 0 where
   seen : State
   never : State
@@ -35,7 +35,7 @@ abbrev pub next_element : ℕ → List Mark → State
 next_element zero [] = seen
 next_element n ms = missing (into n ∷ ms)
 
--- What a key's end has to do with the steps that are left: the value of a pair holds what stands
+-- What a key's end has to do with the steps that are left: the value of a pair holds what is
 -- there, and a header in double brackets begins one more element.
 abbrev pub end_at_key : Kind → List ℕ → List Mark → State
 end_at_key Pair k ms = seen
@@ -53,7 +53,7 @@ turn_end kind (into zero ∷ ms) = under (into zero) (turn_end kind ms)
 turn_end kind (into (suc n) ∷ ms) = end_at_element kind n ms
 
 -- What an expression with a key does to the steps of a path that is not there: it brings what
--- stands at each front of its key, and at its end it does as its kind says.
+-- is at each front of its key, and at its end it does as its kind says.
 abbrev pub turn : Kind → List (List ℕ) → List Mark → State
 turn kind [] ms = turn_end kind ms
 turn kind (part ∷ parts) [] = seen

@@ -8,7 +8,7 @@ use Rattle.nextest_documents.specs.Shown.{Path}
 use Rattle.config_places.specs.Lines.{first_lines}
 use Rattle.config_places.specs.Standing.{is_among, stands_in}
 
--- An id appears at n lines if it stands in the first n lines of the text.
+-- An id appears at n lines if it is in the first n lines of the text.
 abbrev pub appears_at : Path → List ℕ → List ℕ → ℕ → Bool
 appears_at path text id n = stands_in path (first_lines n text) id
 

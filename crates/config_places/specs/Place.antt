@@ -1,4 +1,4 @@
--- The place of a path: the lines of a text that bring what stands there.
+-- The place of a path: the lines of a text that define its value.
 use Rattle.std.specs.Prelude.{◌≡◌, ℕ, suc, ◌<◌, ◌⊎◌, Bool, true, false, List, []}
 use Rattle.std.specs.Option.{option_map_or}
 use Rattle.nextest_documents.specs.Text.{tree_of}

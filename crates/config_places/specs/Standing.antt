@@ -1,4 +1,4 @@
--- Which ids stand in a text: the keys of the table at a path of the document that the text is.
+-- Which ids are in a text: the keys of the table at a path of the document that the text is.
 use Rattle.std.specs.Prelude.{◌≡◌, ⊤, ℕ, Bool, false, List, [], ◌∷◌, ◌++◌, map, String, string_bytes, Vec, is_some}
 use Rattle.std.specs.List.{list_any, AllByRecursion}
 use Rattle.std.specs.Option.{option_map_or}
@@ -25,11 +25,11 @@ ids_view ids = map string_bytes ids.items
 abbrev pub is_among : List (List ℕ) → List ℕ → Bool
 is_among ids id = list_any (bytes_eq id) ids
 
--- A document has an id if something stands at the path with the id behind it.
+-- A document has an id if the path with the id behind it has a value.
 abbrev pub has_id : Path → Node → List ℕ → Bool
 has_id path document id = is_some (node_at (path ++ id ∷ []) document)
 
--- An id stands in a text if the text is a document that has it.
+-- An id is in a text if the text is a document that has it.
 unfoldable pub stands_in : Path → List ℕ → List ℕ → Bool
 stands_in path text id = option_map_or (λ document. has_id path document id) (tree_of text) false
 

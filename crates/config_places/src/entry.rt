@@ -28,7 +28,7 @@ pub(crate) struct Entry {
     pub(crate) lines: Lines,
 }
 
-/// How far a path stands behind some expressions of a text that do not bring what stands there.
+/// How far a path is behind some expressions of a text that do not define its value.
 #[derive(Clone, Copy)]
 pub(crate) struct Cursor {
     /// How many of its first steps lie in the last elements of their arrays by now.
@@ -42,7 +42,7 @@ pub(crate) struct Cursor {
 pub(crate) enum Aim {
     /// It brings nothing on the way of the path that was not there.
     Elsewhere,
-    /// It brings what stands at the path.
+    /// It defines the value at the path.
     Brings,
     /// It brings one more element of the array that a position of the path leads into.
     Counts {
@@ -97,7 +97,7 @@ fn at_position(kind: Kind, steps: usize, position: usize) -> Aim
     }
 }
 
-/// The cursor of a path behind one more expression, or none where it brings what stands there.
+/// The cursor of a path behind one more expression, or none where it defines its value.
 pub(crate) fn turned(cursor: Cursor, entry: &Entry, path: &[Step]) -> Option<Cursor>
     ensures { turn entry.now.kind (path_view entry.now.parts.items) (marks_at cursor path.now)
         ≡ option_map_or (λ next. missing (marks_at next path.now)) result seen }

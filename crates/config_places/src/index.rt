@@ -1,4 +1,4 @@
-//! An index of a document's text: which lines bring what stands at its paths.
+//! An index of a document's text: which lines define the value at each of its paths.
 ghost use Rattle.std.specs.Prelude.{◌≡◌, IfOk, MatchOption};
 ghost use Rattle.config_places.specs.Entries.{IsWaiting, found, scan, waits};
 ghost use Rattle.config_places.specs.Index.{IsIndex, first_with, lines_in};
@@ -14,7 +14,7 @@ use crate::step::{Step, has_path};
 use crate::walk::entries_of;
 use std::alloc::{AllocError, Global};
 
-/// Which lines of a document's text bring what stands at its paths.
+/// Which lines of a document's text define the value at each of its paths.
 #[derive(Drop)]
 pub(crate) struct Index {
     /// Its expressions in order, as far as they were read one by one.
@@ -40,7 +40,7 @@ impl Index {
         })
     }
 
-    /// The lines that bring what stands at a path of the document.
+    /// The lines that define the value at a path of the document.
     pub(crate) fn lines_of(&self, path: &[Step]) -> Lines
         ensures { result ≡ lines_in self.now path.now }
     {
@@ -51,7 +51,7 @@ impl Index {
     }
 }
 
-/// The lines of the entry that brings what stands at a path, if one does.
+/// The lines of the entry that defines the value at a path, if one does.
 fn lines_by_entries(entries: &[Entry], path: &[Step]) -> Option<Lines>
     ensures { let outcome = scan entries.now (waits (fresh path.now)) in
         MatchOption result (IsWaiting outcome) (λ lines. outcome ≡ found lines) }

@@ -1,4 +1,4 @@
-//! Places in files: the lines of a text that bring what stands at a path, and the order in which a
+//! Places in files: the lines of a text that define the value at a path, and the order in which a
 //! text defines the ids of a table.
 //!
 //! The place of a path ends with the fewest first lines of the text that are a document with the

@@ -80,7 +80,7 @@ fn long_piece<'a>(
     }
 }
 
-/// Lines without a byte order mark, which may stand at the start of a document.
+/// Lines without a byte order mark, which may begin a document.
 fn without_mark(lines: &str, is_start: bool) -> &str
     ensures { result.now ≡ read_lines is_start lines.now }
 {

@@ -26,7 +26,7 @@ pub(crate) struct Longest {
     pub(crate) index: Index,
 }
 
-/// The places of the paths of a text: the lines that bring what stands at each.
+/// The places of the paths of a text: the lines that define the value at each.
 ///
 /// These are the last of the first lines that are the shortest document with the path, from the
 /// end of the document before it on: the whole of a value that goes over several lines, and of a
@@ -64,7 +64,7 @@ impl<'a> Places<'a> {
         Ok(Places { text, longest })
     }
 
-    /// The lines that bring what stands at a path. Nothing is read for it.
+    /// The lines that define the value at a path. Nothing is read for it.
     pub fn lines_at(&self, path: &[Step]) -> Option<Lines>
         ensures { MatchOption result (HasNoPlace path.now self.now)
             (IsPlaceOfPath path.now self.now) }

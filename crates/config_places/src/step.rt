@@ -25,7 +25,7 @@ fn step_into<'a>(tree: &'a Tree, step: &Step) -> Option<&'a Tree>
     }
 }
 
-/// Whether something stands at a path of a document.
+/// Whether a path of a document has a value.
 pub(crate) fn has_path(document: &Tree, path: &[Step]) -> bool
     ensures { result ≡ has_path path.now (tree_view document.now) }
 {

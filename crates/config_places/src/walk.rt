@@ -17,8 +17,8 @@ use crate::piece::{Piece, begins_element, is_closed, next_piece};
 use crate::place::Lines;
 use std::alloc::{AllocError, Global};
 
-/// The expressions of a document's text in order, as far as they are read one by one, and the number
-/// of lines that they take.
+/// The expressions of a document's text in order, as far as they are read one by one, and the
+/// number of lines that they take.
 ///
 /// These are all lines, unless what is wanted is found before, the last line has no newline, or an
 /// expression is not found by itself.

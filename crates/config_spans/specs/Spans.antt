@@ -1,4 +1,4 @@
--- Where what stands at a path is written in a text.
+-- Where the value at a path is written in a text.
 use Rattle.std.specs.Prelude.{◌≡◌, ◌≤◌, ◌+◌, Bool, true, false, ℕ, List, [], ◌∷◌, map, slice_get, Option, Some, IfSome, option_and_then, option_map}
 use Rattle.std.specs.Str.{IsCharBoundary}
 use Rattle.toml.specs.Data.{Data, at, get, table}
@@ -36,7 +36,7 @@ abbrev pub data_into : Step → Data → Option Data
 data_into (steps.Key k) node = get k.now node
 data_into (steps.Position i) node = at i node
 
--- what stands at a path of a document
+-- the value at a path of a document
 abbrev pub data_at : List Step → Data → Option Data
 data_at [] node = Some node
 data_at (step ∷ path) node = option_and_then (data_at path) (data_into step node)
@@ -45,7 +45,7 @@ data_at (step ∷ path) node = option_and_then (data_at path) (data_into step no
 abbrev pub IsDocumentOf : List ℕ → Data → Type 0
 IsDocumentOf text root = option_map table (parse_document text) ≡ Some root
 
--- the text is a document, and this stands at the path
+-- the text is a document, and this is the value at the path
 pub record StandsAt (path : List Step) (text : List ℕ) (node : Data) : Type 0 where
   pub root : Data
   pub is : IsDocumentOf text root
@@ -55,7 +55,7 @@ abbrev pub is_key : Role → Bool
 is_key (role.Key name kind element) = true
 is_key (role.Value position container) = false
 
--- one of the items stands at the path, in these lines of the text
+-- one of the items is at the path, in these lines of the text
 pub record IsSpanOf (text : List ℕ) (items : List Item) (path : List Step)
     (lines : Lines) (span : Span) (item : Item) : Type 0 where
   pub index : ℕ
@@ -64,14 +64,14 @@ pub record IsSpanOf (text : List ℕ) (items : List Item) (path : List Step)
   pub span_is : span ≡ item.span
   pub on_lines : IsOnLines text lines span
 
--- a part of a key that stands at the path
+-- a part of a key at the path
 pub record IsKeyOf (text : List ℕ) (items : List Item) (path : List Step)
     (lines : Lines) (span : Span) : Type 0 where
   pub item : Item
   pub is : IsSpanOf text items path lines span item
   pub sort : is_key item.role ≡ true
 
--- a value that stands at the path, whose bytes read as a node
+-- a value at the path, whose bytes read as a node
 pub record IsValueOf (text : List ℕ) (items : List Item) (path : List Step)
     (lines : Lines) (node : Data) (span : Span) : Type 0 where
   pub item : Item
@@ -79,8 +79,8 @@ pub record IsValueOf (text : List ℕ) (items : List Item) (path : List Step)
   pub sort : is_key item.role ≡ false
   pub reads : ReadsAs text item node
 
--- The lines are those that bring what stands at the path. On them lie the key and the value, of which the
--- bytes of the value read as what stands there.
+-- The lines are those that define the value at the path. On them lie the key and the value, of
+-- which the bytes of the value read as the value there.
 pub record IsPathSpan (path : List Step) (text : List ℕ) (found : PathSpan) : Type 0 where
   pub place : IsPlaceOfPath path text found.lines
   pub items : List Item

@@ -1,5 +1,5 @@
-//! Where what a path leads to stands in a text: its lines, and in them the bytes of its key and of
-//! its value.
+//! Where the value at a path is written in a text: its lines, and in them the bytes of its key and
+//! of its value.
 #![tactic(auto)]
 
 mod lines;

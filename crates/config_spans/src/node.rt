@@ -1,4 +1,4 @@
-//! What stands at a path of a document.
+//! The value at a path of a document.
 ghost use Rattle.std.specs.Prelude.{◌≡◌};
 ghost use Rattle.nextest_spans.specs.Nodes.{node_view};
 ghost use Rattle.toml.specs.View.{view};
@@ -17,7 +17,7 @@ fn step_into<'v>(value: &'v Value, step: &Step) -> Option<&'v Value>
     }
 }
 
-/// What stands at a path of a document.
+/// The value at a path of a document.
 pub(crate) fn node_at<'v>(root: &'v Value, path: &[Step]) -> Option<&'v Value>
     ensures { node_view result ≡ data_at path.now (view root.now) }
 {

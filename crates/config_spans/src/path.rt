@@ -28,7 +28,7 @@ fn before_position(path: &[Step], index: usize) -> Option<usize>
     }
 }
 
-/// How many steps of a path stand before those to an item, if it ends with these.
+/// How many steps of a path come before those to an item, if it ends with these.
 fn before_own(role: &Role, path: &[Step]) -> Option<usize>
     ensures { IfSome result (λ n. (steps : List PathStep)
         × (own_steps role.now ≡ Some steps) × IsEndedBy path.now steps n) }
@@ -42,7 +42,7 @@ fn before_own(role: &Role, path: &[Step]) -> Option<usize>
     }
 }
 
-/// How many steps of a path stand before those to what stands in an item, if it ends with these.
+/// How many steps of a path come before those to what is inside an item, if it ends with these.
 fn before_inner(role: &Role, path: &[Step]) -> Option<usize>
     ensures { IfSome result (λ n. (steps : List PathStep)
         × (inner_steps role.now ≡ Some steps) × IsEndedBy path.now steps n) }
@@ -70,7 +70,7 @@ fn before_element(path: &[Step], name: &str, index: usize) -> Option<usize>
     before_key(&path[..list], name)
 }
 
-/// Whether a path leads to what stands in an item, or at the root.
+/// Whether a path leads to what is inside an item, or at the root.
 fn leads_to(items: &[Item], parent: Option<usize>, path: &[Step]) -> bool
     ensures { OnTrue result (LeadsTo items.now parent (map path_step path.now)) }
 {
@@ -95,7 +95,7 @@ fn leads_to(items: &[Item], parent: Option<usize>, path: &[Step]) -> bool
     }
 }
 
-/// Whether an item stands at a path.
+/// Whether an item is at a path.
 pub(crate) fn is_at(items: &[Item], item: &Item, path: &[Step]) -> bool
     ensures { OnTrue result (IsAtPath items.now item.now (map path_step path.now)) }
 {

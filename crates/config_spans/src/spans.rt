@@ -14,14 +14,14 @@ use std::alloc::{AllocError, Global};
 use std::marker::Model;
 use toml::{Value, table_from_str};
 
-/// Where what stands at a path is written in a text.
+/// Where the value at a path is written in a text.
 #[derive(Clone, Copy, Debug, PartialEq, Eq)]
 pub struct PathSpan {
     /// The lines that bring it.
     pub lines: Lines,
     /// The bytes of the part of a key that leads to it, if one is on these lines.
     pub key: Option<Span>,
-    /// The bytes of its value, if they are on these lines and read as what stands there.
+    /// The bytes of its value, if they are on these lines and read as the value there.
     pub value: Option<Span>,
 }
 
@@ -63,7 +63,7 @@ impl<'a> PathSpans<'a> {
         })
     }
 
-    /// The lines that bring what stands at a path, and on them the bytes of its key and its value.
+    /// The lines that define the value at a path, and on them the bytes of its key and its value.
     ///
     /// # Errors
     /// Memory was refused.
@@ -111,7 +111,7 @@ fn is_key(role: &Role) -> bool
     }
 }
 
-/// The first part of a key on some lines that stands at a path.
+/// The first part of a key on some lines at a path.
 fn key_at(text: &str, items: &[Item], path: &[Step], lines: Lines) -> Option<Span>
     ensures { IfSome result (IsKeyOf text.now items.now path.now lines) }
 {
@@ -123,7 +123,7 @@ fn key_at(text: &str, items: &[Item], path: &[Step], lines: Lines) -> Option<Spa
     None
 }
 
-/// The first value on some lines that stands at a path and reads as a node.
+/// The first value on some lines at a path and reads as a node.
 fn value_at(
     alloc: Global,
     text: &str,

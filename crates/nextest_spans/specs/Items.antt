@@ -89,8 +89,8 @@ pub record IsSpan (text : List ℕ) (span : Span) : Type 0 where
   pub within : span.end ≤ length text
   pub utf8 : IsUtf8 (text_at text span)
 
--- the item at an index stands at some whole characters of the text and in an earlier item or at the root; a part of
--- a key reads as its name by TOML's grammar, and a value as a value of its kind
+-- the item at an index is some whole characters of the text and in an earlier item or at the root;
+-- a part of a key reads as its name by TOML's grammar, and a value as a value of its kind
 pub record IsItem (text : List ℕ) (index : ℕ) (item : Item) : Type 0 where
   pub earlier : IfSome item.parent (λ i. i < index)
   pub span : IsSpan text item.span

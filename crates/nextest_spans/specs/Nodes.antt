@@ -16,8 +16,9 @@ abbrev pub element_of : ℕ → Option Data → Option Data
 element_of position None = None
 element_of position (Some node) = at position node
 
--- where an item leads from the node that it stands in: a part of a key to what this has at the name, and there to its
--- element; an item of a list to the one at its position; the value of a key stays
+-- where an item leads from the node that it is inside: a part of a key to what this has at the
+-- name, and there to its element; an item of a list to the one at its position; the value of a key
+-- stays
 abbrev pub enter : Role → Data → Option Data
 enter (role.Key None kind element) node = None
 enter (role.Key (Some name) kind None) node = get (string_bytes name) node
@@ -30,7 +31,7 @@ abbrev pub joined : Option (Option Data) → Option Data
 joined None = None
 joined (Some node) = node
 
--- the node that an item stands in: the root, or the node of its parent, which is an earlier one
+-- the node that an item is inside: the root, or the node of its parent, which is an earlier one
 abbrev pub base_of : Data → List (Option Data) → Option ℕ → Option Data
 base_of root found None = Some root
 base_of root found (Some parent) = joined (slice_get found parent)
@@ -53,7 +54,8 @@ node_view node = option_map (λ v. view v.now) node
 abbrev pub nodes_view : List (Option (Bor Value)) → List (Option Data)
 nodes_view nodes = map node_view nodes
 
--- a node is what a string, an integer or a boolean is; of a float, a date-time, a list or a table it is of the kind
+-- a node is what a string, an integer or a boolean is; of a float, a date-time, a list or a table
+-- it is of the kind
 abbrev pub IsSame : Data → Data → Type 0
 IsSame (string bytes) node = Some bytes ≡ as_str node
 IsSame (integer number) node = Some number ≡ as_integer node

@@ -1,4 +1,4 @@
--- Tokens of a text, in order, and what stands between them.
+-- Tokens of a text, in order, and what is between them.
 use Rattle.std.specs.Prelude.{◌≡◌, ◌<◌, ◌≤◌, ◌-◌, ◌==◌, ◌||◌, ◌&&◌, Bool, true, false, not, ℕ, List, [], ◌∷◌, ◌++◌, length, drop, Option, Some, None, String, string_bytes}
 use Rattle.std.specs.List.{All, between, concat}
 use Rattle.std.specs.Str.{IsUtf8}
@@ -78,14 +78,15 @@ pub record AreGaps (text : List ℕ) (low high : ℕ) : Type 0 where
   pub whole : between low high text ≡ concat gaps
   pub each : All (λ bytes. is_gap bytes ≡ true) gaps
 
--- the token stands at some whole characters of the text, which are those of its kind
+-- the token is some whole characters of the text, which are those of its kind
 pub record IsToken (text : List ℕ) (token : Token) : Type 0 where
   pub some : token.span.start < token.span.end
   pub within : token.span.end ≤ length text
   pub utf8 : IsUtf8 (text_at text token.span)
   pub right : IsRightKind (text_at text token.span) token.kind
 
--- the text between two bytes is these tokens in order, with nothing but gaps before, between and behind them
+-- the text between two bytes is these tokens in order, with nothing but gaps before, between and
+-- behind them
 abbrev pub AreTokens : List ℕ → ℕ → List Token → ℕ → Type 0
 AreTokens text low [] high = AreGaps text low high
 AreTokens text low (token ∷ tokens) high =

@@ -1,4 +1,4 @@
--- How the items of a text stand in one another.
+-- How the items of a text are inside one another.
 use Rattle.std.specs.Prelude.{◌≡◌, ◌<◌, ◌≤◌, ◌-◌, ◌⊎◌, Bool, true, false, ℕ, suc, List, [], ◌∷◌, ◌++◌, length, map, slice_get, Option, Some, None}
 use Rattle.std.specs.List.{AllByRecursion, flat_map}
 use Rattle.std.specs.Option.{option_or}
@@ -126,15 +126,16 @@ abbrev pub held_in : Option (ℕ × Container) → Option ℕ → Option ℕ
 held_in None section = section
 held_in (Some held) section = Some held.0
 
--- what the first part of a key stands in: at the root for a header, and else in the innermost that
+-- what the first part of a key is inside: at the root for a header, and else in the innermost that
 -- is open, or in the section where none is
 abbrev pub first_in : Bool → Option (ℕ × Container) → Option ℕ → Option ℕ
 first_in true held section = None
 first_in false held section = held_in held section
 
--- What an item stands in: a part behind a dot in the part before the dot, and a value in the list
+-- What an item is inside: a part behind a dot in the part before the dot, and a value in the list
 -- that is the innermost, or else in the part right before it.
-abbrev pub parent_of : TokenKind → Bool → Option ℕ → Option (ℕ × Container) → Option ℕ → Option ℕ
+abbrev pub parent_of : TokenKind → Bool → Option ℕ → Option (ℕ × Container) → Option ℕ
+    → Option ℕ
 parent_of (kinds.Key name) heading before held section = first_in heading held section
 parent_of (kinds.Dotted name) heading before held section =
     option_or before (first_in heading held section)
@@ -191,9 +192,9 @@ AreClosed items tokens = (i : ℕ) (item : Item) (c : Container) → slice_get i
 -- ---- the items of a text
 
 -- The text is some tokens with nothing but gaps between them. An item begins at each token of a
--- key's part or a value, in order, and each item is right. Each stands in the innermost list or table
--- that is open, or in the part of a key before it; and each that is closed is so where it is the
--- innermost.
+-- key's part or a value, in order, and each item is right. Each is inside the innermost list or
+-- table that is open, or in the part of a key before it; and each that is closed is so where it is
+-- the innermost.
 pub record AreItems (text : List ℕ) (items : List Item) : Type 0 where
   pub tokens : List Token
   pub are : AreTokens text 0 tokens (length text)

@@ -83,7 +83,7 @@ abbrev pub IsOtherTurn : Reader → Reader → Turn → Type 0
 IsOtherTurn old new Nothing = IsBehind old new × (holders new ≡ holders old)
 IsOtherTurn old new _ = ⊥
 
--- what an item at a token stands in
+-- what an item at a token is inside
 abbrev pub wanted_for : TokenKind → Bool → Reader → Option ℕ
 wanted_for kind heading reader =
     parent_of kind heading reader.key (last_of (holders reader)) reader.section

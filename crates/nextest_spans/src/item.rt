@@ -63,7 +63,7 @@ pub enum Role {
 /// A part of a key, or a value.
 #[derive(Debug, Drop)]
 pub struct Item {
-    /// The index of the item that it stands in, which is an earlier one. A part of a key stands in
+    /// The index of the item that it is inside, which is an earlier one. A part of a key is inside
     /// the part before it, in the last part of its header, or in its table in braces, and a value
     /// in its key or its list. At the root it is none.
     pub parent: Option<usize>,

@@ -12,7 +12,7 @@ use std::alloc::{AllocError, Global};
 use toml::Value;
 
 /// The node of a document that each item of its text leads to, if it leads to one: from the node of
-/// the item that it stands in, or from the root, by its name or its position.
+/// the item that it is inside, or from the root, by its name or its position.
 ///
 /// # Errors
 /// Memory was refused.
@@ -40,7 +40,7 @@ fn node_of<'d>(root: &'d Value, nodes: &[Option<&'d Value>], item: &Item) -> Opt
     enter(&item.role, base)
 }
 
-/// The node that an item with this parent stands in.
+/// The node that an item with this parent is inside.
 fn base_of<'d>(
     root: &'d Value,
     nodes: &[Option<&'d Value>],
@@ -57,7 +57,7 @@ fn base_of<'d>(
     }
 }
 
-/// Where an item leads from the node that it stands in.
+/// Where an item leads from the node that it is inside.
 fn enter<'d>(role: &Role, node: &'d Value) -> Option<&'d Value>
     ensures { node_view result ≡ spec.enter role.now (view node.now) }
 {

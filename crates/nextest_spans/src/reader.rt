@@ -18,7 +18,7 @@ pub(crate) enum Turn {
     Nothing,
     /// It begins an item.
     Begins {
-        /// The earlier item that this stands in.
+        /// The earlier item that this is inside.
         parent: Option<usize>,
         role: Role,
     },
@@ -127,7 +127,7 @@ impl Reader {
         }
     }
 
-    /// What the first part of a key stands in.
+    /// What the first part of a key is inside.
     fn first_in(&self, is_header: bool) -> Option<usize>
         ensures { result
             ≡ spec.first_in is_header (last_of (holders self.now)) self.now.section }
@@ -150,7 +150,7 @@ impl Reader {
         self.part(alloc, parent, name, place)
     }
 
-    /// A part behind a dot, which stands in the part before it, if there is one.
+    /// A part behind a dot, which is inside the part before it, if there is one.
     fn dotted_part(
         &mut self,
         alloc: Global,

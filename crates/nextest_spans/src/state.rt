@@ -24,13 +24,13 @@ pub(crate) enum Raw {
     Close(Container),
     String,
     Word,
-    /// What stands between tokens.
+    /// What is between tokens.
     Gap,
     /// What is in no place of a token.
     Other,
 }
 
-/// What stands at the front of a text.
+/// What begins a text.
 #[derive(Clone, Copy)]
 pub(crate) struct Front {
     pub(crate) raw: Raw,
@@ -83,7 +83,7 @@ impl State {
         }
     }
 
-    /// What stands at the front of the text that is left.
+    /// What begins the rest of the text.
     pub(crate) fn take(&mut self, text: &str) -> Front
         ensures nest { self.new.nest ≡ self.old.nest }
         ensures closes { IsCloseIn self.old.nest.items result.raw }
@@ -265,7 +265,7 @@ impl State {
     }
 }
 
-/// The length of a part of a key, if one stands at the front.
+/// The length of a part of a key, if one begins the text.
 fn part_len(text: &str) -> Option<usize> {
     if starts_string(text) {
         return Some(line_string_len(text));

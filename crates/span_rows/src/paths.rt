@@ -1,6 +1,6 @@
 //! Where what paths lead to is written, as text.
 //!
-//! A path is its steps with spaces between them: a position in digits, or else a key. Of what stands
+//! A path is its steps with spaces between them: a position in digits, or else a key. Of what is
 //! there come the lines, the bytes of its key and those of its value, or `-` where there are none:
 //! `2..2 key 13..20 value 23..24`. A path without a place prints `none`.
 
@@ -9,7 +9,7 @@ use config_spans::PathSpans;
 use nextest_spans::Span;
 use std::alloc::{AllocError, Global};
 
-/// Where what stands at a path is written in a text.
+/// Where the value at a path is written in a text.
 pub fn shown_at(alloc: Global, path: &str, text: &str) -> Result<String, AllocError> {
     let mut steps = Vec::new(alloc);
     for word in path.split(' ') {

@@ -50,7 +50,7 @@ impl Position {
         self.line < other.line || (self.line == other.line && self.column < other.column)
     }
 
-    /// The position behind a character that stands at this one.
+    /// The position behind a character at this one.
     pub(crate) fn behind(self, c: char, unit: ColumnUnit) -> Position
         requires { self.line + self.column + 4 < 2 ^ 64 }
         ensures { result ≡ behind unit self c }
