@@ -56,7 +56,7 @@ behind_char unit cs c =
           rw miss (same_position _ _ _ _ line (ap (sum_by (width unit)) column ∙ sum_by_push (width unit) (after_last is_line_feed cs) c))
     ]
 
-width_bounds : (unit : ColumnUnit) (c : ℕ) → (0 < width unit c) × (width unit c ≤ len_utf8 c)
+pub width_bounds : (unit : ColumnUnit) (c : ℕ) → (0 < width unit c) × (width unit c ≤ len_utf8 c)
 width_bounds Byte c = ((len_utf8_bounds c).0, omega arith)
 width_bounds Char c = (omega arith, (len_utf8_bounds c).0)
 width_bounds Utf16 c =

@@ -83,8 +83,17 @@ pub fn position_at(text: &str, byte: usize, unit: ColumnUnit) -> Position
 fn end_of(text: &str, unit: ColumnUnit) -> Position
     ensures { result ≡ position_behind unit (chars text.now) }
 {
-    let mut byte = 0;
-    let mut at = Position::START;
+    end_from(text, 0, Position::START, unit)
+}
+
+/// The position of a text's end, given a place in the text and its position.
+pub(crate) fn end_from(text: &str, place: usize, start: Position, unit: ColumnUnit) -> Position
+    requires place { IsPlace text.now place }
+    requires position { start ≡ position_of unit text.now place }
+    ensures { result ≡ position_behind unit (chars text.now) }
+{
+    let mut byte = place;
+    let mut at = start;
     'places: while let Some(step) = next_step(&text[byte..], at, unit) {
         byte += step.len;
         at = step.next;

@@ -1,6 +1,6 @@
 use Rattle.std.proofs.Common.{◌≡◌, ◌-◌, length}
 use Rattle.nextest_positions.specs.Positions.{IsPlace, position_of}
-use Rattle.nextest_positions.proofs.position.end_of.Given as goal
+use Rattle.nextest_positions.proofs.position.end_from.Given as goal
 
 abbrev pub invariant-places : goal.invariant-places
 invariant-places l = IsPlace l.text l.byte × (l.at ≡ position_of l.unit l.text l.byte)
