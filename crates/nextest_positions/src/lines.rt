@@ -1,5 +1,5 @@
 //! The lines of a text, found once.
-ghost use Rattle.std.specs.Prelude.{◌≡◌, ◌≤◌, List, ℕ, IfOk, IfSome};
+ghost use Rattle.std.specs.Prelude.{◌≡◌, ◌≤◌, ◌+◌, ◌^◌, ◌<◌, List, ℕ, IfOk, IfSome};
 ghost use Rattle.std.specs.Str.{IsCharBoundary};
 ghost use Rattle.nextest_positions.specs.Lines.{AreLineStarts, IsLineStart};
 ghost use Rattle.nextest_positions.specs.Positions.{position_of};
@@ -49,7 +49,8 @@ impl<'a> LineIndex<'a> {
     /// The position of a byte, as `position_at` returns it.
     pub fn position_at(&self, byte: usize, unit: ColumnUnit) -> Position
         requires { IsCharBoundary self.now byte }
-        ensures { result ≡ position_of unit self.now byte }
+        ensures position { result ≡ position_of unit self.now byte }
+        ensures fits { result.line + result.column + 1 < 2 ^ 64 }
     {
         match self.line_before(byte) {
             Some(start) => position_behind(self.text, start, byte, unit),
@@ -83,7 +84,8 @@ fn position_behind(text: &str, start: LineStart, byte: usize, unit: ColumnUnit) 
     requires boundary { IsCharBoundary text.now byte }
     requires line { IsLineStart text.now start.line start.byte }
     requires before { start.byte ≤ byte }
-    ensures { result ≡ position_of unit text.now byte }
+    ensures position { result ≡ position_of unit text.now byte }
+    ensures fits { result.line + result.column + 1 < 2 ^ 64 }
 {
     let at = Position {
         line: start.line,

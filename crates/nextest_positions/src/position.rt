@@ -74,7 +74,8 @@ impl Position {
 /// there). Within a line's end, the carriage return counts as a character of the line.
 pub fn position_at(text: &str, byte: usize, unit: ColumnUnit) -> Position
     requires { IsCharBoundary text.now byte }
-    ensures { result ≡ position_of unit text.now byte }
+    ensures position { result ≡ position_of unit text.now byte }
+    ensures fits { result.line + result.column + 1 < 2 ^ 64 }
 {
     end_of(&text[..byte], unit)
 }
