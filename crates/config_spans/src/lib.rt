@@ -3,7 +3,6 @@
 #![tactic(auto)]
 
 mod lines;
-mod node;
 mod path;
 mod spans;
 

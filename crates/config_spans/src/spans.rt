@@ -1,15 +1,20 @@
 //! Paths of a text with their lines and bytes.
-ghost use Rattle.std.specs.Prelude.{◌≡◌, List, ℕ, Some, IfOk, IfSome, MatchOption};
+ghost use Rattle.std.specs.Prelude.{◌≡◌, ◌≤◌, ◌+◌, ◌^◌, ◌<◌, List, ℕ, length, true, slice_get, Some, IfOk, IfSome, MatchOption};
+ghost use Rattle.std.specs.Bool.{OnTrue};
+ghost use Rattle.std.specs.Str.{IsCharBoundary};
 ghost use Rattle.toml.specs.View.{view};
+ghost use Rattle.nextest_spans.specs.Nodes.{joined, node_view, nodes_view};
 ghost use Rattle.nextest_places.specs.Place.{HasNoPlace};
-ghost use Rattle.config_spans.specs.Spans.{IsDocumentOf, IsKept, IsKeyOf, IsPathSpan, IsValueOf, root_view};
+ghost use Rattle.nextest_positions.specs.Positions.{position_of};
+ghost use Rattle.nextest_positions.specs.declared.position.ColumnUnit.TheVariants.{Char};
+ghost use Rattle.config_spans.specs.Spans.{AreMarked, AreReadable, IsDocumentOf, IsKept, IsKeyOf, IsMarkedAt, IsPathSpan, ReadsAsNode};
 ghost use Rattle.config_spans.specs.Spans as spec;
 
 use crate::lines::is_on_lines;
-use crate::node::node_at;
 use crate::path::is_at;
 use nextest_places::{Lines, Places, Step};
-use nextest_spans::{Item, Role, Span, items_of, reads_as};
+use nextest_positions::{ColumnUnit, LineIndex, Position};
+use nextest_spans::{Item, Role, Span, items_of, nodes_of, reads_as};
 use std::alloc::{AllocError, Global};
 use std::marker::Model;
 use toml::{Value, table_from_str};
@@ -29,9 +34,10 @@ pub struct PathSpan {
 #[derive(Drop)]
 pub struct PathSpans<'a> {
     text: &'a str,
+    lines: LineIndex<'a>,
     items: Vec<Item>,
-    /// The document that the text is, if it is one.
-    root: Option<Value>,
+    /// Of each item, whether it is a value whose bytes read as what stands there in the document.
+    readable: Vec<bool>,
     places: Places<'a>,
 }
 
@@ -41,7 +47,7 @@ impl<'a> Model for PathSpans<'a> {
     ghost view = { λ spans. spans.text.now };
 
     ghost invariant = { λ spans.
-        IsKept spans.text.now spans.items.items (root_view spans.root) spans.places };
+        IsKept spans.text.now spans.lines spans.items.items spans.readable.items spans.places };
 }
 
 impl<'a> PathSpans<'a> {
@@ -52,37 +58,46 @@ impl<'a> PathSpans<'a> {
     pub fn of(alloc: Global, text: &'a str) -> Result<PathSpans<'a>, AllocError>
         ensures { IfOk result (λ spans. spans ≡ text.now) }
     {
+        let lines = LineIndex::of(alloc, text)?;
         let items = items_of(alloc, text)?;
-        let root = document_of(alloc, text)?;
+        let readable = readable_of(alloc, text, &items)?;
         let places = Places::of(alloc, text)?;
         Ok(PathSpans {
             text,
+            lines,
             items,
-            root,
+            readable,
             places,
         })
     }
 
     /// The lines that bring what stands at a path, and on them the bytes of its key and its value.
-    ///
-    /// # Errors
-    /// Memory was refused.
-    pub fn at(&self, alloc: Global, path: &[Step]) -> Result<Option<PathSpan>, AllocError>
-        ensures { IfOk result (λ found.
-            MatchOption found (HasNoPlace path.now self.now) (IsPathSpan path.now self.now)) }
+    pub fn at(&self, path: &[Step]) -> Option<PathSpan>
+        ensures { MatchOption result (HasNoPlace path.now self.now)
+            (IsPathSpan path.now self.now) }
     {
-        let Some(lines) = self.places.lines_at(path) else {
-            return Ok(None);
-        };
-        let key = key_at(self.text, &self.items, path, lines);
-        let value = match &self.root {
-            Some(root) => match node_at(root, path) {
-                Some(node) => value_at(alloc, self.text, &self.items, path, lines, node)?,
-                None => None,
-            },
-            None => None,
-        };
-        Ok(Some(PathSpan { lines, key, value }))
+        let lines = self.places.lines_at(path)?;
+        Some(PathSpan {
+            lines,
+            key: key_at(self.text, &self.lines, &self.items, path, lines),
+            value: value_at(
+                self.text,
+                &self.lines,
+                &self.items,
+                &self.readable,
+                path,
+                lines,
+            ),
+        })
+    }
+
+    /// The position of a byte of the text, with columns in characters.
+    pub fn position_at(&self, byte: usize) -> Position
+        requires { IsCharBoundary self.now byte }
+        ensures position { result ≡ position_of Char self.now byte }
+        ensures fits { result.line + result.column + 1 < 2 ^ 64 }
+    {
+        self.lines.position_at(byte, ColumnUnit::Char)
     }
 }
 
@@ -111,38 +126,128 @@ fn is_key(role: &Role) -> bool
     }
 }
 
+/// How many of the items of a text begin before a line, which is counted from 0.
+fn count_before(index: &LineIndex, items: &[Item], line: usize) -> usize
+    ensures { result ≤ length items.now }
+{
+    match index.start_of(line) {
+        Some(start) => items.partition_point(|item| item.span.start < start),
+        None => items.len(),
+    }
+}
+
 /// The first part of a key on some lines that stands at a path.
-fn key_at(text: &str, items: &[Item], path: &[Step], lines: Lines) -> Option<Span>
+fn key_at(
+    text: &str,
+    index: &LineIndex,
+    items: &[Item],
+    path: &[Step],
+    lines: Lines,
+) -> Option<Span>
+    requires { index.now ≡ text.now }
     ensures { IfSome result (IsKeyOf text.now items.now path.now lines) }
 {
-    for item in items {
-        if is_key(&item.role) && is_on_lines(text, lines, item.span) && is_at(items, item, path) {
+    let behind = count_before(index, items, lines.last);
+    for place in count_before(index, items, lines.first.saturating_sub(1))..behind {
+        let item = items.get(place)?;
+        if is_key(&item.role)
+            && is_at(items, item, path)
+            && is_on_lines(text, index, lines, item.span)
+        {
             return Some(item.span);
         }
     }
     None
 }
 
-/// The first value on some lines that stands at a path and reads as a node.
+/// The first marked item on some lines that stands at a path.
 fn value_at(
+    text: &str,
+    index: &LineIndex,
+    items: &[Item],
+    marks: &[bool],
+    path: &[Step],
+    lines: Lines,
+) -> Option<Span>
+    requires { index.now ≡ text.now }
+    ensures { IfSome result (IsMarkedAt text.now items.now marks.now path.now lines) }
+{
+    let behind = count_before(index, items, lines.last);
+    for place in count_before(index, items, lines.first.saturating_sub(1))..behind {
+        let item = items.get(place)?;
+        if is_marked(marks, place)
+            && is_at(items, item, path)
+            && is_on_lines(text, index, lines, item.span)
+        {
+            return Some(item.span);
+        }
+    }
+    None
+}
+
+/// Whether an item is marked.
+fn is_marked(marks: &[bool], place: usize) -> bool
+    ensures { OnTrue result (slice_get marks.now place ≡ Some true) }
+{
+    match marks.get(place) {
+        Some(mark) => *mark,
+        None => false,
+    }
+}
+
+/// Of each item of a text, whether it is a value whose bytes read as what stands there in the
+/// document that the text is. Nothing is marked in a text that is none.
+fn readable_of(alloc: Global, text: &str, items: &[Item]) -> Result<Vec<bool>, AllocError>
+    ensures { IfOk result (λ marks. AreReadable text.now items.now marks.items) }
+{
+    match document_of(alloc, text)? {
+        Some(root) => {
+            let nodes = nodes_of(alloc, &root, items)?;
+            marks_of(alloc, text, items, &nodes)
+        }
+        None => Ok(Vec::new(alloc)),
+    }
+}
+
+/// Of each item, whether it is a value whose bytes read as its node.
+fn marks_of(
     alloc: Global,
     text: &str,
     items: &[Item],
-    path: &[Step],
-    lines: Lines,
-    node: &Value,
-) -> Result<Option<Span>, AllocError>
-    ensures { IfOk result (λ span.
-        IfSome span (IsValueOf text.now items.now path.now lines (view node.now))) }
+    nodes: &[Option<&Value>],
+) -> Result<Vec<bool>, AllocError>
+    ensures { IfOk result (λ marks.
+        AreMarked text.now items.now (nodes_view nodes.now) marks.items) }
 {
-    for item in items {
-        if !is_key(&item.role)
-            && is_on_lines(text, lines, item.span)
-            && is_at(items, item, path)
-            && reads_as(alloc, text, item, node)?
-        {
-            return Ok(Some(item.span));
-        }
+    let mut marks = Vec::new(alloc);
+    for (place, item) in items.iter().enumerate() {
+        marks.push(reads_as_node(alloc, text, item, node_at(nodes, place))?)?;
     }
-    Ok(None)
+    Ok(marks)
+}
+
+/// The node at a place, if there is one.
+fn node_at<'d>(nodes: &[Option<&'d Value>], place: usize) -> Option<&'d Value>
+    ensures { node_view result ≡ joined (slice_get (nodes_view nodes.now) place) }
+{
+    match nodes.get(place) {
+        None => None,
+        Some(node) => *node,
+    }
+}
+
+/// Whether an item is a value whose bytes read as a node.
+fn reads_as_node(
+    alloc: Global,
+    text: &str,
+    item: &Item,
+    node: Option<&Value>,
+) -> Result<bool, AllocError>
+    ensures { IfOk result (λ reads.
+        OnTrue reads (ReadsAsNode text.now item.now (node_view node.entry))) }
+{
+    match node {
+        Some(node) if !is_key(&item.role) => reads_as(alloc, text, item, node),
+        _ => Ok(false),
+    }
 }

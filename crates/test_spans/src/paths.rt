@@ -4,8 +4,8 @@
 //! there come the lines, the bytes of its key and those of its value, or `-` where there are none:
 //! `2..2 key 13..20 value 23..24`. A path without a place prints `none`.
 
-use nextest_places::{Lines, Step};
 use config_spans::PathSpans;
+use nextest_places::{Lines, Step};
 use nextest_spans::Span;
 use std::alloc::{AllocError, Global};
 
@@ -16,7 +16,7 @@ pub fn shown_at(alloc: Global, path: &str, text: &str) -> Result<String, AllocEr
         steps.push(step_of(word))?;
     }
     let spans = PathSpans::of(alloc, text)?;
-    let Some(found) = spans.at(alloc, &steps)? else {
+    let Some(found) = spans.at(&steps) else {
         return String::from_str(alloc, "none");
     };
     let Lines { first, last } = found.lines;
