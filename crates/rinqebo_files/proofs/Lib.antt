@@ -2,3 +2,4 @@ mod Switching
 mod Layering
 mod Seeking
 mod Highest
+pub mod Ranges

@@ -1,17 +1,28 @@
--- Where something stands, as it is told: which of the sources of a run has it, and at which lines.
-use Rattle.std.specs.Prelude.{◌≡◌, ◌≢◌, ℕ, List, Option, None, Some, option_map, slice_get, string_bytes}
+-- Where something stands, as it is told: which of the sources of a run has it, at which lines, and in
+-- which range of them.
+use Rattle.std.specs.Prelude.{◌≡◌, ◌≢◌, ◌+◌, ℕ, List, Option, None, Some, MatchOption, option_map, slice_get, string_bytes}
 use Rattle.std.specs.List.{AllByRecursion}
-use Rattle.std.specs.Option.{option_and_then}
+use Rattle.std.specs.Option.{option_and_then, option_or}
+use Rattle.config_spans.specs.Spans.{IsPathSpan}
+use Rattle.config_spans.specs.declared.spans.PathSpan.{PathSpan}
 use Rattle.nextest_places.specs.Place.{HasNoPlace, IsPlaceOfPath}
 use Rattle.nextest_places.specs.declared.place.Lines.{Lines}
 use Rattle.nextest_places.specs.declared.step.Step.{Step}
+use Rattle.nextest_positions.specs.Positions.{position_of}
+use Rattle.nextest_positions.specs.declared.position.ColumnUnit.TheVariants.{Char}
+use Rattle.nextest_positions.specs.declared.position.Position.{Position}
+use Rattle.nextest_spans.specs.declared.token.Span.{Span}
 use Rattle.nextest_sources.specs.Sources.{Source, SourceKind, tool_file, organisation_file, explicit_file, discovered_file}
 use Rattle.rinqebo_report.specs.declared.origin.Lines.{Lines as ToldLines}
 use Rattle.rinqebo_report.specs.declared.origin.Place.{Place}
+use Rattle.rinqebo_report.specs.declared.origin.Position.{Position as ToldPosition}
+use Rattle.rinqebo_report.specs.declared.origin.Range.{Range}
 use Rattle.rinqebo_report.specs.declared.origin.Source.{Source as ToldSource}
 use Rattle.rinqebo_report.specs.declared.origin.SourceKind.{SourceKind as ToldKind}
 use Rattle.rinqebo_report.specs.declared.origin.SourceKind.TheVariants as told
 use Rattle.rinqebo_files.specs.declared.layers.Layer.{Layer}
+use Rattle.rinqebo_files.specs.declared.places.SpanPart.{SpanPart}
+use Rattle.rinqebo_files.specs.declared.places.SpanPart.TheVariants as parts
 
 -- what brings a file, as it is told: the defaults are no file
 abbrev pub told_kind : ToldKind → Option SourceKind
@@ -47,10 +58,50 @@ AreLinesAt (Some text) path None = HasNoPlace path text
 AreLinesAt (Some text) path (Some lines) =
     IsPlaceOfPath path text (record { first = lines.first; last = lines.last })
 
--- A place is that of a path in the layer at a position: it tells the position, and the lines that
--- bring what stands at the path of its text.
-pub record IsPathPlace (layers : List Layer) (position : ℕ) (path : List Step) (place : Place)
-    : Type 0 where
-  pub source : place.source ≡ position
-  pub lines : AreLinesAt (option_and_then (λ layer. layer.places) (slice_get layers position)) path
-      place.lines
+-- the bytes of a part of what stands at a path, or else those of the other part
+abbrev pub part_span : SpanPart → PathSpan → Option Span
+part_span parts.Key found = option_or found.key found.value
+part_span parts.Value found = option_or found.value found.key
+
+-- a position, as it is told: its line and its column from 1
+abbrev pub reported_position : Position → ToldPosition
+reported_position at = record { line = at.line + 1; column = at.column + 1 }
+
+-- the range of some bytes of a text, in characters
+abbrev pub range_of : List ℕ → Span → Range
+range_of text span =
+    record {
+      start = reported_position (position_of Char text span.start);
+      end = reported_position (position_of Char text span.end);
+    }
+
+-- where a text writes what stands at a path, if the path has a place in it
+abbrev pub AreSpansAt : List ℕ → List Step → Option PathSpan → Type 0
+AreSpansAt text path found = MatchOption found (HasNoPlace path text) (IsPathSpan path text)
+
+-- A range is that of a part of what stands at a path of a text: there is none without a text, and
+-- where the path has no place in it or none of its parts is known.
+abbrev pub IsRangeAt : SpanPart → Option (List ℕ) → List Step → Option Range → Type 0
+IsRangeAt part None path range = range ≡ None
+IsRangeAt part (Some text) path range =
+    (found : Option PathSpan) × AreSpansAt text path found
+    × (range ≡ option_map (range_of text) (option_and_then (part_span part) found))
+
+-- A place is that of a part of what stands at a path of a text: it tells the source, the lines that
+-- bring what stands there, and the range of the part.
+pub record IsPlaceIn (part : SpanPart) (text : Option (List ℕ)) (source : ℕ) (path : List Step)
+    (place : Place) : Type 0 where
+  pub source : place.source ≡ source
+  pub lines : AreLinesAt text path place.lines
+  pub range : IsRangeAt part text path place.range
+
+-- a place is that of a part of what stands at a path in the layer at a position
+abbrev pub IsPartPlace : SpanPart → List Layer → ℕ → List Step → Place → Type 0
+IsPartPlace part layers position path place =
+    IsPlaceIn part (option_and_then (λ layer. layer.places) (slice_get layers position)) position
+    path place
+
+-- A place is that of a path in the layer at a position. Its range is that of the value, or else that
+-- of the key.
+abbrev pub IsPathPlace : List Layer → ℕ → List Step → Place → Type 0
+IsPathPlace layers position path place = IsPartPlace parts.Value layers position path place

@@ -6,8 +6,8 @@ ghost use Rattle.rinqebo_files.specs.Features.{tree_read};
 
 use nextest_config::{ReadOutcome, Tree};
 use nextest_documents::{DocumentFault, TextFault, tree_from_text};
-use std::alloc::{AllocError, Global};
 use nextest_positions::{ColumnUnit, Position, position_at};
+use std::alloc::{AllocError, Global};
 
 /// Why a text is not a TOML document.
 #[derive(Drop)]

@@ -8,7 +8,7 @@ ghost use Rattle.rinqebo_files.specs.Origins.{HasNoFile, IsFileAt, told_file, to
 
 use crate::document::{NoDocument, read_document};
 use crate::files::Gathered;
-use nextest_places::Places;
+use config_spans::PathSpans;
 use nextest_config::{
     ConfigPath, ConfigSource, ConfigSourceKind, FileInput, IdentifierOwner, ReadOutcome,
     ToolConfigFile, Tree,
@@ -22,8 +22,9 @@ use std::alloc::{AllocError, Global};
 pub struct Layer<'t> {
     /// What brings it, and the path of its file, as reports tell them.
     pub source: Source,
-    /// The places in the text of its file, if there is one. The defaults have none.
-    pub places: Option<Places<'t>>,
+    /// Where what its paths lead to is written in the text of its file, if there is one. The defaults
+    /// have none.
+    pub places: Option<PathSpans<'t>>,
     /// The tree of its text, if that is a document.
     pub tree: Option<Tree>,
     /// Why its text is not a document, if it is not one.
@@ -31,11 +32,14 @@ pub struct Layer<'t> {
 }
 
 /// The places in the text that was read, if one was.
-fn places_of<'t>(alloc: Global, outcome: &'t ReadOutcome) -> Result<Option<Places<'t>>, AllocError>
+fn places_of<'t>(
+    alloc: Global,
+    outcome: &'t ReadOutcome,
+) -> Result<Option<PathSpans<'t>>, AllocError>
     ensures { IfOk result (λ places. places ≡ text_read outcome.entry.now) }
 {
     match outcome {
-        ReadOutcome::Text(text) => Ok(Some(Places::of(alloc, text.as_str())?)),
+        ReadOutcome::Text(text) => Ok(Some(PathSpans::of(alloc, text.as_str())?)),
         ReadOutcome::NotFound | ReadOutcome::NotADirectory | ReadOutcome::Failed(_) => Ok(None),
     }
 }

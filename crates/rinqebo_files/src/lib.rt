@@ -16,4 +16,4 @@ pub use layers::{
     Layer, host_text, layers_of, place_at, place_of, profile_table, rule_at, rule_table,
     sources_of, target_text, text_at,
 };
-pub use places::{highest_place, path_place, spelled_place};
+pub use places::{SpanPart, highest_place, part_place, path_place, spelled_place};

@@ -1,37 +1,111 @@
-//! The lines of files that bring what stands at a path.
-ghost use Rattle.rinqebo_files.specs.Origins.{AreLinesAt, IsPathPlace};
+//! The places of what stands at paths of files.
+ghost use Rattle.std.specs.Prelude.{◌≡◌, ◌+◌, ◌^◌, ◌<◌, Some};
+ghost use Rattle.std.specs.Str.{IsCharBoundary};
+ghost use Rattle.rinqebo_files.specs.Origins.{IsPartPlace, IsPathPlace, IsPlaceIn, part_span, range_of, reported_position};
 
 use crate::layers::Layer;
-use nextest_places::Step;
+use config_spans::{PathSpan, PathSpans};
 use nextest_config::Tree;
-use rinqebo_report::{Lines, Place};
+use nextest_places::Step;
+use nextest_positions::Position as TextPosition;
+use nextest_spans::Span;
+use rinqebo_report::{Lines, Place, Position, Range};
 use std::alloc::{AllocError, Global};
 use std::collections::BTreeMap;
 
-/// The lines of a layer that bring what stands at a path, as they are reported.
-fn lines_in(layer: &Layer, path: &[Step]) -> Option<Lines>
-    ensures { AreLinesAt layer.now.places path.now result }
-{
-    let lines = layer.places.as_ref()?.lines_at(path)?;
-    Some(Lines {
-        first: lines.first as u64,
-        last: lines.last as u64,
-    })
+/// The part of what stands at a path that the range of a place is of.
+#[derive(Clone, Copy)]
+pub enum SpanPart {
+    /// The key, or else the value.
+    Key,
+    /// The value, or else the key.
+    Value,
 }
 
-/// The place of what stands at a path in the layer at a position.
-pub fn path_place(layers: &[Layer], source: usize, path: &[Step]) -> Place
-    ensures { IsPathPlace layers.now source path.now result }
+impl SpanPart {
+    /// The bytes of this part, or else those of the other one.
+    fn span(self, found: &PathSpan) -> Option<Span>
+        ensures { result ≡ part_span self found.now }
+    {
+        match self {
+            SpanPart::Key => found.key.or(found.value),
+            SpanPart::Value => found.value.or(found.key),
+        }
+    }
+}
+
+/// A position, as it is reported: its line and its column from 1.
+fn reported(at: TextPosition) -> Position
+    requires { at.line + at.column + 1 < 2 ^ 64 }
+    ensures { result ≡ reported_position at }
 {
-    let lines = match layers.get(source) {
-        Some(layer) => lines_in(layer, path),
+    Position {
+        line: at.line as u64 + 1,
+        column: at.column as u64 + 1,
+    }
+}
+
+/// The range of some bytes of a text.
+fn range_of(spans: &PathSpans, span: Span) -> Range
+    requires start { IsCharBoundary spans.now span.start }
+    requires end { IsCharBoundary spans.now span.end }
+    ensures { result ≡ range_of spans.now span }
+{
+    Range {
+        start: reported(spans.position_at(span.start)),
+        end: reported(spans.position_at(span.end)),
+    }
+}
+
+/// The place of a part of what stands at a path of a text.
+#[tactic(auto, using(crate::proofs::Ranges::part_is_whole))]
+fn place_of_part(spans: &PathSpans, source: usize, path: &[Step], part: SpanPart) -> Place
+    ensures { IsPlaceIn part (Some spans.now) source path.now result }
+{
+    let Some(found) = spans.at(path) else {
+        return Place::in_source(source);
+    };
+    let lines = Lines {
+        first: found.lines.first as u64,
+        last: found.lines.last as u64,
+    };
+    let range = match part.span(&found) {
+        Some(span) => Some(range_of(spans, span)),
         None => None,
     };
     Place {
         source,
-        lines,
-        range: None,
+        lines: Some(lines),
+        range,
     }
+}
+
+/// The place of a part of what stands at a path in a layer, which is that of a source.
+fn place_in(layer: &Layer, source: usize, path: &[Step], part: SpanPart) -> Place
+    ensures { IsPlaceIn part layer.now.places source path.now result }
+{
+    match &layer.places {
+        Some(spans) => place_of_part(spans, source, path, part),
+        None => Place::in_source(source),
+    }
+}
+
+/// The place of a part of what stands at a path in the layer at a position.
+pub fn part_place(layers: &[Layer], source: usize, path: &[Step], part: SpanPart) -> Place
+    ensures { IsPartPlace part layers.now source path.now result }
+{
+    match layers.get(source) {
+        Some(layer) => place_in(layer, source, path, part),
+        None => Place::in_source(source),
+    }
+}
+
+/// The place of what stands at a path in the layer at a position. Its range is the value's, or else the
+/// key's.
+pub fn path_place(layers: &[Layer], source: usize, path: &[Step]) -> Place
+    ensures { IsPathPlace layers.now source path.now result }
+{
+    part_place(layers, source, path, SpanPart::Value)
 }
 
 /// A way into a tree that a text begins to spell: its steps so far, what they lead to, and the part
@@ -140,25 +214,30 @@ fn ways_of<'t>(alloc: Global, tree: &'t Tree, path: &'t str) -> Result<Vec<Way<'
     Ok(whole)
 }
 
-/// Those of two lines that come first.
-fn earlier(one: Option<Lines>, other: Option<Lines>) -> Option<Lines> {
-    match (one, other) {
-        (Some(one), Some(other)) if other.first < one.first => Some(other),
-        (Some(lines), _) | (None, Some(lines)) => Some(lines),
-        (None, None) => None,
+/// The one of two places in a source that begins on an earlier line.
+fn earlier(one: Place, other: Place) -> Place {
+    match (one.lines, other.lines) {
+        (Some(lines), Some(others)) if others.first < lines.first => other,
+        (None, Some(_)) => other,
+        _ => one,
     }
 }
 
-/// The lines of a layer that bring what stands at a path that is told as text.
-fn spelled_lines(alloc: Global, layer: &Layer, path: &str) -> Result<Option<Lines>, AllocError> {
+/// The place in a layer, which is that of a source, of what stands at a path that is told as text.
+fn spelled_in(
+    alloc: Global,
+    layer: &Layer,
+    source: usize,
+    path: &str,
+) -> Result<Place, AllocError> {
+    let mut place = Place::in_source(source);
     let Some(tree) = &layer.tree else {
-        return Ok(None);
+        return Ok(place);
     };
-    let mut lines = None;
     for way in ways_of(alloc, tree, path)? {
-        lines = earlier(lines, lines_in(layer, &way.steps));
+        place = earlier(place, place_in(layer, source, &way.steps, SpanPart::Value));
     }
-    Ok(lines)
+    Ok(place)
 }
 
 /// The place of what stands at a path in the layer at a position, where the path is told as text:
@@ -170,15 +249,10 @@ pub fn spelled_place(
     source: usize,
     path: &str,
 ) -> Result<Place, AllocError> {
-    let lines = match layers.get(source) {
-        Some(layer) => spelled_lines(alloc, layer, path)?,
-        None => None,
-    };
-    Ok(Place {
-        source,
-        lines,
-        range: None,
-    })
+    match layers.get(source) {
+        Some(layer) => spelled_in(alloc, layer, source, path),
+        None => Ok(Place::in_source(source)),
+    }
 }
 
 /// The place of what stands at a path that is told as text, in the highest layer that writes it.
@@ -188,12 +262,9 @@ pub fn highest_place(
     path: &str,
 ) -> Result<Option<Place>, AllocError> {
     for (source, layer) in layers.iter().enumerate().rev() {
-        if let Some(lines) = spelled_lines(alloc, layer, path)? {
-            return Ok(Some(Place {
-                source,
-                lines: Some(lines),
-                range: None,
-            }));
+        let place = spelled_in(alloc, layer, source, path)?;
+        if place.lines.is_some() {
+            return Ok(Some(place));
         }
     }
     Ok(None)
