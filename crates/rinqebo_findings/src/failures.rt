@@ -7,6 +7,7 @@ use crate::report::{report_of, report_of_refusal};
 use nextest_config::run::ResolveFault;
 use nextest_config::{ConfigParseError, DefaultConfigWarnings, ProfileNotFound};
 use nextest_places::Step;
+use rinqebo_files::SpanPart;
 use rinqebo_load::{Failure, Session};
 use rinqebo_report::{Content, Finding, Level};
 use rinqebo_request::text_hint;
@@ -37,7 +38,16 @@ fn no_profile(alloc: Global, missing: &ProfileNotFound) -> Result<Finding, Alloc
         layers: &[],
         position: None,
     };
-    let mut found = finding_at(alloc, Level::Error, "NoProfile", nowhere, &path, message)?;
+    let part = SpanPart::Key;
+    let mut found = finding_at(
+        alloc,
+        Level::Error,
+        "NoProfile",
+        nowhere,
+        &path,
+        part,
+        message,
+    )?;
     found.help = text_hint(alloc, name, &missing.known)?;
     Ok(found)
 }

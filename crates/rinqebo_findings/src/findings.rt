@@ -4,7 +4,7 @@ use crate::paths::{path_text, spelled_path};
 use crate::refused_values::Fault;
 use nextest_config::{ConfigSource, ConfigWarning, DefaultConfigWarnings, Tree};
 use nextest_places::Step;
-use rinqebo_files::{Layer, NoDocument, path_place, place_of};
+use rinqebo_files::{Layer, NoDocument, SpanPart, part_place, place_of};
 use rinqebo_report::{Finding, Level, Place};
 use std::alloc::{AllocError, Global};
 
@@ -33,9 +33,9 @@ impl<'l, 't> SourceAt<'l, 't> {
         Some(Place::in_source(self.position?))
     }
 
-    /// The place of a path in the source.
-    fn place_at(self, path: &[Step<'_>]) -> Option<Place> {
-        Some(path_place(self.layers, self.position?, path))
+    /// The place of a part of what stands at a path in the source.
+    fn place_at(self, path: &[Step<'_>], part: SpanPart) -> Option<Place> {
+        Some(part_place(self.layers, self.position?, path, part))
     }
 }
 
@@ -60,33 +60,39 @@ pub fn finding(
     })
 }
 
-/// A finding at a path of a source.
+/// A finding about a part of what stands at a path of a source.
 pub fn finding_at(
     alloc: Global,
     level: Level,
     code: &str,
     source: SourceAt<'_, '_>,
     path: &[Step<'_>],
+    part: SpanPart,
     message: String,
 ) -> Result<Finding, AllocError> {
     let mut found = finding(alloc, level, code, source, message)?;
-    found.place = source.place_at(path);
+    found.place = source.place_at(path, part);
     found.path = Some(path_text(alloc, path)?);
     Ok(found)
+}
+
+/// A warning about a key of a source.
+fn key_warning(
+    alloc: Global,
+    code: &str,
+    source: SourceAt<'_, '_>,
+    path: &[Step<'_>],
+    message: String,
+) -> Result<Finding, AllocError> {
+    let level = Level::Warning;
+    finding_at(alloc, level, code, source, path, SpanPart::Key, message)
 }
 
 /// Warns of a key without effect.
 fn unknown_key(alloc: Global, source: SourceAt<'_, '_>, path: &str) -> Result<Finding, AllocError> {
     let message = format!(in alloc; "{path} has no effect")?;
     let at = spelled_path(alloc, source, path, Fault::UnknownKey)?;
-    let mut found = finding_at(
-        alloc,
-        Level::Warning,
-        "UnknownConfigKeys",
-        source,
-        &at,
-        message,
-    )?;
+    let mut found = key_warning(alloc, "UnknownConfigKeys", source, &at, message)?;
     found.help = key_hint(alloc, &at)?;
     Ok(found)
 }
@@ -100,9 +106,8 @@ fn reserved_profile(
     let message = format!(in alloc;
         "profile.{name}: names that begin `default-` are nextest's own"
     )?;
-    finding_at(
+    key_warning(
         alloc,
-        Level::Warning,
         "UnknownReservedProfiles",
         source,
         &[Step::Key("profile"), Step::Key(name)],
@@ -116,9 +121,8 @@ fn old_scripts(alloc: Global, source: SourceAt<'_, '_>) -> Result<Finding, Alloc
         alloc,
         "script: this table is the old place of setup scripts",
     )?;
-    let mut found = finding_at(
+    let mut found = key_warning(
         alloc,
-        Level::Warning,
         "DeprecatedScriptConfig",
         source,
         &[Step::Key("script")],
@@ -138,9 +142,8 @@ fn empty_rules(
     let message = format!(in alloc;
         "profile.{profile}.scripts: rules that name no script: {count}"
     )?;
-    finding_at(
+    key_warning(
         alloc,
-        Level::Warning,
         "EmptyScriptSections",
         source,
         &[

@@ -14,7 +14,7 @@ use nextest_config::{
     InheritsError, ReadOutcome, ScriptId, ToolName, Tree, UnknownTestGroupError,
 };
 use nextest_places::Step;
-use rinqebo_files::{Layer, place_at};
+use rinqebo_files::{Layer, SpanPart, place_at};
 use rinqebo_load::Session;
 use rinqebo_report::{Finding, Lines};
 use rinqebo_request::name_hint;
@@ -92,6 +92,17 @@ fn wrong_element(
     }
 }
 
+/// The part that is wrong of what stands where a table or a value is refused.
+fn wrong_part(cause: &ElementCause) -> SpanPart {
+    match cause {
+        ElementCause::Missing(_) | ElementCause::UnknownField => SpanPart::Key,
+        ElementCause::WrongKind
+        | ElementCause::BadValue { .. }
+        | ElementCause::OutOfRange
+        | ElementCause::Memory => SpanPart::Value,
+    }
+}
+
 /// A value that may not stand where it does.
 fn add_element(refused: &mut Refused<'_, '_>, fault: &ElementFault) -> Result<(), AllocError> {
     let alloc = refused.alloc;
@@ -108,7 +119,7 @@ fn add_element(refused: &mut Refused<'_, '_>, fault: &ElementFault) -> Result<()
         cause => {
             let wrong = wrong_element(alloc, refused.source, cause, &path)?;
             let expected = expected_at(alloc, cause, &path)?;
-            let mut found = refused.at(&path, wrong.as_str())?;
+            let mut found = refused.part_at(&path, wrong_part(cause), wrong.as_str())?;
             found.expected = expected;
             refused.add_finding(found)
         }
@@ -124,7 +135,7 @@ fn add_groups(
     for group in groups.iter() {
         let name = group.to_string(refused.alloc)?;
         let path = [Step::Key("test-groups"), Step::Key(name.as_str())];
-        refused.add_at(&path, wrong, None)?;
+        refused.add_key_at(&path, wrong, None)?;
     }
     Ok(())
 }
@@ -177,7 +188,7 @@ fn add_scripts(
     for script in scripts.iter() {
         let name = script.to_string(alloc)?;
         let path = script_path(alloc, refused.source.tree(), name.as_str())?;
-        refused.add_at(&path, wrong, None)?;
+        refused.add_key_at(&path, wrong, None)?;
     }
     Ok(())
 }
@@ -202,7 +213,7 @@ fn add_features(
         let help = format!(in alloc;
             "write `experimental = [\"{feature}\"]`, or pass `--experimental {feature}`"
         )?;
-        refused.add_at(&path, wrong.as_str(), Some(help))?;
+        refused.add_key_at(&path, wrong.as_str(), Some(help))?;
     }
     Ok(())
 }
@@ -321,7 +332,7 @@ fn add_second_file(
 
 /// Scripts under the old key and under the new one.
 fn add_both_keys(refused: &mut Refused<'_, '_>) -> Result<(), AllocError> {
-    refused.add_at(
+    refused.add_key_at(
         &[Step::Key("scripts")],
         "there is the old table `script` beside it",
         None,

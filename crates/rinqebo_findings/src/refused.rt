@@ -2,7 +2,7 @@
 use crate::findings::{SourceAt, finding, finding_at};
 use crate::paths::path_text;
 use nextest_places::Step;
-use rinqebo_files::{Layer, path_place};
+use rinqebo_files::{Layer, SpanPart, part_place};
 use rinqebo_report::{Finding, Level, Place};
 use std::alloc::{AllocError, Global};
 
@@ -25,19 +25,31 @@ impl Refused<'_, '_> {
         Ok(())
     }
 
-    /// A finding at a path, told as the path and what is wrong there. A source that does not write
-    /// the path is refused for what it makes of those below it: the highest one counts that does.
-    pub fn at(&self, path: &[Step<'_>], wrong: &str) -> Result<Finding, AllocError> {
+    /// A finding about a part of what stands at a path, told as the path and what is wrong there. A
+    /// source that does not write the path is refused for what it makes of those below it: the
+    /// highest one counts that does.
+    pub fn part_at(
+        &self,
+        path: &[Step<'_>],
+        part: SpanPart,
+        wrong: &str,
+    ) -> Result<Finding, AllocError> {
         let alloc = self.alloc;
         let text = path_text(alloc, path)?;
         let message = format!(in alloc; "{text}: {wrong}")?;
-        let mut found = finding_at(alloc, Level::Error, self.code, self.source, path, message)?;
+        let level = Level::Error;
+        let mut found = finding_at(alloc, level, self.code, self.source, path, part, message)?;
         if let Some(Place { lines: None, .. }) = found.place {
-            if let Some(place) = highest_place(self.source.layers, path) {
+            if let Some(place) = highest_place(self.source.layers, path, part) {
                 found.place = Some(place);
             }
         }
         Ok(found)
+    }
+
+    /// A finding about the value at a path.
+    pub fn at(&self, path: &[Step<'_>], wrong: &str) -> Result<Finding, AllocError> {
+        self.part_at(path, SpanPart::Value, wrong)
     }
 
     /// A finding with a message alone.
@@ -51,7 +63,7 @@ impl Refused<'_, '_> {
         self.add_finding(found)
     }
 
-    /// Adds what is wrong at a path, and what to do.
+    /// Adds what is wrong with the value at a path, and what to do.
     pub fn add_at(
         &mut self,
         path: &[Step<'_>],
@@ -62,12 +74,24 @@ impl Refused<'_, '_> {
         found.help = help;
         self.add_finding(found)
     }
+
+    /// Adds what is wrong with the key at the end of a path, and what to do.
+    pub fn add_key_at(
+        &mut self,
+        path: &[Step<'_>],
+        wrong: &str,
+        help: Option<String>,
+    ) -> Result<(), AllocError> {
+        let mut found = self.part_at(path, SpanPart::Key, wrong)?;
+        found.help = help;
+        self.add_finding(found)
+    }
 }
 
-/// The place of a path in the highest layer that writes it.
-fn highest_place(layers: &[Layer], path: &[Step<'_>]) -> Option<Place> {
+/// The place of a part of what stands at a path in the highest layer that writes it.
+fn highest_place(layers: &[Layer], path: &[Step<'_>], part: SpanPart) -> Option<Place> {
     for (source, _layer) in layers.iter().enumerate().rev() {
-        let place = path_place(layers, source, path);
+        let place = part_place(layers, source, path, part);
         if place.lines.is_some() {
             return Some(place);
         }
