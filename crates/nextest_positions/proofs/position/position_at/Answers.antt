@@ -7,6 +7,6 @@ use Rattle.nextest_positions.proofs.position.position_at.Goals as goal
 pub returns-clause-fits : goal.returns-clause-fits
 returns-clause-fits c =
     let is : c.end_of.result ≡ position_of c.args.unit c.args.text.now c.args.byte =
-    c.end_of.ensures ∙ ap (λ xs. position_behind c.args.unit (chars xs)) c.range_to.ensures.value in
+    c.end_of.ensures ∙ ap (λ xs. position_behind c.args.unit (chars xs)) c.range.ensures.value in
     let fits = position_fits c.args.unit c.args.text.now c.args.byte c.utf8.text c.requires in
     rw is (omega (arith, fits, c.requires.0))
