@@ -50,6 +50,16 @@ request_view r = record {
 
 -- ---- parts of a request
 
+-- what a reading returns for an object, or `None` if there is no object
+abbrev pub if_object : {A : Type 0} → (Data → Option A) → Option Data → Option (Option A)
+if_object reading None = Some None
+if_object reading (Some value) = option_map Some (reading value)
+
+-- what a reading returns for the object at a key, or `None` if the value is `null`
+abbrev pub optional_at : {A : Type 0} → (Data → Option A) → List ℕ → Data → Option (Option A)
+optional_at reading key value =
+    option_and_then (if_object reading) (under optional_object key value)
+
 -- the kind of outcome that a word names
 abbrev pub kind_of : List ℕ → Option OutcomeKind
 kind_of word =
@@ -83,22 +93,6 @@ file_in value =
     option_and_then (λ path. option_map (λ outcome. record { path = path; outcome = outcome })
     (outcome_in value)) (under as_str (codes "path") value)
 
--- the file of an object, or none where there is no object
-abbrev pub file_if : Option Data → Option (Option InputFile)
-file_if None = Some None
-file_if (Some value) = option_map Some (file_in value)
-
--- the file that a user named in place of the repository's own: the object under `config-file`, or none
--- where `null` stands there
-abbrev pub config_file_in : Data → Option (Option InputFile)
-config_file_in value = option_and_then file_if (under optional_object (codes "config-file") value)
-
--- the organisation's file: the object under `organisation-config-file`, or none where `null` stands
--- there
-abbrev pub organisation_file_in : Data → Option (Option InputFile)
-organisation_file_in value =
-    option_and_then file_if (under optional_object (codes "organisation-config-file") value)
-
 -- the name of a tool in `tool` of an object
 abbrev pub tool_name_in : Data → Option (List ℕ)
 tool_name_in value =
@@ -125,15 +119,6 @@ abbrev pub machine_in : Data → Option MachineText
 machine_in value =
     option_and_then (λ triple. option_map (λ cfg. record { triple = triple; cfg = cfg })
     (under optional_text (codes "cfg") value)) (under as_str (codes "triple") value)
-
--- the machine of an object, or none where there is no object
-abbrev pub machine_if : Option Data → Option (Option MachineText)
-machine_if None = Some None
-machine_if (Some value) = option_map Some (machine_in value)
-
--- the target: the machine in the object at `target`, or `None` if the value is `null`
-abbrev pub target_in : Data → Option (Option MachineText)
-target_in value = option_and_then machine_if (under optional_object (codes "target") value)
 
 -- the features that an object switches on
 abbrev pub switches_in : Data → Option Switches
@@ -168,13 +153,13 @@ request_in value =
       metadata = metadata;
       host = host;
       target = target;
-    }) (target_in value))
+    }) (optional_at machine_in (codes "target") value))
     (option_and_then machine_in (under an_object (codes "host") value)))
     (under optional_text (codes "metadata") value))
     (option_and_then switches_in (under an_object (codes "features") value)))
     (option_and_then tools_in (under a_list (codes "tools") value)))
-    (organisation_file_in value))
-    (config_file_in value))
+    (optional_at file_in (codes "organisation-config-file") value))
+    (optional_at file_in (codes "config-file") value))
     (option_and_then file_in (under an_object (codes "file") value)))
     (under as_str (codes "root") value)
 

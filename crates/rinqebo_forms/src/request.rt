@@ -1,14 +1,14 @@
 //! Reading a request for a session from JSON.
-ghost use Rattle.std.specs.Prelude.{◌≡◌, IfOk, MatchResult, map, option_map, string_bytes};
+ghost use Rattle.std.specs.Prelude.{◌≡◌, codes, map, option_map};
 ghost use Rattle.serde_json.specs.View.{view};
 ghost use Rattle.nextest_sources.specs.Sources.{file_view, tool_file_view};
 ghost use Rattle.rinqebo_forms.specs.Reading.{Reads};
-ghost use Rattle.rinqebo_forms.specs.Requests.{config_file_in, file_in, tool_in, tools_in, machine_in, machine_view, switches_in, target_in, request_in, request_view, request_of, organisation_file_in, tool_name_in};
+ghost use Rattle.rinqebo_forms.specs.Requests.{file_in, tool_in, tools_in, machine_in, machine_view, optional_at, switches_in, request_in, request_view, request_of, tool_name_in};
 ghost use Rattle.nextest_texts.specs.IdentifierText.{tool_name_text};
 
 use crate::fault::{Holder, Place, RequestFault, Wanted};
 use crate::outcome::outcome_in;
-use crate::values::{optional_string_at, string_at};
+use crate::values::{json_of, optional_string_at, string_at};
 use nextest_sources::{ConfigPath, ConfigPaths, FileInput, ToolConfigFile};
 use nextest_texts::{InvalidIdentifier, ToolName};
 use serde_json::Value;
@@ -65,32 +65,18 @@ fn file_in(alloc: Global, value: &Value, holder: Holder) -> Result<FileInput, Re
     })
 }
 
-/// The repository's file that a user named, if the object says one.
-fn config_file_in(alloc: Global, value: &Value) -> Result<Option<FileInput>, RequestFault>
+/// Reads the file that the object at a path describes, or `None` for `null`.
+fn optional_file_at(
+    alloc: Global,
+    value: &Value,
+    place: Place,
+    holder: Holder,
+) -> Result<Option<FileInput>, RequestFault>
     ensures { Reads (λ file. option_map file_view file) result
-        (config_file_in (view value.now)) }
+        (optional_at file_in place.key.now (view value.now)) }
 {
-    let place = Place {
-        holder: Holder::Request,
-        key: "config-file",
-    };
     match place.of(value).optional_object()? {
-        Some(file) => Ok(Some(file_in(alloc, file, Holder::ConfigFile)?)),
-        None => Ok(None),
-    }
-}
-
-/// The organisation's file, if the object says one.
-fn organisation_file_in(alloc: Global, value: &Value) -> Result<Option<FileInput>, RequestFault>
-    ensures { Reads (λ file. option_map file_view file) result
-        (organisation_file_in (view value.now)) }
-{
-    let place = Place {
-        holder: Holder::Request,
-        key: "organisation-config-file",
-    };
-    match place.of(value).optional_object()? {
-        Some(file) => Ok(Some(file_in(alloc, file, Holder::OrganisationConfigFile)?)),
+        Some(file) => Ok(Some(file_in(alloc, file, holder)?)),
         None => Ok(None),
     }
 }
@@ -139,10 +125,10 @@ fn machine_in(alloc: Global, value: &Value, holder: Holder) -> Result<Machine, R
     Ok(Machine { triple, cfg })
 }
 
-/// Reads the target, which may be `null`.
+/// Reads the target, or `None` for `null`.
 fn target_in(alloc: Global, value: &Value) -> Result<Option<Machine>, RequestFault>
     ensures { Reads (λ target. option_map machine_view target) result
-        (target_in (view value.now)) }
+        (optional_at machine_in (codes "target") (view value.now)) }
 {
     match at("target").of(value).optional_object()? {
         Some(target) => Ok(Some(machine_in(alloc, target, Holder::Target)?)),
@@ -155,17 +141,9 @@ fn switches_in(value: &Value) -> Result<Switches, RequestFault>
     ensures { Reads (λ switches. switches) result (switches_in (view value.now)) }
 {
     let holder = Holder::Features;
-    let setup_scripts = Place {
-        holder,
-        key: "setup-scripts",
-    };
-    let wrapper_scripts = Place {
-        holder,
-        key: "wrapper-scripts",
-    };
     Ok(Switches {
-        setup_scripts: setup_scripts.of(value).flag()?,
-        wrapper_scripts: wrapper_scripts.of(value).flag()?,
+        setup_scripts: holder.at("setup-scripts").of(value).flag()?,
+        wrapper_scripts: holder.at("wrapper-scripts").of(value).flag()?,
     })
 }
 
@@ -184,8 +162,13 @@ impl LoadRequest {
     {
         let workspace_root = string_at(alloc, value, at("root"))?;
         let shared = file_in(alloc, at("file").of(value).object()?, Holder::File)?;
-        let config_file = config_file_in(alloc, value)?;
-        let organisation_file = organisation_file_in(alloc, value)?;
+        let config_file = optional_file_at(alloc, value, at("config-file"), Holder::ConfigFile)?;
+        let organisation_file = optional_file_at(
+            alloc,
+            value,
+            at("organisation-config-file"),
+            Holder::OrganisationConfigFile,
+        )?;
         let tools = tools_in(alloc, at("tools").of(value).list()?)?;
         let features = switches_in(at("features").of(value).object()?)?;
         let metadata = optional_string_at(alloc, value, at("metadata"))?;
@@ -211,10 +194,7 @@ impl LoadRequest {
     pub fn read(alloc: Global, text: &str) -> Result<LoadRequest, RequestFault>
         ensures { Reads request_view result (request_of text.now) }
     {
-        match Value::from_str(alloc, text) {
-            Ok(value) => LoadRequest::from_value(alloc, &value),
-            Err(error) if error.is_memory() => Err(RequestFault::Memory),
-            Err(_) => Err(RequestFault::NotJson),
-        }
+        let value = json_of(alloc, text)?;
+        LoadRequest::from_value(alloc, &value)
     }
 }

@@ -6,7 +6,7 @@ ghost use Rattle.rinqebo_forms.specs.Runs.{mode_at, mode_of, run_in, run_of, run
 
 use crate::fault::{Place, RequestFault, Wanted};
 use crate::request::{LoadRequest, at};
-use crate::values::string_at;
+use crate::values::{json_of, string_at};
 use nextest_elements::NextestRunMode;
 use serde_json::Value;
 use std::alloc::Global;
@@ -69,10 +69,7 @@ impl RunRequest {
     pub fn read(alloc: Global, text: &str) -> Result<RunRequest, RequestFault>
         ensures { Reads run_view result (run_of text.now) }
     {
-        match Value::from_str(alloc, text) {
-            Ok(value) => RunRequest::from_value(alloc, &value),
-            Err(error) if error.is_memory() => Err(RequestFault::Memory),
-            Err(_) => Err(RequestFault::NotJson),
-        }
+        let value = json_of(alloc, text)?;
+        RunRequest::from_value(alloc, &value)
     }
 }
