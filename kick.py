@@ -8,7 +8,7 @@ while True:
             w=os.path.basename(open(f'/proc/{pid}/cmdline','rb').read().split(b'\0')[0].decode())
             if w not in ('rattle','clang','clang-14','ld.lld'): continue
             cwd=os.readlink(f'/proc/{pid}/cwd')
-            if not (cwd.startswith('/tmp/rt-copy') or cwd.startswith('WORK/gate')): continue
+            if not (cwd.startswith('/tmp/rt-copy') or cwd.startswith(('WORK/gate','WORK/int2'))): continue
             for t in os.listdir(f'/proc/{pid}/task'):
                 f=open(f'/proc/{pid}/task/{t}/stat').read().rpartition(')')[2].split()
                 st, ut=f[0], int(f[11])+int(f[12])

@@ -1,0 +1,1 @@
+cd WORK/doc/crates/nextest_places; (timeout 280 rt check --jobs 2 --only "longest_document" --only "Places::of" --only "Places::of_document" --only "Places::document" --only "Places::lines_at" > /tmp/doc-places.log 2>&1; echo rc=$? >> /tmp/doc-places.log); grep -n "error\|not proved\|note: src\|no proof" /tmp/doc-places.log | cut -c1-500 | head -30; tail -1 /tmp/doc-places.log
