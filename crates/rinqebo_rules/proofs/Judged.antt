@@ -52,7 +52,7 @@ module _ {W : Type 0} (asking : Asking) (writes : W → RuleValue)
       → held.answers.target
       ≡ reported_condition (λ s. is_met_by s (runs_on asking.platforms.now (requested_query asking).platform)) rule.target
       → held.answers.filter ≡ reported_by_facts (is_some rule.filter) held.facts
-      → held ≡ judged asking (for_setting writes rule) (on_setting writes on)
+      → held ≡ judged asking.platforms.now (requested_query asking) (for_setting writes rule) (on_setting writes on)
   rule_judged same_filter same_writes written on_there holds there host target filter =
       let writes_there : held.facts.writes ≡ is_some (writes on.writes).value =
       there ∙ ap (λ w. is_some w.value) written ∙ ap (λ w. is_some (writes w).value) (sym same_writes) in

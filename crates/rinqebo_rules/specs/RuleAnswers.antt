@@ -9,6 +9,7 @@ use Rattle.nextest_settings.specs.Deciding.{QueryContext}
 use Rattle.nextest_settings.specs.Platforms.{EvaluatedRule, is_on, rule_on, runs_on}
 use Rattle.nextest_settings.specs.Queries.{test_query}
 use Rattle.platform_language.specs.declared.expression.TargetSpec.{TargetSpec}
+use Rattle.platform_table.specs.declared.Platform.{Platform}
 use Rattle.rinqebo_rules.specs.declared.conditions.Answers.{Answers}
 use Rattle.rinqebo_rules.specs.declared.conditions.Asking.{Asking}
 use Rattle.rinqebo_rules.specs.declared.verdict.RuleFacts.{RuleFacts}
@@ -46,14 +47,17 @@ pub record Judged : Type 0 where
   pub answers : Answers
 
 -- what is found out of a rule that is this on the platforms of a build
-abbrev pub judged : Asking → RuleFor (Filterset FieldMatcher) TargetSpec
+abbrev pub judged : BuildPlatforms Platform → QueryContext (Filterset FieldMatcher)
+    → RuleFor (Filterset FieldMatcher) TargetSpec
     → EvaluatedRule (Filterset FieldMatcher) RuleValue → Judged
-judged asking rule on = record {
+judged platforms query rule on = record {
   writes = rule.writes;
-  facts = facts_of (requested_query asking) writes_it on;
-  answers = answers_on is_met_by asking.platforms.now (requested_query asking) rule on;
+  facts = facts_of query writes_it on;
+  answers = answers_on is_met_by platforms query rule on;
 }
 
 -- what is found out of a rule on the platforms of the build
-abbrev pub judged_here : Asking → RuleFor (Filterset FieldMatcher) TargetSpec → Judged
-judged_here asking rule = judged asking rule (rule_on is_met_by asking.platforms.now rule)
+abbrev pub judged_here : BuildPlatforms Platform → QueryContext (Filterset FieldMatcher)
+    → RuleFor (Filterset FieldMatcher) TargetSpec → Judged
+judged_here platforms query rule =
+    judged platforms query rule (rule_on is_met_by platforms rule)

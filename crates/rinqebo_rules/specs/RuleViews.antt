@@ -12,7 +12,7 @@ use Rattle.nextest_settings.specs.View.{override_ref_view, script_rule_ref_view,
 use Rattle.nextest_settings.specs.declared.platforms.EvaluatedRule.{EvaluatedRule}
 use Rattle.nextest_settings.specs.declared.setting.Setting.{Setting}
 use Rattle.platform_language.specs.declared.expression.TargetSpec.{TargetSpec}
-use Rattle.rinqebo_rules.specs.RuleAnswers.{Judged, judged}
+use Rattle.rinqebo_rules.specs.RuleAnswers.{Judged, judged, requested_query}
 use Rattle.rinqebo_rules.specs.RulePlaces.{place_view}
 use Rattle.rinqebo_rules.specs.SettingRules.{RuleFor, for_setting, on_setting, override_writes, wrapper_written}
 use Rattle.rinqebo_rules.specs.SettingValues.{reported_value}
@@ -43,14 +43,16 @@ setting_rule_view rule = record {
 abbrev pub judged_override : {F S T P : Type 0} → Asking → Setting → NextestRunMode
     → EvaluatedRule (CompiledOverride F S (Filterset FieldMatcher) T TargetSpec P) → Judged
 judged_override asking s mode rule =
-    judged asking (for_setting (override_writes s mode) (override_ref_view rule.rule))
+    judged asking.platforms.now (requested_query asking)
+    (for_setting (override_writes s mode) (override_ref_view rule.rule))
     (on_setting (override_writes s mode) (evaluated_override_view rule))
 
 -- what is found out of a script rule for the run wrapper
 abbrev pub judged_script_rule : {F S T P : Type 0} → Asking
     → EvaluatedRule (CompiledProfileScripts F S (Filterset FieldMatcher) T TargetSpec P) → Judged
 judged_script_rule asking rule =
-    judged asking (for_setting wrapper_written (script_rule_ref_view rule.rule))
+    judged asking.platforms.now (requested_query asking)
+    (for_setting wrapper_written (script_rule_ref_view rule.rule))
     (on_setting wrapper_written (evaluated_script_rule_view rule))
 
 -- Overrides as code holds them are these, in their order, on the platforms of a build.

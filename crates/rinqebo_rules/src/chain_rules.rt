@@ -4,7 +4,7 @@ ghost use Rattle.nextest_inheritance.specs.View.{borrowed_view};
 ghost use Rattle.nextest_settings.specs.Chains.{overrides_of, script_rules_of};
 ghost use Rattle.nextest_settings.specs.View.{script_rule_ref_view};
 ghost use Rattle.rinqebo_rules.specs.Conditions.{default_filter_here, is_met_by};
-ghost use Rattle.rinqebo_rules.specs.RuleAnswers.{judged_here};
+ghost use Rattle.rinqebo_rules.specs.RuleAnswers.{judged_here, requested_query};
 ghost use Rattle.rinqebo_rules.specs.RuleViews.{AreOverridesOn, AreScriptRulesOn, ReadOverride, ReadScriptRule, judged_override, judged_script_rule, setting_rule_view};
 ghost use Rattle.rinqebo_rules.specs.SettingRules.{is_of_scripts, rules_for, wrapper_written};
 ghost use Rattle.rinqebo_rules.specs.SettingValues.{reported_value};
@@ -179,7 +179,8 @@ pub fn rules_for<'c>(
         → AreScriptRulesOn is_met_by asking.now.platforms.now script_rules
         rules.now.script_rules.items
         → IfOk result (λ found. map setting_rule_view found.items
-        ≡ map (judged_here asking.now) (rules_for setting mode overrides script_rules)) }
+        ≡ map (judged_here asking.now.platforms.now (requested_query asking.now))
+        (rules_for setting mode overrides script_rules)) }
 {
     if is_of_scripts(setting) {
         return script_rules(alloc, &rules.script_rules, asking);

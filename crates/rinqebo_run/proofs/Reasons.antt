@@ -1,52 +1,55 @@
 -- What is told of rules is what comes of them.
 use Rattle.std.proofs.Common.{◌≡◌, ◌∙◌, false, List, map, ap, subst, sym}
 use Rattle.std.specs.List.{AllZip, zip}
+use Rattle.filter_language.specs.declared.filterset.Filterset.{Filterset}
+use Rattle.filter_engine.specs.declared.compiling.FieldMatcher.{FieldMatcher}
+use Rattle.nextest_engines.specs.declared.queries.BuildPlatforms.{BuildPlatforms}
+use Rattle.nextest_settings.specs.Deciding.{QueryContext}
 use Rattle.nextest_settings.specs.Platforms.{rule_on}
+use Rattle.platform_table.specs.declared.Platform.{Platform}
 use Rattle.rinqebo_files.specs.declared.layers.Layer.{Layer}
 use Rattle.rinqebo_report.specs.declared.report.Rule.{Rule}
 use Rattle.rinqebo_rules.proofs.Listing.{made_twice}
 use Rattle.rinqebo_rules.proofs.VerdictsOf.{verdicts-facts}
 use Rattle.rinqebo_rules.specs.Conditions.{is_met_by}
-use Rattle.rinqebo_rules.specs.RuleAnswers.{Judged, answers_by, requested_query, judged_here}
+use Rattle.rinqebo_rules.specs.RuleAnswers.{Judged, answers_by, judged_here}
 use Rattle.rinqebo_rules.specs.RuleViews.{setting_rule_view, Rule as ReadRule}
 use Rattle.rinqebo_rules.specs.SettingRules.{writes_it}
 use Rattle.rinqebo_rules.specs.Verdicts.{facts_of, verdicts_of}
 use Rattle.rinqebo_rules.specs.VerdictsBy.{verdicts_by}
 use Rattle.rinqebo_rules.specs.declared.chain_rules.SettingRule.{SettingRule}
-use Rattle.rinqebo_rules.specs.declared.conditions.Asking.{Asking}
 use Rattle.rinqebo_rules.specs.declared.verdict.Verdict.{Verdict}
 use Rattle.rinqebo_run.proofs.Pairs.{zip_back, zip_moved}
-use Rattle.rinqebo_run.specs.Reasons.{AreRulesReportedHere, AreReportedWith, IsRuleReported}
+use Rattle.rinqebo_run.specs.Reasons.{AreReportedWith, AreRulesReported, IsRuleReported}
 
 -- the verdicts of what is found out of rules are those that come of them
-reported_verdicts : (asking : Asking) (rules : List SettingRule) (written : List ReadRule)
-    → map setting_rule_view rules ≡ map (judged_here asking) written
+reported_verdicts : (platforms : BuildPlatforms Platform) (query : QueryContext (Filterset FieldMatcher))
+    (rules : List SettingRule) (written : List ReadRule)
+    → map setting_rule_view rules ≡ map (judged_here platforms query) written
     → verdicts_by false (map (λ rule. rule.facts) rules)
-    ≡ verdicts_of (requested_query asking) writes_it (map (rule_on is_met_by asking.platforms.now) written)
-reported_verdicts asking rules written same =
-    let query = requested_query asking in
-    let on = rule_on is_met_by asking.platforms.now in
+    ≡ verdicts_of query writes_it (map (rule_on is_met_by platforms) written)
+reported_verdicts platforms query rules written same =
+    let on = rule_on is_met_by platforms in
     ap (verdicts_by false) (sym (made_twice (λ j. j.facts) setting_rule_view rules)
     ∙ ap (map (λ j. j.facts)) same
-    ∙ made_twice (λ j. j.facts) (judged_here asking) written
+    ∙ made_twice (λ j. j.facts) (judged_here platforms query) written
     ∙ sym (made_twice (facts_of query writes_it) on written))
     ∙ sym (verdicts-facts query writes_it (map on written))
 
 -- rules that code holds are told as the rules of which this is found out
-pub reported_here : (layers : List Layer) (asking : Asking) (written : List ReadRule) (rules : List SettingRule)
-    (told : List Rule) → map setting_rule_view rules ≡ map (judged_here asking) written
+pub reported_here : (layers : List Layer) (platforms : BuildPlatforms Platform)
+    (query : QueryContext (Filterset FieldMatcher)) (written : List ReadRule) (rules : List SettingRule)
+    (told : List Rule) → map setting_rule_view rules ≡ map (judged_here platforms query) written
     → AreReportedWith layers rules (verdicts_by false (map (λ rule. rule.facts) rules)) told
-    → AreRulesReportedHere layers asking written told
-reported_here layers asking written rules told same all =
-    let query = requested_query asking in
-    let platforms = asking.platforms.now in
+    → AreRulesReported layers is_met_by platforms query written told
+reported_here layers platforms query written rules told same all =
     let verdicts = verdicts_by false (map (λ rule. rule.facts) rules) in
     let Held : SettingRule × Verdict → Rule → Type 0 =
     λ p. IsRuleReported layers (setting_rule_view p.0).writes p.0.answers p.1 in
     let Found : Judged × Verdict → Rule → Type 0 = λ p. IsRuleReported layers p.0.writes p.0.answers p.1 in
     let Told : ReadRule × Verdict → Rule → Type 0 =
     λ p. IsRuleReported layers p.0.writes (answers_by is_met_by platforms query p.0) p.1 in
-    subst (λ vs. AllZip Told (zip written vs) told) (reported_verdicts asking rules written same)
-    (zip_back (judged_here asking) Told Found (λ r v rule is. is) written verdicts told
+    subst (λ vs. AllZip Told (zip written vs) told) (reported_verdicts platforms query rules written same)
+    (zip_back (judged_here platforms query) Told Found (λ r v rule is. is) written verdicts told
     (subst (λ js. AllZip Found (zip js verdicts) told) same
     (zip_moved setting_rule_view Held Found (λ r v rule is. is) rules verdicts told all)))

@@ -12,14 +12,12 @@ use Rattle.rinqebo_rules.specs.Told.{value_view}
 use Rattle.rinqebo_rules.specs.Verdicts.{verdicts_of}
 use Rattle.rinqebo_rules.specs.declared.verdict.Verdict.{Verdict}
 use Rattle.rinqebo_rules.specs.declared.verdict.Verdict.TheVariants as verdicts
-use Rattle.rinqebo_rules.specs.Conditions.{is_met_by}
 use Rattle.rinqebo_rules.specs.Origins.{IsOriginOf}
-use Rattle.rinqebo_rules.specs.RuleAnswers.{answers_by, requested_query}
-use Rattle.rinqebo_rules.specs.RuleViews.{setting_rule_view, Rule as ReadRule}
+use Rattle.rinqebo_rules.specs.RuleAnswers.{answers_by}
+use Rattle.rinqebo_rules.specs.RuleViews.{setting_rule_view}
 use Rattle.rinqebo_rules.specs.SettingRules.{RuleFor, RuleValue, writes_it}
 use Rattle.rinqebo_rules.specs.declared.chain_rules.SettingRule.{SettingRule}
 use Rattle.rinqebo_rules.specs.declared.conditions.Answers.{Answers}
-use Rattle.rinqebo_rules.specs.declared.conditions.Asking.{Asking}
 
 -- a verdict, as it is told
 abbrev pub page_verdict : Verdict → report.Verdict
@@ -49,11 +47,6 @@ AreRulesReported {M} {K} layers meets platforms query rules told = AllZip
     IsRuleReported layers p.0.writes (answers_by meets platforms query p.0) p.1)
     (zip rules (verdicts_of query writes_it (map (rule_on meets platforms) rules)))
     told
-
--- rules for a setting are told, each with what comes of it for what is asked
-abbrev pub AreRulesReportedHere : List Layer → Asking → List ReadRule → List Rule → Type 0
-AreRulesReportedHere layers asking rules told =
-    AreRulesReported layers is_met_by asking.platforms.now (requested_query asking) rules told
 
 -- rules as code holds them are reported with verdicts
 abbrev pub AreReportedWith : List Layer → List SettingRule → List Verdict → List Rule → Type 0

@@ -2,9 +2,11 @@
 ghost use Rattle.std.specs.Prelude.{◌≡◌, IfErr, IfOk, List, map, option_map};
 ghost use Rattle.filter_language.specs.declared.filterset.Filterset.{Filterset};
 ghost use Rattle.filter_engine.specs.declared.compiling.FieldMatcher.{FieldMatcher};
+ghost use Rattle.nextest_engines.specs.declared.queries.BuildPlatforms.{BuildPlatforms};
 ghost use Rattle.nextest_inheritance.specs.Parents.{with_default};
 ghost use Rattle.nextest_inheritance.specs.View.{borrowed_view};
 ghost use Rattle.nextest_settings.specs.Chains.{fields_of};
+ghost use Rattle.nextest_settings.specs.Deciding.{QueryContext};
 ghost use Rattle.nextest_settings.specs.Profile.{Configured, profile_of};
 ghost use Rattle.nextest_settings.specs.Settings.{fallback_of};
 ghost use Rattle.nextest_tables.specs.FileTexts.{names_in, IsIn};
@@ -12,15 +14,15 @@ ghost use Rattle.nextest_tables.specs.Written.{Name};
 ghost use Rattle.rinqebo_report.specs.declared.report.Verdict.TheVariants as told;
 ghost use Rattle.rinqebo_request.specs.Keys.{key_text};
 ghost use Rattle.rinqebo_rules.specs.Conditions.{is_met_by, filter_matches};
-ghost use Rattle.rinqebo_run.specs.Reasons.{page_verdict, AreRulesReportedHere, AreReportedWith, IsRuleReported};
+ghost use Rattle.rinqebo_run.specs.Reasons.{page_verdict, AreReportedWith, AreRulesReported, IsRuleReported};
 ghost use Rattle.rinqebo_rules.specs.RuleAnswers.{judged_here};
 ghost use Rattle.rinqebo_findings.specs.Failures.{IsFailureAbout};
 ghost use Rattle.rinqebo_findings.specs.Reports.{IsReportOf};
 ghost use Rattle.rinqebo_rules.specs.RuleViews.{setting_rule_view, Rule as ReadRule};
-ghost use Rattle.rinqebo_rules.specs.declared.conditions.Asking.{Asking};
 ghost use Rattle.rinqebo_run.specs.TellsReasons.{AreReasons, AreReasonsIn, IfWhy, IsTestNamed, TellsReasons};
 ghost use Rattle.rinqebo_rules.specs.Told.{reported_of, value_view};
 ghost use Rattle.platform_language.specs.declared.expression.TargetSpec.{TargetSpec};
+ghost use Rattle.platform_table.specs.declared.Platform.{Platform};
 
 use crate::asked::requested_of;
 use crate::idle::findings_on;
@@ -108,9 +110,11 @@ fn reported_rules(
     layers: &[Layer],
     rules: &[SettingRule<'_>],
 ) -> Result<Vec<Rule>, AllocError>
-    ensures { (asking : Asking) (written : List ReadRule)
-        → map setting_rule_view rules.now ≡ map (judged_here asking) written
-        → IfOk result (λ told. AreRulesReportedHere layers.now asking written told.items) }
+    ensures { (platforms : BuildPlatforms Platform)
+        (query : QueryContext (Filterset FieldMatcher)) (written : List ReadRule)
+        → map setting_rule_view rules.now ≡ map (judged_here platforms query) written
+        → IfOk result (λ told.
+        AreRulesReported layers.now is_met_by platforms query written told.items) }
 {
     let verdicts = verdicts_of(alloc, rules)?;
     rules_with_verdicts(alloc, layers, rules, &verdicts)

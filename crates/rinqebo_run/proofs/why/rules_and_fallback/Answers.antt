@@ -1,9 +1,11 @@
 use Rattle.std.proofs.Common.{◌≡◌, ◌∙◌, ap, map, option_map, sym}
+use Rattle.nextest_engines.specs.Engines.{test_view}
 use Rattle.nextest_inheritance.specs.Parents.{with_default}
 use Rattle.nextest_inheritance.specs.View.{borrowed_view}
 use Rattle.nextest_settings.specs.Chains.{fields_of, overrides_of, script_rules_of}
+use Rattle.nextest_settings.specs.Queries.{test_query}
 use Rattle.nextest_settings.specs.Settings.{fallback_of}
-use Rattle.rinqebo_rules.specs.Conditions.{default_filter_here}
+use Rattle.rinqebo_rules.specs.Conditions.{default_filter_here, filter_matches}
 use Rattle.rinqebo_rules.specs.RuleViews.{setting_rule_view}
 use Rattle.rinqebo_rules.specs.SettingRules.{rules_for}
 use Rattle.rinqebo_rules.specs.Told.{reported_of}
@@ -21,6 +23,7 @@ returns c = λ configured name names same_config same_names.
     let written = rules_for c.args.setting mode
     (overrides_of c.args.config.now.config.layers (borrowed_view c.args.chain.now))
     (script_rules_of c.args.config.now.config.layers (borrowed_view c.args.chain.now)) in
+    let query = test_query filter_matches c.in_ok-on.on.default_filter.expr.now (test_view c.query_of-query.result) in
     let names_here = with_default names in
     let gathered : written
         ≡ rules_for c.args.setting mode (overrides_of configured.config.layers names_here)
@@ -36,6 +39,6 @@ returns c = λ configured name names same_config same_names.
     reasons_here c.args.session.now.layers.items platforms c.args.test.now c.query_of-query.result c.args.setting _
     configured name names written c.in_ok-reported.reported.items c.in_ok-fallback.fallback _ default gathered
     c.query_of-query.ensures.name c.query_of-query.ensures.binary c.query_of-query.ensures.platform
-    (rw c.deref.ensures.value at c.in_ok-reported.ensures _ written judged)
+    (rw c.deref.ensures.value at c.in_ok-reported.ensures platforms query written judged)
     c.in_ok-fallback.ensures.verdict valued
     c.in_ok-push.ensures.items
