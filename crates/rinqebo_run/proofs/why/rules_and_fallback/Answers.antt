@@ -26,8 +26,8 @@ returns c = λ configured name names same_config same_names.
     let query = test_query filter_matches c.in_ok-on.on.default_filter.expr.now (test_view c.query_of-query.result) in
     let names_here = with_default names in
     let gathered : written
-        ≡ rules_for c.args.setting mode (overrides_of configured.config.layers names_here)
-        (script_rules_of configured.config.layers names_here) =
+    ≡ rules_for c.args.setting mode (overrides_of configured.config.layers names_here)
+    (script_rules_of configured.config.layers names_here) =
     λ i. rules_for c.args.setting mode (overrides_of (layers i) (same_names i))
     (script_rules_of (layers i) (same_names i)) in
     let judged = ap (map setting_rule_view) c.deref-2.ensures.value
