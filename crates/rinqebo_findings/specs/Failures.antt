@@ -1,7 +1,4 @@
 -- Why a session answers nothing.
-use Rattle.std.specs.Prelude.{◌≡◌}
-use Rattle.nextest_config.specs.declared.run.fault.ResolveFault.{ResolveFault}
-use Rattle.nextest_config.specs.declared.run.fault.ResolveFault.TheVariants as faults
 use Rattle.nextest_load.specs.Config.{config_of}
 use Rattle.nextest_sources.specs.Endings.{IsMemory}
 use Rattle.nextest_sources.specs.Inputs.{sources_in}
@@ -27,12 +24,6 @@ IsProfileFailure (failures.Engines fault) = ⊥
 IsProfileFailure (failures.Refused report) = ⊥
 IsProfileFailure (failures.NoProfile report) = Unit {0}
 IsProfileFailure failures.Memory = ⊥
-
--- a failure tells the fault of a run without rows
-abbrev pub IsRunFailure : ResolveFault → Failure → Type 0
-IsRunFailure (faults.Config error) failure = IsLoadFailure error failure
-IsRunFailure (faults.NoProfile missing) failure = IsProfileFailure failure
-IsRunFailure faults.Memory failure = failure ≡ failures.Memory
 
 -- The files of a session lack a profile: every written rule holds of them, and none of their
 -- profiles has the name.

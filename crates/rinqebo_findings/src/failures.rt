@@ -1,10 +1,9 @@
 //! Why a run answers nothing.
 ghost use Rattle.std.specs.Prelude.{IfOk};
-ghost use Rattle.rinqebo_findings.specs.Failures.{IsLoadFailure, IsProfileFailure, IsRunFailure};
+ghost use Rattle.rinqebo_findings.specs.Failures.{IsLoadFailure, IsProfileFailure};
 
 use crate::findings::{SourceAt, finding_at, warning_findings};
 use crate::report::{report_of, report_of_refusal};
-use nextest_config::run::ResolveFault;
 use nextest_config::{ConfigParseError, DefaultConfigWarnings, ProfileNotFound};
 use nextest_places::Step;
 use rinqebo_load::{Failure, Session};
@@ -55,20 +54,4 @@ pub fn failure_of_profile(
     findings.push(no_profile(alloc, missing)?)?;
     let report = report_of(alloc, session, findings, Vec::new(alloc), Content::Check)?;
     Ok(Failure::NoProfile(report))
-}
-
-/// Why a run answers nothing that has no rows.
-pub fn failure_of_run(
-    alloc: Global,
-    session: &Session<'_>,
-    warnings: &DefaultConfigWarnings,
-    fault: &ResolveFault,
-) -> Result<Failure, AllocError>
-    ensures { IfOk result (IsRunFailure fault.now) }
-{
-    match fault {
-        ResolveFault::Config(error) => failure_of_load(alloc, session, warnings, error),
-        ResolveFault::NoProfile(missing) => failure_of_profile(alloc, session, warnings, missing),
-        ResolveFault::Memory => Ok(Failure::Memory),
-    }
 }

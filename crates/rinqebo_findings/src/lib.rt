@@ -21,7 +21,6 @@ mod unknown_names;
 mod unreached;
 mod ways;
 
-pub use failures::failure_of_run;
 pub use findings::warning_findings;
 pub use loading::config_with;
 pub use report::{report_of, report_of_refusal};
