@@ -35,8 +35,8 @@ abbrev pub next_element : ℕ → List Mark → State
 next_element zero [] = seen
 next_element n ms = missing (into n ∷ ms)
 
--- What a key's end has to do with the steps that are left: the value of a pair holds what is
--- there, and a header in double brackets begins one more element.
+-- What a key's end has to do with the steps that are left: the value of a pair holds the rest,
+-- and a header in double brackets begins one more element.
 abbrev pub end_at_key : Kind → List ℕ → List Mark → State
 end_at_key Pair k ms = seen
 end_at_key _ k ms = missing (by_key k ∷ ms)
@@ -52,8 +52,8 @@ turn_end kind (by_key k ∷ ms) = end_at_key kind k ms
 turn_end kind (into zero ∷ ms) = under (into zero) (turn_end kind ms)
 turn_end kind (into (suc n) ∷ ms) = end_at_element kind n ms
 
--- What an expression with a key does to the steps of a path that is not there: it brings what
--- is at each front of its key, and at its end it does as its kind says.
+-- What an expression with a key does to the steps of a path that is not there: it defines a
+-- value at each front of its key, and at its end it does as its kind says.
 abbrev pub turn : Kind → List (List ℕ) → List Mark → State
 turn kind [] ms = turn_end kind ms
 turn kind (part ∷ parts) [] = seen

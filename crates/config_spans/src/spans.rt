@@ -17,7 +17,7 @@ use toml::{Value, table_from_str};
 /// Where the value at a path is written in a text.
 #[derive(Clone, Copy, Debug, PartialEq, Eq)]
 pub struct PathSpan {
-    /// The lines that bring it.
+    /// The lines that define it.
     pub lines: Lines,
     /// The bytes of the part of a key that leads to it, if one is on these lines.
     pub key: Option<Span>,
@@ -25,7 +25,7 @@ pub struct PathSpan {
     pub value: Option<Span>,
 }
 
-/// A text, of which it is known where what its paths lead to is written.
+/// A text, with where the values at its paths are written.
 #[derive(Drop)]
 pub struct PathSpans<'a> {
     text: &'a str,

@@ -218,7 +218,7 @@ placed_more items tokens t placed here front behind token is =
       | inr before ↦ placed front before.0 token before.1
     ]
 
--- an item that begins at a token is inside the right place
+-- an item that begins at a token is in the right place
 pub child_placed : (kind : TokenKind) (sort : Sort) (items : List Item) (front : List Token) (token : Token) → kind_sort kind ≡ Some sort
     → IsRightChild items front token → IsPlaced kind items front token
 child_placed kinds.TableHeader sort items front token is child = tt

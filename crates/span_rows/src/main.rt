@@ -10,7 +10,7 @@
 //! | `tokens` | its tokens |
 //! | `nodes` | whether each item of a document reads as its node |
 //! | `cuts` | how many items each front of it has, from the empty one on |
-//! | `at` | where the value at a path is written: the path and a tab are before the text (`paths.rt`) |
+//! | `at` | where the value at a path is written: the path and a tab come first (`paths.rt`) |
 //!
 //! For a line of another form the program prints an error on standard error. Its status is then 2.
 #![tactic(auto)]

@@ -1,7 +1,7 @@
-//! Where what paths lead to is written, as text.
+//! Where the values at paths are written, as text.
 //!
-//! A path is its steps with spaces between them: a position in digits, or else a key. Of what is
-//! there come the lines, the bytes of its key and those of its value, or `-` where there are none:
+//! A path is its steps with spaces between them: a position in digits, or else a key. It
+//! prints the lines, the bytes of the key and those of the value, or `-` where there are none:
 //! `2..2 key 13..20 value 23..24`. A path without a place prints `none`.
 
 use config_places::{Lines, Step};
