@@ -16,6 +16,9 @@ returns-clause-told g c =
     record {
       binary = c.in_ok-from_str.ensures.ok;
       name = c.in_ok-from_str-2.ensures.ok;
+      run_reported = reported_run c.args.origins.now query profile _ c.is_selected-runs.ensures _
+          c.in_ok-runs_row.ensures.told;
+      run_shown = c.shows_runs.ensures ∙ ap (shows_runs self.asked.now) c.is_selected-runs.ensures;
       settings_reported = reported_alike c.args.origins.now (wrapping_at settings) (wrapping_id query profile)
           (value_at settings) (setting_value query self.mode profile) (origin_at settings)
           (setting_origin query self.mode profile) self.mode self.asked.now c.in_ok-rows_of.field-0.items
