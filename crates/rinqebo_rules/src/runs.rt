@@ -7,6 +7,7 @@ ghost use Rattle.nextest_settings.specs.Chains.{first_of};
 ghost use Rattle.nextest_settings.specs.Queries.{query_in};
 ghost use Rattle.nextest_settings.specs.View.{meant_override};
 ghost use Rattle.rinqebo_rules.specs.KnownOrigins.{AreOriginsAt};
+ghost use Rattle.rinqebo_rules.specs.RulePlaces.{id_place, place_view};
 ghost use Rattle.rinqebo_rules.specs.Runs.{IsRunsRow, filtering_id, filtering_place, is_selected, shows_runs};
 
 use crate::RulePlace;
@@ -23,10 +24,15 @@ use std::alloc::{AllocError, Global};
 const NUMBER: usize = usize::MAX;
 
 /// The key at which a profile or an override writes its default filter.
-const DEFAULT_FILTER: SettingKey = SettingKey {
-    table: None,
-    key: "default-filter",
-};
+fn default_filter_key() -> SettingKey
+    ensures table { option_map (λ table. table.now) result.table ≡ None }
+    ensures key { result.key.now ≡ codes "default-filter" }
+{
+    SettingKey {
+        table: None,
+        key: "default-filter",
+    }
+}
 
 /// Whether the default filter that counts matches a test.
 pub(crate) fn is_selected<F: Filters, S: Specs>(
@@ -38,7 +44,7 @@ pub(crate) fn is_selected<F: Filters, S: Specs>(
         result ≡ is_selected (query_in F.holds profile (test_view query.now)) profile }
 {
     let cx = profile.filterset_ecx();
-    F::matches_test(profile.default_filter().expr, NUMBER, query, &cx, tally)
+    F::matches_test(cx.default_filter, NUMBER, query, &cx, tally)
 }
 
 /// Whether pages show whether a test runs.
@@ -83,6 +89,28 @@ fn filtering_override<'c, F: Filters, S: Specs>(
     None
 }
 
+/// The id of the override of a profile whose default filter counts, if it is that of an override.
+fn id_in<'c, F: Filters, S: Specs>(profile: &EvaluatableProfile<'c, F, S>) -> Option<&'c OverrideId>
+    ensures { option_map id_place (option_map (λ id. id_view id.now) result)
+        ≡ filtering_place (profile_meaning F.meaning profile.now) }
+{
+    let rules = profile.rules();
+    filtering_override(&rules.overrides)
+}
+
+/// Where the override of a profile stands whose default filter counts, if it is that of an override.
+fn filtering_place<'c, F: Filters, S: Specs>(
+    profile: &EvaluatableProfile<'c, F, S>,
+) -> Option<RulePlace<'c>>
+    ensures { option_map place_view result
+        ≡ filtering_place (profile_meaning F.meaning profile.now) }
+{
+    match id_in(profile) {
+        Some(id) => Some(RulePlace::of_override(id)),
+        None => None,
+    }
+}
+
 /// Where the default filter that counts is written.
 fn filter_origins<'c, F: Filters, S: Specs>(
     alloc: Global,
@@ -94,10 +122,7 @@ fn filter_origins<'c, F: Filters, S: Specs>(
         IfOk result (λ told. AreOriginsAt origins.old (filtering_place profile) None
         (codes "default-filter") told.items) }
 {
-    match filtering_override(&profile.rules().overrides) {
-        Some(id) => origins.of(alloc, Some(RulePlace::of_override(id)), DEFAULT_FILTER),
-        None => origins.of(alloc, None, DEFAULT_FILTER),
-    }
+    origins.of(alloc, filtering_place(profile), default_filter_key())
 }
 
 /// The row of whether a test runs.
