@@ -1,4 +1,4 @@
-//! The page of a test: whether it runs and its settings, each with its value and where it comes from.
+//! The page of a test: whether it runs, and its settings, with their values and origins.
 ghost use Rattle.std.specs.Prelude.{◌≡◌, ◌++◌, Some, OnOk, IfOk, codes, string_bytes};
 ghost use Rattle.serde_json.specs.View.{members_view};
 ghost use Rattle.rinqebo_report.specs.Document.{with_explain};

@@ -39,8 +39,8 @@ impl<'a> ListFile<'a> {
 /// What is told of a test.
 #[derive(Drop)]
 pub enum RequestedSettings {
-    /// The settings that rules decide, in the order of all settings, and that the test does not run, if
-    /// so.
+    /// The settings that rules decide, in the order of all settings; before them, where the test does
+    /// not run, that it does not.
     Decided,
     /// Settings, whatever decides them.
     These {

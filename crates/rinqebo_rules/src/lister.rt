@@ -47,7 +47,8 @@ pub fn reported_platform(platform: BuildPlatform) -> BuiltFor {
 }
 
 impl<'l, 'c, F: Filters, S: Specs> Lister<'l, 'c, F, S> {
-    /// Returns whether a test runs, and its settings. It takes as much memory as they do, and loads nothing.
+    /// Returns whether a test runs, and its settings. It takes as much memory as they do, and loads
+    /// nothing.
     pub fn rows_of(
         &self,
         alloc: Global,

@@ -98,7 +98,7 @@ fn id_in<'c, F: Filters, S: Specs>(profile: &EvaluatableProfile<'c, F, S>) -> Op
     filtering_override(&rules.overrides)
 }
 
-/// Where the override of a profile stands whose default filter counts, if it is that of an override.
+/// Where the override of a profile stands whose default filter counts, if it is one of an override.
 fn filtering_place<'c, F: Filters, S: Specs>(
     profile: &EvaluatableProfile<'c, F, S>,
 ) -> Option<RulePlace<'c>>
