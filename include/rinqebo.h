@@ -1,4 +1,4 @@
-// Rinqebo as a library: one call for a whole run, and configurations that are loaded once and asked often.
+// Rinqebo as a library: whole runs, and configurations that are loaded once and asked often.
 //
 // Names, types and the order of parameters are those of crates/rinqebo_c; nothing compares the two.
 // docs/LIBRARY.md says what each call does, and what is proved of it.
@@ -6,12 +6,13 @@
 // What a caller keeps, which no call checks:
 // - No pointer is null, also at length 0, and none lies past its block. A length is below 2^63.
 // - An output overlaps no other argument. What is read is read during the call alone.
-// - A session lies in room of rinqebo_session_size() bytes, and a profile in room of
-//   rinqebo_profile_size() bytes, both aligned to 16. The caller never reads or writes them, and does
-//   not move them between the call that fills the room and the one that frees it.
+// - A run lies in room of rinqebo_run_size() bytes, a session in room of rinqebo_session_size() bytes,
+//   and a profile in room of rinqebo_profile_size() bytes, each aligned to 16. The caller never reads or
+//   writes them, and does not move them between the call that fills the room and the one that frees it.
+// - A struct that is passed by a pointer is the one of this header, also where its size says otherwise.
 // - Each is filled once before it is freed once. A profile is freed before its session.
-// - One call at a time has a session or a profile of it. They may go to another thread together, by
-//   a lock, or by that thread's start or join.
+// - One call at a time has a run, and one a session or a profile of it. A run may go to another thread,
+//   and a session with its profiles, by a lock, or by that thread's start or join.
 // - malloc, realloc and free are of one allocator. No call is made from a signal handler, or in the
 //   forked child of a process with threads.
 #ifndef RINQEBO_H
@@ -32,8 +33,22 @@ enum rinqebo_status {
     RINQEBO_NO_ENGINES = 6,     // the metadata, a machine or the list of tests of the request is not understood
     RINQEBO_NO_PROFILE = 7,     // there is no such profile
     RINQEBO_NOT_LOADED = 8,     // the session holds no configuration
-    RINQEBO_UNKNOWN_NUMBER = 9  // a number stands for nothing: a platform, a mode, a kind of text, an index
+    RINQEBO_UNKNOWN_NUMBER = 9, // a number stands for nothing: a platform, a mode, a kind of text, an index
+    RINQEBO_BAD_SIZE = 10       // the size in a struct is not that of the library's version
 };
+
+// ---- the version
+
+// The version that this header is of, as a text and as a number: 1,000,000 times the first of its numbers, 1,000
+// times the second, and the third.
+#define RINQEBO_VERSION "0.1.0"
+#define RINQEBO_VERSION_NUMBER 1000
+
+// Writes the version of the library, as a text. DONE or SMALL.
+uint32_t rinqebo_version(uint8_t *out, size_t out_len, size_t *needed);
+
+// The version of the library, as a number.
+uint32_t rinqebo_version_number(void);
 
 // ---- a whole run
 
@@ -53,6 +68,24 @@ enum rinqebo_status {
 // The buffer behind it stays as it was. The features are those of the request and those that its file switches on.
 // Without a target, the one that the list names counts, if it does. Nothing is kept: the same call tells the same.
 uint32_t rinqebo_resolve(const uint8_t *request, size_t request_len, uint8_t *answer, size_t answer_len, size_t *needed);
+
+// The same, kept: a run is computed once, and what it tells is read by pieces, as often as one likes.
+struct rinqebo_run;
+size_t rinqebo_run_size(void);
+
+// Fills the room, always: rinqebo_run_status says how it went. The request may go as soon as it returns.
+void rinqebo_run_new(const uint8_t *request, size_t request_len, struct rinqebo_run *room);
+void rinqebo_run_free(struct rinqebo_run *run);
+
+// Any of the statuses of rinqebo_resolve but SMALL.
+uint32_t rinqebo_run_status(const struct rinqebo_run *run);
+
+// How long what is told is.
+size_t rinqebo_run_length(const struct rinqebo_run *run);
+
+// Writes what is told from an offset on, as much as the buffer has room for, and returns how many bytes that is: 0
+// at the end and behind it. The buffer behind them stays as it was. Pieces that follow one another are the whole.
+size_t rinqebo_run_text(const struct rinqebo_run *run, size_t offset, uint8_t *out, size_t out_len);
 
 // An index of no name: of the global group, or of no wrapper.
 #define RINQEBO_NO_NAME SIZE_MAX
@@ -115,6 +148,7 @@ struct rinqebo_bytes {
 
 // A test, and what is known of its binary, each as nextest lists it. What filters do not ask may be empty.
 struct rinqebo_test {
+    size_t size;                  // sizeof(struct rinqebo_test)
     struct rinqebo_bytes package; // the id of the binary's package
     struct rinqebo_bytes binary;  // the id of the binary, as `db` or `db::integration`
     struct rinqebo_bytes kind;    // the kind of its target, as `lib` or `test`
@@ -160,9 +194,9 @@ struct rinqebo_group_threads {
     int64_t count; // or, where negative, so many fewer than there are processors; else 0
 };
 
-// The fifteen settings of a test. Where the status is not DONE, all others mean nothing.
+// The fifteen settings of a test.
 struct rinqebo_settings {
-    uint32_t status;            // DONE, NOT_TEXT, UNKNOWN_NUMBER, or that of a profile that is not open
+    size_t size;                // sizeof(struct rinqebo_settings), which the caller writes
     int32_t priority;           // a higher one runs earlier
     uint32_t in_default_filter; // 1 where the profile's default filter matches the test
     uint32_t flaky_result;      // 0: a test that passes at a later try passes; 1: it fails
@@ -182,8 +216,11 @@ struct rinqebo_settings {
     size_t run_extra_args; // how many arguments the test is given
 };
 
-// The settings that a profile gives to a test. It takes no memory.
-struct rinqebo_settings rinqebo_profile_ask(const struct rinqebo_profile *profile, struct rinqebo_test test);
+// Writes the settings that a profile gives to a test. It takes no memory. BAD_SIZE where the size in one of the two
+// structs is not that of the library's version; else DONE, NOT_TEXT, UNKNOWN_NUMBER, or the status of a profile that
+// is not open. But for DONE the settings stay as they were.
+uint32_t rinqebo_profile_ask(const struct rinqebo_profile *profile, const struct rinqebo_test *test,
+                             struct rinqebo_settings *settings);
 
 #ifdef __cplusplus
 }

@@ -15,8 +15,19 @@ static struct rinqebo_bytes bytes_of(const char *text) {
 }
 
 static struct rinqebo_test test_of(const char *binary, const char *name) {
-    struct rinqebo_test test = {bytes_of(""), bytes_of(binary), bytes_of("lib"), bytes_of(binary), bytes_of(name), 1, 0};
+    struct rinqebo_test test = {sizeof test, bytes_of(""), bytes_of(binary), bytes_of("lib"), bytes_of(binary), bytes_of(name), 1, 0};
     return test;
+}
+
+// Asks for the settings of a test, and returns how that went. But for DONE the settings stay as they were.
+static uint32_t ask(const struct rinqebo_profile *profile, struct rinqebo_test test, struct rinqebo_settings *settings) {
+    struct rinqebo_settings before;
+    memset(settings, 7, sizeof *settings);
+    settings->size = sizeof *settings;
+    memcpy(&before, settings, sizeof before);
+    uint32_t status = rinqebo_profile_ask(profile, &test, settings);
+    int kept = memcmp(&before, settings, sizeof before) == 0;
+    return kept == (status != RINQEBO_DONE) ? status : 99;
 }
 
 // The session of a request, or NULL where there is no memory for it.
@@ -63,8 +74,8 @@ static const char *REQUEST =
 
 // Settings of one profile. 0, or the number of the first check that fails.
 static int check_settings(const struct rinqebo_profile *profile) {
-    struct rinqebo_settings settings = rinqebo_profile_ask(profile, test_of("api", "db::reads"));
-    if (settings.status != RINQEBO_DONE) return 10;
+    struct rinqebo_settings settings;
+    if (ask(profile, test_of("api", "db::reads"), &settings) != RINQEBO_DONE || settings.size != sizeof settings) return 10;
     if (settings.priority != 50 || settings.threads_required.kind != 0 || settings.threads_required.count != 4) return 11;
     if (settings.retries.backoff != 0 || settings.retries.count != 1) return 12;
     if (settings.slow_timeout.period.low != UINT64_C(20000000000) || settings.slow_timeout.period.high != 0) return 13;
@@ -73,13 +84,41 @@ static int check_settings(const struct rinqebo_profile *profile) {
     if (settings.in_default_filter != 1) return 16;
     if (!has_text(profile, RINQEBO_GROUP, settings.test_group, "db")) return 17;
     if (!has_text(profile, RINQEBO_REASON, 0, "")) return 18;
-    settings = rinqebo_profile_ask(profile, test_of("api", "quick"));
+    if (ask(profile, test_of("api", "quick"), &settings) != RINQEBO_DONE) return 19;
     if (settings.test_group != RINQEBO_NO_NAME || settings.group_threads.kind != 2 || settings.priority != 0) return 19;
-    if (rinqebo_profile_ask(profile, test_of("api", "\xff")).status != RINQEBO_NOT_TEXT) return 20;
+    if (ask(profile, test_of("api", "\xff"), &settings) != RINQEBO_NOT_TEXT) return 20;
     struct rinqebo_test test = test_of("", "");
-    if (rinqebo_profile_ask(profile, test).status != RINQEBO_DONE) return 21;
+    if (ask(profile, test, &settings) != RINQEBO_DONE) return 21;
     test.mode = 2;
-    if (rinqebo_profile_ask(profile, test).status != RINQEBO_UNKNOWN_NUMBER) return 22;
+    if (ask(profile, test, &settings) != RINQEBO_UNKNOWN_NUMBER) return 22;
+    return 0;
+}
+
+// Sizes that are not those of this version. 0, or the number of the first check that fails.
+static int check_sizes(const struct rinqebo_profile *profile, uint32_t otherwise) {
+    struct rinqebo_test test = test_of("api", "quick");
+    struct rinqebo_settings settings, before;
+    for (int by = -1; by <= 1; by++) {
+        memset(&settings, 7, sizeof settings);
+        settings.size = sizeof settings + by;
+        memcpy(&before, &settings, sizeof before);
+        if (rinqebo_profile_ask(profile, &test, &settings) != (by == 0 ? otherwise : RINQEBO_BAD_SIZE)) return 23;
+        if (by != 0 && memcmp(&before, &settings, sizeof before) != 0) return 24;
+        test.size = sizeof test + by;
+        if (ask(profile, test, &settings) != (by == 0 ? otherwise : RINQEBO_BAD_SIZE)) return 25;
+        test.size = sizeof test;
+    }
+    return 0;
+}
+
+// The version of this header. 0, or the number of the first check that fails.
+static int check_version(void) {
+    uint8_t out[64];
+    size_t needed = 0;
+    if (rinqebo_version_number() != RINQEBO_VERSION_NUMBER) return 26;
+    if (rinqebo_version(out, sizeof out, &needed) != RINQEBO_DONE || needed != strlen(RINQEBO_VERSION)) return 27;
+    if (memcmp(out, RINQEBO_VERSION, needed) != 0) return 28;
+    if (rinqebo_version(out, needed - 1, &needed) != RINQEBO_SMALL || needed != strlen(RINQEBO_VERSION)) return 29;
     return 0;
 }
 
@@ -106,7 +145,10 @@ static int check_refused(const char *request, uint32_t status) {
     if (rinqebo_session_reason(session, reason, sizeof reason, &needed) != RINQEBO_DONE || needed == 0) return 42;
     struct rinqebo_profile *profile = open_profile(session, "ci");
     if (profile == NULL || rinqebo_profile_status(profile) != RINQEBO_NOT_LOADED) return 43;
-    if (rinqebo_profile_ask(profile, test_of("a", "b")).status != RINQEBO_NOT_LOADED) return 44;
+    struct rinqebo_settings settings;
+    if (ask(profile, test_of("a", "b"), &settings) != RINQEBO_NOT_LOADED) return 44;
+    int sizes = check_sizes(profile, RINQEBO_NOT_LOADED);
+    if (sizes != 0) return sizes;
     end_profile(profile);
     end(session);
     return 0;
@@ -146,11 +188,35 @@ static uint8_t *run(const char *request, size_t length, uint32_t *status, size_t
     " \\\"binary-name\\\": \\\"api\\\", \\\"kind\\\": \\\"lib\\\", \\\"build-platform\\\": \\\"target\\\"," \
     " \\\"testcases\\\": {\\\"db::reads\\\": {}}}}}"
 
-// Whether a run ends with a status, and tells this text among others.
+// Whether the run of a request, read by pieces of this size, has a status and this text.
+static int is_in_pieces(const char *request, size_t size, uint32_t status, const uint8_t *text, size_t length) {
+    struct rinqebo_run *kept = malloc(rinqebo_run_size());
+    uint8_t *read = malloc(length + size + 1);
+    if (kept == NULL || read == NULL) return 0;
+    rinqebo_run_new((const uint8_t *)request, strlen(request), kept);
+    int is = rinqebo_run_status(kept) == status && rinqebo_run_length(kept) == length;
+    size_t at = 0;
+    for (size_t piece = 1; is && piece != 0; at += piece) {
+        read[at + size] = 'x';
+        piece = rinqebo_run_text(kept, at, read + at, size);
+        is = piece <= size && at + piece <= length && (piece == size || at + piece == length) && read[at + size] == 'x';
+    }
+    is = is && at == length && memcmp(read, text, length) == 0;
+    is = is && rinqebo_run_text(kept, length + 1, read, size) == 0 && rinqebo_run_text(kept, SIZE_MAX, read, size) == 0;
+    is = is && rinqebo_run_text(kept, 0, read, 0) == 0;
+    rinqebo_run_free(kept);
+    free(kept);
+    free(read);
+    return is;
+}
+
+// Whether a run ends with a status, and tells this text among others; and by pieces it tells the same.
 static int ends_with(const char *request, uint32_t wanted, const char *text) {
     size_t needed = 0, length = strlen(text);
     uint32_t status = 0;
     uint8_t *told = run(request, strlen(request), &status, &needed);
+    if (told == NULL || !is_in_pieces(request, 7, status, told, needed)) return 0;
+    if (!is_in_pieces(request, 4096, status, told, needed)) return 0;
     int found = length == 0;
     for (size_t i = 0; told != NULL && i + length <= needed; i++) found = found || memcmp(told + i, text, length) == 0;
     free(told);
@@ -196,12 +262,15 @@ static int check_outcomes(void) {
 }
 
 static int check(void) {
+    int failed = check_version();
+    if (failed != 0) return failed;
     struct rinqebo_session *session = load(REQUEST);
     if (session == NULL) return 1;
     if (rinqebo_session_status(session) != RINQEBO_DONE) return 2;
     struct rinqebo_profile *profile = open_profile(session, "ci");
     if (profile == NULL || rinqebo_profile_status(profile) != RINQEBO_DONE) return 3;
-    int failed = check_settings(profile);
+    failed = check_settings(profile);
+    if (failed == 0) failed = check_sizes(profile, RINQEBO_DONE);
     if (failed == 0) failed = check_buffer(profile);
     end_profile(profile);
     if (failed != 0) return failed;
@@ -235,7 +304,8 @@ static char *text_of(const char *path) {
 }
 
 static void print_settings(const struct rinqebo_profile *profile, const char *binary, const char *name) {
-    struct rinqebo_settings settings = rinqebo_profile_ask(profile, test_of(binary, name));
+    struct rinqebo_settings settings;
+    if (ask(profile, test_of(binary, name), &settings) != RINQEBO_DONE) return;
     uint8_t group[256] = "@global";
     size_t length = 7;
     if (settings.test_group != RINQEBO_NO_NAME) {

@@ -41,13 +41,11 @@ fn plan<'l>(profile: &Profile<'_>, list: &'l List) -> Result<Vec<Planned<'l>>, E
     let mut planned = Vec::new();
     for suite in list.rust_suites.values() {
         for name in suite.testcases.keys() {
-            let test = Test {
-                package: &suite.package_id,
-                kind: &suite.kind,
-                target: &suite.binary_name,
-                platform: if suite.build_platform == "host" { Platform::Host } else { Platform::Target },
-                ..Test::of(&suite.binary_id, name)
-            };
+            let test = Test::named(name)
+                .in_binary(&suite.binary_id)
+                .of_target(&suite.kind, &suite.binary_name)
+                .of_package(&suite.package_id)
+                .on(if suite.build_platform == "host" { Platform::Host } else { Platform::Target });
             let schedule = profile.schedule(&test)?;
             let binary = suite.binary_id.as_str();
             planned.push(Planned { binary, name, schedule });

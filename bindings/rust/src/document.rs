@@ -1,12 +1,13 @@
 //! The document of a run, as the library writes it in JSON.
 
-use crate::{Mode, Platform};
-use serde::Deserialize;
+use crate::{Error, Mode, Platform};
+use serde::{Deserialize, Serialize};
 use std::collections::BTreeMap;
 
 /// What a run is answered: all settings of each test, and the scripts of the list.
-#[derive(Clone, Debug, PartialEq, Deserialize)]
+#[derive(Clone, Debug, PartialEq, Serialize, Deserialize)]
 #[serde(rename_all = "kebab-case")]
+#[non_exhaustive]
 pub struct Document {
     /// The workspace's root.
     pub root: String,
@@ -33,8 +34,9 @@ pub struct Document {
 }
 
 /// The script that wraps a binary while it lists its tests.
-#[derive(Clone, Debug, PartialEq, Eq, Deserialize)]
+#[derive(Clone, Debug, PartialEq, Eq, Serialize, Deserialize)]
 #[serde(rename_all = "kebab-case")]
+#[non_exhaustive]
 pub struct ListWrapper {
     pub binary_id: String,
     /// The id of the script.
@@ -42,7 +44,8 @@ pub struct ListWrapper {
 }
 
 /// A source.
-#[derive(Clone, Debug, PartialEq, Eq, Deserialize)]
+#[derive(Clone, Debug, PartialEq, Eq, Serialize, Deserialize)]
+#[non_exhaustive]
 pub struct Source {
     pub kind: SourceKind,
     /// The tool that provides it.
@@ -51,7 +54,7 @@ pub struct Source {
 }
 
 /// A kind of source.
-#[derive(Clone, Copy, Debug, PartialEq, Eq, Deserialize)]
+#[derive(Clone, Copy, Debug, PartialEq, Eq, Serialize, Deserialize)]
 #[serde(rename_all = "kebab-case")]
 pub enum SourceKind {
     /// The built-in defaults.
@@ -66,8 +69,9 @@ pub enum SourceKind {
 }
 
 /// A test with its settings.
-#[derive(Clone, Debug, PartialEq, Deserialize)]
+#[derive(Clone, Debug, PartialEq, Serialize, Deserialize)]
 #[serde(rename_all = "kebab-case")]
+#[non_exhaustive]
 pub struct TestRow {
     pub binary_id: String,
     pub name: String,
@@ -78,7 +82,8 @@ pub struct TestRow {
 }
 
 /// A setting of a test.
-#[derive(Clone, Debug, PartialEq, Deserialize)]
+#[derive(Clone, Debug, PartialEq, Serialize, Deserialize)]
+#[non_exhaustive]
 pub struct Setting {
     /// Its value; `null` where it has none.
     pub value: serde_json::Value,
@@ -87,7 +92,8 @@ pub struct Setting {
 }
 
 /// What decides a setting.
-#[derive(Clone, Debug, PartialEq, Eq, Deserialize)]
+#[derive(Clone, Debug, PartialEq, Eq, Serialize, Deserialize)]
+#[non_exhaustive]
 pub struct Origin {
     pub kind: OriginKind,
     /// The profile that has it.
@@ -101,7 +107,7 @@ pub struct Origin {
 }
 
 /// A kind of origin.
-#[derive(Clone, Copy, Debug, PartialEq, Eq, Deserialize)]
+#[derive(Clone, Copy, Debug, PartialEq, Eq, Serialize, Deserialize)]
 #[serde(rename_all = "kebab-case")]
 pub enum OriginKind {
     BuiltIn,
@@ -113,7 +119,8 @@ pub enum OriginKind {
 }
 
 /// What is wrong with a file.
-#[derive(Clone, Debug, PartialEq, Eq, Deserialize)]
+#[derive(Clone, Debug, PartialEq, Eq, Serialize, Deserialize)]
+#[non_exhaustive]
 pub struct Finding {
     pub code: String,
     pub level: Level,
@@ -135,7 +142,7 @@ pub struct Finding {
 }
 
 /// How bad a finding is.
-#[derive(Clone, Copy, Debug, PartialEq, Eq, Deserialize)]
+#[derive(Clone, Copy, Debug, PartialEq, Eq, Serialize, Deserialize)]
 #[serde(rename_all = "kebab-case")]
 pub enum Level {
     Error,
@@ -143,7 +150,8 @@ pub enum Level {
 }
 
 /// Why there is no answer.
-#[derive(Clone, Debug, PartialEq, Eq)]
+#[derive(Clone, Debug, PartialEq, Eq, Serialize)]
+#[non_exhaustive]
 pub struct Refusal {
     /// The words of it.
     pub reason: String,
@@ -158,13 +166,13 @@ impl Refusal {
     }
 
     /// The refusal that a document tells.
-    pub(crate) fn read(document: &[u8]) -> Refusal {
+    pub(crate) fn read(document: &[u8]) -> Result<Refusal, Error> {
         #[derive(Deserialize)]
         struct Findings {
             findings: Vec<Finding>,
         }
-        let Findings { findings } = serde_json::from_slice(document).expect("the library writes such a document");
+        let Findings { findings } = serde_json::from_slice(document).map_err(Error::unreadable)?;
         let messages: Vec<_> = findings.iter().map(|finding| finding.message.as_str()).collect();
-        Refusal { reason: messages.join("\n"), findings }
+        Ok(Refusal { reason: messages.join("\n"), findings })
     }
 }

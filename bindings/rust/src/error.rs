@@ -5,6 +5,7 @@ use std::fmt;
 
 /// Why a call gives nothing, with the words of the library where it has some.
 #[derive(Clone, Debug, PartialEq, Eq)]
+#[non_exhaustive]
 pub enum Error {
     /// The configuration is refused.
     Refused(Refusal),
@@ -18,11 +19,20 @@ pub enum Error {
     Memory,
     /// The request is not valid UTF-8.
     NotText,
+    /// The library that is linked is of this version, and not of [`crate::VERSION`].
+    Version(String),
+    /// What the library returned is not understood.
+    Unreadable(String),
     /// A number that this version does not know.
     Unknown(u32),
 }
 
 impl Error {
+    /// The error of an answer that is not of its form.
+    pub(crate) fn unreadable(error: serde_json::Error) -> Error {
+        Error::Unreadable(error.to_string())
+    }
+
     /// The error of a status, with its reason.
     pub(crate) fn of(status: u32, reason: String) -> Error {
         match status {
@@ -46,6 +56,10 @@ impl fmt::Display for Error {
             Error::NoProfile(refusal) => f.write_str(&refusal.reason),
             Error::NotText => f.write_str("the request is not valid UTF-8"),
             Error::Memory => f.write_str("out of memory"),
+            Error::Version(version) => {
+                write!(f, "the library is of version {version}, and not of {}", crate::VERSION)
+            }
+            Error::Unreadable(reason) => write!(f, "the answer of the library is not understood: {reason}"),
             Error::Unknown(status) => write!(f, "status {status}"),
         }
     }

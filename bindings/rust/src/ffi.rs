@@ -10,6 +10,7 @@ pub struct Bytes {
 #[repr(C)]
 #[derive(Clone, Copy)]
 pub struct Test {
+    pub size: usize,
     pub package: Bytes,
     pub binary: Bytes,
     pub kind: Bytes,
@@ -20,14 +21,14 @@ pub struct Test {
 }
 
 #[repr(C)]
-#[derive(Clone, Copy)]
+#[derive(Clone, Copy, Default)]
 pub struct Duration {
     pub low: u64,
     pub high: u64,
 }
 
 #[repr(C)]
-#[derive(Clone, Copy)]
+#[derive(Clone, Copy, Default)]
 pub struct Retries {
     pub backoff: u32,
     pub count: u32,
@@ -38,14 +39,14 @@ pub struct Retries {
 }
 
 #[repr(C)]
-#[derive(Clone, Copy)]
+#[derive(Clone, Copy, Default)]
 pub struct Threads {
     pub kind: u32,
     pub count: u64,
 }
 
 #[repr(C)]
-#[derive(Clone, Copy)]
+#[derive(Clone, Copy, Default)]
 pub struct SlowTimeout {
     pub period: Duration,
     pub terminate_after: u64,
@@ -54,23 +55,23 @@ pub struct SlowTimeout {
 }
 
 #[repr(C)]
-#[derive(Clone, Copy)]
+#[derive(Clone, Copy, Default)]
 pub struct LeakTimeout {
     pub period: Duration,
     pub result: u32,
 }
 
 #[repr(C)]
-#[derive(Clone, Copy)]
+#[derive(Clone, Copy, Default)]
 pub struct GroupThreads {
     pub kind: u32,
     pub count: i64,
 }
 
 #[repr(C)]
-#[derive(Clone, Copy)]
+#[derive(Clone, Copy, Default)]
 pub struct Settings {
-    pub status: u32,
+    pub size: usize,
     pub priority: i32,
     pub in_default_filter: u32,
     pub flaky_result: u32,
@@ -91,13 +92,14 @@ pub struct Settings {
 }
 
 extern "C" {
-    pub fn rinqebo_resolve(
-        request: *const u8,
-        request_len: usize,
-        answer: *mut u8,
-        answer_len: usize,
-        needed: *mut usize,
-    ) -> u32;
+    pub fn rinqebo_version(out: *mut u8, out_len: usize, needed: *mut usize) -> u32;
+    pub fn rinqebo_version_number() -> u32;
+    pub fn rinqebo_run_size() -> usize;
+    pub fn rinqebo_run_new(request: *const u8, request_len: usize, room: *mut u8);
+    pub fn rinqebo_run_status(run: *const u8) -> u32;
+    pub fn rinqebo_run_length(run: *const u8) -> usize;
+    pub fn rinqebo_run_text(run: *const u8, offset: usize, out: *mut u8, out_len: usize) -> usize;
+    pub fn rinqebo_run_free(run: *mut u8);
     pub fn rinqebo_session_size() -> usize;
     pub fn rinqebo_session_load(request: *const u8, request_len: usize, room: *mut u8);
     pub fn rinqebo_session_status(session: *const u8) -> u32;
@@ -114,6 +116,6 @@ extern "C" {
         out_len: usize,
         needed: *mut usize,
     ) -> u32;
-    pub fn rinqebo_profile_ask(profile: *const u8, test: Test) -> Settings;
+    pub fn rinqebo_profile_ask(profile: *const u8, test: *const Test, settings: *mut Settings) -> u32;
     pub fn rinqebo_profile_free(profile: *mut u8);
 }

@@ -6,7 +6,8 @@
 //! let sources = rinqebo::Sources::of_file("/w", "[profile.ci]\nretries = 2\n", "x86_64-unknown-linux-gnu");
 //! let config = rinqebo::Config::load(&sources)?;
 //! let profile = config.profile("ci")?;
-//! assert_eq!(profile.settings(&rinqebo::Test::of("api", "tests::quick"))?.retries.count, 2);
+//! let test = rinqebo::Test::named("tests::quick").in_binary("api").of_target("lib", "api").of_package("api 0.1.0");
+//! assert_eq!(profile.settings(&test)?.retries.count, 2);
 //! # Ok(())
 //! # }
 //! ```
@@ -26,6 +27,7 @@ mod room;
 mod run;
 mod settings;
 mod sources;
+mod version;
 
 pub use document::{
     Document, Finding, Level, ListWrapper, Origin, OriginKind, Refusal, Setting, Source, SourceKind, TestRow,
@@ -39,6 +41,9 @@ pub use settings::{
 };
 pub use sources::{Features, File, Machine, ReadOutcome, Sources, ToolFile};
 use std::marker::PhantomData;
+use std::mem::size_of;
+use version::check_version;
+pub use version::{version, version_number, VERSION, VERSION_NUMBER};
 
 const DONE: u32 = 0;
 const SMALL: u32 = 2;
@@ -48,7 +53,7 @@ const WRAPPER: u32 = 2;
 const NO_NAME: usize = usize::MAX;
 
 /// For which machine a binary is built.
-#[derive(Clone, Copy, Debug, PartialEq, Eq, Deserialize)]
+#[derive(Clone, Copy, Debug, PartialEq, Eq, Serialize, Deserialize)]
 #[serde(rename_all = "kebab-case")]
 pub enum Platform {
     Host,
@@ -64,35 +69,93 @@ pub enum Mode {
 }
 
 /// A test, and what is known of its binary, each as nextest lists it.
+///
+/// Filters may ask for each part, so that each is asked for:
+///
+/// ```
+/// let test = rinqebo::Test::named("db::reads").in_binary("api").of_target("lib", "api").of_package("api 0.1.0");
+/// ```
 #[derive(Clone, Copy, Debug)]
 pub struct Test<'a> {
-    /// The id of the binary's package.
-    pub package: &'a str,
-    /// The id of the binary.
-    pub binary: &'a str,
-    /// The kind of its target.
-    pub kind: &'a str,
-    /// The name of its target.
-    pub target: &'a str,
-    /// The name of the test.
-    pub name: &'a str,
-    pub platform: Platform,
-    pub mode: Mode,
+    package: &'a str,
+    binary: &'a str,
+    kind: &'a str,
+    target: &'a str,
+    name: &'a str,
+    platform: Platform,
+    mode: Mode,
 }
 
-impl<'a> Test<'a> {
-    /// The test of a name in the binary of an id, which is built for the target. What else filters may
-    /// ask is empty.
-    pub fn of(binary: &'a str, name: &'a str) -> Test<'a> {
+/// The name of a test, whose binary is still asked for.
+#[derive(Clone, Copy, Debug)]
+#[must_use]
+pub struct NamedTest<'a> {
+    name: &'a str,
+}
+
+/// A test of a binary, whose target is still asked for.
+#[derive(Clone, Copy, Debug)]
+#[must_use]
+pub struct BinaryTest<'a> {
+    name: &'a str,
+    binary: &'a str,
+}
+
+/// A test of a binary's target, whose package is still asked for.
+#[derive(Clone, Copy, Debug)]
+#[must_use]
+pub struct TargetTest<'a> {
+    of: BinaryTest<'a>,
+    kind: &'a str,
+    target: &'a str,
+}
+
+impl<'a> NamedTest<'a> {
+    /// The id of its binary, as `api::smoke`.
+    pub fn in_binary(self, binary: &'a str) -> BinaryTest<'a> {
+        BinaryTest { name: self.name, binary }
+    }
+}
+
+impl<'a> BinaryTest<'a> {
+    /// The kind of the binary's target, as `lib` or `test`, and the name of that target.
+    pub fn of_target(self, kind: &'a str, target: &'a str) -> TargetTest<'a> {
+        TargetTest { of: self, kind, target }
+    }
+}
+
+impl<'a> TargetTest<'a> {
+    /// The id of the binary's package.
+    pub fn of_package(self, package: &'a str) -> Test<'a> {
         Test {
-            package: "",
-            binary,
-            kind: "",
-            target: "",
-            name,
+            package,
+            binary: self.of.binary,
+            kind: self.kind,
+            target: self.target,
+            name: self.of.name,
             platform: Platform::Target,
             mode: Mode::Test,
         }
+    }
+}
+
+impl<'a> Test<'a> {
+    /// A test of a name. Its binary is built for the target, and it is run as a test, unless
+    /// [`Test::on`] and [`Test::run_as`] say otherwise.
+    pub fn named(name: &'a str) -> NamedTest<'a> {
+        NamedTest { name }
+    }
+
+    /// The same test, of a binary that is built for this platform.
+    #[must_use]
+    pub fn on(self, platform: Platform) -> Test<'a> {
+        Test { platform, ..self }
+    }
+
+    /// The same test, run so.
+    #[must_use]
+    pub fn run_as(self, mode: Mode) -> Test<'a> {
+        Test { mode, ..self }
     }
 
     fn numbers(&self) -> ffi::Test {
@@ -102,6 +165,7 @@ impl<'a> Test<'a> {
             length: text.len(),
         };
         ffi::Test {
+            size: size_of::<ffi::Test>(),
             package: bytes(self.package),
             binary: bytes(self.binary),
             kind: bytes(self.kind),
@@ -119,6 +183,11 @@ impl<'a> Test<'a> {
     }
 }
 
+/// A value as JSON.
+fn json_of(value: &impl Serialize) -> Result<Vec<u8>, Error> {
+    serde_json::to_vec(value).map_err(|error| Error::NotUnderstood(error.to_string()))
+}
+
 /// The text that a call copies out, or the status with which it ends.
 fn copied(copy: impl Fn(&mut [u8], &mut usize) -> u32) -> Result<String, u32> {
     let mut out = vec![0; 64];
@@ -127,7 +196,7 @@ fn copied(copy: impl Fn(&mut [u8], &mut usize) -> u32) -> Result<String, u32> {
         match copy(&mut out, &mut needed) {
             DONE => {
                 out.truncate(needed);
-                return Ok(String::from_utf8(out).expect("the library writes UTF-8"));
+                return Ok(String::from_utf8_lossy(&out).into_owned());
             }
             SMALL => out.resize(needed, 0),
             status => return Err(status),
@@ -147,14 +216,14 @@ unsafe impl Send for Config {}
 impl Config {
     /// Loads the configuration of some texts.
     pub fn load(sources: &Sources) -> Result<Config, Error> {
-        let request = serde_json::to_vec(sources).expect("texts and flags are JSON");
-        Config::from_json(&request)
+        Config::from_json(&json_of(sources)?)
     }
 
     /// Loads the configuration of a request in JSON.
     pub fn from_json(request: &[u8]) -> Result<Config, Error> {
+        check_version()?;
         // SAFETY: it takes nothing.
-        let room = Room::new(unsafe { ffi::rinqebo_session_size() });
+        let room = Room::new(unsafe { ffi::rinqebo_session_size() })?;
         // SAFETY: the bytes are those of a slice, which is borrowed for the call and overlaps nothing; the room has
         // the size and the alignment of a session, and holds none.
         unsafe { ffi::rinqebo_session_load(request.as_ptr(), request.len(), room.as_ptr()) };
@@ -177,7 +246,7 @@ impl Config {
     /// The profile of a name.
     pub fn profile(&self, name: &str) -> Result<Profile<'_>, Error> {
         // SAFETY: it takes nothing.
-        let room = Room::new(unsafe { ffi::rinqebo_profile_size() });
+        let room = Room::new(unsafe { ffi::rinqebo_profile_size() })?;
         // SAFETY: the first room holds a session, which stays there while it is borrowed, as long as the profile;
         // the second has the size and the alignment of a profile, and holds none; the name as in `from_json`.
         unsafe { ffi::rinqebo_profile_open(self.room.as_ptr(), name.as_ptr(), name.len(), room.as_ptr()) };
@@ -223,9 +292,14 @@ impl Profile<'_> {
     }
 
     fn numbers(&self, test: &Test<'_>) -> Result<ffi::Settings, Error> {
-        // SAFETY: the room holds a profile, whose session is borrowed; the texts are borrowed for the call.
-        let numbers = unsafe { ffi::rinqebo_profile_ask(self.room.as_ptr(), test.numbers()) };
-        match numbers.status {
+        let test = test.numbers();
+        let mut numbers = ffi::Settings {
+            size: size_of::<ffi::Settings>(),
+            ..ffi::Settings::default()
+        };
+        // SAFETY: the room holds a profile, whose session is borrowed; the test, its texts and the settings are
+        // borrowed for the call.
+        match unsafe { ffi::rinqebo_profile_ask(self.room.as_ptr(), &test, &mut numbers) } {
             DONE => Ok(numbers),
             status => Err(Error::of(status, String::new())),
         }
@@ -285,7 +359,9 @@ impl Drop for Profile<'_> {
 }
 
 /// What a scheduler needs of a test.
-#[derive(Clone, Copy, Debug, PartialEq, Eq)]
+#[derive(Clone, Copy, Debug, PartialEq, Eq, Serialize)]
+#[serde(rename_all = "kebab-case")]
+#[non_exhaustive]
 pub struct Schedule {
     /// A higher one runs earlier.
     pub priority: i32,

@@ -1,6 +1,7 @@
 //! Room for a value of the library, at an address that stays.
 
-use std::alloc::{alloc, dealloc, handle_alloc_error, Layout};
+use crate::Error;
+use std::alloc::{alloc, dealloc, Layout};
 use std::ptr::NonNull;
 
 /// The alignment that the library asks for.
@@ -14,13 +15,11 @@ pub struct Room {
 
 impl Room {
     /// Room of some bytes, of which nothing is known.
-    pub fn new(size: usize) -> Room {
-        let layout = Layout::from_size_align(size.max(1), ALIGNMENT).expect("a small size");
+    pub fn new(size: usize) -> Result<Room, Error> {
+        let layout = Layout::from_size_align(size.max(1), ALIGNMENT).map_err(|_| Error::Memory)?;
         // SAFETY: the size is not 0.
-        match NonNull::new(unsafe { alloc(layout) }) {
-            Some(at) => Room { at, layout },
-            None => handle_alloc_error(layout),
-        }
+        let at = NonNull::new(unsafe { alloc(layout) }).ok_or(Error::Memory)?;
+        Ok(Room { at, layout })
     }
 
     pub fn as_ptr(&self) -> *mut u8 {

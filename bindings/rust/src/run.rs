@@ -1,7 +1,9 @@
 //! One call for a whole run.
 
 use crate::document::{Document, Refusal};
-use crate::{ffi, Error, Mode, Sources, DONE, SMALL};
+use crate::room::Room;
+use crate::version::check_version;
+use crate::{ffi, json_of, Error, Mode, Sources, DONE};
 use serde::Serialize;
 
 /// What a run is asked: all settings that a profile gives to each test of a list.
@@ -18,32 +20,60 @@ pub struct RunRequest<'a> {
 
 /// Answers a request.
 pub fn resolve(request: &RunRequest<'_>) -> Result<Document, Error> {
-    resolve_json(&serde_json::to_vec(request).expect("texts and flags are JSON"))
+    resolve_json(&json_of(request)?)
 }
 
 /// Answers a request in JSON.
 pub fn resolve_json(request: &[u8]) -> Result<Document, Error> {
-    match told(request) {
-        (DONE, document) => Ok(serde_json::from_slice(&document).expect("the library writes such a document")),
-        (1, document) => Err(Error::Refused(Refusal::read(&document))),
-        (7, document) => Err(Error::NoProfile(Refusal::read(&document))),
-        (status, reason) => Err(Error::of(status, String::from_utf8(reason).expect("the library writes UTF-8"))),
+    check_version()?;
+    let run = Run::new(request)?;
+    match (run.status(), run.text()) {
+        (DONE, document) => serde_json::from_slice(&document).map_err(Error::unreadable),
+        (1, document) => Err(Error::Refused(Refusal::read(&document)?)),
+        (7, document) => Err(Error::NoProfile(Refusal::read(&document)?)),
+        (status, reason) => Err(Error::of(status, String::from_utf8_lossy(&reason).into_owned())),
     }
 }
 
-/// What a run tells, and its status. A buffer that is too small is made larger, and the call made again.
-fn told(request: &[u8]) -> (u32, Vec<u8>) {
-    let mut answer = vec![0; request.len().max(1 << 16)];
-    loop {
-        let mut needed = 0;
-        // SAFETY: the request, the buffer and the number are borrowed for the call, and overlap nothing.
-        let status = unsafe {
-            ffi::rinqebo_resolve(request.as_ptr(), request.len(), answer.as_mut_ptr(), answer.len(), &mut needed)
-        };
-        if status != SMALL {
-            answer.truncate(needed);
-            return (status, answer);
+/// A run of the library, which keeps what it tells.
+struct Run {
+    room: Room,
+}
+
+impl Run {
+    fn new(request: &[u8]) -> Result<Run, Error> {
+        // SAFETY: it takes nothing.
+        let room = Room::new(unsafe { ffi::rinqebo_run_size() })?;
+        // SAFETY: the bytes are those of a slice, which is borrowed for the call and overlaps nothing; the room has
+        // the size and the alignment of a run, and holds none.
+        unsafe { ffi::rinqebo_run_new(request.as_ptr(), request.len(), room.as_ptr()) };
+        Ok(Run { room })
+    }
+
+    fn status(&self) -> u32 {
+        // SAFETY: the room holds a run, here and until `drop`.
+        unsafe { ffi::rinqebo_run_status(self.room.as_ptr()) }
+    }
+
+    /// What the run tells, read piece after piece.
+    fn text(&self) -> Vec<u8> {
+        // SAFETY: the room holds a run.
+        let mut text = vec![0; unsafe { ffi::rinqebo_run_length(self.room.as_ptr()) }];
+        let mut end = 0;
+        while let Some(left) = text.get_mut(end..).filter(|left| !left.is_empty()) {
+            // SAFETY: the room holds a run, and what is left of the buffer is borrowed for the call.
+            match unsafe { ffi::rinqebo_run_text(self.room.as_ptr(), end, left.as_mut_ptr(), left.len()) } {
+                0 => break,
+                count => end += count,
+            }
         }
-        answer.resize(needed, 0);
+        text
+    }
+}
+
+impl Drop for Run {
+    fn drop(&mut self) {
+        // SAFETY: the room holds a run, and nothing uses it after this.
+        unsafe { ffi::rinqebo_run_free(self.room.as_ptr()) }
     }
 }

@@ -1,10 +1,12 @@
 //! The settings of a test.
 
 use crate::ffi;
+use serde::Serialize;
 use std::time::Duration;
 
 /// How long delays between tries are.
-#[derive(Clone, Copy, Debug, PartialEq, Eq)]
+#[derive(Clone, Copy, Debug, PartialEq, Eq, Serialize)]
+#[serde(rename_all = "kebab-case")]
 pub enum Backoff {
     /// Every delay is the same.
     Fixed,
@@ -13,7 +15,9 @@ pub enum Backoff {
 }
 
 /// How often a test is tried again.
-#[derive(Clone, Copy, Debug, PartialEq, Eq)]
+#[derive(Clone, Copy, Debug, PartialEq, Eq, Serialize)]
+#[serde(rename_all = "kebab-case")]
+#[non_exhaustive]
 pub struct Retries {
     pub count: u32,
     pub delay: Duration,
@@ -22,7 +26,8 @@ pub struct Retries {
 }
 
 /// How many threads a test takes.
-#[derive(Clone, Copy, Debug, PartialEq, Eq)]
+#[derive(Clone, Copy, Debug, PartialEq, Eq, Serialize)]
+#[serde(rename_all = "kebab-case")]
 pub enum Threads {
     Count(u64),
     NumCpus,
@@ -30,14 +35,17 @@ pub enum Threads {
 }
 
 /// What comes of a test.
-#[derive(Clone, Copy, Debug, PartialEq, Eq)]
+#[derive(Clone, Copy, Debug, PartialEq, Eq, Serialize)]
+#[serde(rename_all = "kebab-case")]
 pub enum Outcome {
     Pass,
     Fail,
 }
 
 /// When a test counts as slow, and when it is ended.
-#[derive(Clone, Copy, Debug, PartialEq, Eq)]
+#[derive(Clone, Copy, Debug, PartialEq, Eq, Serialize)]
+#[serde(rename_all = "kebab-case")]
+#[non_exhaustive]
 pub struct SlowTimeout {
     pub period: Duration,
     /// After how many periods it is ended.
@@ -48,7 +56,9 @@ pub struct SlowTimeout {
 }
 
 /// How long what a test started may outlive it.
-#[derive(Clone, Copy, Debug, PartialEq, Eq)]
+#[derive(Clone, Copy, Debug, PartialEq, Eq, Serialize)]
+#[serde(rename_all = "kebab-case")]
+#[non_exhaustive]
 pub struct LeakTimeout {
     pub period: Duration,
     /// What comes of a test that leaks.
@@ -56,7 +66,8 @@ pub struct LeakTimeout {
 }
 
 /// How many tests of a group run at a time.
-#[derive(Clone, Copy, Debug, PartialEq, Eq)]
+#[derive(Clone, Copy, Debug, PartialEq, Eq, Serialize)]
+#[serde(rename_all = "kebab-case")]
 pub enum GroupThreads {
     /// This many, or for a negative number so many fewer than there are processors.
     Count(i64),
@@ -64,14 +75,17 @@ pub enum GroupThreads {
 }
 
 /// A group that is not the global one.
-#[derive(Clone, Debug, PartialEq, Eq)]
+#[derive(Clone, Debug, PartialEq, Eq, Serialize)]
+#[serde(rename_all = "kebab-case")]
+#[non_exhaustive]
 pub struct Group {
     pub name: String,
     pub max_threads: GroupThreads,
 }
 
 /// When the output of a test is shown.
-#[derive(Clone, Copy, Debug, PartialEq, Eq)]
+#[derive(Clone, Copy, Debug, PartialEq, Eq, Serialize)]
+#[serde(rename_all = "kebab-case")]
 pub enum Display {
     Immediate,
     ImmediateFinal,
@@ -80,7 +94,9 @@ pub enum Display {
 }
 
 /// What a report has of a test.
-#[derive(Clone, Copy, Debug, PartialEq, Eq)]
+#[derive(Clone, Copy, Debug, PartialEq, Eq, Serialize)]
+#[serde(rename_all = "kebab-case")]
+#[non_exhaustive]
 pub struct Report {
     pub store_success_output: bool,
     pub store_failure_output: bool,
@@ -91,7 +107,9 @@ pub struct Report {
 }
 
 /// The settings of a test.
-#[derive(Clone, Debug, PartialEq, Eq)]
+#[derive(Clone, Debug, PartialEq, Eq, Serialize)]
+#[serde(rename_all = "kebab-case")]
+#[non_exhaustive]
 pub struct TestSettings {
     /// A higher one runs earlier.
     pub priority: i32,

@@ -6,6 +6,7 @@ use std::{fs, io};
 /// The texts that a configuration is made of. Their caller reads the files.
 #[derive(Clone, Debug, Serialize)]
 #[serde(rename_all = "kebab-case")]
+#[non_exhaustive]
 pub struct Sources {
     /// The workspace's root.
     pub root: String,

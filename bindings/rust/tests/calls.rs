@@ -1,7 +1,8 @@
 //! The library through its safe types.
 
 use rinqebo::{Backoff, Config, Display, Error, Group, GroupThreads, Machine, Mode, Outcome, Platform, Sources, Test, Threads};
-use rinqebo::{resolve, resolve_json, Document, Level, ListWrapper, OriginKind, RunRequest, SourceKind};
+use rinqebo::{resolve, resolve_json, Document, Level, OriginKind, RunRequest, SourceKind};
+use rinqebo::{version, version_number, VERSION, VERSION_NUMBER};
 use rinqebo::{File, ReadOutcome, Refusal, ToolFile};
 use serde_json::json;
 use std::sync::{Arc, Mutex};
@@ -41,6 +42,16 @@ fn config() -> Config {
     Config::load(&Sources::of_file("/w", FILE, TRIPLE)).expect("the file is accepted")
 }
 
+/// A test of a library, of which no filter here asks more.
+fn test_of<'a>(binary: &'a str, name: &'a str) -> Test<'a> {
+    Test::named(name).in_binary(binary).of_target("lib", binary).of_package("")
+}
+
+/// The name of a group, and how many of its tests run at a time.
+fn group_of(group: &Group) -> (&str, GroupThreads) {
+    (&group.name, group.max_threads)
+}
+
 /// A file of `examples/real`.
 fn example(path: &str) -> String {
     fs::read_to_string(format!("{ROOT}/{path}")).expect("an example")
@@ -60,11 +71,10 @@ fn real() -> Sources {
 fn settings_are_those_of_the_first_rules() {
     let config = config();
     let profile = config.profile("ci").unwrap();
-    let settings = profile.settings(&Test::of("api", "db::reads")).unwrap();
+    let settings = profile.settings(&test_of("api", "db::reads")).unwrap();
     assert_eq!(settings.priority, -5);
     assert_eq!(settings.threads_required, Threads::NumTestThreads);
-    let group = Group { name: "db".to_owned(), max_threads: GroupThreads::Count(2) };
-    assert_eq!(settings.test_group, Some(group));
+    assert_eq!(settings.test_group.as_ref().map(group_of), Some(("db", GroupThreads::Count(2))));
     assert_eq!(settings.run_extra_args, 2);
     assert_eq!(settings.run_wrapper, None);
     assert_eq!(settings.retries.count, 4);
@@ -89,27 +99,25 @@ fn settings_are_those_of_the_first_rules() {
 fn what_filters_ask_of_a_test_counts() {
     let config = config();
     let profile = config.profile("ci").unwrap();
-    let mut test = Test::of("api::it", "manual::slow");
-    test.kind = "test";
+    let named = Test::named("manual::slow").in_binary("api::it");
+    let test = named.of_target("test", "it").of_package("api");
     let settings = profile.settings(&test).unwrap();
-    let group = Group { name: "net".to_owned(), max_threads: GroupThreads::NumCpus };
-    assert_eq!(settings.test_group, Some(group));
+    assert_eq!(settings.test_group.as_ref().map(group_of), Some(("net", GroupThreads::NumCpus)));
     assert_eq!(settings.threads_required, Threads::Count(3));
     assert!(!settings.in_default_filter);
-    test.kind = "";
+    let test = named.of_target("lib", "it").of_package("api");
     assert_eq!(profile.settings(&test).unwrap().test_group, None);
-    test.mode = Mode::Benchmark;
-    assert_eq!(profile.settings(&test).unwrap().slow_timeout.terminate_after, None);
+    let benchmark = test.run_as(Mode::Benchmark);
+    assert_eq!(profile.settings(&benchmark).unwrap().slow_timeout.terminate_after, None);
     let default = config.profile("default").unwrap();
-    assert_eq!(default.settings(&Test::of("", "")).unwrap().retries.count, 0);
+    assert_eq!(default.settings(&test_of("", "")).unwrap().retries.count, 0);
 }
 
 #[test]
 fn the_worked_example_is_answered_as_it_is_explained() {
     let config = Config::load(&real()).expect("the example is accepted");
     let profile = config.profile("ci").unwrap();
-    let mut test = Test::of("api::smoke", "smoke::whole");
-    (test.kind, test.target) = ("test", "smoke");
+    let test = Test::named("smoke::whole").in_binary("api::smoke").of_target("test", "smoke").of_package("api");
     let settings = profile.settings(&test).unwrap();
     assert_eq!(settings.priority, 50);
     assert_eq!(settings.success_output, Display::Final);
@@ -123,7 +131,7 @@ fn platforms_decide_rules() {
     let mut sources = Sources::of_file("/w", file, "x86_64-pc-windows-msvc");
     let priority = |sources: &Sources, platform| {
         let config = Config::load(sources).unwrap();
-        let test = Test { platform, ..Test::of("a", "b") };
+        let test = test_of("a", "b").on(platform);
         let answer = config.profile("default").unwrap().settings(&test).unwrap().priority;
         answer
     };
@@ -321,7 +329,7 @@ fn a_file_that_a_user_named_counts_in_place_of_the_own_one() {
     for outcome in [sources.file.outcome.clone(), ReadOutcome::Failed("not read".to_owned())] {
         sources.file.outcome = outcome;
         let config = Config::load(&sources).unwrap();
-        assert_eq!(config.profile("ci").unwrap().settings(&Test::of("a", "b")).unwrap().retries.count, 3);
+        assert_eq!(config.profile("ci").unwrap().settings(&test_of("a", "b")).unwrap().retries.count, 3);
         let list = example("list.json");
         let run = RunRequest { sources: &sources, profile: "ci", mode: Mode::Test, list: &list };
         let document = resolve(&run).unwrap();
@@ -353,7 +361,7 @@ fn the_file_of_an_organisation_lies_between_those_of_tools_and_the_own_one() {
         assert_eq!((value("threads-required"), value("test-group")), (json!(2), json!("@org:db")));
     }
     let config = Config::load(&sources).unwrap();
-    let settings = config.profile("ci").unwrap().settings(&Test::of("a", "b")).unwrap();
+    let settings = config.profile("ci").unwrap().settings(&test_of("a", "b")).unwrap();
     assert_eq!((settings.priority, settings.retries.count), (1, 2));
 }
 
@@ -449,8 +457,8 @@ fn a_run_tells_the_scripts_of_its_list() {
     let request = RunRequest { sources: &sources, profile: "default", mode: Mode::Test, list: &list };
     let document = resolve(&request).unwrap();
     assert_eq!(document.setup_scripts, ["seed", "migrate"]);
-    let wrapper = ListWrapper { binary_id: "api::smoke".to_owned(), value: "sandbox".to_owned() };
-    assert_eq!(document.list_wrappers, [wrapper]);
+    let wrappers: Vec<_> = document.list_wrappers.iter().map(|w| (w.binary_id.as_str(), w.value.as_str())).collect();
+    assert_eq!(wrappers, [("api::smoke", "sandbox")]);
     let document = answer("ci", Mode::Test).unwrap();
     assert_eq!(document.setup_scripts, ["migrate"]);
     assert!(document.list_wrappers.is_empty());
@@ -467,13 +475,12 @@ fn a_run_and_a_session_agree() {
     for row in &document.tests {
         let suites = list["rust-suites"].as_object().unwrap().values();
         let suite = suites.into_iter().find(|suite| suite["binary-id"] == json!(row.binary_id)).unwrap();
-        let test = Test {
-            package: suite["package-id"].as_str().unwrap(),
-            kind: suite["kind"].as_str().unwrap(),
-            target: suite["binary-name"].as_str().unwrap(),
-            platform: row.platform,
-            ..Test::of(&row.binary_id, &row.name)
-        };
+        let text = |key: &str| suite[key].as_str().unwrap();
+        let test = Test::named(&row.name)
+            .in_binary(&row.binary_id)
+            .of_target(text("kind"), text("binary-name"))
+            .of_package(text("package-id"))
+            .on(row.platform);
         let settings = profile.settings(&test).unwrap();
         assert_eq!(row.settings["priority"].value, json!(settings.priority));
         let retries = &row.settings["retries"].value;
@@ -519,6 +526,31 @@ fn a_run_without_engines_says_which() {
 }
 
 #[test]
+fn the_library_is_of_the_version_of_its_types() {
+    assert_eq!((version().as_str(), version_number()), (VERSION, VERSION_NUMBER));
+    let header = fs::read_to_string(concat!(env!("CARGO_MANIFEST_DIR"), "/../../include/rinqebo.h")).unwrap();
+    assert!(header.contains(&format!("#define RINQEBO_VERSION \"{VERSION}\"\n")));
+    assert!(header.contains(&format!("#define RINQEBO_VERSION_NUMBER {VERSION_NUMBER}\n")));
+    let parts: Vec<u32> = VERSION.split('.').map(|part| part.parse().unwrap()).collect();
+    assert_eq!(parts.iter().fold(0, |number, part| number * 1000 + part), VERSION_NUMBER);
+    assert_eq!(VERSION, env!("CARGO_PKG_VERSION"));
+}
+
+#[test]
+fn results_are_written_as_json() {
+    let document = answer("ci", Mode::Test).unwrap();
+    let written = serde_json::to_string(&document).unwrap();
+    assert_eq!(serde_json::from_str::<Document>(&written).unwrap(), document);
+    let config = config();
+    let settings = config.profile("ci").unwrap().settings(&test_of("api", "db::reads")).unwrap();
+    let written = serde_json::to_value(&settings).unwrap();
+    assert_eq!(written["test-group"], json!({"name": "db", "max-threads": {"count": 2}}));
+    assert_eq!(written["threads-required"], json!("num-test-threads"));
+    assert_eq!(written["failure-output"], json!("immediate-final"));
+    assert_eq!(written["slow-timeout"]["on-timeout"], json!("pass"));
+}
+
+#[test]
 fn threads_with_a_configuration_each() {
     let runs: Vec<_> = (0..2)
         .map(|n| {
@@ -526,7 +558,7 @@ fn threads_with_a_configuration_each() {
             thread::spawn(move || {
                 let profile = config.profile("ci").unwrap();
                 let name = if n == 0 { "db::reads" } else { "quick" };
-                (0..200).map(|_| profile.settings(&Test::of("api", name)).unwrap().priority).last()
+                (0..200).map(|_| profile.settings(&test_of("api", name)).unwrap().priority).last()
             })
         })
         .collect();
@@ -543,7 +575,7 @@ fn threads_that_share_one() {
             let config = Arc::clone(&config);
             thread::spawn(move || {
                 let config = config.lock().unwrap();
-                let count = config.profile(name).unwrap().settings(&Test::of("api", "quick")).unwrap().retries.count;
+                let count = config.profile(name).unwrap().settings(&test_of("api", "quick")).unwrap().retries.count;
                 count
             })
         })

@@ -1,4 +1,4 @@
--- What a program in C has of a session and of its profiles.
+-- What a program in C has of a run, of a session and of its profiles.
 use Rattle.std.specs.Prelude.{ℕ, List}
 use base.Fml.{Fml, Lft, Share, ffalse, fsep, fex, flft}
 use base.Fraction.{full_share}
@@ -6,12 +6,25 @@ use denote.Memory.{hidden_shr}
 use denote.RattleType.{RattleType}
 use denote.RawPtr.{Ptr, block_ptr, null_ptr, lies_at}
 use mir.Syntax.{erased}
+use Rattle.rinqebo_resolve.specs.Pieces.{IsRunOf}
+use Rattle.rinqebo_resolve.specs.contracts.run.Run.{the_row as run_row}
+use Rattle.rinqebo_resolve.specs.declared.run.Run.{Run}
 use Rattle.rinqebo_session.specs.Opening.{IsProfileIn}
 use Rattle.rinqebo_session.specs.Sessions.{IsSessionOf}
 use Rattle.rinqebo_session.specs.contracts.profile.Profile as profile
 use Rattle.rinqebo_session.specs.contracts.session.Session.{the_row}
 use Rattle.rinqebo_session.specs.declared.profile.Profile.{Profile}
 use Rattle.rinqebo_session.specs.declared.session.Session.{Session}
+
+-- the run of a request lies at p, and it is the program's
+abbrev pub finished : List ℕ → Ptr → Fml
+finished request p =
+    fex Run (λ r. fex (IsRunOf request r) (λ _. lies_at run_row full_share p r))
+
+-- what a reader has of the run at p for the time κ, with the share q of the right to use that time
+abbrev pub lent_run : Lft → Share → Ptr → Run → Fml
+lent_run κ q (block_ptr b o) run = fsep (flft κ q) (hidden_shr run_row κ run b o)
+lent_run κ q null_ptr run = ffalse
 
 -- a session of a request lies at p, and it is the program's
 abbrev pub loaded : List ℕ → Ptr → Fml

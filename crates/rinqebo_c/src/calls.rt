@@ -1,24 +1,30 @@
-//! The exports: one call for a whole run, and those of sessions. A session and its profiles lie in room
-//! of the caller's, who never looks inside.
-ghost use Rattle.std.specs.Prelude.{◌≡◌, [], ℕ, List, string_bytes, take};
+//! The exports: one call for a whole run, and those of runs and sessions. A run, a session and its
+//! profiles lie in room of the caller's, who never looks inside.
+ghost use Rattle.std.specs.Prelude.{◌≡◌, [], ℕ, List, length, string_bytes, take};
 ghost use Rattle.std.specs.Mem.{type_size};
 ghost use base.Fml.{Share, flft};
 ghost use base.Fraction.{full_share};
 ghost use contract.BorrowLft.{◌⊑◌};
 ghost use denote.RawPtr.{lies_at, room_at};
 ghost use types.Logic.{sem};
-ghost use Rattle.rinqebo_resolve.specs.Endings.{IsAnswerTo, IsResolved, IsSilent};
+ghost use Rattle.rinqebo_resolve.specs.Endings.{IsAnswerTo, IsResolved, IsSilent, ending_status, ending_text};
+ghost use Rattle.rinqebo_resolve.specs.Pieces.{IsPieceOf};
+ghost use Rattle.rinqebo_resolve.specs.contracts.run.Run.{the_row as run_row};
+ghost use Rattle.rinqebo_resolve.specs.declared.run.Run.{Run};
 ghost use Rattle.rinqebo_session.specs.Answering.{Answers};
 ghost use Rattle.rinqebo_session.specs.Copies.{IsCopiedOut};
 ghost use Rattle.rinqebo_session.specs.Sessions.{session_status};
 ghost use Rattle.rinqebo_session.specs.declared.status.TheConstants.{DONE};
 ghost use Rattle.rinqebo_session.specs.Texts.{profile_status, IsTextCopied};
+ghost use Rattle.rinqebo_session.specs.Versions.{version_number, version_text};
+ghost use Rattle.rinqebo_session.specs.declared.version.TheConstants.{MAJOR, MINOR, PATCH};
 ghost use Rattle.rinqebo_session.specs.contracts.session.Session.{the_row};
 ghost use Rattle.rinqebo_session.specs.declared.profile.Profile.{Profile};
 ghost use Rattle.rinqebo_session.specs.declared.session.Session.{Session};
-ghost use Rattle.rinqebo_c.specs.Handles.{loaded, lent, profile_row, opened, lent_profile};
+ghost use Rattle.rinqebo_c.specs.Handles.{finished, lent_run, loaded, lent, profile_row, opened, lent_profile};
 
-use rinqebo_resolve::resolve;
+use rinqebo_resolve::{Run, resolve};
+use rinqebo_session::version::{copy_version, version_number};
 use rinqebo_session::{Profile, RequestedTest, Session, SettingNumbers};
 use std::alloc::Global;
 use std::mem::size_of;
@@ -38,6 +44,87 @@ pub extern "C" fn rinqebo_resolve(
     ensures kept { IsSilent result → answer.new ≡ answer.old }
 {
     resolve(alloc, request, answer, needed)
+}
+
+/// Copies out the version of the library, as a text.
+#[unsafe(no_mangle)]
+pub extern "C" fn rinqebo_version(out: &mut [u8], needed: &mut usize) -> u32
+    ensures { IsCopiedOut (version_text MAJOR MINOR PATCH) out.old out.new needed.new result }
+{
+    copy_version(out, needed)
+}
+
+/// The version of the library, as a number: a later version has a higher one.
+#[unsafe(no_mangle)]
+pub extern "C" fn rinqebo_version_number() -> u32
+    ensures { result ≡ version_number MAJOR MINOR PATCH }
+{
+    version_number()
+}
+
+/// The bytes of a run.
+#[unsafe(no_mangle)]
+pub extern "C" fn rinqebo_run_size() -> usize
+    ensures { result ≡ type_size run_row }
+{
+    size_of::<Run>()
+}
+
+/// Makes the run that a request in JSON asks for, in room for a run. It always leaves a run there,
+/// whose status says how it ended.
+#[unsafe(no_mangle)]
+pub unsafe extern "C" fn rinqebo_run_new(alloc: Global, request: &[u8], room: *mut u8)
+    // The room has the size and the alignment of a run, and holds none.
+    requires* { sem 𝓛 (room_at run_row room) }
+    ensures* { sem 𝓛 (finished request.now room) }
+{
+    (room as *mut Run).write(Run::new(alloc, request));
+}
+
+/// How a run ended.
+#[unsafe(no_mangle)]
+pub unsafe extern "C" fn rinqebo_run_status(run: *const u8) -> u32
+    ghost g: { List ℕ × Share × Run }
+    // A run lies there, and nothing writes it during the call.
+    requires* { sem 𝓛 (lent_run g.0 g.1 run g.2) }
+    ensures* { sem 𝓛 (lent_run g.0 g.1 run g.2) ∗ ⌜ result ≡ ending_status g.2.ending ⌝ }
+{
+    Run::status(&*(run as *const Run))
+}
+
+/// How long the text of a run is.
+#[unsafe(no_mangle)]
+pub unsafe extern "C" fn rinqebo_run_length(run: *const u8) -> usize
+    ghost g: { List ℕ × Share × Run }
+    // A run lies there, and nothing writes it during the call.
+    requires* { sem 𝓛 (lent_run g.0 g.1 run g.2) }
+    ensures* { sem 𝓛 (lent_run g.0 g.1 run g.2) ∗ ⌜ result ≡ length (ending_text g.2.ending) ⌝ }
+{
+    Run::length(&*(run as *const Run))
+}
+
+/// Copies the part of a run's text from an offset on that a buffer has room for, and returns how
+/// long that is.
+#[unsafe(no_mangle)]
+pub unsafe extern "C" fn rinqebo_run_text(run: *const u8, offset: usize, out: &mut [u8]) -> usize
+    ghost g: { List ℕ × Share × Run }
+    // A run lies there, and nothing writes it during the call.
+    requires* { sem 𝓛 (lent_run g.0 g.1 run g.2) }
+    ensures* { sem 𝓛 (lent_run g.0 g.1 run g.2)
+        ∗ ⌜ IsPieceOf (ending_text g.2.ending) offset out.old out.new result ⌝ }
+{
+    Run::copy_piece(&*(run as *const Run), offset, out)
+}
+
+/// Frees what a run owns. The room is the caller's again.
+#[unsafe(no_mangle)]
+pub unsafe extern "C" fn rinqebo_run_free(run: *mut u8)
+    ghost value: { Run }
+    // A run lies there.
+    requires* { sem 𝓛 (lies_at run_row full_share run value) }
+    ensures* { sem 𝓛 (room_at run_row run) }
+{
+    close_run((run as *mut Run).read());
 }
 
 /// The bytes of a session.
@@ -136,20 +223,22 @@ pub unsafe extern "C" fn rinqebo_profile_status(profile: *const u8) -> u32
     Profile::status(&*(profile as *const Profile<'_>))
 }
 
-/// The settings that a profile gives to a test, as numbers. It takes no memory.
+/// Writes the settings that a profile gives to a test, as numbers, and returns how it went. It
+/// takes no memory.
 #[unsafe(no_mangle)]
 pub unsafe extern "C" fn rinqebo_profile_ask(
     profile: *const u8,
-    test: RequestedTest<'_>,
-) -> SettingNumbers
+    test: &RequestedTest<'_>,
+    settings: &mut SettingNumbers,
+) -> u32
     ghost g: { List ℕ × List ℕ × Share × Share × Profile }
     // A profile lies there, its session is still loaded, and nothing writes either during the call.
     requires* loan { sem 𝓛 (lent_profile g.0 g.1 g.2 g.3 profile g.4) }
     requires within { g.0 ⊑ g.1 }
     ensures* { sem 𝓛 (lent_profile g.0 g.1 g.2 g.3 profile g.4)
-        ∗ ⌜ Answers g.4 test.entry result ⌝ }
+        ∗ ⌜ Answers g.4 test.now settings.old settings.new result ⌝ }
 {
-    Profile::ask(&*(profile as *const Profile<'_>), test)
+    Profile::ask(&*(profile as *const Profile<'_>), test, settings)
 }
 
 /// Copies out a text of a profile: of kind 0 why it is not open, of kind 1 the name of the group of
@@ -182,6 +271,9 @@ pub unsafe extern "C" fn rinqebo_profile_free(profile: *mut u8)
 {
     close_profile((profile as *mut Profile<'_>).read());
 }
+
+/// Drops a run.
+fn close_run(_run: Run) {}
 
 /// Drops a session.
 fn close_session(_session: Session) {}

@@ -1,2 +1,3 @@
 mod Taking
 mod Telling
+mod Reading

@@ -101,7 +101,7 @@ ended_of run asked gathered (Ok ending) same are_files is = record {
 ended_of run asked gathered (Err want) same are_files is = tt
 
 -- an ending with status 0 answers the request
-answer_of : (request : List ℕ) (ending : Ending) → IsEndingFor request ending → ending_status ending ≡ DONE
+pub answer_of : (request : List ℕ) (ending : Ending) → IsEndingFor request ending → ending_status ending ≡ DONE
     → IsAnswerTo request (ending_text ending)
 answer_of request (ends.Answered text) is done = record {
   run = is.0;

@@ -28,7 +28,7 @@ pub enum Ending {
 
 impl Ending {
     /// Its number.
-    fn status(&self) -> u32
+    pub fn status(&self) -> u32
         ensures { result ≡ ending_status self.now }
     {
         match self {
@@ -43,7 +43,7 @@ impl Ending {
     }
 
     /// What it tells. Where the request is no UTF-8, and for want of memory, that is nothing.
-    fn text(&self) -> &str
+    pub fn text(&self) -> &str
         ensures { result.now ≡ ending_text self.now }
     {
         match self {

@@ -5,6 +5,8 @@
 mod asking;
 mod ending;
 mod resolving;
+mod run;
 
 pub use ending::Ending;
 pub use resolving::resolve;
+pub use run::Run;

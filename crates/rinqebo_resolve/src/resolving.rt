@@ -93,7 +93,7 @@ fn ending_with_memory(alloc: Global, request: &[u8]) -> Result<Ending, AllocErro
 }
 
 /// How the run ends that the bytes of a request ask for.
-fn ending_for(alloc: Global, request: &[u8]) -> Ending
+pub fn ending_for(alloc: Global, request: &[u8]) -> Ending
     ensures { IsEndingFor request.now result }
 {
     match ending_with_memory(alloc, request) {

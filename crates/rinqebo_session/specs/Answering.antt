@@ -1,5 +1,5 @@
 -- What a profile answers of a test: its settings as numbers.
-use Rattle.std.specs.Prelude.{◌≡◌, ◌≢◌, ℕ, List, Option, None, Some, option_map, length, position, unwrap_or, slice_get, Result, Ok, Err}
+use Rattle.std.specs.Prelude.{◌≡◌, ◌≢◌, ◌↔◌, ℕ, List, Option, None, Some, option_map, length, position, unwrap_or, slice_get, Result, Ok, Err}
 use Rattle.std.specs.Borrow.{Bor}
 use Rattle.std.specs.Str.{bytes_eq}
 use Rattle.nextest_elements.specs.TestGroup.{custom_group_text}
@@ -17,6 +17,7 @@ use Rattle.nextest_settings.specs.declared.setting.Setting.TheVariants as at
 use Rattle.rinqebo_forms.specs.Numbers.{flag_number, retry_numbers, thread_numbers, slow_numbers, leak_numbers, output_number, flaky_number, report_number, status_number, group_numbers}
 use Rattle.rinqebo_session.specs.Asking.{IsTestOf, IsTestFault, fault_status}
 use Rattle.rinqebo_session.specs.Readings.{filter_meaning}
+use Rattle.rinqebo_session.specs.Sizes.{settings_size, test_size}
 use Rattle.rinqebo_session.specs.Statuses.{open_status}
 use Rattle.rinqebo_session.specs.declared.failure.OpenFailure.{OpenFailure}
 use Rattle.rinqebo_session.specs.declared.profile.Group.{Group}
@@ -24,7 +25,7 @@ use Rattle.rinqebo_session.specs.declared.profile.Opened.{Opened}
 use Rattle.rinqebo_session.specs.declared.profile.Profile.{Profile}
 use Rattle.rinqebo_session.specs.declared.settings.SettingNumbers.{SettingNumbers}
 use Rattle.rinqebo_session.specs.declared.settings.TheConstants.{NO_NAME, UNDEFINED_NAME}
-use Rattle.rinqebo_session.specs.declared.status.TheConstants.{DONE}
+use Rattle.rinqebo_session.specs.declared.status.TheConstants.{BAD_SIZE, DONE}
 use Rattle.rinqebo_session.specs.declared.test.RequestedTest.{RequestedTest}
 use Rattle.rinqebo_session.specs.declared.test.TestFault.{TestFault}
 
@@ -72,6 +73,7 @@ pub record AreNumbersOf (known : List Group) (wrappers : List (Bor (List ℕ)))
 -- Numbers answer a test in a profile: they are those of the settings that the profile gives to it,
 -- and whether its default filter matches it.
 pub record IsAnswerOf (opened : Opened) (asked : RequestedTest) (n : SettingNumbers) : Type 0 where
+  pub size : n.size ≡ settings_size
   pub test : Test
   pub mode : NextestRunMode
   pub is_test : IsTestOf asked test mode
@@ -82,16 +84,25 @@ pub record IsAnswerOf (opened : Opened) (asked : RequestedTest) (n : SettingNumb
       n.in_default_filter ≡ flag_number (filter_holds filter test filter)
 
 -- A test is answered in an open profile; or it is not understood, and the status says so.
-pub record AnswersTest (opened : Opened) (asked : RequestedTest) (n : SettingNumbers) : Type 0 where
-  pub answered : n.status ≡ DONE → IsAnswerOf opened asked n
-  pub refused : n.status ≢ DONE
-      → (fault : TestFault) × IsTestFault asked fault × (n.status ≡ fault_status fault)
+pub record AnswersTest (opened : Opened) (asked : RequestedTest) (n : SettingNumbers) (status : ℕ)
+    : Type 0 where
+  pub answered : status ≡ DONE → IsAnswerOf opened asked n
+  pub refused : status ≢ DONE
+      → (fault : TestFault) × IsTestFault asked fault × (status ≡ fault_status fault)
 
 -- what a profile answers; where it is not open, the status says why
-abbrev pub AnswersBy : Result Opened OpenFailure → RequestedTest → SettingNumbers → Type 0
-AnswersBy (Ok opened) asked n = AnswersTest opened asked n
-AnswersBy (Err failure) asked n = n.status ≡ open_status failure
+abbrev pub AnswersBy : Result Opened OpenFailure → RequestedTest → SettingNumbers → ℕ → Type 0
+AnswersBy (Ok opened) asked n status = AnswersTest opened asked n status
+AnswersBy (Err failure) asked n status = status ≡ open_status failure
 
--- what a profile answers
-abbrev pub Answers : Profile → RequestedTest → SettingNumbers → Type 0
-Answers profile asked n = AnswersBy profile.outcome asked n
+-- the sizes in a test and in settings are those of this version
+abbrev pub AreSized : RequestedTest → SettingNumbers → Type 0
+AreSized asked old = (asked.size ≡ test_size) × (old.size ≡ settings_size)
+
+-- A profile answers a test: where a size is not this version's, and nowhere else, the status says
+-- so; and but for an answer the settings stay as they were.
+pub record Answers (profile : Profile) (asked : RequestedTest) (old new : SettingNumbers)
+    (status : ℕ) : Type 0 where
+  pub sized : AreSized asked old → AnswersBy profile.outcome asked new status
+  pub bad_size : (status ≡ BAD_SIZE) ↔ (¬ AreSized asked old)
+  pub kept : status ≢ DONE → new ≡ old

@@ -7,3 +7,5 @@ pub mod Opening
 pub mod Asking
 pub mod Answering
 pub mod Texts
+pub mod Sizes
+pub mod Versions

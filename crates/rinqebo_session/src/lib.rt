@@ -13,6 +13,7 @@ mod session;
 mod settings;
 pub mod status;
 mod test;
+pub mod version;
 
 pub use copies::copy_out;
 pub use failure::{Failure, OpenFailure};

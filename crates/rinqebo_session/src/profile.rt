@@ -1,8 +1,9 @@
 //! Profiles of a session, and what they answer.
-ghost use Rattle.std.specs.Prelude.{◌≡◌, IfOk, IfErr, map, option_map};
+ghost use Rattle.std.specs.Prelude.{◌≡◌, ◌↔◌, IfOk, IfErr, IsTrue, map, option_map};
 ghost use Rattle.nextest_load.specs.ConfigView.{groups_view};
 ghost use Rattle.nextest_scripts.specs.ScriptId.{script_text};
-ghost use Rattle.rinqebo_session.specs.Answering.{Answers, AnswersTest};
+ghost use Rattle.rinqebo_session.specs.Answering.{Answers, AreSized, IsAnswerOf};
+ghost use Rattle.rinqebo_session.specs.Asking.{IsTestFault};
 ghost use Rattle.rinqebo_session.specs.Opening.{group_entry, IsOpened, IsNotOpened, IsProfileIn, IsOpenedIn};
 ghost use Rattle.nextest_engines.specs.Engines.{test_view};
 ghost use Rattle.filter_engine.specs.Engine.{filter_holds};
@@ -14,8 +15,8 @@ use crate::failure::OpenFailure;
 use crate::loading::Loaded;
 use crate::session::Session;
 use crate::settings::{SettingNumbers, numbers_of};
-use crate::status::{DONE, UNKNOWN_NUMBER};
-use crate::test::{Asked, RequestedTest};
+use crate::status::{BAD_SIZE, DONE, UNKNOWN_NUMBER};
+use crate::test::{Asked, RequestedTest, TestFault};
 use filter_engine::{NextestFilters, NextestTally};
 use indexmap::IndexMap;
 use nextest_config::{
@@ -25,6 +26,7 @@ use nextest_config::{
 use platform_language::TargetSpecs;
 use std::alloc::{AllocError, Global};
 use std::collections::BTreeMap;
+use std::mem::size_of;
 
 /// A group that a configuration defines.
 #[derive(Clone, Copy, Debug, Drop)]
@@ -139,6 +141,13 @@ fn not_opened<'a>(alloc: Global, failure: OpenFailure) -> Profile<'a>
     }
 }
 
+/// Whether the sizes in a test and in settings are those of this version.
+fn are_sized(test: &RequestedTest<'_>, settings: &SettingNumbers) -> bool
+    ensures { IsTrue result ↔ AreSized test.now settings.now }
+{
+    test.size == size_of::<RequestedTest<'static>>() && settings.size == size_of::<SettingNumbers>()
+}
+
 impl Opened<'_> {
     /// Whether the profile's default filter matches a test.
     fn is_in_default_filter(&self, asked: &Asked<'_>) -> bool
@@ -151,19 +160,17 @@ impl Opened<'_> {
     }
 
     /// The settings of a test, as numbers.
-    fn answer(&self, test: &RequestedTest<'_>) -> SettingNumbers
-        ensures { AnswersTest self.now test.now result }
+    fn answer(&self, test: &RequestedTest<'_>) -> Result<SettingNumbers, TestFault>
+        ensures ok { IfOk result (IsAnswerOf self.now test.now) }
+        ensures err { IfErr result (IsTestFault test.now) }
     {
-        let asked = match test.read() {
-            Ok(asked) => asked,
-            Err(fault) => return SettingNumbers::refused(fault.status()),
-        };
+        let asked = test.read()?;
         let mut tally = NextestTally::new();
         let settings = self
             .profile
             .settings_for(asked.mode, &asked.query, &mut tally);
         let in_default_filter = self.is_in_default_filter(&asked);
-        numbers_of(&self.groups, &self.wrappers, &settings, in_default_filter)
+        Ok(numbers_of(&self.groups, &self.wrappers, &settings, in_default_filter))
     }
 
     /// The name of a group or of a wrapper: of kind 1 those of groups, of kind 2 those of wrappers.
@@ -203,13 +210,25 @@ impl<'a> Profile<'a> {
         }
     }
 
-    /// The settings of a test, as numbers. It takes no memory.
-    pub fn ask(&self, test: RequestedTest<'_>) -> SettingNumbers
-        ensures { Answers self.now test.entry result }
+    /// Writes the settings of a test, as numbers, and returns how it went. Where the size in one of
+    /// the two is not this version's, or there are no settings, nothing is written. It takes no
+    /// memory.
+    pub fn ask(&self, test: &RequestedTest<'_>, settings: &mut SettingNumbers) -> u32
+        ensures { Answers self.now test.now settings.old settings.new result }
     {
-        match &self.outcome {
-            Ok(opened) => opened.answer(&test),
-            Err(failure) => SettingNumbers::refused(failure.status()),
+        if !are_sized(test, settings) {
+            return BAD_SIZE;
+        }
+        let opened = match &self.outcome {
+            Ok(opened) => opened,
+            Err(failure) => return failure.status(),
+        };
+        match opened.answer(test) {
+            Ok(numbers) => {
+                *settings = numbers;
+                DONE
+            }
+            Err(fault) => fault.status(),
         }
     }
 

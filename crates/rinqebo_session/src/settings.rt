@@ -5,17 +5,18 @@ ghost use Rattle.nextest_scripts.specs.ScriptId.{script_text};
 ghost use Rattle.nextest_settings.specs.SettingsView.{value_at};
 ghost use Rattle.rinqebo_forms.specs.Numbers.{flag_number};
 ghost use Rattle.rinqebo_session.specs.Answering.{group_index, wrapper_index, threads_at, AreNumbersOf};
+ghost use Rattle.rinqebo_session.specs.Sizes.{settings_size};
 
 use crate::profile::Group;
-use crate::status::DONE;
 use filter_engine::NextestFilters;
 use nextest_config::{ScriptId, TestGroup, TestSettings, TestThreads};
 use platform_language::TargetSpecs;
 use rinqebo_forms::{
-    Duration, GroupThreads, LeakNumbers, RetryNumbers, SlowNumbers, ThreadNumbers, flag_number,
-    flaky_number, group_threads, leak_numbers, output_number, report_number, retry_numbers,
-    slow_numbers, status_number, thread_numbers,
+    GroupThreads, LeakNumbers, RetryNumbers, SlowNumbers, ThreadNumbers, flag_number, flaky_number,
+    group_threads, leak_numbers, output_number, report_number, retry_numbers, slow_numbers,
+    status_number, thread_numbers,
 };
+use std::mem::size_of;
 
 /// No name: the global group, or no wrapper.
 pub const NO_NAME: usize = 18446744073709551615;
@@ -26,8 +27,8 @@ pub const UNDEFINED_NAME: usize = 18446744073709551614;
 #[repr(C)]
 #[derive(Clone, Copy, Debug, PartialEq, Eq)]
 pub struct SettingNumbers {
-    /// 0 where the settings are answered, else the number of why they are not.
-    pub status: u32,
+    /// The size of the struct, as the caller has it.
+    pub size: usize,
     /// When the test runs, among those of its run: a higher one runs earlier.
     pub priority: i32,
     /// 1 where the profile's default filter matches the test, else 0.
@@ -63,50 +64,6 @@ pub struct SettingNumbers {
     pub run_wrapper: usize,
     /// How many arguments it is given.
     pub run_extra_args: usize,
-}
-
-impl SettingNumbers {
-    /// No settings, for the reason of a status.
-    pub fn refused(status: u32) -> SettingNumbers
-        ensures { result.status ≡ status }
-    {
-        let none = Duration { low: 0, high: 0 };
-        SettingNumbers {
-            status,
-            priority: 0,
-            in_default_filter: 0,
-            flaky_result: 0,
-            success_output: 0,
-            failure_output: 0,
-            junit_store_success_output: 0,
-            junit_store_failure_output: 0,
-            junit_report_skipped: 0,
-            junit_flaky_fail_status: 0,
-            threads_required: ThreadNumbers { kind: 0, count: 0 },
-            retries: RetryNumbers {
-                backoff: 0,
-                count: 0,
-                delay: none,
-                jitter: 0,
-                has_max_delay: 0,
-                max_delay: none,
-            },
-            slow_timeout: SlowNumbers {
-                period: none,
-                terminate_after: 0,
-                grace_period: none,
-                on_timeout: 0,
-            },
-            leak_timeout: LeakNumbers {
-                period: none,
-                result: 0,
-            },
-            test_group: NO_NAME,
-            group_threads: GroupThreads { kind: 2, count: 0 },
-            run_wrapper: NO_NAME,
-            run_extra_args: 0,
-        }
-    }
 }
 
 /// The place of the group of a name, if it is there.
@@ -167,13 +124,13 @@ pub fn numbers_of<'p>(
     settings: &TestSettings<'p, NextestFilters, TargetSpecs>,
     in_default_filter: bool,
 ) -> SettingNumbers
-    ensures status { result.status ≡ DONE }
+    ensures size { result.size ≡ settings_size }
     ensures filter { result.in_default_filter ≡ flag_number in_default_filter }
     ensures numbers { AreNumbersOf groups.now wrappers.now (value_at settings.now) result }
 {
     let group = group_index(groups, settings.test_group());
     SettingNumbers {
-        status: DONE,
+        size: size_of::<SettingNumbers>(),
         priority: i32::from(settings.priority().0),
         in_default_filter: flag_number(in_default_filter),
         flaky_result: flaky_number(settings.flaky_result()),

@@ -20,3 +20,5 @@ pub const NO_PROFILE: u32 = 7;
 pub const NOT_LOADED: u32 = 8;
 /// A number stands for nothing: a platform, a mode, a kind of text or an index.
 pub const UNKNOWN_NUMBER: u32 = 9;
+/// The size in a struct is not that of this version's.
+pub const BAD_SIZE: u32 = 10;

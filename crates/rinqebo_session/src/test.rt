@@ -10,6 +10,8 @@ use nextest_config::{BinaryQuery, BuildPlatform, NextestRunMode, TestQuery};
 #[repr(C)]
 #[derive(Clone, Copy, Debug, Drop)]
 pub struct RequestedTest<'a> {
+    /// The size of the struct, as the caller has it.
+    pub size: usize,
     /// The id of the binary's package, as cargo writes it.
     pub package: &'a [u8],
     /// The id of the binary, as nextest writes it.

@@ -1,122 +1,142 @@
--- `rinqebo_profile_ask` asks the profile that is lent at the pointer: a walk of its MIR by hand.
-use Rattle.std.proofs.Common.{◌≡◌, List, [], ◌∷◌, ◌++◌, refl, sym, ap, ◌∙◌, Bor}
-use Rattle.std.proofs.raw_atomic.Walks.{proved_at}
-use lib.Dec.{T}
-use mir.Syntax.{Ty, erased}
-use denote.Laws.{Typed, Is, shows}
-use base.Logic.{SProp, id⊢, ex_e, snd∗}
+-- `rinqebo_profile_ask` asks the profile that is lent at the pointer, and passes the caller's settings on: a
+-- walk of its MIR by hand.
+use Rattle.std.proofs.Common.{ℕ, List, [], ◌∷◌, ◌++◌, refl, Bor, w32}
+use Rattle.std.proofs.raw_atomic.Walks.{proved}
+use seplogic.Ra.Ura.{Ura}
+use base.Logic.{id⊢}
 use base.Fml.{ftrue, flft}
-use mir.Val.{Val, vptr, has_ty, WT}
+use mir.Syntax.{named, erased}
+use mir.Val.{Val, vptr}
 use prog.Wp.{WpFn}
-use types.Logic.{sem}
+use types.Logic.{Logic}
 use contract.BorrowLft.{◌⊑◌}
 use contract.Monad.{fact}
 use contract.Running.{tables}
-use types.Kit.{‵, raw, prop, ◌⊛◌, some, later, ◌$◌, ◌∵◌, !, qed, done, move, drop, use1, split, join, fsplit, fjoin, feq_i, pick, await, rewrite, regoal, suffices, frame, group}
+use types.Kit.{‵, raw, prop, ◌⊛◌, some, later, ◌$◌, ◌∵◌, !, qed, done, move, drop, use1, split, join, fsplit, fjoin, feq_i, pick, await, regoal, suffices, frame, group}
 use types.Run.{enter, of_opd, addr, stop, no_more, and_then, returns}
 use types.ByLocal.{alloc_all, pass_all, free_all, look_at, get, through, sets, lands_as}
-use denote.Exit.{yes}
+use denote.Exit.{yes, left}
 use denote.RattleType.{owns}
-use denote.Memory.{lone}
+use denote.Laws.{Is, shows}
 use denote.Opens.{shr_dup}
-use denote.RawPtr.{Ptr, RawPtr, in_a_block, rawptr_vals}
-use denote.Signature.{plain, types_at, named_lft}
+use denote.Plain.{uint_Lawful}
+use denote.RawPtr.{Ptr, RawPtr, block_ptr, in_a_block, rawptr_vals, rawptr_Tells}
+use denote.Ref.{mut_vals, mut_Tells, shr_vals, shr_Tells}
+use denote.Builtin.{u32, RefOf, RefMutOf}
+use denote.Signature.{Slot, plain, types_at, named_lft}
 use denote.Steps.{nothing, heard, peeks}
 use denote.Triple.Call.{calls_at}
-use denote.Triple.Clauses.{ensured, lasts}
+use denote.Triple.Clauses.{lasts}
 use denote.Triple.Spec.{triple_of}
 use denote.Triple.Table.{framed}
-use denote.Triple.Walked.{says, Stays, walk_of, stay_dropped, Goes-dropped, ends_at}
+use denote.Triple.Walked.{says, Stay, Stays, walk_of, stay_dropped, Goes, Goes-dropped, ends_at}
 use Rattle.rinqebo_c.specs.Handles.{lent_profile, profile_row}
 use Rattle.rinqebo_session.specs.Answering.{Answers}
 use Rattle.rinqebo_session.proofs.profile.Profile.TheLaws as held
 use Rattle.rinqebo_session.specs.contracts.test.RequestedTest as asked
-use Rattle.rinqebo_session.proofs.test.RequestedTest.TheLaws as requested_laws
 use Rattle.rinqebo_session.specs.declared.settings.SettingNumbers.{SettingNumbers}
 use Rattle.rinqebo_session.specs.contracts.settings.SettingNumbers as answer
-use Rattle.rinqebo_session.proofs.settings.SettingNumbers.TheLaws as answered
 use Rattle.rinqebo_c.specs.contracts.calls.rinqebo_profile_ask as f
 use Rattle.rinqebo_c.proofs.calls.rinqebo_profile_ask.Statement.{statement}
 use Rattle.rinqebo_c.proofs.calls.rinqebo_profile_ask.Code as code
 use Rattle.rinqebo_session.specs.contracts.profile.Profile.ask as g
 use Rattle.rinqebo_session.proofs.profile.Profile.ask.Met.{met}
 
--- a value of one MIR type is one machine value
-one : (τ : Ty) (vs : List Val) → Typed (τ ∷ []) vs → (v : Val) × (vs ≡ v ∷ []) × (T (has_ty τ v) × WT v)
-one τ [] t = absurd t
-one τ (v ∷ []) t = (v, refl, t.0)
-one τ (v ∷ u ∷ us) t = absurd t.1
+abbrev Test : Slot 3
+Test = RefOf (0 ∷ []) tt (plain (λ κs. asked.the_row (named_lft 3 1 tt κs))) (λ _. tt)
+
+abbrev Settings : Slot 3
+Settings = RefMutOf (2 ∷ []) tt (plain (λ _. answer.the_row)) (λ _. tt)
+
+-- of a `&mut` that was passed on there is what the callee says of its last value
+abbrev passed : (s : Slot 3) → Stay s yes
+passed s = record { fit = λ κs x w. Unit {0}; has = λ κs x w vs. left ((s.row κs).exit yes) x w }
+
+passed_goes : {M : Type 1} {𝓤 : Ura M} (𝓛 : Logic 𝓤) (s : Slot 3) → Goes 𝓛 3 s yes (passed s)
+passed_goes 𝓛 s κs x w vs fits = 𝓛.laws.⇛_intro _
 
 abbrev stayed : Stays f.ended.signature.params f.ended.kept
-stayed = (stay_dropped _ yes, (stay_dropped _ yes, tt))
+stayed = (stay_dropped (plain (λ _. RawPtr)) yes, (stay_dropped Test yes, (passed Settings, tt)))
 
 pub rinqebo_profile_ask_spec : {M : Type 1} → statement M
 rinqebo_profile_ask_spec 𝓤 𝓛 𝓜 𝓡 wired =
     let c = f.clauses 𝓛 𝓜.mem 𝓡.returns in let W = walk_of 𝓛 f.ended stayed c in let 𝓣 = tables 𝓤 𝓛.H 𝓜 𝓡 𝓡.env in
-    proved_at 𝓛 f.ended stayed c 𝓜 𝓡 (
-      Goes-dropped 𝓛 1 (plain (λ _. RawPtr)) yes (λ κs x w. refl),
-      (Goes-dropped 𝓛 1 (plain (λ κs. asked.the_row (named_lft 1 0 tt κs))) yes (λ κs x w. refl), tt),
+    proved 𝓛 f.ended stayed c 𝓜 𝓡 (
+      Goes-dropped 𝓛 3 (plain (λ _. RawPtr)) yes (λ κs x w. refl),
+      (Goes-dropped 𝓛 3 Test yes (λ κs x w. refl), (passed_goes 𝓛 Settings, tt)),
     )
-    f.Key.name code.function (code.unfolded 𝓤 𝓛.H 𝓜 𝓡 wired) (λ z are.
-    let κs = z.0.0 in let qs = z.0.1 in let p = z.0.3.0 in let test = z.0.3.1.0 in
-    let κ = z.1.0 in let ι = z.1.1 in let q = z.1.2 in let k = z.1.3 in let x = z.1.4 in
+    f.Key.name code.function (code.unfolded 𝓤 𝓛.H 𝓜 𝓡 wired)
+    (λ κs. (rawptr_vals, (shr_vals, (mut_vals, tt))))
+    (λ κs. (
+      rawptr_Tells,
+      (
+        shr_Tells (named 0) κs.0 (asked.the_row (named_lft 3 1 tt κs)),
+        (mut_Tells (named 2) κs.1.1.0 answer.the_row, tt),
+      ),
+    ))
+    (λ κs qs bounds a n are.
+    let κ = n.0 in let ι = n.1 in let q = n.2 in let k = n.3 in let x = n.4 in
     let R = profile_row ι in
-    let Post : Val → SProp 𝓤 = W.post z in
-    let Test = asked.the_row (named_lft 1 0 tt κs) in
-    let t = one (lone Test.mir) z.0.4.1.0
-    (((requested_laws.the_row_laws (named_lft 1 0 tt κs)).lawful 𝓛).typed test z.0.4.1.0 are.1.0) in
-    let is_p = are.0 in
-    qed 𝓛 (((‵ (flft κs.0 qs.0) ⊛ ‵ ftrue) ⊛ ‵ (owns (types_at f.signature.params κs) z.0.3 z.0.4))
-    ∷ (‵ (lent_profile κ ι q k p x) ⊛ raw (fact 𝓤 (κ ⊑ ι))) ∷ []) ∵
-    split ! $ move ! (1 ∷ []) $ fsplit ! $ drop ! $ fsplit ! $ move ! (1 ∷ []) $ drop ! $
-    rewrite ! 0 (λ (us : List Val). ‵ (Test.own_val test us)) t.1 refl $
-    move ! (2 ∷ []) $ split ! $ move ! (1 ∷ []) $ heard ! _ (λ within.
-    -- [the loan; the test; the token of the test]
-    in_a_block ! p (λ s. lent_profile κ ι q k s x) (id⊢ 𝓤 _) (λ b o e.
-    regoal ! (λ (us : List Val). prop (WpFn 𝓤 𝓛.H 𝓣.C 𝓣.Λ code.function us Post))
-    (λ i. (is_p ∙ ap rawptr_vals e) i ++ (t.1 i ++ [])) refl $
+    let test = a.1.0 in let settings = a.1.1.0 in
+    let y : Ptr → W.Ghost = λ p. (
+      (κs, qs, bounds, (p, (test, (settings, tt))), (rawptr_vals p, (shr_vals test, (mut_vals settings, tt)))),
+      n,
+    ) in
+    qed 𝓛 (((‵ (flft κs.0 qs.0) ⊛ (‵ (flft κs.1.0 qs.1.0) ⊛ (‵ (flft κs.1.1.0 qs.1.1.0) ⊛ ‵ ftrue))) ⊛ ‵
+    (owns (types_at f.signature.params κs) a (y a.0).0.4))
+    ∷ (‵ (lent_profile κ ι q k a.0 x) ⊛ raw (fact 𝓤 (κ ⊑ ι))) ∷ []) ∵
+    split ! $ move ! (1 ∷ []) $ fsplit ! $ drop ! $ fsplit ! $ move ! (1 ∷ []) $ fsplit ! $ move ! (1 ∷ []) $
+    drop ! $ move ! (3 ∷ []) $
+    split ! $ move ! (1 ∷ []) $ heard ! _ (λ within.
+    -- [the loan; the settings; the test; the tokens]
+    in_a_block ! a.0 (λ p. lent_profile κ ι q k p x) (id⊢ 𝓤 _) (λ b o e.
+    regoal ! (λ p. prop (WpFn 𝓤 𝓛.H 𝓣.C 𝓣.Λ code.function
+    (rawptr_vals p ++ (shr_vals test ++ (mut_vals settings ++ []))) (W.post (y p)))) e refl $
     fsplit ! $ move ! (1 ∷ []) $ fsplit ! $ move ! (1 ∷ []) $ shr_dup ! R
     ((held.the_row_laws (record { mir = erased; lft = ι })).shr_laws) x b o κ $
-    enter ! _ _ _ _ _ $ alloc_all ! (λ l. pass_all ! refl ((tt, tt), (t.2, tt)) $
+    enter ! _ _ _ _ _ $ alloc_all !
+    (λ l. pass_all ! refl ((tt, tt), ((tt, tt), ((tt, tt), tt))) $
     sets ! (of_opd ! (get ! refl)) refl (tt, tt) $
     sets ! (addr ! (through ! refl (stop !))) refl (tt, tt) $
-    sets ! (of_opd ! (get ! refl)) refl t.2 $
-    -- [what a `&` holds, twice; the tokens of the session's loan and of the profile's; the test; the
-    -- token of the test; the locals]
+    sets ! (addr ! (through ! refl (stop !))) refl (tt, tt) $
+    -- [what a `&` holds, twice; the tokens of the session's loan and of the profile's; the settings; the
+    -- test; the tokens; the locals]
     let G = triple_of 𝓛 g.signature (g.spec 𝓛 𝓜.mem 𝓡.returns) in
     let r : Bor R.Denot = record { ref_ptr = (b, o); now = x } in
-    let y : G.Ghost = (
+    let z : G.Ghost = (
       (
-        (κ, (ι, (κs.0, tt))),
-        (q, (k, (qs.0, tt))),
-        (within, tt),
-        (r, (test, tt)),
-        (vptr b o ∷ [], (t.0 ∷ [], tt)),
+        (κ, (ι, (κs.0, (κs.1.0, (κs.1.1.0, tt))))),
+        (q, (k, (qs.0, (qs.1.0, (qs.1.1.0, tt))))),
+        (within, bounds),
+        (r, (test, (settings, tt))),
+        (vptr b o ∷ [], (shr_vals test, (mut_vals settings, tt))),
       ),
       tt,
     ) in
     feq_i ! (List Val) (vptr b o ∷ []) (vptr b o ∷ []) refl $ fjoin ! $
-    nothing ! $ move ! (5 ∷ 0 ∷ []) $ fjoin ! $ move ! (1 ∷ 0 ∷ []) $ fjoin ! $
+    nothing ! $ move ! (5 ∷ 0 ∷ []) $ fjoin ! $ move ! (5 ∷ 0 ∷ []) $ fjoin ! $ move ! (1 ∷ 0 ∷ []) $ fjoin ! $
     move ! (2 ∷ 4 ∷ []) $ join ! $ move ! (3 ∷ 0 ∷ []) $ join ! $ join ! $ nothing ! $ move ! (1 ∷ 0 ∷ []) $
-    join ! $ use1 𝓛 (raw (G.pre y)) (id⊢ 𝓤 _) $
+    join ! $ use1 𝓛 (raw (G.pre z)) (id⊢ 𝓤 _) $
     calls_at ! (framed 𝓤 𝓛.H 𝓜 (tables 𝓤 𝓛.H 𝓜 𝓡 𝓡.env)) G
-    (met 𝓤 𝓛 𝓜 𝓡 (code.calls-rinqebo_session::profile::Profile::ask 𝓡.env wired)) y
-    (and_then ! (get ! refl) (and_then ! (get ! refl) (no_more !))) (λ v.
-    use1 𝓛 (later (some (λ (w : SettingNumbers).
-    ((‵ (flft κ q) ⊛ (‵ (flft ι k) ⊛ (‵ (flft κs.0 qs.0) ⊛ ‵ ftrue))) ⊛ ‵
-    (answer.the_row.own_val w (v ∷ []))) ⊛ raw
-    (ensured 𝓛 g.ended (g.clauses 𝓛 𝓜.mem 𝓡.returns) y.0.0 y.0.3 tt w)))) (id⊢ 𝓤 _) $
-    await ! tt $ pick ! (λ w. split ! $ move ! (1 ∷ []) $
-    use1 𝓛 (raw (fact 𝓤 (Answers x test w)))
-    (ex_e 𝓤 _ (λ ws. snd∗ 𝓤 (sem 𝓛 (lasts g.ended y.0.0 y.0.3 ws)) (fact 𝓤 (Answers x test w)))) $
-    heard ! _ (λ is. split ! $ split ! $ move ! (1 ∷ []) $ split ! $ move ! (3 ∷ []) $
-    peeks ! answer.the_row (Is answer.the_row) (shows 𝓛 answer.the_row) w (v ∷ [])
-    (λ ok. lands_as ! refl refl ((answered.the_row_laws.lawful 𝓛).typed w _ ok).0 $
+    (met 𝓤 𝓛 𝓜 𝓡 (code.calls-rinqebo_session::profile::Profile::ask 𝓡.env wired)) z
+    (and_then ! (get ! refl) (and_then ! (get ! refl) (and_then ! (get ! refl) (no_more !)))) (λ v.
+    use1 𝓛 (later (some (λ (w : ℕ).
+    ((‵ (flft κ q) ⊛ (‵ (flft ι k)
+    ⊛ (‵ (flft κs.0 qs.0) ⊛ (‵ (flft κs.1.0 qs.1.0) ⊛ (‵ (flft κs.1.1.0 qs.1.1.0) ⊛ ‵ ftrue))))) ⊛ ‵
+    (u32.own_val w (v ∷ []))) ⊛
+    some (λ (ws : Unit {0} × (Unit {0} × (SettingNumbers × Unit {0}))). ‵
+    (lasts g.ended z.0.0 z.0.3 ws) ⊛ raw
+    (fact 𝓤 (Answers x test.now settings.now ws.1.1.0 w)))))) (id⊢ 𝓤 _) $
+    await ! tt $ pick ! (λ w. split ! $ move ! (1 ∷ []) $ pick ! (λ ws. split ! $ move ! (1 ∷ []) $ heard ! _ (λ is.
+    fsplit ! $ drop ! $ fsplit ! $ drop ! $ fsplit ! $ move ! (1 ∷ []) $ drop ! $
+    -- [`settings` at its last value; the tokens and the answer; what a `&` holds]
+    move ! (1 ∷ []) $ split ! $ split ! $ move ! (1 ∷ []) $ split ! $ move ! (3 ∷ []) $
+    peeks ! u32 (Is u32) (shows 𝓛 u32) w (v ∷ []) (λ ok. lands_as ! refl refl ((uint_Lawful 𝓛 w32).typed w _ ok).0 $
     returns ! (look_at ! 0 refl) $ free_all ! refl $
-    -- [the answer; the token of the session's loan; the token of the test; that of the profile's loan;
+    -- [the answer; the token of the session's loan; the tokens; that of the profile's loan; `settings`;
     -- what a `&` holds]
-    move ! (1 ∷ 4 ∷ []) $ fjoin ! $ move ! (3 ∷ 0 ∷ []) $ fjoin ! $ rewrite ! 0
-    (λ (s : Ptr). ‵ (lent_profile κ ι q k s x)) (sym e) refl $ move ! (1 ∷ []) $
-    suffices ! _ (ends_at 𝓛 f.ended stayed c z v w (tt, (tt, tt)) (tt, (tt, tt))) $
-    nothing ! $ nothing ! $ join ! $ nothing ! $ join ! $
-    move ! (3 ∷ 0 ∷ 1 ∷ []) $ group ! 3 $ frame ! $ says ! is $ done !))))))))
+    move ! (1 ∷ 5 ∷ []) $ fjoin ! $ move ! (3 ∷ 0 ∷ []) $ fjoin ! $
+    suffices ! _ (ends_at 𝓛 f.ended stayed c (y (block_ptr b o)) v w
+    (tt, (tt, (ws.1.1.0, tt))) (tt, (tt, (tt, tt)))) $
+    nothing ! $ move ! (4 ∷ 0 ∷ []) $ join ! $ nothing ! $ join ! $ nothing ! $ join ! $
+    move ! (3 ∷ 0 ∷ 2 ∷ []) $ group ! 3 $ frame ! $ says ! is $ done !)))))))))
