@@ -69,7 +69,7 @@ uint32_t rinqebo_version_number(void);
 // Without a target, the one that the list names counts, if it does. Nothing is kept: the same call tells the same.
 uint32_t rinqebo_resolve(const uint8_t *request, size_t request_len, uint8_t *answer, size_t answer_len, size_t *needed);
 
-// The same, kept: a run is computed once, and what it tells is read by pieces, as often as one likes.
+// The same, kept: a run is computed once, and its output can be read in pieces, as often as needed.
 struct rinqebo_run;
 size_t rinqebo_run_size(void);
 
@@ -80,11 +80,11 @@ void rinqebo_run_free(struct rinqebo_run *run);
 // Any of the statuses of rinqebo_resolve but SMALL.
 uint32_t rinqebo_run_status(const struct rinqebo_run *run);
 
-// How long what is told is.
+// Returns the length of the output.
 size_t rinqebo_run_length(const struct rinqebo_run *run);
 
-// Writes what is told from an offset on, as much as the buffer has room for, and returns how many bytes that is: 0
-// at the end and behind it. The buffer behind them stays as it was. Pieces that follow one another are the whole.
+// Writes the output from an offset on, as much as fits the buffer, and returns the number of bytes written: 0 at the
+// end of the output and behind it. The rest of the buffer is unchanged. Consecutive pieces make up the output.
 size_t rinqebo_run_text(const struct rinqebo_run *run, size_t offset, uint8_t *out, size_t out_len);
 
 // An index of no name: of the global group, or of no wrapper.

@@ -1,4 +1,4 @@
-//! Reading the outcomes of reading files.
+//! Reads, from the JSON of a request, whether each file was read and what it holds.
 ghost use Rattle.std.specs.Prelude.{◌≡◌};
 ghost use Rattle.serde_json.specs.View.{view};
 ghost use Rattle.nextest_sources.specs.Sources.{outcome_view};

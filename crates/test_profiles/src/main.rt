@@ -16,8 +16,8 @@
 //! | `show WORD ..` | only lines that begin with one of these words are printed |
 //! | `profile NAME` | the case is run for this profile |
 //!
-//! For each run it prints the names of the case and of the profile, and then a line for each thing
-//! that is asked, behind two spaces. A call that runs out of memory is made once more, and a last line
+//! For each run it prints the names of the case and of the profile, and then, indented by two
+//! spaces, a line for each result. A call that runs out of memory is made once more, and a last line
 //! then names it. A line that is none of these is an error, and the status is 2.
 #![tactic(auto)]
 

@@ -1,4 +1,4 @@
-//! What the lines of a case say beside its files: a build, and what is asked of which profiles.
+//! The lines of a case that are not about its files: a build, tests, and the profiles to run.
 use nextest_config::{
     BinaryQuery, BuildPlatform, ConfigPath, ConfigPaths, FileInput, TestQuery, ToolConfigFile,
     ToolName,
@@ -10,7 +10,7 @@ use test_cases::{Case, CaseError, StoredFiles};
 /// The host where a case names none.
 const LINUX: &str = "x86_64-unknown-linux-gnu";
 
-/// The files of a case, a build, and what is asked of which profiles.
+/// The files of a case, a build, tests, and the profiles to run.
 #[derive(Drop)]
 pub struct Setup<'a> {
     pub name: &'a str,
