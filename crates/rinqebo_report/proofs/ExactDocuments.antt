@@ -132,7 +132,9 @@ test t =
     (exact_puts 5 (λ (row : SettingRow). string_bytes row.key) setting_data setting t.settings.items
     no_members (no_more 5)) in
     exact_object 6 (and_member _ (text 6 t.binary)
-    (and_member _ (text 6 t.name) (and_member _ (exact_text 6 _) (and_member _ settings (no_more 6)))))
+    (and_member _ (text 6 t.name)
+    (and_member _ (exact_text 6 _)
+    (and_member _ (deeper 6 (setting t.runs) (omega arith)) (and_member _ settings (no_more 6))))))
 
 test_id : (t : TestId) → IsExact 8 (test_id_data t)
 test_id t = exact_object 7 (and_member _ (text 7 t.binary)

@@ -144,8 +144,9 @@ test_data test =
     object (member (codes "binary-id") (text_data test.binary)
     (member (codes "name") (text_data test.name)
     (member (codes "platform") (string (platform_word test.platform))
+    (member (codes "runs") (setting_data test.runs)
     (member (codes "settings") (object (fold with_setting no_members test.settings.items))
-    no_members))))
+    no_members)))))
 
 -- the names of a test
 abbrev pub test_id_data : TestId → Data

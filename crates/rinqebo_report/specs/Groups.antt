@@ -11,7 +11,7 @@ use Rattle.rinqebo_report.specs.declared.report.Content.TheVariants as contents
 use Rattle.rinqebo_report.specs.declared.report.Report.{Report}
 use Rattle.rinqebo_report.specs.declared.report.SettingRow.{SettingRow}
 use Rattle.rinqebo_report.specs.declared.report.TestRows.{TestRows}
-use Rattle.rinqebo_report.specs.Pages.{plain, absent_runs, test_line_runs, count_runs, unused_runs, content_runs}
+use Rattle.rinqebo_report.specs.Pages.{plain, absent_runs, rows_shown, test_line_runs, count_runs, unused_runs, content_runs}
 use Rattle.rinqebo_report.specs.Pieces.{Run, styled, ending, page_text}
 use Rattle.rinqebo_report.specs.TomlText.{value_text}
 
@@ -25,9 +25,9 @@ reported_line_runs key None = absent_runs key
 abbrev pub reported_row_runs : SettingRow → List Run
 reported_row_runs row = reported_line_runs (string_bytes row.key) (option_map value_text row.value)
 
--- what is told of a test, a line for each setting
+-- what is told of a test, a line for each row
 abbrev pub reported_runs : TestRows → List Run
-reported_runs test = flat_map reported_row_runs test.settings.items
+reported_runs test = rows_shown reported_row_runs test
 
 -- what is told of a test, as a text
 abbrev pub reported_text : TestRows → List ℕ

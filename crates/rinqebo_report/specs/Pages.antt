@@ -55,6 +55,20 @@ key_width row = if is_some row.value then width (string_bytes row.key) else 0
 abbrev pub widest : List SettingRow → ℕ
 widest rows = fold (λ w row. max w (key_width row)) 0 rows
 
+-- how wide the widest key of the rows of a test is that pages show
+abbrev pub widest_shown : TestRows → ℕ
+widest_shown test =
+    if test.shows_runs then max (widest test.settings.items) (key_width test.runs)
+    else widest test.settings.items
+
+-- whether a test runs, as a page shows rows: nothing where it is not shown
+abbrev pub runs_shown : (SettingRow → List Run) → TestRows → List Run
+runs_shown g test = if test.shows_runs then g test.runs else []
+
+-- the rows of a test, as a page shows them: whether it runs comes first
+abbrev pub rows_shown : (SettingRow → List Run) → TestRows → List Run
+rows_shown g test = runs_shown g test ++ flat_map g test.settings.items
+
 -- that a setting has no value
 abbrev pub absent_runs : List ℕ → List Run
 absent_runs key = styled styles.Remark (codes "# " ++ (key ++ codes ": none")) ∷ ending ∷ []
@@ -101,11 +115,11 @@ header_text asked test =
     ++ (codes ", " ++ (mode_word asked.mode ++ (codes ", " ++ (platform_word test.platform
     ++ (codes " " ++ triple_of asked test.platform))))))))))
 
--- the settings of a test
+-- a test: whether it runs, and its settings
 abbrev pub explain_runs : List ℕ → List Source → Asked → TestRows → List Run
 explain_runs root sources asked test =
     styled styles.Remark (header_text asked test) ∷ ending
-    ∷ flat_map (row_runs root sources (widest test.settings.items)) test.settings.items
+    ∷ rows_shown (row_runs root sources (widest_shown test)) test
 
 -- the words of a verdict
 abbrev pub verdict_text : Verdict → List ℕ
@@ -202,7 +216,7 @@ indented_runs root sources w row = plain (codes "    ") ∷ row_runs root source
 abbrev pub listed_runs : List ℕ → List Source → TestRows → List Run
 listed_runs root sources test =
     test_line_runs (string_bytes test.binary) (string_bytes test.name)
-    ++ flat_map (indented_runs root sources (widest test.settings.items)) test.settings.items
+    ++ rows_shown (indented_runs root sources (widest_shown test)) test
 
 -- how many tests there are
 abbrev pub count_runs : ℕ → List Run

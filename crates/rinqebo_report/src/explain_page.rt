@@ -1,9 +1,9 @@
-//! The page of a test: its settings, each with its value and where it comes from.
-ghost use Rattle.std.specs.Prelude.{◌≡◌, ◌++◌, Some, OnOk, IfOk, codes, flat_map, string_bytes};
+//! The page of a test: whether it runs, and its settings, with their values and origins.
+ghost use Rattle.std.specs.Prelude.{◌≡◌, ◌++◌, Some, OnOk, IfOk, codes, string_bytes};
 ghost use Rattle.serde_json.specs.View.{members_view};
 ghost use Rattle.rinqebo_report.specs.Document.{with_explain};
 ghost use Rattle.rinqebo_report.specs.Joined.{joined};
-ghost use Rattle.rinqebo_report.specs.Pages.{width, key_width, widest, mode_word, platform_word, triple_of, header_text, absent_runs, setting_runs, row_runs, explain_runs};
+ghost use Rattle.rinqebo_report.specs.Pages.{width, key_width, widest, widest_shown, runs_shown, rows_shown, mode_word, platform_word, triple_of, header_text, absent_runs, setting_runs, row_runs, explain_runs};
 ghost use Rattle.rinqebo_report.specs.Pieces.{page_text};
 
 use crate::json_parts::test_json;
@@ -47,6 +47,18 @@ pub(crate) fn widest(rows: &[SettingRow]) -> usize
         most = most.max(key_width(row));
     }
     most
+}
+
+/// How wide the widest key of the rows of a test is that pages show.
+pub(crate) fn widest_shown(test: &TestRows) -> usize
+    ensures { result ≡ widest_shown test.now }
+{
+    let widest = widest(&test.settings);
+    if test.shows_runs {
+        widest.max(key_width(&test.runs))
+    } else {
+        widest
+    }
 }
 
 impl RunMode {
@@ -195,20 +207,42 @@ pub(crate) fn add_row(
     }
 }
 
-/// Writes the rows of settings.
+/// Writes the row of whether a test runs, if it is shown.
+fn add_runs(
+    alloc: Global,
+    out: &mut String,
+    colour: Colour,
+    root: &str,
+    sources: &[Source],
+    widest: usize,
+    test: &TestRows,
+) -> Result<(), AllocError>
+    ensures { OnOk result (string_bytes out.new ≡ string_bytes out.old
+        ++ page_text colour (runs_shown (row_runs root.now sources.now widest) test.now)) }
+{
+    if test.shows_runs {
+        add_row(alloc, out, colour, root, sources, widest, &test.runs)
+    } else {
+        Ok(())
+    }
+}
+
+/// Writes the rows of a test.
 fn add_rows(
     alloc: Global,
     out: &mut String,
     colour: Colour,
     root: &str,
     sources: &[Source],
-    rows: &[SettingRow],
+    test: &TestRows,
 ) -> Result<(), AllocError>
     ensures { OnOk result (string_bytes out.new ≡ string_bytes out.old
-        ++ page_text colour (flat_map (row_runs root.now sources.now (widest rows.now)) rows.now)) }
+        ++ page_text colour (rows_shown (row_runs root.now sources.now (widest_shown test.now))
+        test.now)) }
 {
-    let widest = widest(rows);
-    for row in rows {
+    let widest = widest_shown(test);
+    add_runs(alloc, out, colour, root, sources, widest, test)?;
+    for row in &test.settings {
         add_row(alloc, out, colour, root, sources, widest, row)?;
     }
     Ok(())
@@ -233,7 +267,7 @@ pub(crate) fn add_explain(
         colour,
         &[Piece::Text(Style::Remark, header.as_str()), Piece::End],
     )?;
-    add_rows(alloc, out, colour, root, sources, &test.settings)
+    add_rows(alloc, out, colour, root, sources, test)
 }
 
 /// Puts among members those of the page of a test.

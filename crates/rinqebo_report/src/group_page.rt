@@ -2,6 +2,7 @@
 ghost use Rattle.std.specs.Prelude.{◌≡◌, ◌++◌, Some, IfOk, OnOk, filter, flat_map, map, string_bytes};
 ghost use Rattle.std.specs.List.{list_any};
 ghost use Rattle.rinqebo_report.specs.Groups.{reported_line_runs, reported_row_runs, reported_runs, reported_text, has_reported, firsts, grouped_test_runs, group_runs, groups_runs, grouped_runs};
+ghost use Rattle.rinqebo_report.specs.Pages.{runs_shown};
 ghost use Rattle.rinqebo_report.specs.Pieces.{page_text};
 
 use crate::explain_page::add_absent;
@@ -54,6 +55,23 @@ fn add_reported_row(
     }
 }
 
+/// Writes whether a test runs, if it is shown.
+fn add_reported_runs(
+    alloc: Global,
+    out: &mut String,
+    colour: Colour,
+    test: &TestRows,
+) -> Result<(), AllocError>
+    ensures { OnOk result (string_bytes out.new ≡ string_bytes out.old
+        ++ page_text colour (runs_shown reported_row_runs test.now)) }
+{
+    if test.shows_runs {
+        add_reported_row(alloc, out, colour, &test.runs)
+    } else {
+        Ok(())
+    }
+}
+
 /// Writes what is told of a test.
 fn add_reported(
     alloc: Global,
@@ -64,6 +82,7 @@ fn add_reported(
     ensures { OnOk result (string_bytes out.new ≡ string_bytes out.old
         ++ page_text colour (reported_runs test.now)) }
 {
+    add_reported_runs(alloc, out, colour, test)?;
     for row in &test.settings {
         add_reported_row(alloc, out, colour, row)?;
     }

@@ -238,11 +238,13 @@ fn settings_json(alloc: Global, rows: &[SettingRow]) -> Result<Value, AllocError
 pub(crate) fn test_json(alloc: Global, test: &TestRows) -> Result<Value, AllocError>
     ensures { IfOk result (λ value. view value ≡ test_data test.now) }
 {
+    let runs = setting_json(alloc, &test.runs)?;
     let settings = settings_json(alloc, &test.settings)?;
     json!(in alloc; {
         "binary-id": test.binary.as_str(),
         "name": test.name.as_str(),
         "platform": test.platform.word(),
+        "runs": runs,
         "settings": settings
     })
 }

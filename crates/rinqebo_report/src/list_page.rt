@@ -2,10 +2,10 @@
 ghost use Rattle.std.specs.Prelude.{◌≡◌, ◌++◌, IfOk, OnOk, flat_map, string_bytes};
 ghost use Rattle.serde_json.specs.View.{members_view};
 ghost use Rattle.rinqebo_report.specs.Document.{with_list};
-ghost use Rattle.rinqebo_report.specs.Pages.{widest, test_line_runs, indented_runs, listed_runs, unused_line_runs, unused_runs, count_runs, list_runs};
+ghost use Rattle.rinqebo_report.specs.Pages.{widest_shown, runs_shown, test_line_runs, indented_runs, listed_runs, unused_line_runs, unused_runs, count_runs, list_runs};
 ghost use Rattle.rinqebo_report.specs.Pieces.{page_text};
 
-use crate::explain_page::{add_row, widest};
+use crate::explain_page::{add_row, widest_shown};
 use crate::json_parts::{origins_json, tests_json, texts_json, wrappers_json};
 use crate::json_requested::put_requested;
 use crate::origin::{Origin, Source};
@@ -54,6 +54,26 @@ fn add_indented(
     add_row(alloc, out, colour, root, sources, widest, row)
 }
 
+/// Writes whether a test runs behind four spaces, if it is shown.
+fn add_indented_runs(
+    alloc: Global,
+    out: &mut String,
+    colour: Colour,
+    root: &str,
+    sources: &[Source],
+    widest: usize,
+    test: &TestRows,
+) -> Result<(), AllocError>
+    ensures { OnOk result (string_bytes out.new ≡ string_bytes out.old
+        ++ page_text colour (runs_shown (indented_runs root.now sources.now widest) test.now)) }
+{
+    if test.shows_runs {
+        add_indented(alloc, out, colour, root, sources, widest, &test.runs)
+    } else {
+        Ok(())
+    }
+}
+
 /// Writes a test and its rows.
 fn add_listed(
     alloc: Global,
@@ -67,7 +87,8 @@ fn add_listed(
         ++ page_text colour (listed_runs root.now sources.now test.now)) }
 {
     add_test_line(out, colour, test.binary.as_str(), test.name.as_str())?;
-    let widest = widest(&test.settings);
+    let widest = widest_shown(test);
+    add_indented_runs(alloc, out, colour, root, sources, widest, test)?;
     for row in &test.settings {
         add_indented(alloc, out, colour, root, sources, widest, row)?;
     }

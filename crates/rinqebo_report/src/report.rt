@@ -47,7 +47,7 @@ pub struct SettingRow {
     pub origins: Vec<Origin>,
 }
 
-/// A test and its settings.
+/// A test, whether it runs, and its settings.
 #[derive(Drop)]
 pub struct TestRows {
     /// The id of its binary.
@@ -56,6 +56,10 @@ pub struct TestRows {
     pub name: String,
     /// For what the binary is built.
     pub platform: BuiltFor,
+    /// Whether it runs: the row of `runs`.
+    pub runs: SettingRow,
+    /// Whether pages show whether it runs. A document of JSON always has it.
+    pub shows_runs: bool,
     /// What is told of it. The keys are apart from each other.
     pub settings: Vec<SettingRow>,
 }

@@ -1,5 +1,5 @@
 //! Hints: which known name a wrong one most likely means.
-use crate::keys::{SettingKey, all_keys, setting_of};
+use crate::keys::{RUNS, SettingKey, all_keys, setting_of};
 use nextest_config::NextestRunMode;
 use rinqebo_report::nearest_name;
 use std::alloc::{AllocError, Global};
@@ -50,6 +50,10 @@ pub fn key_hint(
             let known = SettingKey::of(setting, mode).text(alloc)?;
             did_you_mean(alloc, Some(known.as_str()))
         }
-        None => text_hint(alloc, key, &all_keys(alloc, mode)?),
+        None => {
+            let mut known = all_keys(alloc, mode)?;
+            known.push(String::from_str(alloc, RUNS)?)?;
+            text_hint(alloc, key, &known)
+        }
     }
 }

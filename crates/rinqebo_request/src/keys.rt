@@ -7,6 +7,9 @@ ghost use Rattle.rinqebo_request.specs.Keys.{key_table, key_name, is_report, dot
 use nextest_config::{NextestRunMode, Setting};
 use std::alloc::{AllocError, Global};
 
+/// The key of whether a test runs, which stands in no file.
+pub const RUNS: &str = "runs";
+
 /// Where a profile or a rule writes a setting: the table within it, if there is one, and the key.
 #[derive(Clone, Copy, PartialEq, Eq)]
 pub struct SettingKey {

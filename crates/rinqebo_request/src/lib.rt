@@ -14,7 +14,7 @@ mod words;
 pub use environment::{Environment, RunVariables};
 pub use features::{FEATURES, feature_name, feature_of, law_all_features};
 pub use hints::{name_hint, text_hint};
-pub use keys::{SettingKey, all_keys, setting_of};
+pub use keys::{RUNS, SettingKey, all_keys, setting_of};
 pub use named::{FileOption, NamedFile, ProfileSource};
 pub use notes::notes_of;
 pub use request::{

@@ -1,6 +1,6 @@
 //! Notes on variables that stand above all files.
 use crate::environment::{Environment, set};
-use crate::request::{Question, Request, RequestedSettings};
+use crate::request::{Question, Request};
 use nextest_config::Setting;
 use std::alloc::{AllocError, Global};
 
@@ -12,13 +12,8 @@ fn has_leaf(keys: &[&str], setting: Setting) -> bool {
 /// Whether a question asks for a setting of a test.
 fn asks_for(question: &Question<'_>, setting: Setting) -> bool {
     match question {
-        Question::Explain { settings, .. } => settings.iter().any(|asked| *asked == setting),
+        Question::Explain { asked, .. } | Question::List { asked, .. } => asked.may_tell(setting),
         Question::Why { setting: asked, .. } => *asked == setting,
-        Question::List {
-            asked: RequestedSettings::These(settings),
-            ..
-        } => settings.iter().any(|asked| *asked == setting),
-        Question::List { .. } => true,
         Question::ShowConfig { keys, .. } => has_leaf(keys, setting),
         Question::Check { .. } => false,
     }

@@ -261,7 +261,7 @@ fn explain_command<'a>(alloc: Global) -> Result<Command<'a>, AllocError> {
         .after_help(EXPLAIN_NOTES)
         .arg(word(alloc, "BINARY", "Binary id, such as api::smoke").required(true))?
         .arg(word(alloc, "TEST", "Test name").required(true))?
-        .arg(keys(alloc, "Settings to show [default: all]"))?
+        .arg(keys(alloc, "Settings to show, or `runs` [default: all]"))?
         .arg(option(
             alloc,
             "why",
@@ -295,7 +295,10 @@ fn list_command<'a>(alloc: Global) -> Result<Command<'a>, AllocError> {
         .about("Show the settings of every test, and rules that match none")
         .after_help(LIST_NOTES)
         .arg(list.required(true))?
-        .arg(keys(alloc, "Settings to show [default: those that a rule sets]"))?
+        .arg(keys(
+            alloc,
+            "Settings to show, or `runs` [default: those that a rule sets]",
+        ))?
         .arg(flag(alloc, "all", "Show all settings of each test"))?
         .arg(option(alloc, "by", "KEY", "Group the tests by their value of KEY"))?;
     let command = with_profile(alloc, command)?;

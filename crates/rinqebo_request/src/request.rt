@@ -36,13 +36,29 @@ impl<'a> ListFile<'a> {
     }
 }
 
-/// Which settings are told of each test of a list.
+/// What is told of a test.
 #[derive(Drop)]
 pub enum RequestedSettings {
-    /// Those that rules decide, in the order of all settings.
+    /// The settings that rules decide, in the order of all settings; before them, where the test does
+    /// not run, that it does not.
     Decided,
-    /// These, in this order, whatever decides them.
-    These(Vec<Setting>),
+    /// Settings, whatever decides them.
+    These {
+        /// Whether pages show whether the test runs. A document of JSON always has it.
+        runs: bool,
+        /// The settings, in this order.
+        settings: Vec<Setting>,
+    },
+}
+
+impl RequestedSettings {
+    /// Whether a setting is told, if rules decide it.
+    pub fn may_tell(&self, setting: Setting) -> bool {
+        match self {
+            RequestedSettings::Decided => true,
+            RequestedSettings::These { settings, .. } => settings.iter().any(|one| *one == setting),
+        }
+    }
 }
 
 /// What a command asks.
@@ -54,8 +70,8 @@ pub enum Question<'a> {
         profile: &'a str,
         /// The test that is asked about.
         test: TestName<'a>,
-        /// The settings that are told, in this order.
-        settings: Vec<Setting>,
+        /// What is told of it.
+        asked: RequestedSettings,
     },
     /// The rules of a setting of a test.
     Why {
@@ -74,7 +90,7 @@ pub enum Question<'a> {
         mode: NextestRunMode,
         /// Where the list is read.
         list: ListFile<'a>,
-        /// The settings that are told.
+        /// What is told of each test.
         asked: RequestedSettings,
     },
     /// The leaves of the configuration.

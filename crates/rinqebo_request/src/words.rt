@@ -2,7 +2,7 @@
 use crate::environment::{Environment, set};
 use crate::features::{FEATURES, feature_of};
 use crate::hints::{key_hint, name_hint};
-use crate::keys::setting_of;
+use crate::keys::{RUNS, setting_of};
 use crate::named::ProfileSource;
 use crate::options::program;
 use crate::request::{
@@ -218,41 +218,76 @@ fn setting(alloc: Global, key: &str, mode: NextestRunMode) -> Result<Setting, Pa
     Err(usage(alloc, message.as_str(), hint)?)
 }
 
-/// The settings that are named.
-fn named_settings(
+/// What is named of a test: whether it runs, and settings.
+#[derive(Drop)]
+struct NamedRows {
+    runs: bool,
+    settings: Vec<Setting>,
+}
+
+impl NamedRows {
+    /// Whether nothing is named.
+    fn is_empty(&self) -> bool {
+        !self.runs && self.settings.is_empty()
+    }
+
+    /// Adds what a key names.
+    fn add(&mut self, alloc: Global, key: &str, mode: NextestRunMode) -> Result<(), ParseStop> {
+        if key == RUNS {
+            self.runs = true;
+            return Ok(());
+        }
+        let setting = setting(alloc, key, mode)?;
+        self.settings.push(setting).map_err(AllocError::from)?;
+        Ok(())
+    }
+
+    /// The same, as it is asked for.
+    fn requested(self) -> RequestedSettings {
+        let NamedRows { runs, settings } = self;
+        RequestedSettings::These { runs, settings }
+    }
+}
+
+/// What is named of a test.
+fn named_rows(
     alloc: Global,
     matches: &ArgMatches<'_>,
     mode: NextestRunMode,
-) -> Result<Vec<Setting>, ParseStop> {
-    let mut settings = Vec::new(alloc);
+) -> Result<NamedRows, ParseStop> {
+    let mut named = NamedRows {
+        runs: false,
+        settings: Vec::new(alloc),
+    };
     for key in matches.get_strs("KEY").unwrap_or(&[]) {
-        settings
-            .push(setting(alloc, *key, mode)?)
-            .map_err(AllocError::from)?;
+        named.add(alloc, *key, mode)?;
     }
-    Ok(settings)
+    Ok(named)
 }
 
-/// All settings.
-fn all_settings(alloc: Global) -> Result<Vec<Setting>, AllocError> {
+/// Whether a test runs, and all settings.
+fn all_rows(alloc: Global) -> Result<RequestedSettings, AllocError> {
     let mut settings = Vec::new(alloc);
     for setting in Setting::ALL.iter() {
         settings.push(*setting)?;
     }
-    Ok(settings)
+    Ok(RequestedSettings::These {
+        runs: true,
+        settings,
+    })
 }
 
-/// The settings that are asked for: all, where none is named.
-fn settings(
+/// What is asked for of a test: all, where nothing is named.
+fn explained_rows(
     alloc: Global,
     matches: &ArgMatches<'_>,
     mode: NextestRunMode,
-) -> Result<Vec<Setting>, ParseStop> {
-    let named = named_settings(alloc, matches, mode)?;
+) -> Result<RequestedSettings, ParseStop> {
+    let named = named_rows(alloc, matches, mode)?;
     if named.is_empty() {
-        return Ok(all_settings(alloc)?);
+        return Ok(all_rows(alloc)?);
     }
-    Ok(named)
+    Ok(named.requested())
 }
 
 /// The mode that is asked for.
@@ -309,11 +344,18 @@ fn explain_question<'a>(
         return Ok(Question::Explain {
             profile,
             test,
-            settings: settings(alloc, matches, test.mode)?,
+            asked: explained_rows(alloc, matches, test.mode)?,
         });
     };
     if matches.contains_id("KEY") {
         return Err(usage(alloc, "`--why` stands in place of settings", None)?);
+    }
+    if key == RUNS {
+        return Err(usage(
+            alloc,
+            "`--why` lists rules of a setting, and `runs` is no setting",
+            None,
+        )?);
     }
     Ok(Question::Why {
         profile,
@@ -344,32 +386,30 @@ fn explain_request<'a>(
     })
 }
 
-/// The settings of each test that are asked for: without a word, those that rules decide.
+/// What is asked for of each test: without a word, the settings that rules decide.
 fn requested_settings(
     alloc: Global,
     matches: &ArgMatches<'_>,
     mode: NextestRunMode,
 ) -> Result<RequestedSettings, ParseStop> {
-    let mut asked = named_settings(alloc, matches, mode)?;
+    let mut named = named_rows(alloc, matches, mode)?;
     let is_all = matches.get_flag("all");
-    if is_all && !asked.is_empty() {
+    if is_all && !named.is_empty() {
         return Err(usage(alloc, "`--all` stands in place of settings", None)?);
     }
     if let Some(key) = matches.get_str("by") {
-        if is_all || !asked.is_empty() {
+        if is_all || !named.is_empty() {
             return Err(usage(alloc, "`--by` stands in place of settings", None)?);
         }
-        asked
-            .push(setting(alloc, key, mode)?)
-            .map_err(AllocError::from)?;
+        named.add(alloc, key, mode)?;
     }
     if is_all {
-        return Ok(RequestedSettings::These(all_settings(alloc)?));
+        return Ok(all_rows(alloc)?);
     }
-    if asked.is_empty() {
+    if named.is_empty() {
         return Ok(RequestedSettings::Decided);
     }
-    Ok(RequestedSettings::These(asked))
+    Ok(named.requested())
 }
 
 /// What is asked about a list of tests.

@@ -1,5 +1,5 @@
 -- A run as the program is asked for it.
-use Rattle.std.specs.Prelude.{◌≡◌, ℕ, List, Option, None, Some, option_and_then, option_map, string_bytes}
+use Rattle.std.specs.Prelude.{◌≡◌, ℕ, true, List, Option, None, Some, option_and_then, option_map, string_bytes}
 use Rattle.nextest_elements.specs.declared.experimental.ConfigExperimental.{ConfigExperimental}
 use Rattle.nextest_elements.specs.declared.run_mode.NextestRunMode.{NextestRunMode}
 use Rattle.nextest_rules.specs.KnownView.{features_view}
@@ -45,10 +45,10 @@ requested_of run = record {
   features = run.load.features;
 }
 
--- what is told of each test are all settings
+-- what is told of each test is whether it runs, and all settings
 abbrev pub AreAll : RequestedSettings → Type 0
 AreAll Decided = ⊥
-AreAll (These asked) = asked.items ≡ settings
+AreAll (These runs asked) = (runs ≡ true) × (asked.items ≡ settings)
 
 -- a question asks for all settings of each test of a list, in a profile and a mode
 abbrev pub AsksForAll : RequestedText → Question → Type 0

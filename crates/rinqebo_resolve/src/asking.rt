@@ -64,7 +64,10 @@ impl Asked {
             profile: self.profile.as_str(),
             mode: self.mode,
             list: ListFile::Named(LIST),
-            asked: RequestedSettings::These(all_settings(alloc)?),
+            asked: RequestedSettings::These {
+                runs: true,
+                settings: all_settings(alloc)?,
+            },
         })
     }
 

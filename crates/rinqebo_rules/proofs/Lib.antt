@@ -10,5 +10,6 @@ pub mod Copies
 pub mod Listing
 pub mod NoneHold
 pub mod RowsMore
+pub mod Selected
 pub mod ScriptRules
 pub mod Selecting

@@ -17,5 +17,6 @@ pub mod KnownOrigins
 pub mod Selections
 pub mod Unused
 pub mod Settings
+pub mod Runs
 pub mod Rows
 pub mod Scripts

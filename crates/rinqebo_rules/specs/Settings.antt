@@ -23,7 +23,7 @@ is_by_rule (Some by_script) = true
 -- the settings that are told: those that rules decide, or those that are asked for, in order
 abbrev pub reported_settings : RequestedSettings → (Setting → Option Origin) → List Setting
 reported_settings asks.Decided origin = filter (λ s. is_by_rule (origin s)) settings
-reported_settings (asks.These asked) origin = asked.items
+reported_settings (asks.These runs asked) origin = asked.items
 
 -- A setting is told: by its key in files, with its value, and with where that comes from, for the
 -- script rule that wraps the run of the test.

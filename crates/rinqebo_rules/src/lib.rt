@@ -16,6 +16,7 @@ mod reported_entries;
 mod reported_values;
 mod rows;
 mod rule_places;
+mod runs;
 mod scripts;
 mod trees;
 mod unused;

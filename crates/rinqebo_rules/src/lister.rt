@@ -9,6 +9,7 @@ ghost use Rattle.rinqebo_rules.specs.Unused.{AreUnusedIn};
 use crate::origins::Origins;
 use crate::progress::Progress;
 use crate::rows::rows_of;
+use crate::runs::{is_selected, runs_row, shows_runs};
 use crate::unused::{UnusedRules, unused_rules};
 use nextest_elements::NextestRunMode;
 use nextest_engines::{BuildPlatform, Filters, Specs, TestQuery};
@@ -46,7 +47,8 @@ pub fn reported_platform(platform: BuildPlatform) -> BuiltFor {
 }
 
 impl<'l, 'c, F: Filters, S: Specs> Lister<'l, 'c, F, S> {
-    /// Returns the settings of a test. It takes as much memory as they do, and loads nothing.
+    /// Returns whether a test runs, and its settings. It takes as much memory as they do, and loads
+    /// nothing.
     pub fn rows_of(
         &self,
         alloc: Global,
@@ -59,6 +61,7 @@ impl<'l, 'c, F: Filters, S: Specs> Lister<'l, 'c, F, S> {
             IfOk result (IsTestReported origins.old (query_in F.holds profile (test_view query.now))
             self.now.mode profile self.now.asked.now (test_view query.now)) }
     {
+        let runs = is_selected(self.profile, query, tally);
         let settings = self
             .profile
             .settings_with_source_for(self.mode, query, tally);
@@ -66,6 +69,8 @@ impl<'l, 'c, F: Filters, S: Specs> Lister<'l, 'c, F, S> {
             binary: String::from_str(alloc, query.binary_query.binary_id)?,
             name: String::from_str(alloc, query.test_name)?,
             platform: reported_platform(query.binary_query.platform),
+            runs: runs_row(alloc, self.profile, runs, origins)?,
+            shows_runs: shows_runs(self.asked, runs),
             settings: rows_of(alloc, &settings, self.asked, self.mode, origins)?,
         })
     }

@@ -176,6 +176,9 @@ pub fn rows_of<'c, F: Filters, S: Specs>(
             let decided = decided_settings(alloc, settings)?;
             these_rows(alloc, settings, &decided, mode, origins)
         }
-        RequestedSettings::These(these) => these_rows(alloc, settings, these, mode, origins),
+        RequestedSettings::These {
+            settings: these,
+            ..
+        } => { these_rows(alloc, settings, these, mode, origins) }
     }
 }

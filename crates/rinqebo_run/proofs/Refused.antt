@@ -53,7 +53,7 @@ fails_in request gathered session (Err failure) begun cause = inr (record {
 -- an answer of status 3 tells that files are refused
 refused_in : (q : Question) (session : Session) (report : Report) (n : ℕ) → AnswersQuestion q session report n
     → n ≡ 3 → ¬ AreAccepted session
-refused_in (questions.Explain profile test settings) session report n answers three =
+refused_in (questions.Explain profile test asked) session report n answers three =
     let zero : n ≡ 0 = answers.0 in
     absurd (omega arith)
 refused_in (questions.Why profile test setting) session report n answers three =
@@ -75,7 +75,7 @@ no_four n (inr (inr three)) four = absurd (omega arith)
 -- no answer has status 4
 lacking_in : {X : Type 0} (q : Question) (session : Session) (report : Report) (n : ℕ)
     → AnswersQuestion q session report n → n ≡ 4 → X
-lacking_in (questions.Explain profile test settings) session report n answers four =
+lacking_in (questions.Explain profile test asked) session report n answers four =
     let zero : n ≡ 0 = answers.0 in
     absurd (omega arith)
 lacking_in (questions.Why profile test setting) session report n answers four =
@@ -111,7 +111,7 @@ answer_reported request gathered report n m answer (inr (inr six)) = record {
 -- files are refused for which a question is not answered
 broken_in : (q : Question) (session : Session) (report : Report) → IsFailureIn session q (failures.Refused report)
     → ¬ AreAccepted session
-broken_in (questions.Explain profile test settings) session report cause = cause
+broken_in (questions.Explain profile test asked) session report cause = cause
 broken_in (questions.Why profile test setting) session report cause = cause
 broken_in (questions.List profile mode list asked) session report cause = cause
 broken_in (questions.ShowConfig profile keys with_hidden) session report cause = cause
@@ -120,7 +120,7 @@ broken_in (questions.Check deny_warnings) session report cause = absurd cause
 -- files lack the profile for which a question is not answered
 lacks_in : (q : Question) (session : Session) (report : Report) → IsFailureIn session q (failures.NoProfile report)
     → LacksProfileOf session q
-lacks_in (questions.Explain profile test settings) session report cause = cause
+lacks_in (questions.Explain profile test asked) session report cause = cause
 lacks_in (questions.Why profile test setting) session report cause = cause
 lacks_in (questions.List profile mode list asked) session report cause = cause
 lacks_in (questions.ShowConfig profile keys with_hidden) session report cause = cause

@@ -1,5 +1,5 @@
 -- What is told of the settings of a test.
-use Rattle.std.proofs.Common.{◌≡◌, ◌∙◌, List, string_bytes, subst, sym}
+use Rattle.std.proofs.Common.{◌≡◌, List, string_bytes, subst, sym}
 use Rattle.filter_language.specs.Filtersets.{marks_view}
 use Rattle.filter_language.specs.declared.filterset.Filterset.{Filterset}
 use Rattle.nextest_engines.specs.Engines.{Test}
@@ -13,17 +13,17 @@ use Rattle.nextest_profiles.specs.Meaning.{profile_meaning}
 use Rattle.nextest_profiles.specs.Profiles.{IsChainAndDefault}
 use Rattle.nextest_settings.specs.Profile.{EvaluatableModel}
 use Rattle.nextest_settings.specs.Queries.{query_in}
-use Rattle.nextest_settings.specs.declared.setting.Setting.{Setting}
 use Rattle.nextest_tables.specs.FileTexts.{names_in, IsIn}
 use Rattle.nextest_tables.specs.Written.{Name}
 use Rattle.rinqebo_rules.specs.TestOrigins.{Basis}
-use Rattle.rinqebo_rules.specs.Rows.{AreSettingsReported}
+use Rattle.rinqebo_rules.specs.Rows.{IsTestReported}
 use Rattle.rinqebo_load.specs.Accepted.{AreAccepted}
 use Rattle.rinqebo_load.specs.Sessions.{files_view, readings, IsLoadedFrom}
 use Rattle.rinqebo_load.specs.declared.session.Session.{Session}
 use Rattle.rinqebo_report.specs.declared.report.Content.{Content}
 use Rattle.rinqebo_report.specs.declared.report.Report.{Report}
 use Rattle.rinqebo_report.specs.declared.report.TestRows.{TestRows}
+use Rattle.rinqebo_request.specs.declared.request.RequestedSettings.{RequestedSettings}
 use Rattle.rinqebo_request.specs.declared.request.TestName.{TestName}
 use Rattle.rinqebo_rules.specs.Conditions.{is_met_by}
 use Rattle.rinqebo_run.proofs.Listing.{given_means}
@@ -35,17 +35,16 @@ use Rattle.platform_language.specs.declared.expression.TargetSpec.{TargetSpec}
 
 -- a test is told by a configuration that was loaded
 pub explained_here : (session : Session) (loaded : Loaded (Filterset FieldMatcher) TargetSpec) (name : Name)
-    (test : TestName) (settings these : List Setting) (asked : Test) (basis : Basis)
-    (on : EvaluatableModel (Filterset FieldMatcher)) (names : List Name) (rows : TestRows)
+    (test : TestName) (rows : RequestedSettings) (asked : Test) (basis : Basis)
+    (on : EvaluatableModel (Filterset FieldMatcher)) (names : List Name) (told : TestRows)
     → IsProfileOn is_met_by session.engines.platforms (read_by session loaded) name on
     → IsChainAndDefault (parents_in (config_parents loaded.config)) name names → basis ≡ basis_of session names
     → asked.name ≡ test.name.now → asked.binary.binary_id ≡ test.binary.now → asked.binary.platform ≡ test.platform
-    → string_bytes rows.binary ≡ asked.binary.binary_id → string_bytes rows.name ≡ asked.name → these ≡ settings
-    → AreSettingsReported basis (query_in filter_holds (profile_meaning (marks_view names_of) on) asked) test.mode
-    (profile_meaning (marks_view names_of) on) these rows.settings.items
-    → explained_by session loaded name test settings rows
-explained_here session loaded name test settings these asked basis on names rows is ends same_basis same_name binary
-    platform rows_binary rows_name same told =
+    → IsTestReported basis (query_in filter_holds (profile_meaning (marks_view names_of) on) asked) test.mode
+    (profile_meaning (marks_view names_of) on) rows asked told
+    → explained_by session loaded name test rows told
+explained_here session loaded name test rows asked basis on names told is ends same_basis same_name binary platform
+    reported =
     let profile = profile_meaning (marks_view names_of) on in
     let query = query_in filter_holds profile asked in
     record {
@@ -58,20 +57,17 @@ explained_here session loaded name test settings these asked basis on names rows
           session.engines.platforms (read_by session loaded) name on is;
       chain = names;
       is_chain = ends;
-      binary = rows_binary ∙ binary;
-      name_reported = rows_name ∙ same_name;
-      settings_reported = subst (λ b. AreSettingsReported b query test.mode profile settings rows.settings.items) same_basis
-          (subst (λ ss. AreSettingsReported basis query test.mode profile ss rows.settings.items) same told);
+      reported = subst (λ b. IsTestReported b query test.mode profile rows asked told) same_basis reported;
     }
 
 -- a report tells the settings of a test by what was loaded
-pub explains : (session : Session) (profile : Name) (test : TestName) (settings : List Setting) (report : Report)
+pub explains : (session : Session) (profile : Name) (test : TestName) (rows : RequestedSettings) (report : Report)
     (content : Content) (loaded : Loaded (Filterset FieldMatcher) TargetSpec) → AreAccepted session
     → IsLoadedFrom (readings session.engines.filters) (files_view session.gathered.now) loaded
     → IsIn (names_in loaded.config.profiles) profile → report.content ≡ content
-    → IfExplained content (explained_by session loaded profile test settings)
-    → Explains session profile test settings report
-explains session profile test settings report content loaded accepted from there same is =
+    → IfExplained content (explained_by session loaded profile test rows)
+    → Explains session profile test rows report
+explains session profile test rows report content loaded accepted from there same is =
     let engines = readings session.engines.filters in
     let Told : Content → ConfigModel Filter Spec → Type 0 =
     λ content config. IfExplained content (IsTestOf engines.meets engines.matches_test session.engines.platforms
@@ -79,12 +75,12 @@ explains session profile test settings report content loaded accepted from there
       root = string_bytes session.gathered.now.paths.workspace_root;
       config = config;
       scripts = loaded.scripts;
-    }) profile test settings session.layers.items) in
+    }) profile test rows session.layers.items) in
     record {
       acceptance = accepted;
       scripts = loaded.scripts;
       are_scripts = from.scripts;
       known = subst (λ config. IsIn (names_in config.profiles) profile) from.means there;
       told = subst (Told report.content) from.means
-          (subst (λ content. IfExplained content (explained_by session loaded profile test settings)) (sym same) is);
+          (subst (λ content. IfExplained content (explained_by session loaded profile test rows)) (sym same) is);
     }

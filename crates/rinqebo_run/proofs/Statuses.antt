@@ -23,7 +23,7 @@ use Rattle.rinqebo_load.specs.declared.session.Session.{Session}
 
 -- an answer is not want of memory
 no_five : (q : Question) → IsAnswerStatus q 5 → ⊥
-no_five (questions.Explain profile test settings) is = omega arith
+no_five (questions.Explain profile test asked) is = omega arith
 no_five (questions.Why profile test setting) is = omega arith
 no_five (questions.List profile mode list asked) is = omega arith
 no_five (questions.ShowConfig profile keys with_hidden) (inl is) = omega arith
@@ -34,7 +34,7 @@ no_five (questions.Check deny_warnings) (inr (inr is)) = omega arith
 
 -- an answer is not a write that failed
 no_six : (q : Question) → IsAnswerStatus q 6 → ⊥
-no_six (questions.Explain profile test settings) is = omega arith
+no_six (questions.Explain profile test asked) is = omega arith
 no_six (questions.Why profile test setting) is = omega arith
 no_six (questions.List profile mode list asked) is = omega arith
 no_six (questions.ShowConfig profile keys with_hidden) (inl is) = omega arith
@@ -45,7 +45,7 @@ no_six (questions.Check deny_warnings) (inr (inr is)) = omega arith
 
 -- an answer is no fault of engines
 no_two : (q : Question) → IsAnswerStatus q 2 → ⊥
-no_two (questions.Explain profile test settings) is = omega arith
+no_two (questions.Explain profile test asked) is = omega arith
 no_two (questions.Why profile test setting) is = omega arith
 no_two (questions.List profile mode list asked) is = omega arith
 no_two (questions.ShowConfig profile keys with_hidden) (inl is) = omega arith
@@ -56,7 +56,7 @@ no_two (questions.Check deny_warnings) (inr (inr is)) = omega arith
 
 -- an answer is no missing profile
 no_four : (q : Question) → IsAnswerStatus q 4 → ⊥
-no_four (questions.Explain profile test settings) is = omega arith
+no_four (questions.Explain profile test asked) is = omega arith
 no_four (questions.Why profile test setting) is = omega arith
 no_four (questions.List profile mode list asked) is = omega arith
 no_four (questions.ShowConfig profile keys with_hidden) (inl is) = omega arith
@@ -68,7 +68,7 @@ no_four (questions.Check deny_warnings) (inr (inr is)) = omega arith
 -- refused files are the answer of a check alone, which does not fail with them
 no_three : (q : Question) (session : Session) (report : Report) → IsFailureIn session q (failures.Refused report)
     → IsAnswerStatus q 3 → ⊥
-no_three (questions.Explain profile test settings) session report cause is = omega arith
+no_three (questions.Explain profile test asked) session report cause is = omega arith
 no_three (questions.Why profile test setting) session report cause is = omega arith
 no_three (questions.List profile mode list asked) session report cause is = omega arith
 no_three (questions.ShowConfig profile keys with_hidden) session report cause (inl is) = omega arith
@@ -146,7 +146,7 @@ one_or_none (suc n) low = inr (omega arith)
 -- what answers a question has a status of an answer
 status_of_answer : (q : Question) (session : Session) (report : Report) (n : ℕ) → AnswersQuestion q session report n
     → IsAnswerStatus q n
-status_of_answer (questions.Explain profile test settings) session report n answers = answers.0
+status_of_answer (questions.Explain profile test asked) session report n answers = answers.0
 status_of_answer (questions.Why profile test setting) session report n answers = answers.0
 status_of_answer (questions.List profile mode list asked) session report n answers = answers.0
 status_of_answer (questions.ShowConfig profile keys with_hidden) session report n answers =

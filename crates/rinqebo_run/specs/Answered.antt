@@ -19,8 +19,8 @@ use Rattle.rinqebo_load.specs.declared.session.Session.{Session}
 
 -- A report and a status answer a question of a session.
 abbrev pub AnswersQuestion : Question → Session → Report → ℕ → Type 0
-AnswersQuestion (questions.Explain profile test settings) session report status =
-    (status ≡ 0) × Explains session profile.now test settings.items report
+AnswersQuestion (questions.Explain profile test asked) session report status =
+    (status ≡ 0) × Explains session profile.now test asked report
 AnswersQuestion (questions.Why profile test setting) session report status =
     (status ≡ 0) × TellsReasons session profile.now test setting report
 AnswersQuestion (questions.List profile mode list asked) session report status =

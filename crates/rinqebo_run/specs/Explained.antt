@@ -1,5 +1,5 @@
 -- What is told of the settings of a test.
-use Rattle.std.specs.Prelude.{◌≡◌, Bool, List, Option, string_bytes}
+use Rattle.std.specs.Prelude.{◌≡◌, Bool, List, Option}
 use Rattle.nextest_engines.specs.Engines.{Test}
 use Rattle.nextest_engines.specs.declared.queries.BuildPlatforms.{BuildPlatforms}
 use Rattle.nextest_inheritance.specs.Parents.{parents_in}
@@ -8,12 +8,11 @@ use Rattle.nextest_load.specs.Scripts.{AreScriptsOf}
 use Rattle.nextest_profiles.specs.Profiles.{IsChainAndDefault}
 use Rattle.nextest_settings.specs.Profile.{Configured, EvaluatableModel}
 use Rattle.nextest_settings.specs.Queries.{query_in}
-use Rattle.nextest_settings.specs.declared.setting.Setting.{Setting}
 use Rattle.nextest_sources.specs.Inputs.{sources_in}
 use Rattle.nextest_tables.specs.FileTexts.{names_in, IsIn}
 use Rattle.nextest_tables.specs.Written.{Name}
 use Rattle.rinqebo_files.specs.declared.layers.Layer.{Layer}
-use Rattle.rinqebo_rules.specs.Rows.{AreSettingsReported}
+use Rattle.rinqebo_rules.specs.Rows.{IsTestReported}
 use Rattle.rinqebo_load.specs.Accepted.{AreAccepted}
 use Rattle.rinqebo_load.specs.Sessions.{files_view, readings}
 use Rattle.rinqebo_load.specs.declared.session.Session.{Session}
@@ -21,16 +20,17 @@ use Rattle.rinqebo_report.specs.declared.report.Content.{Content}
 use Rattle.rinqebo_report.specs.declared.report.Content.TheVariants as contents
 use Rattle.rinqebo_report.specs.declared.report.Report.{Report}
 use Rattle.rinqebo_report.specs.declared.report.TestRows.{TestRows}
+use Rattle.rinqebo_request.specs.declared.request.RequestedSettings.{RequestedSettings}
 use Rattle.rinqebo_request.specs.declared.request.TestName.{TestName}
 use Rattle.rinqebo_run.specs.Listed.{IsProfileOn}
 use Rattle.rinqebo_run.specs.TellsReasons.{configured_by}
 
--- A test is told as the profile of a name gives it settings on the platforms of a build: its settings
--- are those that are asked for, in order, each with its value, and with where that comes from in the
--- layers of the files and in the chain of the profile.
+-- A test is told as the profile of a name gives it settings on the platforms of a build, and as a test
+-- of a list is told: whether it runs, and the settings that are asked for, in order, each with its
+-- value, and with where that comes from in the layers of the files and in the chain of the profile.
 pub record IsTestOf {M K P : Type 0} (meets : K → P → Option Bool) (matches : M → Test → M → Bool)
     (platforms : BuildPlatforms P) (configured : Configured M K) (name : Name) (test : TestName)
-    (settings : List Setting) (layers : List Layer) (told : TestRows) : Type 0 where
+    (rows : RequestedSettings) (layers : List Layer) (told : TestRows) : Type 0 where
   -- The test, as filters see it, is the one that is named.
   pub asked : Test
   pub requested_name : asked.name ≡ test.name.now
@@ -40,19 +40,17 @@ pub record IsTestOf {M K P : Type 0} (meets : K → P → Option Bool) (matches 
   pub is_profile : IsProfileOn meets platforms configured name profile
   pub chain : List Name
   pub is_chain : IsChainAndDefault (parents_in (config_parents configured.config)) name chain
-  pub binary : string_bytes told.binary ≡ test.binary.now
-  pub name_reported : string_bytes told.name ≡ test.name.now
-  pub settings_reported : AreSettingsReported (record { layers = layers; chain = chain })
-      (query_in matches profile asked) test.mode profile settings told.settings.items
+  pub reported : IsTestReported (record { layers = layers; chain = chain })
+      (query_in matches profile asked) test.mode profile rows asked told
 
--- a fact of the test that a report tells the settings of
+-- a fact of the test that a report is about
 abbrev pub IfExplained : Content → (TestRows → Type 0) → Type 0
 IfExplained (contents.Explain asked test) P = P test
 IfExplained _ P = ⊥
 
--- A report tells the settings of a test in a profile, by what the files mean.
-pub record Explains (session : Session) (profile : Name) (test : TestName) (settings : List Setting)
-    (report : Report) : Type 0 where
+-- A report tells what a profile says of a test, by what the files mean.
+pub record Explains (session : Session) (profile : Name) (test : TestName)
+    (rows : RequestedSettings) (report : Report) : Type 0 where
   -- Every written rule holds of the files.
   pub acceptance : AreAccepted session
   -- Their scripts are those that they define.
@@ -60,7 +58,8 @@ pub record Explains (session : Session) (profile : Name) (test : TestName) (sett
   pub are_scripts : AreScriptsOf (sources_in (files_view session.gathered.now)) scripts
   -- They have the profile.
   pub known : IsIn (names_in (configured_by session scripts).config.profiles) profile
-  -- The report tells the settings that are asked for, as the profile gives them to the test.
+  -- The report tells whether the test runs, and the settings that are asked for, as the profile gives
+  -- them to the test.
   pub told : IfExplained report.content (IsTestOf (readings session.engines.filters).meets
       (readings session.engines.filters).matches_test session.engines.platforms
-      (configured_by session scripts) profile test settings session.layers.items)
+      (configured_by session scripts) profile test rows session.layers.items)

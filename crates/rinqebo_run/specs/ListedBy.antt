@@ -9,7 +9,6 @@ use Rattle.nextest_load.specs.Load.{Loaded}
 use Rattle.nextest_profiles.specs.Meaning.{configured_meaning}
 use Rattle.nextest_rules.specs.View.{id_view, script_rule_id_view}
 use Rattle.nextest_settings.specs.Profile.{Configured}
-use Rattle.nextest_settings.specs.declared.setting.Setting.{Setting}
 use Rattle.nextest_tables.specs.Written.{Name}
 use Rattle.rinqebo_report.specs.declared.origin.Origin.{Origin}
 use Rattle.rinqebo_report.specs.declared.report.ListScripts.{ListScripts}
@@ -53,12 +52,12 @@ listed_by session loaded profile mode asked =
 
 -- a test is told as the profile of a name gives it settings, by what was loaded
 abbrev pub explained_by : Session → Loaded (Filterset FieldMatcher) TargetSpec → Name → TestName
-    → List Setting → TestRows → Type 0
-explained_by session loaded profile test settings =
+    → RequestedSettings → TestRows → Type 0
+explained_by session loaded profile test asked =
     IsTestOf (readings session.engines.filters).meets
     (readings session.engines.filters).matches_test session.engines.platforms
     (configured_meaning (marks_view names_of) spec_view (read_by session loaded)) profile test
-    settings session.layers.items
+    asked session.layers.items
 
 -- what the origins of a session are looked up in, with the chain of a profile
 abbrev pub basis_of : Session → List Name → Basis

@@ -19,7 +19,7 @@ use Rattle.rinqebo_load.specs.declared.session.Session.{Session}
 
 -- A session does not answer a question. A check answers refused files, and asks for no profile.
 abbrev pub IsFailureIn : Session → Question → Failure → Type 0
-IsFailureIn session (questions.Explain profile test settings) failure =
+IsFailureIn session (questions.Explain profile test asked) failure =
     IsFailureAbout session profile.now failure
 IsFailureIn session (questions.Why profile test setting) failure =
     IsFailureAbout session profile.now failure
@@ -49,7 +49,7 @@ pub record AreRefusedFor (request : Request) (gathered : Gathered) : Type 0 wher
 
 -- the files of a session lack the profile that a question names
 abbrev pub LacksProfileOf : Session → Question → Type 0
-LacksProfileOf session (questions.Explain profile test settings) = LacksProfile session profile.now
+LacksProfileOf session (questions.Explain profile test asked) = LacksProfile session profile.now
 LacksProfileOf session (questions.Why profile test setting) = LacksProfile session profile.now
 LacksProfileOf session (questions.List profile mode list asked) = LacksProfile session profile.now
 LacksProfileOf session (questions.ShowConfig profile keys with_hidden) =

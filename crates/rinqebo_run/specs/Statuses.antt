@@ -20,7 +20,7 @@ failure_status failures.Memory = 5
 -- The exit status of an answer: 0, of leaves also 1 where there are none, and of a check also 1 for
 -- warnings that are denied, and 3 for files that are refused.
 abbrev pub IsAnswerStatus : Question → ℕ → Type 0
-IsAnswerStatus (questions.Explain profile test settings) n = n ≡ 0
+IsAnswerStatus (questions.Explain profile test asked) n = n ≡ 0
 IsAnswerStatus (questions.Why profile test setting) n = n ≡ 0
 IsAnswerStatus (questions.List profile mode list asked) n = n ≡ 0
 IsAnswerStatus (questions.ShowConfig profile keys with_hidden) n = (n ≡ 0) ⊎ (n ≡ 1)

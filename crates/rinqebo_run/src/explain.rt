@@ -1,4 +1,4 @@
-//! The settings of a test.
+//! Whether a test runs, and its settings.
 ghost use Rattle.std.specs.Prelude.{IfErr, IfOk};
 ghost use Rattle.nextest_tables.specs.FileTexts.{names_in, IsIn};
 ghost use Rattle.rinqebo_findings.specs.Failures.{IsFailureAbout};
@@ -10,7 +10,7 @@ use crate::asked::requested_of;
 use crate::idle::findings_on;
 use crate::list::profile_on;
 use filter_engine::NextestTally;
-use nextest_config::{DefaultConfigWarnings, Setting};
+use nextest_config::DefaultConfigWarnings;
 use rinqebo_findings::{config_with, report_of};
 use rinqebo_load::{Config, Failure, Session, chain_of_profile};
 use rinqebo_report::{Content, Report};
@@ -18,26 +18,25 @@ use rinqebo_request::{RequestedSettings, TestName};
 use rinqebo_rules::{Lister, Origins, query_of};
 use std::alloc::{AllocError, Global};
 
-/// The settings of a test, by a configuration: the rows of a list of this one test.
+/// Whether a test runs and its settings, by a configuration: the rows of a list of this one test.
 fn explained<'c>(
     alloc: Global,
     session: &'c Session<'_>,
     config: &'c Config,
     profile: &'c str,
     test: &TestName<'_>,
-    settings: &[Setting],
+    asked: &RequestedSettings,
 ) -> Result<Content, AllocError>
     requires { IsIn (names_in config.now.config.profiles) profile.now }
     ensures { IfOk result (λ content. IfExplained content (explained_by session.now config.now
-        profile.now test.now settings.now)) }
+        profile.now test.now asked.now)) }
 {
     let chain = chain_of_profile(alloc, config, profile)?;
     let on = profile_on(alloc, session, config, profile)?;
-    let asked = RequestedSettings::These(Vec::from_slice(alloc, settings)?);
     let asking = Lister {
         profile: &on,
         mode: test.mode,
-        asked: &asked,
+        asked,
     };
     let query = query_of(test);
     let mut tally = NextestTally::new();
@@ -49,21 +48,21 @@ fn explained<'c>(
     })
 }
 
-/// The settings of a test.
+/// Whether a test runs, and its settings.
 pub fn explain(
     alloc: Global,
     session: &Session<'_>,
     profile: &str,
     test: &TestName<'_>,
-    settings: &[Setting],
+    asked: &RequestedSettings,
 ) -> Result<Report, Failure>
-    ensures ok { IfOk result (Explains session.now profile.now test.now settings.now) }
+    ensures ok { IfOk result (Explains session.now profile.now test.now asked.now) }
     ensures about { IfOk result (IsReportOf session.now) }
     ensures err { IfErr result (IsFailureAbout session.now profile.now) }
 {
     let mut warnings = DefaultConfigWarnings::new(alloc);
     let config = config_with(alloc, session, profile, &mut warnings)?;
-    let content = explained(alloc, &*session, &config, profile, test, settings)?;
+    let content = explained(alloc, &*session, &config, profile, test, asked)?;
     let findings = findings_on(alloc, session, &warnings, &content)?;
     let report = report_of(alloc, session, findings, Vec::new(alloc), content)?;
     Ok(report)

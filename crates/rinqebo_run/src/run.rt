@@ -85,8 +85,8 @@ fn answer_in<P: Progress>(
         Question::Explain {
             profile,
             test,
-            settings,
-        } => answered(explain(alloc, session, *profile, test, settings)),
+            asked,
+        } => answered(explain(alloc, session, *profile, test, asked)),
         Question::Why {
             profile,
             test,

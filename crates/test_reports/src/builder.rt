@@ -5,8 +5,8 @@ use crate::parts::{
 };
 use rinqebo_report::{
     Asked, BuiltFor, Condition, ConditionAnswer, Content, Entry, Finding, Level, ListScripts,
-    ListWrapper, Origin, Report, Rule, RunMode, SettingRow, Source, SourceKind, TableMember,
-    TestId, TestRows, Unreached, Value,
+    ListWrapper, Origin, Report, Rule, RunMode, Scalar, SettingRow, Source, SourceKind,
+    TableMember, TestId, TestRows, Unreached, Value,
 };
 use std::alloc::{AllocError, Global};
 use std::mem;
@@ -52,6 +52,15 @@ fn no_scripts(alloc: Global) -> ListScripts {
         setup: Vec::new(alloc),
         list_wrappers: Vec::new(alloc),
     }
+}
+
+/// The row of a test that runs, which has no origin yet.
+fn runs_row(alloc: Global) -> Result<SettingRow, AllocError> {
+    Ok(SettingRow {
+        key: String::from_str(alloc, "runs")?,
+        value: Some(Value::Scalar(Scalar::Boolean(true))),
+        origins: Vec::new(alloc),
+    })
 }
 
 impl Builder {
@@ -135,6 +144,7 @@ impl Builder {
             "asked" => self.set_requested(line),
             "explain" | "why" | "list" | "show-config" => self.set_command(line),
             "test" => self.add_test(line),
+            "runs" => self.show_runs(line),
             "setting" => self.add_setting(line),
             "rule" => self.add_rule(line),
             "entry" | "hidden" => self.add_entry(line),
@@ -209,6 +219,8 @@ impl Builder {
             binary: line.text(self.alloc, 1)?,
             name: line.text(self.alloc, 2)?,
             platform,
+            runs: runs_row(self.alloc)?,
+            shows_runs: false,
             settings: Vec::new(self.alloc),
         };
         self.tests.push(test).map_err(AllocError::from)?;
@@ -223,6 +235,20 @@ impl Builder {
             _ => Command::ShowConfig,
         };
         self.command = Some(command);
+        Ok(())
+    }
+
+    fn show_runs(&mut self, line: &Line) -> Result<(), RowError> {
+        let runs = match line.word(1)? {
+            "true" => true,
+            "false" => false,
+            _ => return Err(RowError::NoRow),
+        };
+        let Some(test) = self.tests.last_mut() else {
+            return Err(RowError::NoRow);
+        };
+        test.runs.value = Some(Value::Scalar(Scalar::Boolean(runs)));
+        test.shows_runs = true;
         Ok(())
     }
 
@@ -319,9 +345,10 @@ impl Builder {
         Ok(())
     }
 
-    /// The last setting of the last test.
+    /// The last setting of the last test, or else the row of whether it runs.
     fn last_setting(&mut self) -> Result<&mut SettingRow, RowError> {
         match self.tests.last_mut() {
+            Some(test) if test.settings.is_empty() => Ok(&mut test.runs),
             Some(test) => test.settings.last_mut().ok_or(RowError::NoRow),
             None => Err(RowError::NoRow),
         }

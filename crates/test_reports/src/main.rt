@@ -11,6 +11,7 @@
 //! | `asked PROFILE CHAIN MODE HOST TARGET` | what is asked for; the chain has spaces in it |
 //! | `explain`, `why KEY`, `list` or `show-config` | the command; without one it is `check` |
 //! | `test BINARY NAME PLATFORM` | a test |
+//! | `runs true`, `runs false` | pages show whether the test runs; without it, it runs and they do not |
 //! | `setting KEY` | a setting of the test |
 //! | `entry KEY`, `hidden KEY` | a leaf of the configuration |
 //! | `rule VERDICT` | a rule |
@@ -18,7 +19,7 @@
 //! | `value KIND TEXT` | the value of the setting, rule or leaf: `boolean`, `integer`, `text` or `duration` |
 //! | `texts TEXT ..`, `table` | the value is a list of texts, or a table |
 //! | `field KEY KIND TEXT` | a member of the table |
-//! | `built-in`, `default-table` | where the setting, rule or leaf comes from |
+//! | `built-in`, `default-table` | where the setting, rule or leaf comes from, or what says that the test runs |
 //! | `profile`, `override` or `script`, then `PROFILE INDEX SOURCE FIRST LAST` and perhaps a range | the same, with the place of the source from 0, and lines |
 //! | `file SOURCE FIRST LAST` and perhaps a range | the same, of what stands beside all profiles |
 //! | `unused`, and such a rule behind it | a rule that holds for no test |
@@ -30,7 +31,7 @@
 //! | `expression TEXT FROM TO` | the expression, and the span of it that is wrong |
 //! | `expected TEXT`, `help TEXT` | remarks on it |
 //! | `unreached SOURCE NAME ..` | checks that were not reached |
-//! | `print FORM ..` | what is printed: `text`, `colour`, `json`, `findings`, `concise`, `coloured-concise` or `github:FOLDER` |
+//! | `print FORM ..` | what is printed: `text`, `colour`, `grouped`, `json`, `findings`, `concise`, `coloured-concise` or `github:FOLDER` |
 //! | `nearest NAME KNOWN ..` | the known name that is nearest to a name is printed |
 //!
 //! A range is the line and the column of its start, and then those of its end.

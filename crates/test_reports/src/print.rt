@@ -48,6 +48,7 @@ fn in_form(alloc: Global, report: &Report, form: &str) -> Result<String, RowErro
     let text = match form {
         "text" => render(alloc, report, Format::Text, Colour::Plain)?,
         "colour" => render(alloc, report, Format::Text, Colour::Coloured)?,
+        "grouped" => render(alloc, report, Format::Grouped, Colour::Plain)?,
         "json" => render(alloc, report, Format::Json, Colour::Plain)?,
         "findings" => render_findings(alloc, report, Colour::Plain)?,
         "concise" => render(alloc, report, Format::Concise, Colour::Plain)?,

@@ -5,7 +5,7 @@ use Rattle.rinqebo_run.proofs.explain.explain.Goals as goal
 pub returns-clause-ok : goal.returns-clause-ok
 returns-clause-ok c =
     let config = c.in_ok-config.ensures in
-    explains c.args.session.now c.args.profile.now c.args.test.now c.args.settings.now c.in_ok-report.report
+    explains c.args.session.now c.args.profile.now c.args.test.now c.args.asked.now c.in_ok-report.report
     c.in_ok-content.content c.in_ok-config.config config.accepted config.means config.known c.in_ok-report.ensures.content
     c.in_ok-content.ensures
 

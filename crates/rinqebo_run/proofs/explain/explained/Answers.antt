@@ -13,11 +13,9 @@ pub returns : goal.returns
 returns c =
     let session = c.args.session.now in
     let query = c.query_of-query in
-    let told = c.in_ok-rows.ensures.told in
-    explained_here session c.args.config.now c.args.profile.now c.args.test.now c.args.settings.now _
+    explained_here session c.args.config.now c.args.profile.now c.args.test.now c.args.asked.now
     (test_view query.result) c.new-origins.result c.in_ok-on.on (borrowed_view c.in_ok-chain.chain.items)
     c.in_ok-rows.rows c.in_ok-on.ensures (c.in_ok-chain.ensures c.requires)
     (basis_here session c.new-origins.result _ _ c.new-origins.ensures c.deref.ensures.value
     ∙ ap (λ names. basis_of session (borrowed_view names)) c.deref-2.ensures.value)
-    query.ensures.name query.ensures.binary query.ensures.platform told.binary told.name
-    c.in_ok-from_slice.ensures.items told.settings_reported
+    query.ensures.name query.ensures.binary query.ensures.platform c.in_ok-rows.ensures.told
