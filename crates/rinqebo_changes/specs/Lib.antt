@@ -1,0 +1,9 @@
+pub mod Same
+pub mod ValueViews
+pub mod SameOrigin
+pub mod OriginViews
+pub mod Changes
+pub mod Classes
+pub mod Groups
+pub mod Pages
+pub mod Documents

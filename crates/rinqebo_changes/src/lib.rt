@@ -1,0 +1,20 @@
+//! What changes between two sides of a configuration: which settings of which tests have other
+//! values, put together by value and origin.
+#![tactic(auto)]
+
+mod change;
+mod classes;
+mod diff;
+mod groups;
+mod json_page;
+mod same;
+mod same_origin;
+mod text_page;
+
+pub use change::{Comparison, RowChange, TestChanges, changes_of};
+pub use classes::{ClassRule, Item, classes_of, items_of};
+pub use diff::{BinaryTests, Diff, Side};
+pub use groups::{Group, groups_of};
+pub use json_page::{diff_document, diff_json};
+pub use same_origin::TwoSources;
+pub use text_page::diff_text;
