@@ -44,11 +44,7 @@ fn reported_mode(mode: NextestRunMode) -> RunMode
 fn is_assumed(source: TripleSource) -> bool
     ensures { result ≡ is_assumed source }
 {
-    match source {
-        TripleSource::Fallback => true,
-        TripleSource::Host | TripleSource::Target | TripleSource::List | TripleSource::Variable =>
-            false,
-    }
+    matches!(source, TripleSource::Fallback)
 }
 
 /// What is asked about.
