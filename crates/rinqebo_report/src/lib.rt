@@ -32,7 +32,7 @@ pub use format::{Format, render, render_findings};
 pub use hint::nearest_name;
 pub use json_document::{document, render_json};
 pub use laws::{law_colours, law_durations};
-pub use list_page::{render_list_end, render_listed};
+pub use list_page::{render_list_end, render_list_head, render_listed};
 pub use origin::{
     FileLines, FilePlace, Origin, Part, Position, Range, Source, SourceKind, Written,
 };

@@ -7,7 +7,8 @@ use Rattle.nextest_engines.specs.declared.queries.BuildPlatforms.{BuildPlatforms
 use Rattle.nextest_engines.specs.declared.queries.TestQuery.{TestQuery}
 use Rattle.filter_engine.specs.Compiling.{names_of}
 use Rattle.filter_engine.specs.declared.compiling.FieldMatcher.{FieldMatcher}
-use Rattle.nextest_inheritance.specs.Parents.{with_default}
+use Rattle.nextest_inheritance.specs.Parents.{parents_in, with_default}
+use Rattle.nextest_load.specs.Config.{config_parents}
 use Rattle.nextest_load.specs.Load.{Loaded}
 use Rattle.nextest_settings.specs.Chains.{fields_of, overrides_of, script_rules_of}
 use Rattle.nextest_settings.specs.Profile.{Configured, profile_of}
@@ -29,6 +30,8 @@ use Rattle.platform_language.specs.Expressions.{spec_view}
 use Rattle.platform_language.specs.declared.expression.TargetSpec.{TargetSpec}
 use Rattle.platform_table.specs.declared.Platform.{Platform}
 use Rattle.rinqebo_run.proofs.Meant.{reasons_of_texts}
+use Rattle.rinqebo_run.proofs.Requests.{requested_meant}
+use Rattle.rinqebo_run.specs.Requested.{IsRequestedIn}
 use Rattle.rinqebo_load.specs.Accepted.{AreAccepted}
 use Rattle.rinqebo_rules.specs.Conditions.{is_met_by, filter_matches, default_filter_here}
 use Rattle.rinqebo_run.specs.Reasons.{AreRulesReported}
@@ -78,7 +81,7 @@ pub why_moved : (content : Content) (P Q : TestId → List ℕ → List Rule →
     → ((named : TestId) (key : List ℕ) (rules : List Rule) → P named key rules → Q named key rules)
     → IfWhy content P → IfWhy content Q
 why_moved (contents.Explain asked test) P Q moved is = absurd is
-why_moved (contents.Why asked test key rules) P Q moved is = moved test (string_bytes key) rules.items is
+why_moved (contents.Why asked test key rules is_ignored) P Q moved is = moved test (string_bytes key) rules.items is
 why_moved (contents.List asked tests unused scripts) P Q moved is = absurd is
 why_moved (contents.ShowConfig asked entries) P Q moved is = absurd is
 why_moved contents.Check P Q moved is = absurd is
@@ -95,8 +98,9 @@ pub tells : (session : Session) (profile : Name) (test : TestName) (s : Setting)
       config = loaded.config;
       scripts = loaded.scripts;
     }) profile test s rules)
+    → IsRequestedIn session (parents_in (config_parents loaded.config)) profile test.mode content
     → TellsReasons session profile test s report
-tells session profile test s report content loaded accepted from there same is =
+tells session profile test s report content loaded accepted from there same is requested =
     let engines = readings session.engines.filters in
     let read : Configured (Filterset FieldMatcher) TargetSpec = record {
       root = string_bytes session.gathered.now.paths.workspace_root;
@@ -121,4 +125,5 @@ tells session profile test s report content loaded accepted from there same is =
           ))
           (subst (λ content. IfWhy content (λ named key rules. IsTestNamed test named × (key ≡ key_text s test.mode)
           × AreReasonsIn session.layers.items is_met_by filter_matches session.engines.platforms read profile test s rules)) (sym same) is);
+      requested = requested_meant session profile test.mode report.content content loaded from same requested;
     }

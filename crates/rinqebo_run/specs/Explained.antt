@@ -1,9 +1,10 @@
 -- What is told of the settings of a test.
-use Rattle.std.specs.Prelude.{◌≡◌, Bool, List, Option}
+use Rattle.std.specs.Prelude.{◌≡◌, Bool, false, List, Option}
 use Rattle.nextest_engines.specs.Engines.{Test}
 use Rattle.nextest_engines.specs.declared.queries.BuildPlatforms.{BuildPlatforms}
 use Rattle.nextest_inheritance.specs.Parents.{parents_in}
 use Rattle.nextest_load.specs.Config.{ScriptTables, config_parents}
+use Rattle.nextest_lists.specs.Lists.{ListTest}
 use Rattle.nextest_load.specs.Scripts.{AreScriptsOf}
 use Rattle.nextest_profiles.specs.Profiles.{IsChainAndDefault}
 use Rattle.nextest_settings.specs.Profile.{Configured, EvaluatableModel}
@@ -14,6 +15,7 @@ use Rattle.nextest_tables.specs.Written.{Name}
 use Rattle.rinqebo_files.specs.declared.layers.Layer.{Layer}
 use Rattle.rinqebo_rules.specs.Rows.{IsTestReported}
 use Rattle.rinqebo_load.specs.Accepted.{AreAccepted}
+use Rattle.rinqebo_load.specs.Meant.{config_meant}
 use Rattle.rinqebo_load.specs.Sessions.{files_view, readings}
 use Rattle.rinqebo_load.specs.declared.session.Session.{Session}
 use Rattle.rinqebo_report.specs.declared.report.Content.{Content}
@@ -23,6 +25,7 @@ use Rattle.rinqebo_report.specs.declared.report.TestRows.{TestRows}
 use Rattle.rinqebo_request.specs.declared.request.RequestedSettings.{RequestedSettings}
 use Rattle.rinqebo_request.specs.declared.request.TestName.{TestName}
 use Rattle.rinqebo_run.specs.Listed.{IsProfileOn}
+use Rattle.rinqebo_run.specs.Requested.{IsRequestedIn}
 use Rattle.rinqebo_run.specs.TellsReasons.{configured_by}
 
 -- A test is told as the profile of a name gives it settings on the platforms of a build, and as a test
@@ -31,17 +34,18 @@ use Rattle.rinqebo_run.specs.TellsReasons.{configured_by}
 pub record IsTestOf {M K P : Type 0} (meets : K → P → Option Bool) (matches : M → Test → M → Bool)
     (platforms : BuildPlatforms P) (configured : Configured M K) (name : Name) (test : TestName)
     (rows : RequestedSettings) (layers : List Layer) (told : TestRows) : Type 0 where
-  -- The test, as filters see it, is the one that is named.
-  pub asked : Test
-  pub requested_name : asked.name ≡ test.name.now
-  pub requested_binary : asked.binary.binary_id ≡ test.binary.now
-  pub requested_platform : asked.binary.platform ≡ test.platform
+  -- The test, as filters see it, is the one that is named. No list says that it is ignored.
+  pub asked : ListTest
+  pub requested_name : asked.test.name ≡ test.name.now
+  pub requested_binary : asked.test.binary.binary_id ≡ test.binary.now
+  pub requested_platform : asked.test.binary.platform ≡ test.platform
+  pub requested_flag : asked.ignored ≡ false
   pub profile : EvaluatableModel M
   pub is_profile : IsProfileOn meets platforms configured name profile
   pub chain : List Name
   pub is_chain : IsChainAndDefault (parents_in (config_parents configured.config)) name chain
   pub reported : IsTestReported (record { layers = layers; chain = chain })
-      (query_in matches profile asked) test.mode profile rows asked told
+      (query_in matches profile asked.test) test.mode profile rows asked told
 
 -- a fact of the test that a report is about
 abbrev pub IfExplained : Content → (TestRows → Type 0) → Type 0
@@ -63,3 +67,6 @@ pub record Explains (session : Session) (profile : Name) (test : TestName)
   pub told : IfExplained report.content (IsTestOf (readings session.engines.filters).meets
       (readings session.engines.filters).matches_test session.engines.platforms
       (configured_by session scripts) profile test rows session.layers.items)
+  -- It says what was asked for.
+  pub requested : IsRequestedIn session (parents_in (config_parents (config_meant session))) profile
+      test.mode report.content

@@ -3,7 +3,8 @@ use Rattle.std.specs.Prelude.{◌≡◌, ℕ, List, [], ◌∷◌, ◌++◌, Boo
 use Rattle.nextest_engines.specs.Engines.{Test}
 use Rattle.nextest_engines.specs.declared.queries.BuildPlatforms.{BuildPlatforms}
 use Rattle.filter_engine.specs.Engine.{Filter}
-use Rattle.nextest_load.specs.Config.{ScriptTables, config_of}
+use Rattle.nextest_inheritance.specs.Parents.{parents_in}
+use Rattle.nextest_load.specs.Config.{ScriptTables, config_of, config_parents}
 use Rattle.nextest_load.specs.Scripts.{AreScriptsOf}
 use Rattle.nextest_profiles.specs.Profiles.{IsProfileOf}
 use Rattle.nextest_settings.specs.Profile.{Configured, EarlyModel, profile_on}
@@ -24,6 +25,8 @@ use Rattle.rinqebo_request.specs.Keys.{key_text}
 use Rattle.rinqebo_request.specs.declared.request.TestName.{TestName}
 use Rattle.platform_language.specs.Expressions.{Spec}
 use Rattle.rinqebo_load.specs.Accepted.{AreAccepted}
+use Rattle.rinqebo_load.specs.Meant.{config_meant}
+use Rattle.rinqebo_run.specs.Requested.{IsRequestedIn}
 use Rattle.rinqebo_run.specs.Reasons.{AreRulesReported}
 use Rattle.rinqebo_load.specs.Sessions.{files_view, readings}
 use Rattle.rinqebo_rules.specs.SettingRules.{rules_for}
@@ -74,7 +77,7 @@ pub record IsTestNamed (test : TestName) (named : TestId) : Type 0 where
 
 -- a fact of the test, the key and the rules that a report tells
 abbrev pub IfWhy : Content → (TestId → List ℕ → List Rule → Type 0) → Type 0
-IfWhy (contents.Why asked test key rules) P = P test (string_bytes key) rules.items
+IfWhy (contents.Why asked test key rules is_ignored) P = P test (string_bytes key) rules.items
 IfWhy _ P = ⊥
 
 -- A report tells the rules of a setting for a test in a profile, by what the files mean.
@@ -94,3 +97,6 @@ pub record TellsReasons (session : Session) (profile : List ℕ) (test : TestNam
       × AreReasonsIn session.layers.items (readings session.engines.filters).meets
       (readings session.engines.filters).matches_test session.engines.platforms
       (configured_by session scripts) profile test s rules)
+  -- It says what was asked for.
+  pub requested : IsRequestedIn session (parents_in (config_parents (config_meant session))) profile
+      test.mode report.content

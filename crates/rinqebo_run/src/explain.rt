@@ -1,16 +1,20 @@
 //! Whether a test runs, and its settings.
 ghost use Rattle.std.specs.Prelude.{IfErr, IfOk};
+ghost use Rattle.nextest_inheritance.specs.Parents.{parents_in};
+ghost use Rattle.nextest_load.specs.Config.{config_parents};
 ghost use Rattle.nextest_tables.specs.FileTexts.{names_in, IsIn};
 ghost use Rattle.rinqebo_findings.specs.Failures.{IsFailureAbout};
 ghost use Rattle.rinqebo_findings.specs.Reports.{IsReportOf};
 ghost use Rattle.rinqebo_run.specs.Explained.{Explains, IfExplained};
 ghost use Rattle.rinqebo_run.specs.ListedBy.{explained_by};
+ghost use Rattle.rinqebo_run.specs.Requested.{IsRequestedIn};
 
 use crate::asked::requested_of;
 use crate::idle::findings_on;
 use crate::list::profile_on;
 use filter_engine::NextestTally;
 use nextest_config::DefaultConfigWarnings;
+use nextest_lists::ListedTest;
 use rinqebo_findings::{config_with, report_of};
 use rinqebo_load::{Config, Failure, Session, chain_of_profile};
 use rinqebo_report::{Content, Report};
@@ -28,10 +32,13 @@ fn explained<'c>(
     asked: &RequestedSettings,
 ) -> Result<Content, AllocError>
     requires { IsIn (names_in config.now.config.profiles) profile.now }
-    ensures { IfOk result (λ content. IfExplained content (explained_by session.now config.now
+    ensures told { IfOk result (λ content. IfExplained content (explained_by session.now config.now
         profile.now test.now asked.now)) }
+    ensures requested { IfOk result (IsRequestedIn session.now
+        (parents_in (config_parents config.now.config)) profile.now test.now.mode) }
 {
     let chain = chain_of_profile(alloc, config, profile)?;
+    let requested = requested_of(alloc, session, profile, &chain, test.mode)?;
     let on = profile_on(alloc, session, config, profile)?;
     let asking = Lister {
         profile: &on,
@@ -39,11 +46,15 @@ fn explained<'c>(
         asked,
     };
     let query = query_of(test);
+    let listed = ListedTest {
+        query,
+        ignored: false,
+    };
     let mut tally = NextestTally::new();
     let mut origins = Origins::new(alloc, &session.layers, &chain);
-    let rows = asking.rows_of(alloc, &query, &mut tally, &mut origins)?;
+    let rows = asking.rows_of(alloc, &listed, &mut tally, &mut origins)?;
     Ok(Content::Explain {
-        asked: requested_of(alloc, session, profile, &chain, test.mode)?,
+        asked: requested,
         test: rows,
     })
 }

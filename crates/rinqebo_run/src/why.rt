@@ -2,8 +2,9 @@
 ghost use Rattle.std.specs.Prelude.{◌≡◌, IfErr, IfOk, List, map, option_map};
 ghost use Rattle.filter_language.specs.declared.filterset.Filterset.{Filterset};
 ghost use Rattle.filter_engine.specs.declared.compiling.FieldMatcher.{FieldMatcher};
-ghost use Rattle.nextest_inheritance.specs.Parents.{with_default};
+ghost use Rattle.nextest_inheritance.specs.Parents.{parents_in, with_default};
 ghost use Rattle.nextest_inheritance.specs.View.{borrowed_view};
+ghost use Rattle.nextest_load.specs.Config.{config_parents};
 ghost use Rattle.nextest_settings.specs.Chains.{fields_of};
 ghost use Rattle.nextest_settings.specs.Profile.{Configured, profile_of};
 ghost use Rattle.nextest_settings.specs.Settings.{fallback_of};
@@ -18,6 +19,7 @@ ghost use Rattle.rinqebo_findings.specs.Failures.{IsFailureAbout};
 ghost use Rattle.rinqebo_findings.specs.Reports.{IsReportOf};
 ghost use Rattle.rinqebo_rules.specs.RuleViews.{setting_rule_view, Rule as ReadRule};
 ghost use Rattle.rinqebo_rules.specs.declared.conditions.Asking.{Asking};
+ghost use Rattle.rinqebo_run.specs.Requested.{IsRequestedIn};
 ghost use Rattle.rinqebo_run.specs.TellsReasons.{AreReasons, AreReasonsIn, IfWhy, IsTestNamed, TellsReasons};
 ghost use Rattle.rinqebo_rules.specs.Told.{reported_of, value_view};
 ghost use Rattle.platform_language.specs.declared.expression.TargetSpec.{TargetSpec};
@@ -227,7 +229,10 @@ fn reasons<'c>(
     test: &'c TestName<'_>,
     setting: Setting,
 ) -> Result<Content, AllocError>
-    ensures { (configured : Configured (Filterset FieldMatcher) TargetSpec)
+    ensures requested { IsIn (names_in config.now.config.profiles) profile.now
+        → IfOk result (IsRequestedIn session.now
+        (parents_in (config_parents config.now.config)) profile.now test.now.mode) }
+    ensures told { (configured : Configured (Filterset FieldMatcher) TargetSpec)
         → configured.config ≡ config.now.config
         → IsIn (names_in config.now.config.profiles) profile.now
         → IfOk result (λ content. IfWhy content (λ named key rules. IsTestNamed test.now named
@@ -245,6 +250,7 @@ fn reasons<'c>(
         test: named,
         key,
         rules,
+        is_ignored: false,
     })
 }
 

@@ -1,7 +1,7 @@
 use Rattle.std.proofs.Common.{◌≡◌, ◌++◌, take, string_bytes}
 use Rattle.rinqebo_report.specs.Pages.{rules_runs}
 use Rattle.rinqebo_report.specs.Pieces.{page_text}
-use Rattle.rinqebo_report.proofs.why_page.add_why.Given as goal
+use Rattle.rinqebo_report.proofs.why_page.add_rules.Given as goal
 
 abbrev pub invariant-loop-place : goal.invariant-loop-place
 invariant-loop-place l =

@@ -1,6 +1,6 @@
 use Rattle.std.proofs.Common.{arith, sym, ◌∙◌, append-nil}
 use Rattle.std.proofs.lemmas.Grind.{common_steps}
-use Rattle.nextest_lists.proofs.suites.keys_of.Goals as goal
+use Rattle.nextest_lists.proofs.suites.cases_of.Goals as goal
 
 pub loop-name-preserved : goal.loop-name-preserved
 loop-name-preserved c = grind (arith, common_steps)

@@ -1,5 +1,5 @@
 use Rattle.rinqebo_report.proofs.Pages.{rules_more}
-use Rattle.rinqebo_report.proofs.why_page.add_why.Goals as goal
+use Rattle.rinqebo_report.proofs.why_page.add_rules.Goals as goal
 
 pub loop-place-preserved : goal.loop-place-preserved
 loop-place-preserved c =
