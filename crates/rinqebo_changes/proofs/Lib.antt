@@ -1,4 +1,4 @@
 mod Deciding
 mod SameValues
 mod SameOrigins
-mod Classes
+mod ClassLists

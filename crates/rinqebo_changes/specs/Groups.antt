@@ -1,5 +1,5 @@
 -- The groups of a page.
-use Rattle.std.specs.Prelude.{◌≡◌, List, [], ◌∷◌, map}
+use Rattle.std.specs.Prelude.{◌≡◌, List, [], ◌∷◌, length, map}
 use Rattle.std.specs.List.{AllZip}
 use Rattle.rinqebo_changes.specs.declared.change.TestChanges.{TestChanges}
 use Rattle.rinqebo_changes.specs.declared.classes.ClassRule.TheVariants.{Row, Binary}
@@ -11,6 +11,7 @@ use Rattle.rinqebo_changes.specs.Classes.{item_view, items_of, same_item, AreCla
 pub record IsGroup (class : List Item) (group : Group) : Type 0 where
   pub others : List Item
   pub head : class ≡ group.head ∷ others
+  pub count : group.count ≡ length class
   pub binaries : AreClasses (same_item Binary) class (map (λ binary. binary.items) group.binaries.items)
 
 -- Groups are those of the changes of tests: each is of a class of changes of the same setting with the

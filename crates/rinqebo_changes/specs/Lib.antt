@@ -7,3 +7,5 @@ pub mod Classes
 pub mod Groups
 pub mod Pages
 pub mod Documents
+pub mod GithubPage
+pub mod MarkdownPage

@@ -12,6 +12,8 @@ use std::alloc::{AllocError, Global};
 pub struct Group<'c> {
     /// The change of the first of them.
     pub head: Item<'c>,
+    /// How many tests it has.
+    pub count: usize,
     /// The changes of all of them, by binaries.
     pub binaries: Vec<Vec<Item<'c>>>,
 }
@@ -26,6 +28,7 @@ pub fn groups_of<'c>(alloc: Global, tests: &'c [TestChanges]) -> Result<Vec<Grou
         if let Some(head) = class.first() {
             groups.push(Group {
                 head: *head,
+                count: class.len(),
                 binaries: classes_of(alloc, ClassRule::Binary, class)?,
             })?;
         }

@@ -39,7 +39,7 @@ pub fn origins_text(alloc: Global, side: &Side, origins: &[Origin]) -> Result<St
 }
 
 /// The key of the right side, where it is another one.
-fn other_key(alloc: Global, row: &RowChange) -> Result<String, AllocError>
+pub fn other_key(alloc: Global, row: &RowChange) -> Result<String, AllocError>
     ensures { IfOk result (λ text. string_bytes text ≡ other_key row.now) }
 {
     let mut text = String::new(alloc);

@@ -1,8 +1,8 @@
 //! The command `diff` and its options.
 use crate::options::{
-    flag, keys, option, with_files, with_output, with_platforms, with_profile, word,
+    MODES, flag, keys, option, with_files, with_output, with_platforms, with_profile, word,
 };
-use clap::{ArgAction, Command};
+use clap::{Arg, ArgAction, Command};
 use std::alloc::{AllocError, Global};
 
 /// The formats of a diff.
@@ -43,18 +43,22 @@ pub const TO_OPTIONS: [(&str, &str); 12] = [
     ("to-list", "LIST"),
 ];
 
+/// An option of the right side.
+fn right_option<'a>(alloc: Global, name: &'a str, value: &'a str) -> Arg<'a> {
+    let help = "In place of the option without `to-`,\non the right side";
+    let one = option(alloc, name, value, help);
+    match name {
+        "to-mode" => one.value_parser(MODES).hide_possible_values(true),
+        "to-tool-config-file" => one.action(ArgAction::Append),
+        _ => one,
+    }
+}
+
 /// The options of the right side.
 fn with_right_side<'a>(alloc: Global, command: Command<'a>) -> Result<Command<'a>, AllocError> {
-    let help = "In place of the option without `to-`,\non the right side";
     let mut command = command;
     for (name, value) in TO_OPTIONS.iter() {
-        let one = option(alloc, *name, *value, help);
-        let one = if *name == "to-tool-config-file" {
-            one.action(ArgAction::Append)
-        } else {
-            one
-        };
-        command = command.arg(one)?;
+        command = command.arg(right_option(alloc, *name, *value))?;
     }
     Ok(command)
 }
@@ -70,7 +74,10 @@ pub fn diff_command<'a>(alloc: Global) -> Result<Command<'a>, AllocError> {
         .about("Show which tests change between two files, profiles, platforms or lists")
         .after_help(DIFF_NOTES)
         .arg(list.required(true))?
-        .arg(keys(alloc, "Settings to compare, or `runs` [default: all]"))?
+        .arg(keys(
+            alloc,
+            "Settings to compare, or a table of them, or `runs`\n[default: all]",
+        ))?
         .arg(flag(alloc, "all", "List each test of a group"))?
         .arg(flag(
             alloc,
@@ -79,12 +86,7 @@ pub fn diff_command<'a>(alloc: Global) -> Result<Command<'a>, AllocError> {
         ))?;
     let command = with_profile(alloc, command)?;
     let command = with_files(alloc, command)?;
-    let command = with_platforms(
-        alloc,
-        command,
-        "Host triple [default: that of LIST, else\nx86_64-unknown-linux-gnu]",
-        "Target triple [default: that of LIST, else\nCARGO_BUILD_TARGET, else host]",
-    )?;
+    let command = with_platforms(alloc, command)?;
     let command = with_right_side(alloc, command)?;
     with_output(alloc, command, DIFF_FORMATS, DIFF_FORMATS_HELP)
 }

@@ -6,9 +6,10 @@ use crate::named::ProfileSource;
 use crate::request::{
     ConfigFile, EngineOptions, FileOptions, ListFile, Question, Request, RequestedSettings,
 };
+use crate::rows::explained_rows;
 use crate::words::{
-    ParseStop, colour, engines, explained_rows, features, files, mode, mode_of, named_file,
-    profile, profile_source, tool_files_in, usage,
+    ParseStop, colour, engines, features, files, mode, mode_of, named_file, profile,
+    profile_source, tool_files, usage,
 };
 use clap::ArgMatches;
 use nextest_config::NextestRunMode;
@@ -17,7 +18,9 @@ use std::alloc::{AllocError, Global};
 
 /// Whether an option of the right side is given.
 fn has_right_side(matches: &ArgMatches<'_>) -> bool {
-    TO_OPTIONS.iter().any(|(name, _)| matches.contains_id(*name))
+    TO_OPTIONS
+        .iter()
+        .any(|(name, _)| matches.contains_id(*name))
 }
 
 /// The list of tests at a path.
@@ -102,7 +105,7 @@ fn right_files<'a>(
         None => left.config_file,
     };
     let tools = match matches.get_strs("to-tool-config-file") {
-        Some(values) => tool_files_in(alloc, values)?,
+        Some(values) => tool_files(alloc, values)?,
         None => left.tools,
     };
     Ok(FileOptions {
@@ -118,8 +121,13 @@ fn right_files<'a>(
 /// What the languages of the right side know: what those of the left side do, but for what is named
 /// anew.
 fn right_engines<'a>(matches: &ArgMatches<'a>, left: EngineOptions<'a>) -> EngineOptions<'a> {
+    let host = matches.get_str("to-host");
     EngineOptions {
-        host: matches.get_str("to-host").or(left.host),
+        host: host.or(left.host),
+        rustc_version: match host {
+            Some(_) => None,
+            None => left.rustc_version,
+        },
         target: matches.get_str("to-target").or(left.target),
         host_cfg: matches.get_str("to-host-cfg").or(left.host_cfg),
         target_cfg: matches.get_str("to-target-cfg").or(left.target_cfg),

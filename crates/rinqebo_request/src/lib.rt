@@ -1,6 +1,9 @@
 //! What is asked of the program `rinqebo`: its commands and options, and the request that words are.
 #![tactic(auto)]
 
+mod diff_options;
+mod diff_request;
+mod diff_words;
 mod environment;
 mod features;
 mod hints;
@@ -13,6 +16,7 @@ mod rows;
 mod test_words;
 mod words;
 
+pub use diff_request::{DiffFormat, DiffRequest, DiffSide};
 pub use environment::{Environment, RunVariables};
 pub use features::{FEATURES, feature_name, feature_of, law_all_features};
 pub use hints::{name_hint, text_hint};

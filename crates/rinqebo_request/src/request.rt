@@ -1,4 +1,5 @@
 //! What is asked for.
+use crate::diff_request::DiffRequest;
 use crate::named::ProfileSource;
 use nextest_config::{BuildPlatform, ConfigExperimental, NextestRunMode, Setting, ToolName};
 use rinqebo_report::{Colour, Format};
@@ -222,4 +223,6 @@ pub enum Command<'a> {
     Schema,
     /// What a request is answered.
     Answer(Request<'a>),
+    /// What changes between two sides.
+    Diff(DiffRequest<'a>),
 }

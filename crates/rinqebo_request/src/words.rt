@@ -1,4 +1,5 @@
 //! Reads the words of the command line.
+use crate::diff_words::diff_request;
 use crate::environment::{Environment, set};
 use crate::features::{FEATURES, feature_of};
 use crate::hints::name_hint;
@@ -78,10 +79,10 @@ fn tool_file<'a>(alloc: Global, value: &'a str) -> Result<ToolFile<'a>, ParseSto
     }
 }
 
-/// The files of tools.
-fn tool_files<'a>(alloc: Global, matches: &ArgMatches<'a>) -> Result<Vec<ToolFile<'a>>, ParseStop> {
+/// The files of tools, from the values of their option.
+pub fn tool_files<'a>(alloc: Global, values: &[&'a str]) -> Result<Vec<ToolFile<'a>>, ParseStop> {
     let mut tools = Vec::new(alloc);
-    for value in matches.get_strs("tool-config-file").unwrap_or(&[]) {
+    for value in values {
         tools
             .push(tool_file(alloc, *value)?)
             .map_err(AllocError::from)?;
@@ -122,7 +123,7 @@ pub fn files<'a>(
         root: matches.get_str("root"),
         config_file,
         organisation_config_file: matches.get_str("organisation-config-file"),
-        tools: tool_files(alloc, matches)?,
+        tools: tool_files(alloc, matches.get_strs("tool-config-file").unwrap_or(&[]))?,
     })
 }
 
@@ -208,12 +209,17 @@ pub fn colour(matches: &ArgMatches<'_>, environment: &Environment) -> Colour {
     }
 }
 
-/// The mode that is asked for.
-pub fn mode(matches: &ArgMatches<'_>) -> NextestRunMode {
-    match matches.get_str("mode") {
-        Some("benchmark") => NextestRunMode::Benchmark,
+/// The mode of a word.
+pub fn mode_of(word: &str) -> NextestRunMode {
+    match word {
+        "benchmark" => NextestRunMode::Benchmark,
         _ => NextestRunMode::Test,
     }
+}
+
+/// The mode that is asked for.
+pub fn mode(matches: &ArgMatches<'_>) -> NextestRunMode {
+    mode_of(matches.get_str("mode").unwrap_or("test"))
 }
 
 /// The profile that is asked for.
@@ -340,6 +346,9 @@ pub fn parse<'a>(
         Some(("explain", matches)) => explain_request(alloc, matches, environment)?,
         Some(("list", matches)) => list_request(alloc, matches, environment)?,
         Some(("show-config", matches)) => show_request(alloc, matches, environment)?,
+        Some(("diff", matches)) => {
+            return Ok(Command::Diff(diff_request(alloc, matches, environment)?));
+        }
         Some(("schema", _)) => return Ok(Command::Schema),
         Some((_, matches)) => check_request(alloc, matches, environment)?,
         None => return Err(usage(alloc, "no command", None)?),
