@@ -2,3 +2,5 @@ mod Deciding
 mod SameValues
 mod SameOrigins
 mod ClassLists
+mod Exactly
+mod Fair

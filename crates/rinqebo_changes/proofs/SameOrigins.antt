@@ -49,7 +49,7 @@ part_decides (Script a) (Override b) = never (λ e. cc)
 part_decides (Script a) (Script b) =
     Decides-like (same_part (Script a) (Script b)) (λ e. ap Script e) (λ e. cc) (Decides-eqb a b)
 
-written_decides : (a b : Written) → Decides (same_written a b) (written_view a ≡ written_view b)
+pub written_decides : (a b : Written) → Decides (same_written a b) (written_view a ≡ written_view b)
 written_decides a b =
     Decides-like (same_written a b) (pair_both (string_bytes a.profile) (string_bytes b.profile) a.part b.part)
     (both_of_pair (written_view a) (written_view b))

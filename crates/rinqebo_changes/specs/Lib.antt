@@ -9,3 +9,5 @@ pub mod Pages
 pub mod Documents
 pub mod GithubPage
 pub mod MarkdownPage
+pub mod Keyed
+pub mod Laws

@@ -59,7 +59,7 @@ fn rows_of(runs: SettingRow, settings: Vec<SettingRow>) -> Result<Vec<SettingRow
 }
 
 /// The rows that change, of two lists of as many rows.
-fn changed_rows(
+pub fn changed_rows(
     alloc: Global,
     compare: &Comparison<'_>,
     from: Vec<SettingRow>,

@@ -1,23 +1,25 @@
 -- What changes for the tests that both sides have.
 use Rattle.std.specs.Prelude.{◌≡◌, [], Bool, List, Option, MatchOption, filter_map}
 use Rattle.std.specs.List.{AllZip}
-use Rattle.filter_language.specs.Filtersets.{marks_view}
-use Rattle.filter_language.specs.declared.filterset.Filterset.{Filterset}
-use Rattle.filter_engine.specs.Compiling.{names_of}
-use Rattle.filter_engine.specs.Engine.{filter_holds}
-use Rattle.filter_engine.specs.declared.compiling.FieldMatcher.{FieldMatcher}
+use Rattle.nextest_elements.specs.declared.run_mode.NextestRunMode.{NextestRunMode}
+use Rattle.nextest_engines.specs.Engines.{Test}
 use Rattle.nextest_lists.specs.Lists.{ListTest}
-use Rattle.nextest_profiles.specs.Meaning.{profile_meaning}
+use Rattle.nextest_settings.specs.Profile.{EvaluatableModel}
 use Rattle.nextest_settings.specs.Queries.{query_in}
-use Rattle.platform_language.specs.declared.expression.TargetSpec.{TargetSpec}
 use Rattle.rinqebo_changes.specs.Changes.{changed_rows, rows_in, IsChangedTest}
 use Rattle.rinqebo_changes.specs.declared.change.TestChanges.{TestChanges}
 use Rattle.rinqebo_report.specs.declared.report.SettingRow.{SettingRow}
 use Rattle.rinqebo_report.specs.declared.report.TestRows.{TestRows}
+use Rattle.rinqebo_request.specs.declared.request.RequestedSettings.{RequestedSettings}
 use Rattle.rinqebo_rules.specs.Rows.{IsTestReported}
 use Rattle.rinqebo_rules.specs.TestOrigins.{Basis}
-use Rattle.rinqebo_rules.specs.declared.lister.Lister.{Lister}
 use Rattle.rinqebo_diff.specs.Matched.{TestPair}
+
+-- A side reports rows of a test: those that its profile gives to the test.
+abbrev pub ReportsBy : {M : Type 0} → (M → Test → M → Bool) → Basis → EvaluatableModel M
+    → NextestRunMode → RequestedSettings → ListTest → TestRows → Type 0
+ReportsBy matches basis profile mode asked t =
+    IsTestReported basis (query_in matches profile t.test) mode profile asked t
 
 -- What changes for a test that both sides have, if something does: each side reports rows of it, and
 -- they are compared.

@@ -1,5 +1,9 @@
 //! Compares what the two sides give to the tests that both have, one test after another.
 ghost use Rattle.std.specs.Prelude.{◌≡◌, IfOk, map};
+ghost use Rattle.filter_language.specs.Filtersets.{marks_view};
+ghost use Rattle.filter_engine.specs.Compiling.{names_of};
+ghost use Rattle.filter_engine.specs.Engine.{filter_holds};
+ghost use Rattle.nextest_profiles.specs.Meaning.{profile_meaning};
 ghost use Rattle.rinqebo_changes.specs.Changes.{is_change};
 ghost use Rattle.rinqebo_diff.specs.Compared.{ReportsBy, AreCompared, IsComparedBy};
 ghost use Rattle.rinqebo_diff.specs.Matched.{pair_view};
@@ -28,8 +32,12 @@ fn compared_pair<'c, 'd>(
 ) -> Result<Option<TestChanges>, AllocError>
     ensures same_from { from_origins.new ≡ from_origins.old }
     ensures same_to { to_origins.new ≡ to_origins.old }
-    ensures told { IfOk result (IsComparedBy (ReportsBy from_origins.old from.now)
-        (ReportsBy to_origins.old to.now)
+    ensures told { IfOk result (IsComparedBy (ReportsBy filter_holds from_origins.old
+        (profile_meaning (marks_view names_of) from.now.profile.now) from.now.mode
+        from.now.asked.now)
+        (ReportsBy filter_holds to_origins.old
+        (profile_meaning (marks_view names_of) to.now.profile.now) to.now.mode
+        to.now.asked.now)
         (is_change compare.now.sources.from.now compare.now.sources.to.now
         compare.now.with_origins) (pair_view pair.now)) }
 {
@@ -50,8 +58,12 @@ pub fn compared<'c, 'd, P: Progress>(
     to_origins: &mut Origins<'_, '_, 'd>,
     progress: &mut P,
 ) -> Result<Vec<TestChanges>, AllocError>
-    ensures { IfOk result (λ changed. AreCompared (ReportsBy from_origins.old from.now)
-        (ReportsBy to_origins.old to.now)
+    ensures { IfOk result (λ changed. AreCompared (ReportsBy filter_holds from_origins.old
+        (profile_meaning (marks_view names_of) from.now.profile.now) from.now.mode
+        from.now.asked.now)
+        (ReportsBy filter_holds to_origins.old
+        (profile_meaning (marks_view names_of) to.now.profile.now) to.now.mode
+        to.now.asked.now)
         (is_change compare.now.sources.from.now compare.now.sources.to.now
         compare.now.with_origins) (map pair_view pairs.now) changed.items) }
 {

@@ -1,9 +1,5 @@
 //! A side that is loaded, and why a side answers nothing.
-ghost use Rattle.std.specs.Prelude.{◌≡◌, IfOk, IfErr};
-ghost use Rattle.nextest_tables.specs.FileTexts.{names_in, IsIn};
-ghost use Rattle.rinqebo_load.specs.Accepted.{AreAccepted};
-ghost use Rattle.rinqebo_load.specs.SessionOf.{IsSessionOf};
-ghost use Rattle.rinqebo_load.specs.Sessions.{files_view, readings, IsLoadedFrom};
+ghost use Rattle.std.specs.Prelude.{IfOk};
 ghost use Rattle.rinqebo_diff.specs.Loaded.{IsLoadedSide};
 
 use nextest_config::DefaultConfigWarnings;

@@ -93,7 +93,7 @@ fn pairs_of<'q>(
 }
 
 /// The tests of two lists: those that both have, and those that one has alone.
-pub fn matched<'q>(
+pub fn match_tests<'q>(
     alloc: Global,
     from: &[ListedTest<'q>],
     to: &[ListedTest<'q>],

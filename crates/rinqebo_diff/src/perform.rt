@@ -1,4 +1,8 @@
 //! Answers a request for a diff, and writes the answer.
+ghost use Rattle.std.specs.Prelude.{◌≡◌, ◌⊎◌, ◌≤◌, IfOk};
+ghost use Rattle.rinqebo_diff.specs.Differences.{diff_status, Answers, Differs};
+ghost use Rattle.rinqebo_diff.specs.Written.{TellsDiff};
+
 use crate::format::render_diff;
 use crate::loaded::{DiffFailure, SideName, load_side};
 use crate::sides::diff_of;
@@ -81,7 +85,10 @@ fn refuse_side<O: Write, E: Write>(
     failure: &Failure,
     out: &mut O,
     err: &mut E,
-) -> u8 {
+) -> u8
+    ensures low { 2 ≤ result }
+    ensures high { result ≤ 6 }
+{
     let told = tell(side_word(side), Status::Success as u8, err);
     if told != Status::Success as u8 {
         return told;
@@ -96,7 +103,10 @@ fn refuse_diff<O: Write, E: Write>(
     failure: &DiffFailure,
     out: &mut O,
     err: &mut E,
-) -> u8 {
+) -> u8
+    ensures low { 2 ≤ result }
+    ensures high { result ≤ 6 }
+{
     match failure {
         DiffFailure::Side(_, Failure::Memory) | DiffFailure::Memory => refuse_for_memory(err),
         DiffFailure::Side(side, failure) => refuse_side(alloc, request, *side, failure, out, err),

@@ -1,14 +1,19 @@
 //! What changes between two sides that are loaded.
-ghost use Rattle.std.specs.Prelude.{◌≡◌, IfOk};
+ghost use Rattle.std.specs.Prelude.{IfOk, map};
+ghost use Rattle.std.specs.List.{AllZip};
+ghost use Rattle.nextest_lists.specs.ListView.{list_test_view};
 ghost use Rattle.nextest_tables.specs.FileTexts.{names_in, IsIn};
-ghost use Rattle.rinqebo_diff.specs.Differences.{IsDiffOf};
+ghost use Rattle.rinqebo_diff.specs.Differences.{IsDiffOf, IsIdOf, TellsChanges};
+ghost use Rattle.rinqebo_diff.specs.Matched.{pair_view};
 
 use crate::compared::{TestLister, compared};
 use crate::loaded::Loaded;
-use crate::matched::{Matched, matched};
+use crate::matched::{Matched, match_tests};
 use crate::run_rows::run_rows;
 use nextest_lists::{ListedBinary, ListedTest};
-use rinqebo_changes::{BinaryTests, Comparison, Diff, Side, TestChanges, TwoSources, keyed_changes};
+use rinqebo_changes::{
+    BinaryTests, Comparison, Diff, Side, TestChanges, TwoSources, keyed_changes,
+};
 use rinqebo_files::sources_of;
 use rinqebo_load::chain_of_profile;
 use rinqebo_report::{SettingRow, TestId};
@@ -18,7 +23,9 @@ use rinqebo_run::{entries_in, profile_on, requested_of, scripts_of_list};
 use std::alloc::{AllocError, Global};
 
 /// The name of a test.
-fn id_of(alloc: Global, test: &ListedTest<'_>) -> Result<TestId, AllocError> {
+fn id_of(alloc: Global, test: &ListedTest<'_>) -> Result<TestId, AllocError>
+    ensures { IfOk result (IsIdOf (list_test_view test.now)) }
+{
     let binary = &test.query.binary_query;
     Ok(TestId {
         binary: String::from_str(alloc, binary.binary_id)?,
@@ -28,7 +35,9 @@ fn id_of(alloc: Global, test: &ListedTest<'_>) -> Result<TestId, AllocError> {
 }
 
 /// The names of tests.
-fn ids_of(alloc: Global, tests: &[ListedTest<'_>]) -> Result<Vec<TestId>, AllocError> {
+fn ids_of(alloc: Global, tests: &[ListedTest<'_>]) -> Result<Vec<TestId>, AllocError>
+    ensures { IfOk result (λ ids. AllZip IsIdOf (map list_test_view tests.now) ids.items) }
+{
     let mut ids = Vec::new(alloc);
     for test in tests {
         ids.push(id_of(alloc, test)?)?;
@@ -136,7 +145,7 @@ pub fn diff_of<P: Progress>(
 {
     let from_tests = from.session.tests.tests(alloc)?;
     let to_tests = to.session.tests.tests(alloc)?;
-    let matched = matched(alloc, &from_tests, &to_tests)?;
+    let matched = match_tests(alloc, &from_tests, &to_tests)?;
     let before = rows_of_run(alloc, &request.from, from)?;
     let after = rows_of_run(alloc, &request.to, to)?;
     Ok(Diff {
