@@ -114,12 +114,16 @@ abbrev pub target_text : Option (String Global) → List ℕ
 target_text None = []
 target_text (Some target) = codes ", target " ++ string_bytes target
 
+-- that a host is only assumed
+abbrev pub assumed_text : Bool → List ℕ
+assumed_text assumed = if assumed then codes " (assumed)" else []
+
 -- what was asked of a side
 abbrev pub asked_text : Asked → List ℕ
 asked_text asked =
     codes "profile " ++ (joined (codes " < ") string_bytes asked.chain.items ++ (codes ", "
     ++ (mode_word asked.mode ++ (codes ", " ++ (string_bytes asked.host
-    ++ target_text asked.target)))))
+    ++ (assumed_text asked.assumes_host ++ target_text asked.target))))))
 
 -- the file of a side that lies above all others, or the defaults
 abbrev pub file_text : Side → List ℕ

@@ -2,7 +2,7 @@
 ghost use Rattle.std.specs.Prelude.{◌≡◌, ◌++◌, OnOk, IfOk, codes, flat_map, string_bytes};
 ghost use Rattle.rinqebo_report.specs.Joined.{joined};
 ghost use Rattle.rinqebo_report.specs.Pieces.{page_text};
-ghost use Rattle.rinqebo_changes.specs.Pages.{setting_text, origins_text, other_key, heading_runs, site_runs, change_runs, test_runs, whole_runs, total_of, is_whole, item_runs, binary_runs, group_runs, asked_text, file_text, remark_runs, both_runs, head_runs, listed_runs, run_runs, count_runs, IsDiffText};
+ghost use Rattle.rinqebo_changes.specs.Pages.{setting_text, origins_text, other_key, heading_runs, site_runs, change_runs, test_runs, whole_runs, total_of, is_whole, item_runs, binary_runs, group_runs, target_text, asked_text, file_text, remark_runs, both_runs, head_runs, listed_runs, run_runs, count_runs, IsDiffText};
 
 use crate::change::RowChange;
 use crate::classes::Item;
@@ -269,6 +269,19 @@ fn add_chain(out: &mut String, chain: &[String]) -> Result<(), AllocError>
     Ok(())
 }
 
+/// Writes a target, if there is one.
+fn add_target(out: &mut String, target: &Option<String>) -> Result<(), AllocError>
+    ensures { OnOk result (string_bytes out.new ≡ string_bytes out.old ++ target_text target.now) }
+{
+    match target {
+        Some(target) => {
+            out.push_str(", target ")?;
+            out.push_str(target.as_str())
+        }
+        None => Ok(()),
+    }
+}
+
 /// What was asked of a side, as a text.
 pub fn asked_text(alloc: Global, side: &Side) -> Result<String, AllocError>
     ensures { IfOk result (λ text. string_bytes text ≡ asked_text side.now.asked) }
@@ -280,10 +293,8 @@ pub fn asked_text(alloc: Global, side: &Side) -> Result<String, AllocError>
     text.push_str(asked.mode.word())?;
     text.push_str(", ")?;
     text.push_str(asked.host.as_str())?;
-    if let Some(target) = &asked.target {
-        text.push_str(", target ")?;
-        text.push_str(target.as_str())?;
-    }
+    text.push_str(if asked.assumes_host { " (assumed)" } else { "" })?;
+    add_target(&mut text, &asked.target)?;
     Ok(text)
 }
 
