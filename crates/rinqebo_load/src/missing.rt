@@ -1,8 +1,7 @@
 //! Why a test that a request names is not found.
 use crate::fault::InputFault;
 use filter_packages::PackageTarget;
-use nextest_config::TestQuery;
-use nextest_lists::{ListedBinary, ListedTests};
+use nextest_lists::{ListedBinary, ListedTest, ListedTests};
 use rinqebo_report::nearest_name;
 use rinqebo_request::RequestedTest;
 use std::alloc::{AllocError, Global};
@@ -72,9 +71,10 @@ impl Missing {
     fn of_name(alloc: Global, name: &str, tests: &ListedTests) -> Result<Missing, AllocError> {
         let mut known = Vec::new(alloc);
         for binary in &tests.binaries {
-            for test in &binary.tests {
-                known.push(test.as_str())?;
-                if let Some((_, end)) = test.as_str().rsplit_once("::") {
+            for case in &binary.tests {
+                let test = case.name.as_str();
+                known.push(test)?;
+                if let Some((_, end)) = test.rsplit_once("::") {
                     known.push(end)?;
                 }
             }
@@ -96,8 +96,8 @@ impl Missing {
     /// That a binary of a list has no test of a name.
     fn of_test(alloc: Global, name: &str, binary: &ListedBinary) -> Result<Missing, AllocError> {
         let mut known = Vec::new(alloc);
-        for test in &binary.tests {
-            known.push(test.as_str())?;
+        for case in &binary.tests {
+            known.push(case.name.as_str())?;
         }
         let id = binary.id.as_str();
         let message = format!(in alloc; "binary `{id}` of LIST has no test `{name}`")?;
@@ -146,7 +146,7 @@ impl Missing {
 pub fn several_tests(
     alloc: Global,
     requested: &RequestedTest<'_>,
-    named: &[TestQuery<'_>],
+    named: &[ListedTest<'_>],
 ) -> Result<String, AllocError> {
     let count = named.len();
     let name = requested.name;
@@ -155,9 +155,9 @@ pub fn several_tests(
         if index > 0 {
             text.push_str(", ")?;
         }
-        text.push_str(test.binary_query.binary_id)?;
+        text.push_str(test.query.binary_query.binary_id)?;
         text.push_str(" ")?;
-        text.push_str(test.test_name)?;
+        text.push_str(test.query.test_name)?;
     }
     Ok(text)
 }
