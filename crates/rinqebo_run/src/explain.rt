@@ -14,12 +14,11 @@ use crate::idle::findings_on;
 use crate::list::profile_on;
 use filter_engine::NextestTally;
 use nextest_config::DefaultConfigWarnings;
-use nextest_lists::ListedTest;
 use rinqebo_findings::{config_with, report_of};
-use rinqebo_load::{Config, Failure, Session, chain_of_profile};
+use rinqebo_load::{Config, Failure, FoundTest, Session, chain_of_profile};
 use rinqebo_report::{Content, Report};
-use rinqebo_request::{RequestedSettings, TestName};
-use rinqebo_rules::{Lister, Origins, query_of};
+use rinqebo_request::RequestedSettings;
+use rinqebo_rules::{Lister, Origins};
 use std::alloc::{AllocError, Global};
 
 /// Whether a test runs and its settings, by a configuration: the rows of a list of this one test.
@@ -28,7 +27,7 @@ fn explained<'c>(
     session: &'c Session<'_>,
     config: &'c Config,
     profile: &'c str,
-    test: &TestName<'_>,
+    test: &FoundTest,
     asked: &RequestedSettings,
 ) -> Result<Content, AllocError>
     requires { IsIn (names_in config.now.config.profiles) profile.now }
@@ -45,11 +44,7 @@ fn explained<'c>(
         mode: test.mode,
         asked,
     };
-    let query = query_of(test);
-    let listed = ListedTest {
-        query,
-        ignored: false,
-    };
+    let listed = test.listed();
     let mut tally = NextestTally::new();
     let mut origins = Origins::new(alloc, &session.layers, &chain);
     let rows = asking.rows_of(alloc, &listed, &mut tally, &mut origins)?;
@@ -64,7 +59,7 @@ pub fn explain(
     alloc: Global,
     session: &Session<'_>,
     profile: &str,
-    test: &TestName<'_>,
+    test: &FoundTest,
     asked: &RequestedSettings,
 ) -> Result<Report, Failure>
     ensures ok { IfOk result (Explains session.now profile.now test.now asked.now) }
