@@ -153,10 +153,7 @@ impl<'cfg, F: Filters, S: Specs> EarlyProfile<'cfg, F, S> {
             self.entry) }
         ensures err { IfErr result (λ profile. profile ≡ self.entry) }
     {
-        match self
-            .rules
-            .evaluate(alloc, platforms, self.nearest_filter, self.match_all)
-        {
+        match self.rules_on(alloc, platforms) {
             Ok(rules) => {
                 let EarlyProfile {
                     facts,
