@@ -73,12 +73,13 @@ pub fn answer_of<P: Progress>(
     answer_in(alloc, request, &session, progress)
 }
 
-/// Whether the test that a request names runs, and its settings.
+/// Whether the test that a request names runs, and its settings. Its metadata were read at a path.
 fn explain_test(
     alloc: Global,
     session: &Session<'_>,
     profile: &str,
     test: &RequestedTest<'_>,
+    path: Option<&str>,
     asked: &RequestedSettings,
 ) -> Result<Report, Failure>
     ensures ok { IfOk result (λ report. IsAboutTest session.now test.now
@@ -86,16 +87,17 @@ fn explain_test(
     ensures about { IfOk result (IsReportOf session.now) }
     ensures err { IfErr result (IsFailureAboutTest session.now profile.now test.now) }
 {
-    let found = find_test(alloc, session, test)?;
+    let found = find_test(alloc, session, test, path)?;
     explain(alloc, session, profile, &found, asked)
 }
 
-/// The rules of a setting of the test that a request names.
+/// The rules of a setting of the test that a request names. Its metadata were read at a path.
 fn why_of_test(
     alloc: Global,
     session: &Session<'_>,
     profile: &str,
     test: &RequestedTest<'_>,
+    path: Option<&str>,
     setting: Setting,
 ) -> Result<Report, Failure>
     ensures ok { IfOk result (λ report. IsAboutTest session.now test.now
@@ -103,7 +105,7 @@ fn why_of_test(
     ensures about { IfOk result (IsReportOf session.now) }
     ensures err { IfErr result (IsFailureAboutTest session.now profile.now test.now) }
 {
-    let found = find_test(alloc, session, test)?;
+    let found = find_test(alloc, session, test, path)?;
     why(alloc, session, profile, &found, setting)
 }
 
@@ -119,17 +121,18 @@ fn answer_in<P: Progress>(
     ensures about { IfOk result (λ answer. IsReportOf session.now answer.report) }
     ensures err { IfErr result (IsFailureIn session.now request.now.question) }
 {
+    let path = request.engines.metadata;
     match &request.question {
         Question::Explain {
             profile,
             test,
             asked,
-        } => answered(explain_test(alloc, session, *profile, test, asked)),
+        } => answered(explain_test(alloc, session, *profile, test, path, asked)),
         Question::Why {
             profile,
             test,
             setting,
-        } => answered(why_of_test(alloc, session, *profile, test, *setting)),
+        } => answered(why_of_test(alloc, session, *profile, test, path, *setting)),
         Question::List {
             profile,
             mode,

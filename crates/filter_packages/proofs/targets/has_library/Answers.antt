@@ -1,4 +1,5 @@
-use Rattle.std.proofs.Common.{◌≡◌, ◌∙◌, rules}
+use Rattle.std.proofs.Common.{◌≡◌, ◌∙◌}
+use Rattle.std.proofs.iter.Serving.{serving}
 use Rattle.std.specs.List.{list_any}
 use Rattle.serde_json.specs.View.{view}
 use Rattle.filter_packages.specs.Targets.{is_library}
@@ -7,5 +8,5 @@ use Rattle.filter_packages.proofs.targets.has_library.Goals as goal
 
 pub returns : goal.returns
 returns c =
-    let found : c.any.result ≡ list_any (λ kind. is_library (view kind)) c.args.kinds.now = search rules in
+    let found : c.any.result ≡ list_any (λ kind. is_library (view kind)) c.args.kinds.now = grind serving in
     found ∙ any_seen is_library view c.args.kinds.now
