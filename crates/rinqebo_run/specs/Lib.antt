@@ -10,3 +10,4 @@ pub mod ListedBy
 pub mod ShownConfig
 pub mod Begun
 pub mod Written
+pub mod LookedUp

@@ -14,17 +14,19 @@ use Rattle.rinqebo_load.specs.declared.failure.Failure.TheVariants as failures
 use Rattle.rinqebo_report.specs.Rendered.{rendered}
 use Rattle.rinqebo_report.specs.declared.format.Format.TheVariants as formats
 use Rattle.rinqebo_report.specs.declared.report.Report.{Report}
+use Rattle.rinqebo_run.specs.LookedUp.{IsFailureOn}
 use Rattle.rinqebo_run.specs.Statuses.{failure_status}
 use Rattle.rinqebo_load.specs.declared.session.Session.{Session}
 
--- A session does not answer a question. A check answers refused files, and asks for no profile.
+-- A session does not answer a question. A check answers refused files, and asks for no profile. For
+-- `show-config` and `check` no filter is evaluated.
 abbrev pub IsFailureIn : Session → Question → Failure → Type 0
 IsFailureIn session (questions.Explain profile test asked) failure =
-    IsFailureAbout session profile.now failure
+    IsFailureOn session profile.now failure
 IsFailureIn session (questions.Why profile test setting) failure =
-    IsFailureAbout session profile.now failure
+    IsFailureOn session profile.now failure
 IsFailureIn session (questions.List profile mode list asked) failure =
-    IsFailureAbout session profile.now failure
+    IsFailureOn session profile.now failure
 IsFailureIn session (questions.ShowConfig profile keys with_hidden) failure =
     IsFailureAbout session profile.now failure
 IsFailureIn session (questions.Check deny_warnings) failure = IsBeginningFailure failure

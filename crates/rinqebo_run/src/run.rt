@@ -9,6 +9,7 @@ ghost use Rattle.rinqebo_findings.specs.Reports.{IsReportOf};
 ghost use Rattle.rinqebo_report.specs.Rendered.{rendered};
 ghost use Rattle.rinqebo_run.specs.Answered.{AnswersQuestion, IsAnswer, Tells};
 ghost use Rattle.rinqebo_run.specs.Begun.{IsBegun};
+ghost use Rattle.rinqebo_run.specs.LookedUp.{AreLookedUp};
 ghost use Rattle.rinqebo_run.specs.Refused.{Fails, IsFailureIn, IsReportedBy, TellsRefusal};
 ghost use Rattle.rinqebo_run.specs.Statuses.{IsStatus, IsAnswerStatus, IsGatherStatus, IsWordsStatus, TellsWords};
 ghost use Rattle.rinqebo_run.specs.Written.{AsksList, IsStopStatus};
@@ -48,6 +49,7 @@ fn answered(report: Result<Report, Failure>) -> Result<Answer, Failure>
         Ok(report) => Ok(Answer {
             report,
             status: Status::Success as u8,
+            note: None,
         }),
         Err(failure) => Err(failure),
     }
@@ -79,6 +81,7 @@ fn answer_in<P: Progress>(
     ensures ok { IfOk result (λ answer.
         AnswersQuestion request.now.question session.now answer.report answer.status) }
     ensures about { IfOk result (λ answer. IsReportOf session.now answer.report) }
+    ensures looked_up { IfOk result (λ _. AreLookedUp session.now request.now.question) }
     ensures err { IfErr result (IsFailureIn session.now request.now.question) }
 {
     match &request.question {
@@ -120,6 +123,14 @@ fn notes_of(
     }
 }
 
+/// Adds the note of an answer. The forms for other programs have none.
+fn add_note(request: &Request<'_>, answer: &Answer, notes: &mut String) -> Result<(), AllocError> {
+    match &answer.note {
+        Some(note) if matches!(request.format, Format::Text) => notes.push_str(note.as_str()),
+        _ => Ok(()),
+    }
+}
+
 /// The notes on an answer, for standard error.
 fn notes_on(
     alloc: Global,
@@ -130,6 +141,7 @@ fn notes_on(
     let mut notes = notes_of(alloc, &answer.report, request.format, request.colour)?;
     add_unset(alloc, request, answer, &mut notes)?;
     add_read_files(alloc, request, gathered, answer, &mut notes)?;
+    add_note(request, answer, &mut notes)?;
     Ok(notes)
 }
 
