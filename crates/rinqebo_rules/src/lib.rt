@@ -5,7 +5,6 @@
 mod binary;
 mod chain_rules;
 mod conditions;
-mod fallback;
 mod grounds;
 mod holds;
 mod leaf_value;
@@ -26,9 +25,8 @@ mod verdict;
 mod verdict_laws;
 
 pub use binary::query_of;
-pub use chain_rules::{SettingRule, rules_for, rules_on};
+pub use chain_rules::{SettingRule, rules_for};
 pub use conditions::{Answers, Asking};
-pub use fallback::fallback_of_chain;
 pub use grounds::{built_in, idle_grounds, profile_grounds};
 pub use leaf_value::reported_value;
 pub use lister::{ListedRows, Lister, reported_platform};

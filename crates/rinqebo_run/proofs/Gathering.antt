@@ -7,10 +7,9 @@ use Rattle.nextest_engines.specs.declared.queries.BuildPlatforms.{BuildPlatforms
 use Rattle.nextest_engines.specs.declared.queries.TestQuery.{TestQuery}
 use Rattle.filter_engine.specs.Compiling.{names_of}
 use Rattle.filter_engine.specs.declared.compiling.FieldMatcher.{FieldMatcher}
-use Rattle.nextest_inheritance.specs.Parents.{with_default}
 use Rattle.nextest_load.specs.Load.{Loaded}
-use Rattle.nextest_settings.specs.Chains.{fields_of, overrides_of, script_rules_of}
-use Rattle.nextest_settings.specs.Profile.{Configured, profile_of}
+use Rattle.nextest_settings.specs.Chains.{FilterChoice}
+use Rattle.nextest_settings.specs.Profile.{Configured, EarlyModel, profile_on}
 use Rattle.nextest_settings.specs.Queries.{test_query}
 use Rattle.nextest_settings.specs.Settings.{fallback_of}
 use Rattle.nextest_settings.specs.declared.setting.Setting.{Setting}
@@ -30,35 +29,30 @@ use Rattle.platform_language.specs.declared.expression.TargetSpec.{TargetSpec}
 use Rattle.platform_table.specs.declared.Platform.{Platform}
 use Rattle.rinqebo_run.proofs.Meant.{reasons_of_texts}
 use Rattle.rinqebo_load.specs.Accepted.{AreAccepted}
-use Rattle.rinqebo_rules.specs.Conditions.{is_met_by, filter_matches, default_filter_here}
+use Rattle.rinqebo_rules.specs.Conditions.{is_met_by, filter_matches}
 use Rattle.rinqebo_run.specs.Reasons.{AreRulesReported}
-use Rattle.rinqebo_rules.specs.RuleViews.{Rule as ReadRule}
 use Rattle.rinqebo_load.specs.Sessions.{files_view, readings, IsLoadedFrom}
 use Rattle.rinqebo_rules.specs.SettingRules.{rules_for}
 use Rattle.rinqebo_run.specs.TellsReasons.{AreReasons, AreReasonsIn, configured_by, IfWhy, IsTestNamed, TellsReasons}
 use Rattle.rinqebo_load.specs.declared.session.Session.{Session}
 use Rattle.rinqebo_rules.specs.Told.{reported_of, value_view}
 
--- what is told of the rules of a chain for a setting, and then of the fallback
+-- what is told of the rules of a profile for a setting, and then of the fallback
 pub reasons_here : (layers : List FileLayer) (platforms : BuildPlatforms Platform) (test : TestName) (query : TestQuery) (s : Setting)
-    (default : Filterset FieldMatcher) (c : Configured (Filterset FieldMatcher) TargetSpec) (name : Name)
-    (names : List Name) (read : List ReadRule) (before : List Rule) (fallback : Rule) (rules : List Rule)
-    → default ≡ default_filter_here platforms c.config (with_default names)
-    → read ≡ rules_for s test.mode (overrides_of c.config.layers (with_default names))
-    (script_rules_of c.config.layers (with_default names))
+    (default : FilterChoice (Filterset FieldMatcher)) (profile : EarlyModel (Filterset FieldMatcher) TargetSpec)
+    (before : List Rule) (fallback : Rule) (rules : List Rule)
+    → default ≡ (profile_on is_met_by platforms profile).default_filter
     → (test_view query).name ≡ test.name.now → (test_view query).binary.binary_id ≡ test.binary.now
     → (test_view query).binary.platform ≡ test.platform
-    → AreRulesReported layers is_met_by platforms (test_query filter_matches default (test_view query)) read before
+    → AreRulesReported layers is_met_by platforms (test_query filter_matches default.filter (test_view query))
+    (rules_for s test.mode profile.overrides profile.script_rules) before
     → fallback.verdict ≡ told.Fallback
     → option_map value_view fallback.value
-    ≡ option_map (reported_of s) (fallback_of (fields_of c.config.profiles (with_default names)) test.mode s)
+    ≡ option_map (reported_of s) (fallback_of profile.facts.fields test.mode s)
     → rules ≡ before ++ fallback ∷ []
-    → AreReasons layers is_met_by filter_matches platforms test s (profile_of c name names) rules
-reasons_here layers platforms test query s default c name names read before fallback rules same gathered named binary on
-    here last valued are =
+    → AreReasons layers is_met_by filter_matches platforms test s profile rules
+reasons_here layers platforms test query s default profile before fallback rules same named binary on here last valued are =
     let asked = test_view query in
-    let Told : Filterset FieldMatcher → List ReadRule → Type 0 =
-    λ d rs. AreRulesReported layers is_met_by platforms (test_query filter_matches d asked) rs before in
     record {
       asked = asked;
       name = named;
@@ -67,8 +61,9 @@ reasons_here layers platforms test query s default c name names read before fall
       before = before;
       fallback = fallback;
       are = are;
-      rules_reported = subst (Told (default_filter_here platforms c.config (with_default names))) gathered
-          (subst (λ d. Told d read) same here);
+      rules_reported = subst (λ choice. AreRulesReported layers is_met_by platforms
+          (test_query filter_matches choice.filter asked)
+          (rules_for s test.mode profile.overrides profile.script_rules) before) same here;
       fallback_reported = last;
       fallback_value = valued;
     }

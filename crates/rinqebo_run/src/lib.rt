@@ -16,6 +16,7 @@ mod list_origins;
 mod list_page;
 mod list_scripts;
 mod list_text;
+mod profile;
 mod progress;
 mod read_files;
 mod refusing;

@@ -20,8 +20,9 @@ ghost use Rattle.rinqebo_findings.specs.Reports.{IsReportOf};
 use crate::asked::requested_of;
 use crate::list_origins::unused_origins;
 use crate::list_scripts::scripts_of_list;
+use crate::profile::early_profile;
 use filter_engine::{NextestFilters, NextestTally};
-use nextest_config::{DefaultConfigWarnings, EarlyProfile, EvaluatableProfile, NextestRunMode};
+use nextest_config::{DefaultConfigWarnings, EvaluatableProfile, NextestRunMode};
 use platform_language::TargetSpecs;
 use rinqebo_findings::{config_with, report_of, warning_findings};
 use rinqebo_load::{Config, Failure, Session, chain_of_profile};
@@ -44,8 +45,7 @@ pub fn profile_on<'c>(
     ensures { IfOk result (IsProfileOn is_met_by session.now.engines.platforms
         (read_by session.now config.now) profile.now) }
 {
-    let root = session.gathered.paths.workspace_root.as_str();
-    let early = EarlyProfile::new(alloc, root, config, profile)?;
+    let early = early_profile(alloc, session, config, profile)?;
     match early.apply_build_platforms(alloc, &session.engines.platforms) {
         Ok(profile) => Ok(profile),
         Err(_) => Err(AllocError),
