@@ -18,6 +18,7 @@ mod list_scripts;
 mod list_text;
 mod looked_up;
 mod open_filters;
+mod profile;
 mod progress;
 mod read_files;
 mod refusing;

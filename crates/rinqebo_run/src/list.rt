@@ -24,8 +24,9 @@ use crate::asked::requested_of;
 use crate::list_origins::unused_origins;
 use crate::list_scripts::scripts_of_list;
 use crate::looked_up::config_looked_up;
+use crate::profile::early_profile;
 use filter_engine::{NextestFilters, NextestTally};
-use nextest_config::{DefaultConfigWarnings, EarlyProfile, EvaluatableProfile, NextestRunMode};
+use nextest_config::{DefaultConfigWarnings, EvaluatableProfile, NextestRunMode};
 use platform_language::TargetSpecs;
 use rinqebo_findings::{report_of, warning_findings};
 use rinqebo_load::{Config, Failure, Session, chain_of_profile};
@@ -48,8 +49,7 @@ pub fn profile_on<'c>(
     ensures { IfOk result (IsProfileOn is_met_by session.now.engines.platforms
         (read_by session.now config.now) profile.now) }
 {
-    let root = session.gathered.paths.workspace_root.as_str();
-    let early = EarlyProfile::new(alloc, root, config, profile)?;
+    let early = early_profile(alloc, session, config, profile)?;
     match early.apply_build_platforms(alloc, &session.engines.platforms) {
         Ok(profile) => Ok(profile),
         Err(_) => Err(AllocError),
