@@ -16,6 +16,8 @@ mod list_origins;
 mod list_page;
 mod list_scripts;
 mod list_text;
+mod looked_up;
+mod open_filters;
 mod progress;
 mod read_files;
 mod refusing;

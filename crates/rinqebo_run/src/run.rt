@@ -10,6 +10,7 @@ ghost use Rattle.rinqebo_report.specs.Rendered.{rendered};
 ghost use Rattle.rinqebo_run.specs.Answered.{AnswersQuestion, IsAboutTest, IsAnswer, Tells};
 ghost use Rattle.rinqebo_run.specs.Begun.{IsBegun};
 ghost use Rattle.rinqebo_run.specs.Explained.{Explains};
+ghost use Rattle.rinqebo_run.specs.LookedUp.{AreLookedUp, IsLookedUp};
 ghost use Rattle.rinqebo_run.specs.Refused.{Fails, IsFailureAboutTest, IsFailureIn, IsReportedBy, TellsRefusal};
 ghost use Rattle.rinqebo_run.specs.TellsReasons.{TellsReasons};
 ghost use Rattle.rinqebo_run.specs.Statuses.{IsStatus, IsAnswerStatus, IsGatherStatus, IsWordsStatus, TellsWords};
@@ -52,6 +53,7 @@ fn answered(report: Result<Report, Failure>) -> Result<Answer, Failure>
         Ok(report) => Ok(Answer {
             report,
             status: Status::Success as u8,
+            note: None,
         }),
         Err(failure) => Err(failure),
     }
@@ -85,6 +87,7 @@ fn explain_test(
     ensures ok { IfOk result (λ report. IsAboutTest session.now test.now
         (λ found. Explains session.now profile.now found asked.now report)) }
     ensures about { IfOk result (IsReportOf session.now) }
+    ensures looked_up { IfOk result (λ _. IsLookedUp session.now profile.now) }
     ensures err { IfErr result (IsFailureAboutTest session.now profile.now test.now) }
 {
     let found = find_test(alloc, session, test, path)?;
@@ -103,6 +106,7 @@ fn why_of_test(
     ensures ok { IfOk result (λ report. IsAboutTest session.now test.now
         (λ found. TellsReasons session.now profile.now found setting report)) }
     ensures about { IfOk result (IsReportOf session.now) }
+    ensures looked_up { IfOk result (λ _. IsLookedUp session.now profile.now) }
     ensures err { IfErr result (IsFailureAboutTest session.now profile.now test.now) }
 {
     let found = find_test(alloc, session, test, path)?;
@@ -119,6 +123,7 @@ fn answer_in<P: Progress>(
     ensures ok { IfOk result (λ answer.
         AnswersQuestion request.now.question session.now answer.report answer.status) }
     ensures about { IfOk result (λ answer. IsReportOf session.now answer.report) }
+    ensures looked_up { IfOk result (λ _. AreLookedUp session.now request.now.question) }
     ensures err { IfErr result (IsFailureIn session.now request.now.question) }
 {
     let path = request.engines.metadata;
@@ -161,6 +166,14 @@ fn notes_of(
     }
 }
 
+/// Adds the note of an answer. The forms for other programs have none.
+fn add_note(request: &Request<'_>, answer: &Answer, notes: &mut String) -> Result<(), AllocError> {
+    match &answer.note {
+        Some(note) if matches!(request.format, Format::Text) => notes.push_str(note.as_str()),
+        _ => Ok(()),
+    }
+}
+
 /// The notes on an answer, for standard error.
 fn notes_on(
     alloc: Global,
@@ -171,6 +184,7 @@ fn notes_on(
     let mut notes = notes_of(alloc, &answer.report, request.format, request.colour)?;
     add_unset(alloc, request, answer, &mut notes)?;
     add_read_files(alloc, request, gathered, answer, &mut notes)?;
+    add_note(request, answer, &mut notes)?;
     Ok(notes)
 }
 

@@ -1,6 +1,6 @@
 use Rattle.std.proofs.Common.{refl}
 use Rattle.rinqebo_run.proofs.Gathering.{tells}
-use Rattle.rinqebo_run.proofs.Refused.{want_reported}
+use Rattle.rinqebo_run.proofs.Refused.{want_evaluated}
 use Rattle.rinqebo_run.proofs.why.why.Goals as goal
 
 pub returns-clause-ok : goal.returns-clause-ok
@@ -12,4 +12,4 @@ returns-clause-ok c =
 
 pub returns-in_err-findings-clause-err : goal.returns-in_err-findings-clause-err
 returns-in_err-findings-clause-err c =
-    want_reported c.args.session.now c.args.profile.now _ c.from_residual-in_err-findings.ensures.1
+    want_evaluated c.args.session.now c.args.profile.now _ c.from_residual-in_err-findings.ensures.1
