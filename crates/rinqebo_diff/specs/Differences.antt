@@ -20,8 +20,8 @@ use Rattle.rinqebo_changes.specs.declared.diff.Diff.{Diff}
 use Rattle.rinqebo_files.specs.declared.files.Gathered.{Gathered}
 use Rattle.rinqebo_report.specs.declared.report.TestId.{TestId}
 use Rattle.rinqebo_report.specs.declared.report.TestRows.{TestRows}
-use Rattle.rinqebo_request.specs.declared.diff_request.DiffRequest.{DiffRequest}
-use Rattle.rinqebo_request.specs.declared.diff_request.DiffSide.{DiffSide}
+use Rattle.rinqebo_diff.specs.declared.request.DiffRequest.{DiffRequest}
+use Rattle.rinqebo_diff.specs.declared.request.DiffSide.{DiffSide}
 use Rattle.rinqebo_request.specs.declared.request.RequestedSettings.{RequestedSettings}
 use Rattle.rinqebo_rules.specs.Conditions.{is_met_by}
 use Rattle.rinqebo_run.specs.Listed.{IsProfileOn}

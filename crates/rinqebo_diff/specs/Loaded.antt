@@ -5,7 +5,7 @@ use Rattle.rinqebo_findings.specs.Reports.{IsReportOf}
 use Rattle.rinqebo_load.specs.Accepted.{AreAccepted}
 use Rattle.rinqebo_load.specs.SessionOf.{IsSessionOf}
 use Rattle.rinqebo_load.specs.Sessions.{files_view, readings, IsLoadedFrom}
-use Rattle.rinqebo_request.specs.declared.diff_request.DiffSide.{DiffSide}
+use Rattle.rinqebo_diff.specs.declared.request.DiffSide.{DiffSide}
 use Rattle.rinqebo_diff.specs.declared.loaded.Loaded.{Loaded}
 
 -- A side is loaded: its session is that of its request, every written rule holds of its files, its

@@ -6,9 +6,9 @@ use Rattle.rinqebo_changes.specs.GithubPage.{IsGithubText}
 use Rattle.rinqebo_changes.specs.MarkdownPage.{IsMarkdownText}
 use Rattle.rinqebo_changes.specs.Pages.{IsDiffText}
 use Rattle.rinqebo_changes.specs.declared.diff.Diff.{Diff}
-use Rattle.rinqebo_request.specs.declared.diff_request.DiffFormat.{DiffFormat}
-use Rattle.rinqebo_request.specs.declared.diff_request.DiffFormat.TheVariants.{Text, Json, Github, Markdown}
-use Rattle.rinqebo_request.specs.declared.diff_request.DiffRequest.{DiffRequest}
+use Rattle.rinqebo_diff.specs.declared.request.DiffFormat.{DiffFormat}
+use Rattle.rinqebo_diff.specs.declared.request.DiffFormat.TheVariants.{Text, Json, Github, Markdown}
+use Rattle.rinqebo_diff.specs.declared.request.DiffRequest.{DiffRequest}
 
 -- a text is a diff in a format
 abbrev pub IsRenderedAs : DiffFormat → DiffRequest → Diff → List ℕ → Type 0

@@ -2,8 +2,8 @@
 ghost use Rattle.std.specs.Prelude.{IfOk, string_bytes};
 ghost use Rattle.rinqebo_diff.specs.Written.{IsRendered};
 
+use crate::request::{DiffFormat, DiffRequest};
 use rinqebo_changes::{Diff, diff_github, diff_json, diff_markdown, diff_text};
-use rinqebo_request::{DiffFormat, DiffRequest};
 use std::alloc::{AllocError, Global};
 
 /// A diff in the format of a request. Only the page has colours.

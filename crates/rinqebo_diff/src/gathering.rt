@@ -1,8 +1,9 @@
 //! The files of both sides.
+use crate::request::DiffRequest;
 use nextest_config::ReadOutcome;
 use nextest_files::FileReader;
 use rinqebo_files::{GatherFault, Gathered, gather};
-use rinqebo_request::{DiffRequest, Environment};
+use rinqebo_request::Environment;
 use std::alloc::{AllocError, Global};
 
 /// The files of the two sides, as they were read.

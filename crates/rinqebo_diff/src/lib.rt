@@ -9,11 +9,16 @@ mod format;
 mod gathering;
 mod loaded;
 mod matched;
+mod options;
 mod perform;
+mod request;
 mod run_rows;
 mod sides;
+mod words;
 
 pub use gathering::{GatheredSides, gather_sides};
 pub use loaded::{DiffFailure, Loaded, SideName, load_side};
 pub use perform::{DiffAnswer, diff_answer, perform_diff};
+pub use request::{AnyCommand, DiffFormat, DiffRequest, DiffSide};
 pub use sides::diff_of;
+pub use words::parse_all;

@@ -2,12 +2,12 @@
 ghost use Rattle.std.specs.Prelude.{IfOk};
 ghost use Rattle.rinqebo_diff.specs.Loaded.{IsLoadedSide};
 
+use crate::request::DiffSide;
 use nextest_config::DefaultConfigWarnings;
 use rinqebo_files::Gathered;
 use rinqebo_findings::{config_with, report_of, warning_findings};
 use rinqebo_load::{Config, Failure, Session};
 use rinqebo_report::{Content, Report};
-use rinqebo_request::DiffSide;
 use std::alloc::{AllocError, Global};
 
 /// A side that is loaded.

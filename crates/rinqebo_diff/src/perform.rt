@@ -5,12 +5,12 @@ ghost use Rattle.rinqebo_diff.specs.Written.{TellsDiff};
 
 use crate::format::render_diff;
 use crate::loaded::{DiffFailure, SideName, load_side};
+use crate::request::{DiffFormat, DiffRequest, DiffSide};
 use crate::sides::diff_of;
 use rinqebo_changes::Diff;
 use rinqebo_files::Gathered;
 use rinqebo_load::Failure;
 use rinqebo_report::{Report, render_findings};
-use rinqebo_request::{DiffFormat, DiffRequest, DiffSide};
 use rinqebo_rules::Progress;
 use rinqebo_run::{ProgressLine, Status, refuse_for_memory, refuse_in, tell};
 use std::alloc::{AllocError, Global};

@@ -9,6 +9,7 @@ ghost use Rattle.rinqebo_diff.specs.Matched.{pair_view};
 use crate::compared::{TestLister, compared};
 use crate::loaded::Loaded;
 use crate::matched::{Matched, match_tests};
+use crate::request::{DiffRequest, DiffSide};
 use crate::run_rows::run_rows;
 use nextest_lists::{ListedBinary, ListedTest};
 use rinqebo_changes::{
@@ -17,7 +18,6 @@ use rinqebo_changes::{
 use rinqebo_files::sources_of;
 use rinqebo_load::chain_of_profile;
 use rinqebo_report::{SettingRow, TestId};
-use rinqebo_request::{DiffRequest, DiffSide};
 use rinqebo_rules::{Lister, Origins, Progress, reported_platform};
 use rinqebo_run::{entries_in, profile_on, requested_of, scripts_of_list};
 use std::alloc::{AllocError, Global};

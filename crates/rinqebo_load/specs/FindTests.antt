@@ -2,9 +2,8 @@
 use Rattle.std.specs.Prelude.{◌≡◌, ◌≢◌, ◌≤◌, ◌||◌, ℕ, List, [], ◌∷◌, Option, None, Some, Contains, Ok, Err, String, if◌then◌else◌, is_none, is_some, length, option_map, string_bytes}
 use Rattle.std.specs.declared.alloc.Global.{Global}
 use Rattle.filter_packages.specs.Targets.{TargetText, binary_id, targets_of_text}
-use Rattle.nextest_engines.specs.Engines.{Test}
 use Rattle.nextest_lists.specs.ListView.{list_view}
-use Rattle.nextest_lists.specs.Lists.{all_tests}
+use Rattle.nextest_lists.specs.Lists.{ListTest, list_tests}
 use Rattle.rinqebo_forms.specs.declared.machines.EngineFault.{EngineFault}
 use Rattle.rinqebo_forms.specs.declared.machines.EngineFault.TheVariants as refused
 use Rattle.rinqebo_request.specs.declared.request.RequestedTest.{RequestedTest}
@@ -26,8 +25,8 @@ source_of session requested =
     else (if is_some session.gathered.now.metadata then sources.Metadata else sources.Id)
 
 -- the tests of a session's list that a request names
-abbrev pub named_in : Session → RequestedTest → List Test
-named_in session requested = named_tests requested (all_tests (list_view session.tests))
+abbrev pub named_in : Session → RequestedTest → List ListTest
+named_in session requested = named_tests requested (list_tests (list_view session.tests))
 
 -- the id of the binary that a request names
 abbrev pub binary_named : RequestedTest → Option (List ℕ)
@@ -36,7 +35,7 @@ binary_named requested = option_map (λ binary. binary.now) requested.binary
 -- ---- a test is found
 
 -- A test is one of a binary that is built from a target of the metadata.
-pub record IsTestOfTargets (metadata binary : List ℕ) (requested : RequestedTest) (test : Test)
+pub record IsTestOfTargets (metadata binary : List ℕ) (requested : RequestedTest) (test : ListTest)
     : Type 0 where
   pub targets : List TargetText
   pub are_targets : targets_of_text metadata ≡ Ok targets
@@ -46,18 +45,18 @@ pub record IsTestOfTargets (metadata binary : List ℕ) (requested : RequestedTe
   pub is_test : test ≡ test_of_target target requested
 
 -- a test is one of the binary of an id by the metadata
-abbrev pub IsTestByMetadata : Option (String Global) → Option (List ℕ) → RequestedTest → Test → Type 0
+abbrev pub IsTestByMetadata : Option (String Global) → Option (List ℕ) → RequestedTest → ListTest → Type 0
 IsTestByMetadata (Some metadata) (Some binary) requested test =
     IsTestOfTargets (string_bytes metadata) binary requested test
 IsTestByMetadata metadata binary requested test = ⊥
 
 -- a test is one of the binary of an id by that id
-abbrev pub IsTestById : Option (List ℕ) → RequestedTest → Test → Type 0
+abbrev pub IsTestById : Option (List ℕ) → RequestedTest → ListTest → Type 0
 IsTestById (Some binary) requested test = IsTestOfId requested binary test
 IsTestById None requested test = ⊥
 
 -- a source gives the test that a request names: a list has exactly one such test
-abbrev pub IsTestBy : TestSource → Session → RequestedTest → Test → Type 0
+abbrev pub IsTestBy : TestSource → Session → RequestedTest → ListTest → Type 0
 IsTestBy sources.List session requested test = named_in session requested ≡ test ∷ []
 IsTestBy sources.Metadata session requested test =
     IsTestByMetadata session.gathered.now.metadata (binary_named requested) requested test
@@ -126,14 +125,14 @@ IsNotFound session requested faults.Memory = Unit {0}
 -- ---- what each source gives
 
 -- A test is the only one of a list that a request names.
-pub record IsOnlyOne (named : List Test) (requested : RequestedTest) (found : FoundTest) : Type 0
+pub record IsOnlyOne (named : List ListTest) (requested : RequestedTest) (found : FoundTest) : Type 0
   where
     pub source : found.source ≡ sources.List
     pub mode : found.mode ≡ requested.mode
     pub only : named ≡ found_view found ∷ []
 
 -- not exactly one test of a list is named; want of memory aside
-abbrev pub IsNotOne : List Test → TestFault → Type 0
+abbrev pub IsNotOne : List ListTest → TestFault → Type 0
 IsNotOne named (faults.NoTest missing) = named ≡ []
 IsNotOne named (faults.SeveralTests tests) = 2 ≤ length named
 IsNotOne named (faults.Input fault) = ⊥

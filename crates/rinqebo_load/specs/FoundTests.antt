@@ -1,27 +1,30 @@
 -- Tests that a request names, and what is known of them.
-use Rattle.std.specs.Prelude.{◌≡◌, ◌≢◌, ◌++◌, ◌&&◌, ◌||◌, ℕ, Bool, eqb, List, [], Option, None, Some, codes, if◌then◌else◌, string_bytes}
+use Rattle.std.specs.Prelude.{◌≡◌, ◌≢◌, ◌++◌, ◌&&◌, ◌||◌, ℕ, Bool, false, eqb, List, [], Option, None, Some, codes, if◌then◌else◌, string_bytes}
 use Rattle.std.specs.List.{ends_with, filter}
 use Rattle.std.specs.Str.{bytes_eq}
 use Rattle.filter_language.specs.Values.{package_name}
 use Rattle.filter_packages.specs.Targets.{TargetText, binary_id}
-use Rattle.nextest_engines.specs.Engines.{Test}
 use Rattle.nextest_engines.specs.declared.queries.BuildPlatform.{BuildPlatform}
 use Rattle.nextest_engines.specs.declared.queries.BuildPlatform.TheVariants.{Host}
+use Rattle.nextest_lists.specs.Lists.{ListTest}
 use Rattle.rinqebo_request.specs.declared.request.RequestedTest.{RequestedTest}
 use Rattle.rinqebo_load.specs.declared.found_test.FoundTest.{FoundTest}
 use denote.Ref.{Bor}
 
--- what filters see of a found test
-abbrev pub found_view : FoundTest → Test
+-- a found test, as a list has tests
+abbrev pub found_view : FoundTest → ListTest
 found_view found = record {
-  binary = record {
-    package_id = string_bytes found.package_id;
-    binary_id = string_bytes found.binary;
-    kind = string_bytes found.kind;
-    binary_name = string_bytes found.target;
-    platform = found.platform;
+  test = record {
+    binary = record {
+      package_id = string_bytes found.package_id;
+      binary_id = string_bytes found.binary;
+      kind = string_bytes found.kind;
+      binary_name = string_bytes found.target;
+      platform = found.platform;
+    };
+    name = string_bytes found.name;
   };
-  name = string_bytes found.name;
+  ignored = found.ignored;
 }
 
 -- ---- tests of a list
@@ -32,13 +35,13 @@ abbrev pub is_end_of : List ℕ → List ℕ → Bool
 is_end_of word name = bytes_eq name word || ends_with eqb name (codes "::" ++ word)
 
 -- whether a test has a name, in a binary of an id if that is given
-abbrev pub is_named : Option (Bor (List ℕ)) → List ℕ → Test → Bool
-is_named (Some binary) name test =
-    bytes_eq test.binary.binary_id binary.now && bytes_eq test.name name
-is_named None name test = is_end_of name test.name
+abbrev pub is_named : Option (Bor (List ℕ)) → List ℕ → ListTest → Bool
+is_named (Some binary) name listed =
+    bytes_eq listed.test.binary.binary_id binary.now && bytes_eq listed.test.name name
+is_named None name listed = is_end_of name listed.test.name
 
 -- the tests of a list that a request names
-abbrev pub named_tests : RequestedTest → List Test → List Test
+abbrev pub named_tests : RequestedTest → List ListTest → List ListTest
 named_tests requested tests = filter (is_named requested.binary requested.name.now) tests
 
 -- ---- tests of a target
@@ -47,17 +50,20 @@ named_tests requested tests = filter (is_named requested.binary requested.name.n
 abbrev pub platform_for : List ℕ → BuildPlatform → BuildPlatform
 platform_for kind stated = if bytes_eq kind (codes "proc-macro") then Host else stated
 
--- a test of a target
-abbrev pub test_of_target : TargetText → RequestedTest → Test
+-- a test of a target, of which nothing says that it is ignored
+abbrev pub test_of_target : TargetText → RequestedTest → ListTest
 test_of_target target requested = record {
-  binary = record {
-    package_id = target.package_id;
-    binary_id = binary_id target;
-    kind = target.kind;
-    binary_name = target.name;
-    platform = platform_for target.kind requested.platform;
+  test = record {
+    binary = record {
+      package_id = target.package_id;
+      binary_id = binary_id target;
+      kind = target.kind;
+      binary_name = target.name;
+      platform = platform_for target.kind requested.platform;
+    };
+    name = requested.name.now;
   };
-  name = requested.name.now;
+  ignored = false;
 }
 
 -- ---- tests whose binary is known by its id
@@ -80,9 +86,11 @@ pub data IsReadAs (id : List ℕ) : (kind name : List ℕ) → Type 0 where
       → HasNoSlash kind → IsReadAs id kind name
 
 -- A test is one of the binary of an id, of which no more is known: its target is what the id says.
-pub record IsTestOfId (requested : RequestedTest) (binary : List ℕ) (test : Test) : Type 0 where
-  pub is_binary : test.binary.binary_id ≡ binary
-  pub target : IsReadAs binary test.binary.kind test.binary.binary_name
-  pub no_package : test.binary.package_id ≡ []
-  pub platform : test.binary.platform ≡ requested.platform
-  pub name : test.name ≡ requested.name.now
+pub record IsTestOfId (requested : RequestedTest) (binary : List ℕ) (found : ListTest) : Type 0
+  where
+    pub is_binary : found.test.binary.binary_id ≡ binary
+    pub target : IsReadAs binary found.test.binary.kind found.test.binary.binary_name
+    pub no_package : found.test.binary.package_id ≡ []
+    pub platform : found.test.binary.platform ≡ requested.platform
+    pub name : found.test.name ≡ requested.name.now
+    pub no_flag : found.ignored ≡ false

@@ -3,7 +3,7 @@ ghost use Rattle.std.specs.Prelude.{◌≡◌, ◌↔◌, ◌++◌, ◌≢◌, e
 ghost use Rattle.std.specs.List.{ends_with};
 ghost use Rattle.filter_packages.specs.Targets.{TargetText, binary_id, targets_of_text};
 ghost use Rattle.filter_packages.specs.TargetView.{target_view, targets_view};
-ghost use Rattle.nextest_engines.specs.Engines.{test_view};
+ghost use Rattle.nextest_lists.specs.ListView.{list_test_view};
 ghost use Rattle.rinqebo_load.specs.FindTests.{AreNoTargets, IsFoundFor, IsNotFound, IsNotOfMetadata, IsNotOne, IsOfMetadata, IsOnlyOne, named_in};
 ghost use Rattle.rinqebo_load.specs.FoundTests.{is_end_of, is_named, named_tests};
 ghost use Rattle.rinqebo_load.specs.InputFaults.{OfEngine};
@@ -13,7 +13,7 @@ use crate::found_test::FoundTest;
 use crate::missing::{Missing, TestFault, several_tests};
 use crate::session::Session;
 use filter_packages::{MetadataFault, PackageTarget, targets_of};
-use nextest_config::TestQuery;
+use nextest_lists::ListedTest;
 use rinqebo_forms::EngineFault;
 use rinqebo_request::{FileOption, NamedFile, RequestedTest};
 use std::alloc::{AllocError, Global};
@@ -34,15 +34,16 @@ fn is_end_of(word: &str, end: &str, name: &str) -> bool
 }
 
 /// Whether a request names a test of a list. The end is its name behind `::`.
-fn is_named(requested: &RequestedTest<'_>, end: &str, test: &TestQuery<'_>) -> bool
+fn is_named(requested: &RequestedTest<'_>, end: &str, test: &ListedTest<'_>) -> bool
     requires { end.now ≡ codes "::" ++ requested.now.name.now }
-    ensures { result ≡ is_named requested.now.binary requested.now.name.now (test_view test.now) }
+    ensures { result ≡ is_named requested.now.binary requested.now.name.now (list_test_view test.now) }
 {
+    let query = &test.query;
     match requested.binary {
         Some(binary) => {
-            test.binary_query.binary_id == binary && test.test_name == requested.name
+            query.binary_query.binary_id == binary && query.test_name == requested.name
         }
-        None => is_end_of(requested.name, end, test.test_name),
+        None => is_end_of(requested.name, end, query.test_name),
     }
 }
 
@@ -50,10 +51,10 @@ fn is_named(requested: &RequestedTest<'_>, end: &str, test: &TestQuery<'_>) -> b
 fn named_tests<'t>(
     alloc: Global,
     requested: &RequestedTest<'_>,
-    tests: &[TestQuery<'t>],
-) -> Result<Vec<TestQuery<'t>>, AllocError>
-    ensures { IfOk result (λ named. map test_view named.items
-        ≡ named_tests requested.now (map test_view tests.now)) }
+    tests: &[ListedTest<'t>],
+) -> Result<Vec<ListedTest<'t>>, AllocError>
+    ensures { IfOk result (λ named. map list_test_view named.items
+        ≡ named_tests requested.now (map list_test_view tests.now)) }
 {
     let name = requested.name;
     let end = format!(in alloc; "::{name}")?;
@@ -66,8 +67,12 @@ fn named_tests<'t>(
     Ok(named)
 }
 
-/// The targets of the metadata.
-fn metadata_targets(alloc: Global, metadata: &str) -> Result<Vec<PackageTarget>, InputFault>
+/// The targets of the metadata that were read at a path.
+fn metadata_targets(
+    alloc: Global,
+    path: Option<&str>,
+    metadata: &str,
+) -> Result<Vec<PackageTarget>, InputFault>
     ensures ok { IfOk result (λ targets.
         targets_of_text metadata.now ≡ Ok (targets_view targets.items)) }
     ensures err { IfErr result (OfEngine (AreNoTargets metadata.now)) }
@@ -76,7 +81,7 @@ fn metadata_targets(alloc: Global, metadata: &str) -> Result<Vec<PackageTarget>,
         Ok(targets) => Ok(targets),
         Err(MetadataFault::Memory) => Err(InputFault::Memory),
         Err(fault) => {
-            let file = NamedFile::new(alloc, None, FileOption::Metadata)?;
+            let file = NamedFile::new(alloc, path, FileOption::Metadata)?;
             let fault = EngineFault::Metadata(fault);
             Err(InputFault::Engine(Subject::File(file), fault))
         }
@@ -111,9 +116,10 @@ fn target_for<'t>(
     Ok(None)
 }
 
-/// The test of the binary of an id, by the metadata.
+/// The test of the binary of an id, by the metadata that were read at a path.
 fn test_of_metadata(
     alloc: Global,
+    path: Option<&str>,
     metadata: &str,
     id: &str,
     requested: &RequestedTest<'_>,
@@ -121,7 +127,7 @@ fn test_of_metadata(
     ensures ok { IfOk result (λ found. IsOfMetadata metadata.now id.now requested.now found) }
     ensures err { IfErr result (IsNotOfMetadata metadata.now id.now) }
 {
-    let targets = metadata_targets(alloc, metadata)?;
+    let targets = metadata_targets(alloc, path, metadata)?;
     match target_for(alloc, &targets, id)? {
         Some(target) => Ok(FoundTest::of_target(alloc, target, requested)?),
         None => Err(TestFault::NoTest(Missing::in_metadata(alloc, id, &targets)?)),
@@ -138,7 +144,7 @@ impl Session<'_> {
         ensures ok { IfOk result (IsOnlyOne (named_in self.now requested.now) requested.now) }
         ensures err { IfErr result (IsNotOne (named_in self.now requested.now)) }
     {
-        let tests = self.tests.queries(alloc)?;
+        let tests = self.tests.tests(alloc)?;
         let named = named_tests(alloc, requested, &tests)?;
         match named.len() {
             0 => Err(TestFault::NoTest(Missing::in_list(alloc, requested, &self.tests)?)),
@@ -148,7 +154,8 @@ impl Session<'_> {
     }
 
     /// The test that a request names: one of the list, if there is a list; else one of the binary that it
-    /// names, which the metadata have, if they are given, and else is known by its id.
+    /// names, which the metadata, which were read at a path, have, if they are given, and else is known
+    /// by its id.
     ///
     /// # Errors
     ///
@@ -159,6 +166,7 @@ impl Session<'_> {
         &self,
         alloc: Global,
         requested: &RequestedTest<'_>,
+        path: Option<&str>,
     ) -> Result<FoundTest, TestFault>
         ensures found { IfOk result (IsFoundFor self.now requested.now) }
         ensures err { IfErr result (IsNotFound self.now requested.now) }
@@ -170,7 +178,7 @@ impl Session<'_> {
             return self.test_of_list(alloc, requested);
         }
         match &self.gathered.metadata {
-            Some(metadata) => test_of_metadata(alloc, metadata.as_str(), id, requested),
+            Some(metadata) => test_of_metadata(alloc, path, metadata.as_str(), id, requested),
             None => Ok(FoundTest::of_id(alloc, id, requested)?),
         }
     }

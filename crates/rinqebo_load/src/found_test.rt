@@ -2,12 +2,13 @@
 ghost use Rattle.std.specs.Prelude.{◌≡◌, ◌++◌, IfOk, MatchOption, codes};
 ghost use Rattle.filter_language.specs.Values.{package_name};
 ghost use Rattle.filter_packages.specs.TargetView.{target_view};
-ghost use Rattle.nextest_engines.specs.Engines.{test_view};
+ghost use Rattle.nextest_lists.specs.ListView.{list_test_view};
 ghost use Rattle.rinqebo_load.specs.FoundTests.{HasNoSlash, IsOnePart, IsReadAs, IsTestOfId, found_view, platform_for, test_of_target};
 ghost use Rattle.rinqebo_load.specs.declared.found_test.TestSource.TheVariants as sources;
 
 use filter_packages::PackageTarget;
 use nextest_config::{BinaryQuery, BuildPlatform, NextestRunMode, TestQuery};
+use nextest_lists::ListedTest;
 use rinqebo_request::RequestedTest;
 use std::alloc::{AllocError, Global};
 
@@ -37,6 +38,8 @@ pub struct FoundTest {
     pub platform: BuildPlatform,
     /// Its name within the binary.
     pub name: String,
+    /// Whether the list says that it is ignored.
+    pub ignored: bool,
     /// For what it is run.
     pub mode: NextestRunMode,
     /// What gives all this of its binary.
@@ -44,40 +47,44 @@ pub struct FoundTest {
 }
 
 impl FoundTest {
-    /// The test, as filters see it.
-    pub fn query(&self) -> TestQuery<'_>
-        ensures { test_view result ≡ found_view self.now }
+    /// The test, as a list has tests.
+    pub fn listed(&self) -> ListedTest<'_>
+        ensures { list_test_view result ≡ found_view self.now }
     {
-        TestQuery {
-            binary_query: BinaryQuery {
-                package_id: self.package_id.as_str(),
-                binary_id: self.binary.as_str(),
-                kind: self.kind.as_str(),
-                binary_name: self.target.as_str(),
-                platform: self.platform,
+        ListedTest {
+            query: TestQuery {
+                binary_query: BinaryQuery {
+                    package_id: self.package_id.as_str(),
+                    binary_id: self.binary.as_str(),
+                    kind: self.kind.as_str(),
+                    binary_name: self.target.as_str(),
+                    platform: self.platform,
+                },
+                test_name: self.name.as_str(),
             },
-            test_name: self.name.as_str(),
+            ignored: self.ignored,
         }
     }
 
     /// A test of a list.
     pub fn of_list(
         alloc: Global,
-        test: &TestQuery<'_>,
+        test: &ListedTest<'_>,
         mode: NextestRunMode,
     ) -> Result<FoundTest, AllocError>
-        ensures test { IfOk result (λ found. found_view found ≡ test_view test.now) }
+        ensures test { IfOk result (λ found. found_view found ≡ list_test_view test.now) }
         ensures mode { IfOk result (λ found. found.mode ≡ mode) }
         ensures source { IfOk result (λ found. found.source ≡ sources.List) }
     {
-        let binary = &test.binary_query;
+        let binary = &test.query.binary_query;
         Ok(FoundTest {
             package_id: String::from_str(alloc, binary.package_id)?,
             binary: String::from_str(alloc, binary.binary_id)?,
             kind: String::from_str(alloc, binary.kind)?,
             target: String::from_str(alloc, binary.binary_name)?,
             platform: binary.platform,
-            name: String::from_str(alloc, test.test_name)?,
+            name: String::from_str(alloc, test.query.test_name)?,
+            ignored: test.ignored,
             mode,
             source: TestSource::List,
         })
@@ -101,6 +108,7 @@ impl FoundTest {
             target: target.name.clone()?,
             platform: platform_for(target.kind.as_str(), requested.platform),
             name: String::from_str(alloc, requested.name)?,
+            ignored: false,
             mode: requested.mode,
             source: TestSource::Metadata,
         })
@@ -125,6 +133,7 @@ impl FoundTest {
             target: String::from_str(alloc, target.name)?,
             platform: requested.platform,
             name: String::from_str(alloc, requested.name)?,
+            ignored: false,
             mode: requested.mode,
             source: TestSource::Id,
         })

@@ -15,7 +15,7 @@ mod triples;
 
 pub use engines::Engines;
 pub use failure::Failure;
-pub use fault::{InputFault, Subject, TripleSource};
+pub use fault::{InputFault, OpenFilter, Subject, TripleSource};
 pub use found_test::{FoundTest, TestSource};
 pub use missing::{Missing, TestFault};
 pub use profiles::{chain_of_profile, has_profile, missing_profile};

@@ -1,8 +1,7 @@
 //! Why a test that a request names is not found.
 use crate::fault::InputFault;
 use filter_packages::PackageTarget;
-use nextest_config::TestQuery;
-use nextest_lists::{ListedBinary, ListedTests};
+use nextest_lists::{ListedBinary, ListedTest, ListedTests};
 use rinqebo_report::nearest_name;
 use rinqebo_request::RequestedTest;
 use std::alloc::{AllocError, Global};
@@ -53,6 +52,14 @@ impl From<InputFault> for TestFault {
     }
 }
 
+/// Whether a name ends in a word behind `::`.
+fn has_end(name: &str, word: &str) -> bool {
+    match name.strip_suffix(word) {
+        Some(front) => front.ends_with("::"),
+        None => false,
+    }
+}
+
 impl Missing {
     /// That a name is missing beside some names.
     fn beside(
@@ -72,9 +79,10 @@ impl Missing {
     fn of_name(alloc: Global, name: &str, tests: &ListedTests) -> Result<Missing, AllocError> {
         let mut known = Vec::new(alloc);
         for binary in &tests.binaries {
-            for test in &binary.tests {
-                known.push(test.as_str())?;
-                if let Some((_, end)) = test.as_str().rsplit_once("::") {
+            for case in &binary.tests {
+                let test = case.name.as_str();
+                known.push(test)?;
+                if let Some((_, end)) = test.rsplit_once("::") {
                     known.push(end)?;
                 }
             }
@@ -95,12 +103,17 @@ impl Missing {
 
     /// That a binary of a list has no test of a name.
     fn of_test(alloc: Global, name: &str, binary: &ListedBinary) -> Result<Missing, AllocError> {
-        let mut known = Vec::new(alloc);
-        for test in &binary.tests {
-            known.push(test.as_str())?;
-        }
         let id = binary.id.as_str();
         let message = format!(in alloc; "binary `{id}` of LIST has no test `{name}`")?;
+        let mut known = Vec::new(alloc);
+        for case in &binary.tests {
+            let test = case.name.as_str();
+            if has_end(test, name) {
+                let near = Some(String::from_str(alloc, test)?);
+                return Ok(Missing { message, near });
+            }
+            known.push(test)?;
+        }
         Missing::beside(alloc, message, name, &known)
     }
 
@@ -146,7 +159,7 @@ impl Missing {
 pub fn several_tests(
     alloc: Global,
     requested: &RequestedTest<'_>,
-    named: &[TestQuery<'_>],
+    named: &[ListedTest<'_>],
 ) -> Result<String, AllocError> {
     let count = named.len();
     let name = requested.name;
@@ -155,9 +168,9 @@ pub fn several_tests(
         if index > 0 {
             text.push_str(", ")?;
         }
-        text.push_str(test.binary_query.binary_id)?;
+        text.push_str(test.query.binary_query.binary_id)?;
         text.push_str(" ")?;
-        text.push_str(test.test_name)?;
+        text.push_str(test.query.test_name)?;
     }
     Ok(text)
 }

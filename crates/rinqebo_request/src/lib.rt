@@ -1,23 +1,19 @@
 //! What is asked of the program `rinqebo`: its commands and options, and the request that words are.
 #![tactic(auto)]
 
-mod diff_options;
-mod diff_request;
-mod diff_words;
 mod environment;
 mod features;
 mod hints;
 mod keys;
 mod named;
 mod notes;
-mod options;
+pub mod options;
 mod request;
-mod rows;
+pub mod rows;
 mod test_words;
-mod words;
+pub mod words;
 
-pub use diff_request::{DiffFormat, DiffRequest, DiffSide};
-pub use environment::{Environment, RunVariables};
+pub use environment::{Environment, RunVariables, set};
 pub use features::{FEATURES, feature_name, feature_of, law_all_features};
 pub use hints::{name_hint, text_hint};
 pub use keys::{RUNS, SettingKey, all_keys, setting_of, settings_of};

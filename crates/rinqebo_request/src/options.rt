@@ -1,5 +1,4 @@
 //! The commands and their options, as the command line has them.
-use crate::diff_options::diff_command;
 use clap::{Arg, ArgAction, Command};
 use std::alloc::{AllocError, Global};
 
@@ -275,7 +274,7 @@ fn with_test<'a>(alloc: Global, command: Command<'a>) -> Result<Command<'a>, All
         alloc,
         "list",
         "LIST",
-        "Find the test in LIST, the output of\n`cargo nextest list --message-format json`,\nor - for standard input",
+        "Find the test in LIST, the output of\n`cargo nextest list --message-format json`\n(- for standard input)",
     );
     let key = option(
         alloc,
@@ -403,7 +402,6 @@ pub fn program<'a>(alloc: Global) -> Result<Command<'a>, AllocError> {
         .subcommand(explain_command(alloc)?)?
         .subcommand(check_command(alloc)?)?
         .subcommand(list_command(alloc)?)?
-        .subcommand(diff_command(alloc)?)?
         .subcommand(show_command(alloc)?)?
         .subcommand(schema_command(alloc))
 }

@@ -1,5 +1,4 @@
 //! What is asked for.
-use crate::diff_request::DiffRequest;
 use crate::named::ProfileSource;
 use nextest_config::{BuildPlatform, ConfigExperimental, NextestRunMode, Setting, ToolName};
 use rinqebo_report::{Colour, Format};
@@ -173,7 +172,7 @@ pub struct EngineOptions<'a> {
     pub host_cfg: Option<&'a str>,
     /// The path of what the compiler prints for the target. Without it, a table knows the triple.
     pub target_cfg: Option<&'a str>,
-    /// The path of what `cargo metadata` prints. Without it, `deps` and `rdeps` are refused.
+    /// The path of what `cargo metadata` prints. Without it, `deps` and `rdeps` are left open.
     pub metadata: Option<&'a str>,
 }
 
@@ -223,6 +222,4 @@ pub enum Command<'a> {
     Schema,
     /// What a request is answered.
     Answer(Request<'a>),
-    /// What changes between two sides.
-    Diff(DiffRequest<'a>),
 }

@@ -1,5 +1,4 @@
 //! Reads the words of the command line.
-use crate::diff_words::diff_request;
 use crate::environment::{Environment, set};
 use crate::features::{FEATURES, feature_of};
 use crate::hints::name_hint;
@@ -43,7 +42,7 @@ pub fn usage(alloc: Global, message: &str, hint: Option<String>) -> Result<Parse
 }
 
 /// Why the command line was not read.
-fn stop_of(alloc: Global, error: &clap::Error) -> Result<ParseStop, AllocError> {
+pub fn stop_of(alloc: Global, error: &clap::Error) -> Result<ParseStop, AllocError> {
     match error.kind() {
         ErrorKind::OutOfMemory => Ok(ParseStop::Memory),
         ErrorKind::DisplayHelp | ErrorKind::DisplayVersion => {
@@ -332,26 +331,31 @@ fn check_request<'a>(
     })
 }
 
+/// The command that words ask for, which were matched.
+pub fn command_of<'a>(
+    alloc: Global,
+    matches: &ArgMatches<'a>,
+    environment: &'a Environment,
+) -> Result<Command<'a>, ParseStop> {
+    let request = match matches.subcommand() {
+        Some(("explain", matches)) => explain_request(alloc, matches, environment)?,
+        Some(("list", matches)) => list_request(alloc, matches, environment)?,
+        Some(("show-config", matches)) => show_request(alloc, matches, environment)?,
+        Some(("schema", _)) => return Ok(Command::Schema),
+        Some((_, matches)) => check_request(alloc, matches, environment)?,
+        None => return Err(usage(alloc, "no command", None)?),
+    };
+    Ok(Command::Answer(request))
+}
+
 /// Reads the words, with the program's name, and what the environment says in their place.
 pub fn parse<'a>(
     alloc: Global,
     words: &'a [String],
     environment: &'a Environment,
 ) -> Result<Command<'a>, ParseStop> {
-    let matches = match program(alloc)?.try_get_matches_from(words) {
-        Ok(matches) => matches,
-        Err(error) => return Err(stop_of(alloc, &error)?),
-    };
-    let request = match matches.subcommand() {
-        Some(("explain", matches)) => explain_request(alloc, matches, environment)?,
-        Some(("list", matches)) => list_request(alloc, matches, environment)?,
-        Some(("show-config", matches)) => show_request(alloc, matches, environment)?,
-        Some(("diff", matches)) => {
-            return Ok(Command::Diff(diff_request(alloc, matches, environment)?));
-        }
-        Some(("schema", _)) => return Ok(Command::Schema),
-        Some((_, matches)) => check_request(alloc, matches, environment)?,
-        None => return Err(usage(alloc, "no command", None)?),
-    };
-    Ok(Command::Answer(request))
+    match program(alloc)?.try_get_matches_from(words) {
+        Ok(matches) => command_of(alloc, &matches, environment),
+        Err(error) => Err(stop_of(alloc, &error)?),
+    }
 }

@@ -2,9 +2,9 @@
 use crate::case::Setup;
 use nextest_config::ReadOutcome;
 use nextest_files::FileReader;
-use rinqebo_diff::{gather_sides, perform_diff};
+use rinqebo_diff::{AnyCommand, DiffRequest, gather_sides, parse_all, perform_diff};
 use rinqebo_files::gather;
-use rinqebo_request::{Command, DiffRequest, parse};
+use rinqebo_request::Command;
 use rinqebo_run::{perform, print_schema, refuse_gathering, refuse_words};
 use std::alloc::{AllocError, Global};
 use std::io::{self, ErrorKind, Write};
@@ -66,10 +66,10 @@ fn run(
     out: &mut Output,
     err: &mut Vec<u8>,
 ) -> Result<u8, AllocError> {
-    let request = match parse(alloc, words, &setup.environment) {
-        Ok(Command::Answer(request)) => request,
-        Ok(Command::Diff(request)) => return run_diff(alloc, case, setup, &request, out, err),
-        Ok(Command::Schema) => return Ok(print_schema(alloc, out, err)),
+    let request = match parse_all(alloc, words, &setup.environment) {
+        Ok(AnyCommand::Other(Command::Answer(request))) => request,
+        Ok(AnyCommand::Diff(request)) => return run_diff(alloc, case, setup, &request, out, err),
+        Ok(AnyCommand::Other(Command::Schema)) => return Ok(print_schema(alloc, out, err)),
         Err(stop) => return Ok(refuse_words(&stop, out, err)),
     };
     let input = input_of(alloc, case, request.reads_input())?;

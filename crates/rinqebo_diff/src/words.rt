@@ -1,19 +1,19 @@
 //! Reads the words of the command `diff`.
-use crate::diff_options::TO_OPTIONS;
-use crate::diff_request::{DiffFormat, DiffRequest, DiffSide};
-use crate::environment::{Environment, set};
-use crate::named::ProfileSource;
-use crate::request::{
-    ConfigFile, EngineOptions, FileOptions, ListFile, Question, Request, RequestedSettings,
-};
-use crate::rows::explained_rows;
-use crate::words::{
-    ParseStop, colour, engines, features, files, mode, mode_of, named_file, profile,
-    profile_source, tool_files, usage,
-};
+use crate::options::{TO_OPTIONS, diff_command};
+use crate::request::{AnyCommand, DiffFormat, DiffRequest, DiffSide};
 use clap::ArgMatches;
 use nextest_config::NextestRunMode;
 use rinqebo_report::Format;
+use rinqebo_request::options::program;
+use rinqebo_request::rows::explained_rows;
+use rinqebo_request::words::{
+    colour, command_of, engines, features, files, mode, mode_of, named_file, profile,
+    profile_source, stop_of, tool_files, usage,
+};
+use rinqebo_request::{
+    ConfigFile, EngineOptions, Environment, FileOptions, ListFile, ParseStop, ProfileSource,
+    Question, Request, RequestedSettings, set,
+};
 use std::alloc::{AllocError, Global};
 
 /// Whether an option of the right side is given.
@@ -176,7 +176,7 @@ fn diff_format<'a>(matches: &ArgMatches<'a>, environment: &'a Environment) -> Di
 }
 
 /// The request of the command `diff`.
-pub fn diff_request<'a>(
+fn diff_request<'a>(
     alloc: Global,
     matches: &ArgMatches<'a>,
     environment: &'a Environment,
@@ -198,4 +198,23 @@ pub fn diff_request<'a>(
         colour: colour(matches, environment),
         shows_progress: environment.is_error_terminal && !environment.is_terminal,
     })
+}
+
+/// Reads the words, with the program's name, and what the environment says in their place.
+pub fn parse_all<'a>(
+    alloc: Global,
+    words: &'a [String],
+    environment: &'a Environment,
+) -> Result<AnyCommand<'a>, ParseStop> {
+    let program = program(alloc)?.subcommand(diff_command(alloc)?)?;
+    let matches = match program.try_get_matches_from(words) {
+        Ok(matches) => matches,
+        Err(error) => return Err(stop_of(alloc, &error)?),
+    };
+    match matches.subcommand() {
+        Some(("diff", matches)) => {
+            Ok(AnyCommand::Diff(diff_request(alloc, matches, environment)?))
+        }
+        _ => Ok(AnyCommand::Other(command_of(alloc, &matches, environment)?)),
+    }
 }

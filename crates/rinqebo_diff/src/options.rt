@@ -1,8 +1,8 @@
 //! The command `diff` and its options.
-use crate::options::{
+use clap::{Arg, ArgAction, Command};
+use rinqebo_request::options::{
     MODES, flag, keys, option, with_files, with_output, with_platforms, with_profile, word,
 };
-use clap::{Arg, ArgAction, Command};
 use std::alloc::{AllocError, Global};
 
 /// The formats of a diff.

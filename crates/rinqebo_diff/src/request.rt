@@ -1,7 +1,7 @@
 //! What is asked of two sides.
-use crate::request::{Request, RequestedSettings};
 use nextest_config::NextestRunMode;
 use rinqebo_report::Colour;
+use rinqebo_request::{Command, Request, RequestedSettings};
 
 /// What is asked of a side.
 #[derive(Drop)]
@@ -54,4 +54,13 @@ impl DiffRequest<'_> {
     pub fn reads_input(&self) -> bool {
         self.from.request.reads_input() || self.to.request.reads_input()
     }
+}
+
+/// What words ask for: a diff, or what another command does.
+#[derive(Drop)]
+pub enum AnyCommand<'a> {
+    /// What changes between two sides.
+    Diff(DiffRequest<'a>),
+    /// Another command.
+    Other(Command<'a>),
 }
