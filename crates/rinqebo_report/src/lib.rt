@@ -29,7 +29,7 @@ mod why_page;
 
 pub use finding::{CharSpan, Finding, Level, RefusedExpression};
 pub use format::{Format, render, render_findings};
-pub use github::{add_message, add_property};
+pub use github::{add_file, add_message, add_property};
 pub use hint::nearest_name;
 pub use json_document::{document, render_json};
 pub use json_parts::{

@@ -30,6 +30,12 @@ mod unset;
 mod why;
 
 pub use answer::Answer;
+pub use asked::requested_of;
+pub use list::{Profile, profile_on};
+pub use list_scripts::scripts_of_list;
+pub use progress::ProgressLine;
+pub use refusing::refuse_in;
 pub use run::{answer_of, perform, print_schema, refuse_gathering, refuse_words};
+pub use show::entries_in;
 pub use status::Status;
-pub use telling::refuse_for_memory;
+pub use telling::{refuse_for_memory, tell};
