@@ -77,6 +77,7 @@ whole_from test n (a ∷ from) (b ∷ to) zero f t left right changes =
     change_alike : (m k : ℕ) (a f b t : SettingRow) → m ≡ k → a ≡ f → b ≡ t
         → change_of (m, (a, b)) ≡ record { place = k; from = f; to = t }
     change_alike m k a f b t p e g = λ i. record { place = p i; from = e i; to = g i }
+
     first_is : (test : SettingRow → SettingRow → Bool) (n : ℕ) (a b : SettingRow) (from to : List SettingRow)
         → test a b ≡ true → (c : RowChange) → change_of (n, (a, b)) ≡ c
         → IsOneOf (changed_from test n (a ∷ from) (b ∷ to)) c
@@ -145,6 +146,7 @@ exactly test from to = record {
           right_row = subst (λ k. slice_get to k ≡ Some c.to) same f.right_row;
           changes = f.changes;
         }
+
     from_place : (c : RowChange) → IsOneOf (changed_from test 0 from to) (record { place = 0 + c.place; from = c.from; to = c.to })
         → IsOneOf (changed_rows test from to) c
     from_place c one =

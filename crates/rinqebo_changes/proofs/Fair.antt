@@ -169,8 +169,8 @@ swap_from : (test other : SettingRow → SettingRow → Bool) → ((a b : Settin
     → map change_of (filter (λ p. other p.1.0 p.1.1) (enumerate_from n (zip right left)))
     ≡ map swapped (map change_of (filter (λ p. test p.1.0 p.1.1) (enumerate_from n (zip left right))))
 swap_from test other same n [] [] = refl
-swap_from test other same n [] (b ∷ bs) = refl
-swap_from test other same n (a ∷ as) [] = refl
+swap_from test other same n [] (b ∷ ys) = refl
+swap_from test other same n (a ∷ xs) [] = refl
 swap_from test other same n (a ∷ xs) (b ∷ ys) =
     let ps = filter (λ p. test p.1.0 p.1.1) (enumerate_from (n + 1) (zip xs ys)) in
     let qs = filter (λ p. other p.1.0 p.1.1) (enumerate_from (n + 1) (zip ys xs)) in

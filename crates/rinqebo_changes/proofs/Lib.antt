@@ -2,5 +2,6 @@ mod Deciding
 mod SameValues
 mod SameOrigins
 mod ClassLists
+mod Reflexive
 mod Exactly
 mod Fair

@@ -1,5 +1,5 @@
 -- A diff as notices of GitHub's workflows.
-use Rattle.std.specs.Prelude.{◌≡◌, ℕ, List, [], ◌∷◌, ◌++◌, Option, None, Some, flat_map, codes, decimal, string_bytes}
+use Rattle.std.specs.Prelude.{◌≡◌, ℕ, List, [], ◌∷◌, ◌++◌, Option, None, Some, option_and_then, slice_get, flat_map, codes, decimal, string_bytes}
 use Rattle.std.specs.Str.{chars}
 use Rattle.rinqebo_report.specs.declared.origin.FilePlace.{FilePlace}
 use Rattle.rinqebo_report.specs.declared.origin.Origin.{Origin}
@@ -20,8 +20,7 @@ place_in (origins.File place) = Some place
 
 -- the place of the first of origins, if it is in a file
 abbrev pub site_of : List Origin → Option FilePlace
-site_of [] = None
-site_of (o ∷ os) = place_in o
+site_of origins = option_and_then place_in (slice_get origins 0)
 
 -- a change on one line
 abbrev pub change_text : RowChange → List ℕ

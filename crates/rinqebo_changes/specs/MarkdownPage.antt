@@ -1,5 +1,5 @@
 -- A diff as a table for a comment.
-use Rattle.std.specs.Prelude.{◌≡◌, ℕ, ◌==◌, ◌&&◌, ◌||◌, not, Bool, List, [], ◌∷◌, ◌++◌, length, flat_map, codes, decimal, encode_utf8, string_bytes, if◌then◌else◌}
+use Rattle.std.specs.Prelude.{◌≡◌, ℕ, ◌==◌, ◌&&◌, ◌||◌, not, Bool, List, [], ◌∷◌, ◌++◌, Option, None, Some, length, slice_get, flat_map, codes, decimal, encode_utf8, string_bytes, if◌then◌else◌}
 use Rattle.std.specs.Char.{is_control}
 use Rattle.std.specs.Str.{chars}
 use Rattle.rinqebo_report.specs.declared.report.SettingRow.{SettingRow}
@@ -33,8 +33,8 @@ marked_text text = flat_map marked_char (chars text)
 
 -- where the value of a side comes from, on a line of its own, if that is known
 abbrev pub origins_cell : Side → List Origin → List ℕ
-origins_cell side [] = []
-origins_cell side (o ∷ os) = codes "<br>" ++ marked_text (origins_text side (o ∷ os))
+origins_cell side origins =
+    if length origins == 0 then [] else codes "<br>" ++ marked_text (origins_text side origins)
 
 -- what a side gives: its value, and where that comes from
 abbrev pub given_cell : Side → SettingRow → List ℕ
@@ -56,13 +56,19 @@ abbrev pub whole_cell : List ℕ → ℕ → List ℕ
 whole_cell binary n =
     marked_text binary ++ (codes " \\* (" ++ (decimal n ++ codes " tests)<br>"))
 
--- the changes of a binary's tests: once where they are all, unless each is listed
+-- the changes of a binary's tests, of which one is the first: once where they are all, unless each is
+-- listed
+abbrev pub binary_cell_at : List BinaryTests → Bool → List Item → Option Item → List ℕ
+binary_cell_at binaries lists_all items None = flat_map item_cell items
+binary_cell_at binaries lists_all items (Some item) =
+    if not lists_all && is_whole binaries items
+    then whole_cell (string_bytes item.test.now.binary) (length items)
+    else flat_map item_cell items
+
+-- the changes of a binary's tests
 abbrev pub binary_cell : List BinaryTests → Bool → List Item → List ℕ
-binary_cell binaries lists_all [] = []
-binary_cell binaries lists_all (item ∷ items) =
-    if not lists_all && is_whole binaries (item ∷ items)
-    then whole_cell (string_bytes item.test.now.binary) (length (item ∷ items))
-    else flat_map item_cell (item ∷ items)
+binary_cell binaries lists_all items =
+    binary_cell_at binaries lists_all items (slice_get items 0)
 
 -- the first three cells of a change
 abbrev pub cells_text : Diff → RowChange → List ℕ
@@ -84,10 +90,10 @@ run_line diff row = cells_text diff row ++ (codes "the run |" ++ 10 ∷ [])
 
 -- a line of the table: the tests of one side alone, if there are some
 abbrev pub alone_line : List ℕ → List TestId → List ℕ
-alone_line word [] = []
-alone_line word (test ∷ tests) =
-    codes "| " ++ (word ++ (codes " |  |  | "
-    ++ (flat_map test_cell (test ∷ tests) ++ (codes " |" ++ 10 ∷ []))))
+alone_line word tests =
+    if length tests == 0 then []
+    else codes "| " ++ (word ++ (codes " |  |  | "
+    ++ (flat_map test_cell tests ++ (codes " |" ++ 10 ∷ []))))
 
 -- how many tests change
 abbrev pub last_text : Diff → List ℕ

@@ -1,5 +1,5 @@
 -- The page of a diff.
-use Rattle.std.specs.Prelude.{◌≡◌, ℕ, ◌==◌, ◌-◌, ◌&&◌, Bool, true, false, List, [], ◌∷◌, ◌++◌, Option, None, Some, length, flat_map, not, codes, bytes_eq, String, string_bytes, if◌then◌else◌}
+use Rattle.std.specs.Prelude.{◌≡◌, ℕ, ◌==◌, ◌-◌, ◌&&◌, Bool, true, false, List, [], ◌∷◌, ◌++◌, Option, None, Some, length, slice_get, flat_map, not, codes, bytes_eq, String, string_bytes, if◌then◌else◌}
 use Rattle.std.specs.declared.alloc.Global.{Global}
 use lib.Dec.{ltb}
 use Rattle.rinqebo_report.specs.declared.origin.Origin.{Origin}
@@ -31,9 +31,9 @@ setting_text (Some value) = value_text value
 
 -- where the value of a side comes from, with commas between origins, or that nothing is known
 abbrev pub origins_text : Side → List Origin → List ℕ
-origins_text side [] = codes "none"
-origins_text side (o ∷ os) =
-    joined (codes ", ") (origin_text (string_bytes side.root) side.sources.items) (o ∷ os)
+origins_text side origins =
+    if length origins == 0 then codes "none"
+    else joined (codes ", ") (origin_text (string_bytes side.root) side.sources.items) origins
 
 -- the key of the right side, where it is another one
 abbrev pub other_key : RowChange → List ℕ
@@ -83,24 +83,34 @@ total_of [] binary = 0
 total_of (b ∷ bs) binary =
     if bytes_eq (string_bytes b.binary) binary then b.tests else total_of bs binary
 
+-- whether so many changes of tests of the binary of a first one are those of all its tests, of which
+-- there are several
+abbrev pub whole_at : List BinaryTests → ℕ → Option Item → Bool
+whole_at binaries n None = false
+whole_at binaries n (Some item) =
+    ltb 1 n && (n == total_of binaries (string_bytes item.test.now.binary))
+
 -- whether changes of a binary's tests are those of all its tests, of which there are several
 abbrev pub is_whole : List BinaryTests → List Item → Bool
-is_whole binaries [] = false
-is_whole binaries (item ∷ items) =
-    ltb 1 (length (item ∷ items))
-    && (length (item ∷ items) == total_of binaries (string_bytes item.test.now.binary))
+is_whole binaries items = whole_at binaries (length items) (slice_get items 0)
 
 -- the test of a change
 abbrev pub item_runs : Item → List Run
 item_runs item = test_runs item.test.now
 
--- the changes of a binary's tests: one line where they are all, unless each is listed
+-- the changes of a binary's tests, of which one is the first: one line where they are all, unless each
+-- is listed
+abbrev pub binary_runs_at : List BinaryTests → Bool → List Item → Option Item → List Run
+binary_runs_at binaries lists_all items None = flat_map item_runs items
+binary_runs_at binaries lists_all items (Some item) =
+    if not lists_all && is_whole binaries items
+    then whole_runs (string_bytes item.test.now.binary) (length items)
+    else flat_map item_runs items
+
+-- the changes of a binary's tests
 abbrev pub binary_runs : List BinaryTests → Bool → List Item → List Run
-binary_runs binaries lists_all [] = []
-binary_runs binaries lists_all (item ∷ items) =
-    if not lists_all && is_whole binaries (item ∷ items)
-    then whole_runs (string_bytes item.test.now.binary) (length (item ∷ items))
-    else flat_map item_runs (item ∷ items)
+binary_runs binaries lists_all items =
+    binary_runs_at binaries lists_all items (slice_get items 0)
 
 -- a group: what changes, and its tests
 abbrev pub group_runs : Diff → Bool → Group → List Run
@@ -148,18 +158,14 @@ head_runs diff =
 
 -- the tests of one side alone, if there are some
 abbrev pub listed_runs : List ℕ → List TestId → List Run
-listed_runs word [] = []
-listed_runs word (test ∷ tests) = plain word ∷ ending ∷ flat_map test_runs (test ∷ tests)
+listed_runs word tests =
+    if length tests == 0 then [] else plain word ∷ ending ∷ flat_map test_runs tests
 
--- changes of the whole run, if there are some
-abbrev pub run_change_runs : Diff → List RowChange → List Run
-run_change_runs diff [] = []
-run_change_runs diff (row ∷ rows) =
-    remark_runs (codes "# run") ++ flat_map (change_runs diff) (row ∷ rows)
-
--- what changes for the whole run
+-- what changes for the whole run, if something does
 abbrev pub run_runs : Diff → List Run
-run_runs diff = run_change_runs diff diff.run.items
+run_runs diff =
+    if length diff.run.items == 0 then []
+    else remark_runs (codes "# run") ++ flat_map (change_runs diff) diff.run.items
 
 -- how many tests change
 abbrev pub count_runs : Diff → List Run

@@ -29,12 +29,12 @@ fn is_same_member(a: &TableMember, b: &TableMember) -> bool
 fn are_same_members(a: &[TableMember], b: &[TableMember]) -> bool
     ensures { result ≡ same_members a.now b.now }
 {
-    match (a.split_first(), b.split_first()) {
-        (Some((a, others)), Some((b, rest))) => {
-            is_same_member(a, b) && are_same_members(others, rest)
-        }
-        (None, None) => true,
-        _ => false,
+    let Some((first, others)) = a.split_first() else {
+        return b.is_empty();
+    };
+    match b.split_first() {
+        Some((one, rest)) => is_same_member(first, one) && are_same_members(others, rest),
+        None => false,
     }
 }
 

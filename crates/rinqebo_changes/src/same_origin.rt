@@ -61,12 +61,12 @@ fn is_same_origin(a: &Origin, b: &Origin) -> bool
 pub fn are_same_origins(a: &[Origin], b: &[Origin]) -> bool
     ensures { result ≡ same_origins a.now b.now }
 {
-    match (a.split_first(), b.split_first()) {
-        (Some((a, others)), Some((b, rest))) => {
-            is_same_origin(a, b) && are_same_origins(others, rest)
-        }
-        (None, None) => true,
-        _ => false,
+    let Some((first, others)) = a.split_first() else {
+        return b.is_empty();
+    };
+    match b.split_first() {
+        Some((one, rest)) => is_same_origin(first, one) && are_same_origins(others, rest),
+        None => false,
     }
 }
 
@@ -128,12 +128,14 @@ impl TwoSources<'_> {
     pub fn are_like_origins(&self, a: &[Origin], b: &[Origin]) -> bool
         ensures { result ≡ like_origins self.now.from.now self.now.to.now a.now b.now }
     {
-        match (a.split_first(), b.split_first()) {
-            (Some((a, others)), Some((b, rest))) => {
-                self.is_like_origin(a, b) && self.are_like_origins(others, rest)
+        let Some((first, others)) = a.split_first() else {
+            return b.is_empty();
+        };
+        match b.split_first() {
+            Some((one, rest)) => {
+                self.is_like_origin(first, one) && self.are_like_origins(others, rest)
             }
-            (None, None) => true,
-            _ => false,
+            None => false,
         }
     }
 }

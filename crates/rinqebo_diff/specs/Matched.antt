@@ -1,5 +1,5 @@
 -- The tests that two lists have in common, and those that one has alone.
-use Rattle.std.specs.Prelude.{◌≡◌, ℕ, ◌<◌, ◌&&◌, Bool, true, List, Some, map, filter, not, slice_get, bytes_eq}
+use Rattle.std.specs.Prelude.{◌≡◌, ℕ, ◌<◌, ◌&&◌, Bool, true, List, Some, length, map, filter, not, slice_get, bytes_eq}
 use Rattle.std.specs.List.{All, Contains, list_any}
 use Rattle.nextest_lists.specs.Lists.{ListTest}
 use Rattle.nextest_lists.specs.ListView.{list_test_view}
@@ -26,6 +26,7 @@ is_in tests test = list_any (λ one. same_test one test) tests
 
 -- A place among tests is that of a test.
 pub record IsPlaceOf (tests : List ListTest) (test : ListTest) (place : ℕ) : Type 0 where
+  pub below : place < length tests
   pub found : ListTest
   pub here : slice_get tests place ≡ Some found
   pub same : same_test found test ≡ true

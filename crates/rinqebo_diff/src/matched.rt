@@ -34,18 +34,30 @@ fn is_same_test(a: &ListedTest<'_>, b: &ListedTest<'_>) -> bool
         && a.query.test_name == b.query.test_name
 }
 
+/// The first place of a test among tests, if it is one of them.
+fn first_place(tests: &[ListedTest<'_>], test: &ListedTest<'_>) -> Option<usize>
+    ensures { MatchOption result
+        (is_in (map list_test_view tests.now) (list_test_view test.now) ≡ false)
+        (IsPlaceOf (map list_test_view tests.now) (list_test_view test.now)) }
+{
+    for (place, one) in tests.iter().enumerate() {
+        if is_same_test(one, test) {
+            return Some(place);
+        }
+    }
+    None
+}
+
 /// The place of a test among tests, if it is one of them. It is looked for at a place first.
 fn place_of(tests: &[ListedTest<'_>], test: &ListedTest<'_>, guess: usize) -> Option<usize>
     ensures { MatchOption result
         (is_in (map list_test_view tests.now) (list_test_view test.now) ≡ false)
         (IsPlaceOf (map list_test_view tests.now) (list_test_view test.now)) }
 {
-    if let Some(one) = tests.get(guess) {
-        if is_same_test(one, test) {
-            return Some(guess);
-        }
+    match tests.get(guess) {
+        Some(one) if is_same_test(one, test) => Some(guess),
+        _ => first_place(tests, test),
     }
-    tests.iter().position(|one| is_same_test(one, test))
 }
 
 /// The tests of a list that another list does not have.
