@@ -27,6 +27,7 @@ mod toml_text;
 mod value;
 mod why_page;
 
+pub use duration::add_duration;
 pub use finding::{CharSpan, Finding, Level, RefusedExpression};
 pub use format::{Format, render, render_findings};
 pub use hint::nearest_name;

@@ -6,6 +6,7 @@ use Rattle.nextest_config.specs.ProfileError.{TellsMissing}
 use Rattle.nextest_config.specs.declared.profile_error.ProfileError.{ProfileError}
 use Rattle.nextest_config.specs.declared.profile_error.ProfileError.TheVariants as errors
 use Rattle.nextest_elements.specs.declared.test_group.TestGroupConfig.{TestGroupConfig}
+use Rattle.nextest_engines.specs.declared.queries.BuildPlatform.TheVariants.{Host, Target}
 use Rattle.nextest_inheritance.specs.Parents.{parents_in, IsChain}
 use Rattle.nextest_load.specs.Config.{config_parents}
 use Rattle.nextest_profiles.specs.Meaning.{configured_meaning, profile_meaning}
@@ -13,6 +14,7 @@ use Rattle.nextest_settings.specs.Profile.{profile_of, profile_on}
 use Rattle.nextest_tables.specs.FileTexts.{names_in, IsIn}
 use Rattle.nextest_tables.specs.Written.{Name}
 use Rattle.platform_language.specs.Expressions.{spec_view}
+use Rattle.rinqebo_session.specs.Needs.{AreNeeds}
 use Rattle.rinqebo_session.specs.Readings.{filter_meaning, holds_on}
 use Rattle.rinqebo_session.specs.declared.failure.Failure.{Failure}
 use Rattle.rinqebo_session.specs.declared.failure.OpenFailure.{OpenFailure}
@@ -33,7 +35,8 @@ abbrev pub group_entry : Group → Name × Option TestGroupConfig
 group_entry group = (group.name.now, Some (record { max_threads = group.threads }))
 
 -- A profile of a configuration is open: it is the one of the name, by its chain, on the platforms
--- of the build, by what its rules mean; and its groups and wrappers are those that are defined.
+-- of the build, by what its rules mean; its groups and wrappers are those that are defined; and what
+-- its filters ask for is known, for binaries of each platform.
 pub record IsOpened (loaded : Loaded) (name : Name) (opened : Opened) : Type 0 where
   pub known : IsIn (names_in loaded.config.config.profiles) name
   pub chain : List Name
@@ -44,6 +47,9 @@ pub record IsOpened (loaded : Loaded) (name : Name) (opened : Opened) : Type 0 w
   pub groups : map group_entry opened.groups.items ≡ opened.profile.facts.groups
   pub wrappers : map (λ id. id.now) opened.wrappers.items
       ≡ names_in opened.profile.facts.scripts.wrapper
+  pub loaded : opened.loaded.now ≡ loaded
+  pub for_host : AreNeeds opened.profile Host opened.for_host
+  pub for_target : AreNeeds opened.profile Target opened.for_target
 
 -- why a configuration has no profile of a name: it is none of its profiles; want of memory aside
 abbrev pub IsNotOpened : Loaded → Name → OpenFailure → Type 0
