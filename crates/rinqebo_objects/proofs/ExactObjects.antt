@@ -119,31 +119,35 @@ run_is : (n : ℕ) (run : RunValues) (profiles : List Name) → IsExact (n + 2) 
 run_is n run profiles =
     exact_object (n + 1) (bounded n run (shown n run (named n run profiles (no_more (n + 1)))))
 
-objects : (facts : ProfileFacts) (run : RunValues) (profiles : List Name) (ds : Option Directories)
-    → IsExact 5 (objects_data facts run profiles ds)
-objects facts run profiles ds =
-    exact_object 4 (and_member _ (exact_list 3 group_data (group 2) facts.groups)
+warned : (n : ℕ) (code : List ℕ) (source : Source) (names : List (List ℕ)) (profile times : Data)
+    → IsExact (n + 1) profile → IsExact (n + 1) times
+    → IsExact (n + 2) (warning_of code source names profile times)
+warned n code source names profile times p t =
+    exact_object (n + 1) (and_member _ (exact_text (n + 1) _) (and_member _ t (and_member _ (exact_text (n + 1) _)
+    (and_member _ (texts n names) (and_member _ p (no_more (n + 1)))))))
+
+warning : (n : ℕ) (w : Warning) → IsExact (n + 2) (warning_data w)
+warning n (unknown_keys source paths) =
+    warned n _ source paths null null (exact_null (n + 1)) (exact_null (n + 1))
+warning n (reserved_profiles source names) =
+    warned n _ source names null null (exact_null (n + 1)) (exact_null (n + 1))
+warning n (deprecated_scripts source) = warned n _ source [] null null (exact_null (n + 1)) (exact_null (n + 1))
+warning n (empty_sections source profile times) =
+    warned n _ source [] (string profile) (count_data times) (exact_text (n + 1) profile) (count (n + 1) times)
+
+warnings_of : (n : ℕ) (ws : List Warning) → IsExact (n + 3) (warnings_data ws)
+warnings_of n ws = exact_list (n + 2) warning_data (warning n) ws
+
+objects : (facts : ProfileFacts) (run : RunValues) (profiles : List Name) (ws : List Warning) (ds : Option Directories)
+    → IsExact 5 (objects_data facts run profiles ws ds)
+objects facts run profiles ws ds =
+    exact_object 4 (and_member _ (warnings_of 1 ws)
+    (and_member _ (exact_list 3 group_data (group 2) facts.groups)
     (and_member _ (run_is 2 run profiles)
     (and_member _ (exact_list 3 (setup_script_data ds) (setup 0 ds) facts.scripts.setup)
-    (and_member _ (exact_list 3 (wrapper_script_data ds) (wrapper 0 ds) facts.scripts.wrapper) (no_more 4)))))
+    (and_member _ (exact_list 3 (wrapper_script_data ds) (wrapper 0 ds) facts.scripts.wrapper) (no_more 4))))))
 
-pub objects_are_whole : {facts : ProfileFacts} {profiles : List Name} {ds : Option Directories} (value : Data)
-    → AreObjectsOf facts profiles ds value → has_float value ≡ false
-objects_are_whole {facts} {profiles} {ds} value are =
-    rw are.value (objects facts are.run profiles ds).whole
-
-warned : (code : List ℕ) (source : Source) (names : List (List ℕ)) (profile times : Data) → IsExact 1 profile
-    → IsExact 1 times → IsExact 2 (warning_of code source names profile times)
-warned code source names profile times p t =
-    exact_object 1 (and_member _ (exact_text 1 _) (and_member _ t (and_member _ (exact_text 1 _)
-    (and_member _ (texts 0 names) (and_member _ p (no_more 1))))))
-
-warning : (w : Warning) → IsExact 2 (warning_data w)
-warning (unknown_keys source paths) = warned _ source paths null null (exact_null 1) (exact_null 1)
-warning (reserved_profiles source names) = warned _ source names null null (exact_null 1) (exact_null 1)
-warning (deprecated_scripts source) = warned _ source [] null null (exact_null 1) (exact_null 1)
-warning (empty_sections source profile times) =
-    warned _ source [] (string profile) (count_data times) (exact_text 1 profile) (count 1 times)
-
-pub warnings_are_whole : (ws : List Warning) → has_float (warnings_data ws) ≡ false
-warnings_are_whole ws = (exact_list 2 warning_data warning ws).whole
+pub objects_are_whole : {facts : ProfileFacts} {profiles : List Name} {ws : List Warning} {ds : Option Directories}
+    (value : Data) → AreObjectsOf facts profiles ws ds value → has_float value ≡ false
+objects_are_whole {facts} {profiles} {ws} {ds} value are =
+    rw are.value (objects facts are.run profiles ws ds).whole

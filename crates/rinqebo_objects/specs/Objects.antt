@@ -6,9 +6,11 @@ use Rattle.nextest_profiles.specs.Junit.{IsReportWhereSet}
 use Rattle.nextest_settings.specs.Profile.{ProfileFacts}
 use Rattle.nextest_settings.specs.Settings.{global_timeout_in}
 use Rattle.nextest_settings.specs.Values.{nearest}
+use Rattle.nextest_sources.specs.Warnings.{Warning}
 use Rattle.nextest_tables.specs.Written.{Name}
 use Rattle.rinqebo_objects.specs.Scripts.{Directories, group_data, setup_script_data, wrapper_script_data}
 use Rattle.rinqebo_objects.specs.Values.{global_timeout_data, max_fail_data, optional_data, report_data, threads_data}
+use Rattle.rinqebo_objects.specs.WarningObjects.{warnings_data}
 use Rattle.rinqebo_objects.specs.declared.run.RunValues.{RunValues}
 use Rattle.rinqebo_report.specs.Documents.{list_data}
 use Rattle.serde_json.specs.Data.{Data, string, object, Members, no_members, member, put}
@@ -61,17 +63,19 @@ run_data run profiles =
     object (with_bounds run (with_output run (with_names run profiles no_members)))
 
 -- the objects of a profile, with the values that it has for a whole run
-abbrev pub objects_data : ProfileFacts → RunValues → List Name → Option Directories → Data
-objects_data facts run profiles directories =
-    object (member (codes "groups") (list_data group_data facts.groups)
+abbrev pub objects_data : ProfileFacts → RunValues → List Name → List Warning → Option Directories
+    → Data
+objects_data facts run profiles warnings directories =
+    object (member (codes "findings") (warnings_data warnings)
+    (member (codes "groups") (list_data group_data facts.groups)
     (member (codes "run") (run_data run profiles)
     (member (codes "setup-scripts") (list_data (setup_script_data directories) facts.scripts.setup)
     (member (codes "wrappers") (list_data (wrapper_script_data directories) facts.scripts.wrapper)
-    no_members))))
+    no_members)))))
 
--- A value is the objects of a profile.
-pub record AreObjectsOf (facts : ProfileFacts) (profiles : List Name)
+-- A value is the objects of a profile, among profiles of these names, with the warnings of the load.
+pub record AreObjectsOf (facts : ProfileFacts) (profiles : List Name) (warnings : List Warning)
     (directories : Option Directories) (value : Data) : Type 0 where
   pub run : RunValues
   pub is_run : IsRunOf facts run
-  pub value : value ≡ objects_data facts run profiles directories
+  pub value : value ≡ objects_data facts run profiles warnings directories

@@ -9,7 +9,6 @@ mod scripts;
 mod values;
 mod warnings;
 
-pub use objects::{objects_json, objects_text};
+pub use objects::{Surroundings, objects_text};
 pub use run::RunValues;
 pub use scripts::Directories;
-pub use warnings::warnings_text;

@@ -2,14 +2,13 @@
 ghost use Rattle.std.specs.Prelude.{◌≡◌, [], IfOk, codes, map, string_bytes};
 ghost use Rattle.serde_json.specs.Data.{null, string};
 ghost use Rattle.serde_json.specs.View.{view};
-ghost use Rattle.serde_json.specs.Written.{compact_text};
 ghost use Rattle.nextest_sources.specs.Sources.{source_view};
-ghost use Rattle.nextest_sources.specs.WarningsView.{warning_view};
+ghost use Rattle.nextest_sources.specs.WarningsView.{warning_view, warnings_view};
 ghost use Rattle.rinqebo_objects.specs.WarningObjects.{warning_data, warning_of, warnings_data};
 ghost use Rattle.rinqebo_report.specs.Documents.{count_data, list_data};
 
 use crate::values::names_json;
-use nextest_sources::{ConfigSource, ConfigWarning};
+use nextest_sources::{ConfigSource, ConfigWarning, DefaultConfigWarnings};
 use serde_json::{Value, json};
 use std::alloc::{AllocError, Global};
 
@@ -86,8 +85,8 @@ fn warning_json(alloc: Global, warning: &ConfigWarning) -> Result<Value, AllocEr
     }
 }
 
-/// The warnings of a load, in their order.
-fn warnings_json(alloc: Global, warnings: &[ConfigWarning]) -> Result<Value, AllocError>
+/// Warnings, in their order.
+fn list_json(alloc: Global, warnings: &[ConfigWarning]) -> Result<Value, AllocError>
     ensures { IfOk result (λ value. view value
         ≡ list_data (λ warning. warning_data (warning_view warning)) warnings.now) }
 {
@@ -98,12 +97,13 @@ fn warnings_json(alloc: Global, warnings: &[ConfigWarning]) -> Result<Value, All
     Ok(Value::Array(list))
 }
 
-/// The warnings of a load as a text without spaces: a list, in their order.
-pub fn warnings_text(alloc: Global, warnings: &[ConfigWarning]) -> Result<String, AllocError>
-    ensures { IfOk result (λ text. string_bytes text
-        ≡ compact_text (warnings_data (map warning_view warnings.now))) }
+/// The warnings of a load, in their order.
+pub(crate) fn warnings_json(
+    alloc: Global,
+    warnings: &DefaultConfigWarnings,
+) -> Result<Value, AllocError>
+    ensures { IfOk result (λ value. view value ≡ warnings_data (warnings_view warnings.now)) }
 {
-    let list = warnings_json(alloc, warnings)?;
-    let text = list.to_string(alloc)?;
-    Ok(text)
+    let list = list_json(alloc, warnings.warnings())?;
+    Ok(list)
 }

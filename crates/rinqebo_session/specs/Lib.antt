@@ -11,5 +11,3 @@ pub mod Sizes
 pub mod Versions
 pub mod Needs
 pub mod Arguments
-pub mod ObjectTexts
-pub mod WarningTexts

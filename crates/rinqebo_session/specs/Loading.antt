@@ -1,5 +1,5 @@
 -- What a request's files denote.
-use Rattle.std.specs.Prelude.{◌≡◌, ◌≢◌, ◌⊎◌, ℕ, List, [], Bool, None, Some, Result, Ok, Err, unwrap_or}
+use Rattle.std.specs.Prelude.{◌≡◌, ◌≢◌, ◌⊎◌, ℕ, List, [], Bool, None, Some, Result, Ok, Err, option_map, string_bytes, unwrap_or}
 use Rattle.std.specs.Str.{IsUtf8}
 use Rattle.filter_language.specs.declared.filterset.Filterset.{Filterset}
 use Rattle.nextest_config.specs.ConfigView.{KeptConfig, loaded_by}
@@ -77,10 +77,12 @@ pub record LoadsWith (asked : RequestText) (warnings : List Warning)
     pub loads : LoadsBy (readings filters) features asked warnings answer
 
 -- What was loaded is what a request asks for: the load of its files answers the configuration with
--- the warnings, and the platforms are those of its machines.
+-- the warnings, the platforms are those of its machines, and the target directory is its own.
 pub record IsLoadedBy (asked : RequestText) (loaded : Loaded) : Type 0 where
   pub loads : LoadsWith asked (warnings_view loaded.warnings) (Ok loaded.config)
   pub platforms : ArePlatformsFor asked.host asked.target loaded.platforms
+  pub target_directory :
+      option_map string_bytes loaded.target_directory ≡ asked.target_directory
 
 -- a request has no engines for this fault: of its metadata, of its host or of its target
 abbrev pub IsEngineFault : RequestText → EngineFault → Type 0

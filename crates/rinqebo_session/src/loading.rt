@@ -1,5 +1,5 @@
 //! What a request's files denote.
-ghost use Rattle.std.specs.Prelude.{◌≡◌, [], IfErr, IfOk, option_map};
+ghost use Rattle.std.specs.Prelude.{◌≡◌, [], IfErr, IfOk, option_map, string_bytes};
 ghost use Rattle.nextest_sources.specs.Sources.{file_view};
 ghost use Rattle.nextest_sources.specs.WarningsView.{warnings_view};
 ghost use Rattle.nextest_rules.specs.KnownView.{features_view};
@@ -33,6 +33,8 @@ pub struct Loaded {
     pub platforms: BuildPlatforms<Platform>,
     /// The warnings, in their order.
     pub warnings: DefaultConfigWarnings,
+    /// The target directory, if the request gives it.
+    pub target_directory: Option<String>,
 }
 
 /// The files that a request names beside those of tools.
@@ -99,6 +101,17 @@ fn config_of(
     )
 }
 
+/// A copy of the target directory, if the request gives it.
+fn target_directory_of(asked: &LoadRequest) -> Result<Option<String>, AllocError>
+    ensures { IfOk result (λ directory.
+        option_map string_bytes directory ≡ (request_view asked.now).target_directory) }
+{
+    match &asked.target_directory {
+        Some(directory) => Ok(Some(directory.clone()?)),
+        None => Ok(None),
+    }
+}
+
 /// What the files of a request denote, with its engines.
 fn loaded_by(alloc: Global, asked: &LoadRequest) -> Result<Loaded, Failure>
     ensures ok { IfOk result (IsLoadedBy (request_view asked.now)) }
@@ -107,12 +120,14 @@ fn loaded_by(alloc: Global, asked: &LoadRequest) -> Result<Loaded, Failure>
     let filters = filters_of(alloc, &asked.metadata)?;
     let platforms = platforms_of(alloc, asked)?;
     let features = features_for(alloc, asked)?;
+    let target_directory = target_directory_of(asked)?;
     let mut warnings = DefaultConfigWarnings::new(alloc);
     match config_of(alloc, &filters, &features, asked, &mut warnings) {
         Ok(config) => Ok(Loaded {
             config,
             platforms,
             warnings,
+            target_directory,
         }),
         Err(error) => Err(Failure::Refused(error)),
     }

@@ -3,10 +3,10 @@ ghost use Rattle.std.specs.Prelude.{◌≡◌, ◌↔◌, IfOk, IfErr, IsTrue, m
 ghost use Rattle.nextest_load.specs.ConfigView.{groups_view};
 ghost use Rattle.nextest_scripts.specs.ScriptId.{script_text};
 ghost use Rattle.rinqebo_session.specs.Answering.{Answers, AreSized, IsAnswerOf};
+ghost use Rattle.rinqebo_objects.specs.Scripts.{directories_view};
 ghost use Rattle.rinqebo_session.specs.Arguments.{IsArgumentCopied, IsArgumentOf, IsCopiedOrNone};
 ghost use Rattle.rinqebo_session.specs.Asking.{needs_on, IsFaultIn, IsKnownTest};
-ghost use Rattle.rinqebo_session.specs.ObjectTexts.{AreObjectsCopied};
-ghost use Rattle.rinqebo_session.specs.Opening.{group_entry, IsOpened, IsNotOpened, IsProfileIn, IsOpenedIn};
+ghost use Rattle.rinqebo_session.specs.Opening.{directories_in, group_entry, IsObjectsText, IsOpened, IsNotOpened, IsProfileIn, IsOpenedIn};
 ghost use Rattle.nextest_engines.specs.Engines.{test_view};
 ghost use Rattle.filter_engine.specs.Engine.{filter_holds};
 ghost use Rattle.rinqebo_session.specs.Readings.{filter_meaning};
@@ -28,6 +28,7 @@ use nextest_config::{
     TestThreads, WrapperScriptConfig,
 };
 use platform_language::TargetSpecs;
+use rinqebo_objects::{Directories, Surroundings, objects_text};
 use std::alloc::{AllocError, Global};
 use std::collections::BTreeMap;
 use std::mem::size_of;
@@ -54,8 +55,8 @@ pub struct Opened<'a> {
     pub for_host: Needs,
     /// What its filters ask for, for binaries of the target.
     pub for_target: Needs,
-    /// What it was opened in.
-    pub loaded: &'a Loaded,
+    /// Its objects, as a text in JSON.
+    pub objects: String,
 }
 
 /// A profile that was opened, or why it is not open.
@@ -100,6 +101,38 @@ fn ids_of<'a>(
     Ok(ids)
 }
 
+/// The directories that programs are relative to, where the target directory is given.
+fn directories_of(loaded: &Loaded) -> Option<Directories<'_>>
+    ensures { directories_view result ≡ directories_in loaded.now }
+{
+    match &loaded.target_directory {
+        Some(target) => Some(Directories {
+            root: loaded.config.workspace_root(),
+            target: target.as_str(),
+        }),
+        None => None,
+    }
+}
+
+/// The objects of a profile of a configuration, as a text.
+fn objects_of(
+    alloc: Global,
+    loaded: &Loaded,
+    profile: &EvaluatableProfile<'_, NextestFilters, TargetSpecs>,
+) -> Result<String, AllocError>
+    ensures { IfOk result (λ text.
+        IsObjectsText loaded.now profile.now.facts (string_bytes text)) }
+{
+    let profiles = loaded.config.profile_names(alloc)?;
+    let around = Surroundings {
+        profiles: &profiles,
+        warnings: &loaded.warnings,
+        directories: directories_of(loaded),
+    };
+    let text = objects_text(alloc, profile, around)?;
+    Ok(text)
+}
+
 /// The profile of a name in a configuration.
 fn opened_of<'a>(alloc: Global, loaded: &'a Loaded, name: &str) -> Result<Opened<'a>, OpenFailure>
     ensures ok { IfOk result (IsOpened loaded.now name.now) }
@@ -113,13 +146,14 @@ fn opened_of<'a>(alloc: Global, loaded: &'a Loaded, name: &str) -> Result<Opened
     let wrappers = ids_of(alloc, &profile.script_config().wrapper)?;
     let for_host = Needs::of(&profile, BuildPlatform::Host);
     let for_target = Needs::of(&profile, BuildPlatform::Target);
+    let objects = objects_of(alloc, loaded, &profile)?;
     Ok(Opened {
         profile,
         groups,
         wrappers,
         for_host,
         for_target,
-        loaded,
+        objects,
     })
 }
 
@@ -256,13 +290,15 @@ impl Opened<'_> {
         Ok(text_at(arguments, index))
     }
 
-    /// The name of a group or of a wrapper: of kind 1 those of groups, of kind 2 those of wrappers.
+    /// The name of a group or of a wrapper: of kind 1 those of groups, of kind 2 those of wrappers. Of
+    /// kind 3 the objects, whatever the index.
     fn name(&self, kind: u32, index: usize) -> Option<&str>
         ensures { option_map (λ name. name.now) result ≡ name_at self.now kind index }
     {
         match kind {
             1 => self.groups.get(index).map(|group| group.name),
             2 => self.wrappers.get(index).copied(),
+            3 => Some(self.objects.as_str()),
             _ => None,
         }
     }
@@ -338,30 +374,8 @@ impl<'a> Profile<'a> {
         }
     }
 
-    /// Copies out the objects of the profile in JSON: what it says for a whole run, the groups, and
-    /// the scripts. Where a target directory is given, programs are joined to the directories that
-    /// they are relative to.
-    pub fn copy_objects(
-        &self,
-        alloc: Global,
-        target: &[u8],
-        out: &mut [u8],
-        needed: &mut usize,
-    ) -> u32
-        ensures { AreObjectsCopied self.now target.now out.old out.new needed.new result }
-    {
-        let opened = match &self.outcome {
-            Ok(opened) => opened,
-            Err(failure) => return copy_nothing(failure.status(), needed),
-        };
-        match opened.objects(alloc, target) {
-            Ok(text) => copy_out(text.as_bytes(), out, needed),
-            Err(fault) => copy_nothing(fault.status(), needed),
-        }
-    }
-
     /// The text of a kind and an index: of kind 0 why the profile is not open, of kind 1 the name of
-    /// a group, of kind 2 the id of a wrapper.
+    /// a group, of kind 2 the id of a wrapper, of kind 3 the objects.
     fn text(&self, kind: u32, index: usize) -> Option<&str>
         ensures { option_map (λ text. text.now) result ≡ text_at self.now kind index }
     {
@@ -375,7 +389,8 @@ impl<'a> Profile<'a> {
     }
 
     /// Copies out the text of a kind and an index: why the profile is not open, the name of a group,
-    /// or the id of a wrapper.
+    /// the id of a wrapper, or the objects in JSON: what the profile says for a whole run, the groups,
+    /// the scripts, and the warnings of the load.
     pub fn copy_text(&self, kind: u32, index: usize, out: &mut [u8], needed: &mut usize) -> u32
         ensures { IsTextCopied self.now kind index out.old out.new needed.new result }
     {

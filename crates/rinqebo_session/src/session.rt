@@ -2,13 +2,11 @@
 ghost use Rattle.std.specs.Prelude.{◌≡◌, string_bytes};
 ghost use Rattle.rinqebo_session.specs.Copies.{IsCopiedOut};
 ghost use Rattle.rinqebo_session.specs.Sessions.{IsSessionOf, MayFailFor, session_status};
-ghost use Rattle.rinqebo_session.specs.WarningTexts.{AreWarningsCopied};
 
-use crate::copies::{copy_nothing, copy_out};
+use crate::copies::copy_out;
 use crate::failure::Failure;
 use crate::loading::{Loaded, loaded_from};
-use crate::status::{DONE, MEMORY};
-use rinqebo_objects::warnings_text;
+use crate::status::DONE;
 use std::alloc::Global;
 
 /// A configuration that was loaded, or why there is none.
@@ -58,20 +56,6 @@ impl Session {
         match &self.outcome {
             Ok(_) => DONE,
             Err(failure) => failure.status(),
-        }
-    }
-
-    /// Copies out the warnings of the load, as a list in JSON.
-    pub fn copy_warnings(&self, alloc: Global, out: &mut [u8], needed: &mut usize) -> u32
-        ensures { AreWarningsCopied self.now out.old out.new needed.new result }
-    {
-        let loaded = match &self.outcome {
-            Ok(loaded) => loaded,
-            Err(failure) => return copy_nothing(failure.status(), needed),
-        };
-        match warnings_text(alloc, loaded.warnings.warnings()) {
-            Ok(text) => copy_out(text.as_bytes(), out, needed),
-            Err(_) => copy_nothing(MEMORY, needed),
         }
     }
 

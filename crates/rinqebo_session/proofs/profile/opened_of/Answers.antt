@@ -1,4 +1,4 @@
-use Rattle.std.proofs.Common.{[], ◌∙◌, ap, refl, sym}
+use Rattle.std.proofs.Common.{[], ◌∙◌, ap, sym}
 use Rattle.nextest_config.specs.Answers.{Question}
 use Rattle.nextest_config.specs.ConfigView.{configured_in}
 use Rattle.nextest_config.proofs.Answers.{asked_profile}
@@ -33,7 +33,7 @@ returns-clause-ok c =
           ∙ sym (fused (λ e. e.0) (λ e. (script_text e.0, wrapper_script_view e.1))
           c.script_config.result.now.wrapper.entries)
           ∙ ap (λ scripts. names_in scripts.wrapper) c.script_config.ensures;
-      loaded = refl;
       for_host = c.of-for_host.ensures;
       for_target = c.of-for_target.ensures;
+      objects = c.in_ok-objects.ensures;
     }
