@@ -1,4 +1,5 @@
 //! What is wrong with the list of tests, the metadata or the platforms that a request names.
+use filter_engine::Field;
 use nextest_lists::ListFault;
 use rinqebo_forms::EngineFault;
 use rinqebo_request::NamedFile;
@@ -51,6 +52,26 @@ impl fmt::Display for Subject {
     }
 }
 
+/// A filter that is evaluated, and has a set of packages that was not looked up.
+#[derive(Debug, Drop)]
+pub struct OpenFilter {
+    /// Where it is written, as messages show it.
+    pub place: String,
+    /// What the set is of: [`Field::Deps`] or [`Field::Rdeps`].
+    pub set: Field,
+}
+
+impl fmt::Display for OpenFilter {
+    fn fmt<W: fmt::Write>(&self, f: &mut fmt::Formatter<W>) -> fmt::Result {
+        let OpenFilter { place, set } = self;
+        let word = set.word();
+        write!(
+            f,
+            "{place}: this filter uses `{word}()`, which needs `--metadata FILE` (the output of `cargo metadata --format-version 1`)"
+        )
+    }
+}
+
 /// What is wrong with the list of tests, the metadata or the platforms that a request names.
 #[derive(Debug, Drop, Error)]
 pub enum InputFault {
@@ -66,6 +87,9 @@ pub enum InputFault {
     /// What the compiler prints for a target is given, and there is no target.
     #[error("`--target-cfg` goes with a target, and there is none")]
     NoTarget,
+    /// No metadata are given, and a filter that is evaluated needs them.
+    #[error("{0}")]
+    NoMetadata(OpenFilter),
     /// Want of memory.
     #[error("out of memory")]
     Memory,

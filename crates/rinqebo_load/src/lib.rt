@@ -11,7 +11,7 @@ mod triples;
 
 pub use engines::Engines;
 pub use failure::Failure;
-pub use fault::{InputFault, Subject, TripleSource};
+pub use fault::{InputFault, OpenFilter, Subject, TripleSource};
 pub use profiles::{chain_of_profile, has_profile, missing_profile};
 pub use session::{Config, Session};
 pub use triples::Triples;

@@ -12,7 +12,7 @@ use crate::asking::{Asked, LIST, parted};
 use crate::ending::Ending;
 use rinqebo_files::Gathered;
 use rinqebo_forms::{RequestFault, RunRequest};
-use rinqebo_load::{Failure, InputFault};
+use rinqebo_load::{Failure, InputFault, OpenFilter};
 use rinqebo_report::{Colour, Format, Report, render};
 use rinqebo_rules::NoProgress;
 use rinqebo_run::{Answer, answer_of};
@@ -32,6 +32,10 @@ fn reason_of(alloc: Global, fault: &InputFault) -> Result<String, AllocError> {
         InputFault::EmptyList(_) => {
             let list = LIST;
             format!(in alloc; "no list of tests in `{list}`: it is empty")
+        }
+        InputFault::NoMetadata(OpenFilter { place, set }) => {
+            let word = set.word();
+            format!(in alloc; "{place}: this filter uses `{word}()`, which needs `metadata`")
         }
         InputFault::List(_, _) | InputFault::NoTarget | InputFault::Memory => {
             format!(in alloc; "{fault}")

@@ -5,6 +5,7 @@
 mod binary;
 mod chain_rules;
 mod conditions;
+mod evaluated_filters;
 mod fallback;
 mod grounds;
 mod holds;
@@ -28,6 +29,7 @@ mod verdict_laws;
 pub use binary::query_of;
 pub use chain_rules::{SettingRule, rules_for, rules_on};
 pub use conditions::{Answers, Asking};
+pub use evaluated_filters::{FilterPlace, PlacedFilter, filters_asking, filters_left_open};
 pub use fallback::fallback_of_chain;
 pub use grounds::{built_in, idle_grounds, profile_grounds};
 pub use leaf_value::reported_value;
