@@ -3,11 +3,11 @@ ghost use Rattle.std.specs.Prelude.{◌≡◌, IfOk, map, string_bytes};
 ghost use Rattle.serde_json.specs.Data.{string};
 ghost use Rattle.serde_json.specs.View.{view};
 ghost use Rattle.rinqebo_objects.specs.Values.{duration_data, global_timeout_data, leak_data, max_fail_data, optional_data, report_data, slow_data, threads_data};
-ghost use Rattle.rinqebo_report.specs.Documents.{count_data, list_data, text_data};
+ghost use Rattle.rinqebo_report.specs.Documents.{count_data, list_data};
 
 use nextest_elements::{GlobalTimeout, JunitConfig, LeakTimeout, MaxFail, TestThreads};
 use nextest_scripts::SetupScriptSlowTimeout;
-use rinqebo_report::add_duration;
+use rinqebo_report::{add_duration, texts_json};
 use serde_json::{Value, json};
 use std::alloc::{AllocError, Global};
 
@@ -126,17 +126,6 @@ pub(crate) fn optional_leak_json(
 }
 
 /// A list of texts.
-fn texts_json(alloc: Global, texts: &[String]) -> Result<Value, AllocError>
-    ensures { IfOk result (λ value. view value ≡ list_data text_data texts.now) }
-{
-    let mut list = Vec::new(alloc);
-    for text in texts {
-        list.push(Value::try_from_str(alloc, text.as_str())?)?;
-    }
-    Ok(Value::Array(list))
-}
-
-/// A list of texts, by their bytes.
 pub(crate) fn names_json(alloc: Global, texts: &[String]) -> Result<Value, AllocError>
     ensures { IfOk result (λ value. view value ≡ list_data string (map string_bytes texts.now)) }
 {
