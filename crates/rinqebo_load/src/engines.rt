@@ -50,6 +50,7 @@ impl MachineNames<'_> {
                 Ok(Subject::File(file))
             }
             TripleSource::Host
+            | TripleSource::RustcVersion
             | TripleSource::Target
             | TripleSource::Variable
             | TripleSource::Fallback => Ok(Subject::Triple(self.source)),

@@ -12,6 +12,8 @@ use thiserror::Error;
 pub enum TripleSource {
     /// The option `--host`.
     Host,
+    /// What the compiler prints of itself.
+    RustcVersion,
     /// The option `--target`.
     Target,
     /// The list of tests.
@@ -26,6 +28,7 @@ impl fmt::Display for TripleSource {
     fn fmt<W: fmt::Write>(&self, f: &mut fmt::Formatter<W>) -> fmt::Result {
         f.write_str(match self {
             TripleSource::Host => "--host",
+            TripleSource::RustcVersion => "--rustc-version",
             TripleSource::Target => "--target",
             TripleSource::List => "LIST",
             TripleSource::Variable => "CARGO_BUILD_TARGET",
@@ -81,6 +84,9 @@ pub enum InputFault {
     /// What was read at a path is no list of tests, which would say the platforms of the build.
     #[error("no list of tests in `{0}`: {1}")]
     List(String, ListFault),
+    /// What the compiler prints of itself is given, and has no line with the triple of the host.
+    #[error("{0}: no line `host: TRIPLE`: expected the output of `rustc -vV`")]
+    NoHost(NamedFile),
     /// The metadata have no graph of packages, or no platform is known for a triple.
     #[error("{0}: {1}")]
     Engine(Subject, EngineFault),

@@ -2,7 +2,7 @@
 ghost use Rattle.std.specs.Prelude.{◌≡◌, IfOk, codes, fold};
 ghost use Rattle.serde_json.specs.Data.{null, object, no_members};
 ghost use Rattle.serde_json.specs.View.{members_view, view};
-ghost use Rattle.rinqebo_report.specs.Documents.{count_data, text_data, optional_text_data, optional_count_data, list_data, lines_data, range_data, scalar_data, with_field, value_data, optional_value_data, part_word, part_data, kind_data, origin_data, setting_data, with_setting, test_data, test_id_data, entry_data, answer_word, rule_data, kind_word, tool_data, source_data, unreached_data, wrapper_data};
+ghost use Rattle.rinqebo_report.specs.Documents.{count_data, text_data, optional_text_data, optional_count_data, list_data, lines_data, range_data, scalar_data, with_field, value_data, optional_value_data, part_word, part_data, kind_data, origin_data, setting_data, runs_data, with_setting, test_data, test_id_data, entry_data, answer_word, rule_data, kind_word, tool_data, source_data, unreached_data, wrapper_data};
 
 use crate::duration::add_duration;
 use crate::origin::{FileLines, FilePlace, Origin, Part, Range, Source, SourceKind, Written};
@@ -221,6 +221,18 @@ fn setting_json(alloc: Global, row: &SettingRow) -> Result<Value, AllocError>
     json!(in alloc; {"value": value, "origins": origins})
 }
 
+/// Whether a test runs, and whether a list says that it is ignored.
+fn runs_json(alloc: Global, row: &SettingRow, is_ignored: bool) -> Result<Value, AllocError>
+    ensures { IfOk result (λ value. view value ≡ runs_data is_ignored row.now) }
+{
+    if !is_ignored {
+        return setting_json(alloc, row);
+    }
+    let origins = origins_json(alloc, &row.origins)?;
+    let value = optional_value_json(alloc, &row.value)?;
+    json!(in alloc; {"ignored": true, "value": value, "origins": origins})
+}
+
 /// Settings, by their keys.
 fn settings_json(alloc: Global, rows: &[SettingRow]) -> Result<Value, AllocError>
     ensures { IfOk result (λ value.
@@ -238,7 +250,7 @@ fn settings_json(alloc: Global, rows: &[SettingRow]) -> Result<Value, AllocError
 pub(crate) fn test_json(alloc: Global, test: &TestRows) -> Result<Value, AllocError>
     ensures { IfOk result (λ value. view value ≡ test_data test.now) }
 {
-    let runs = setting_json(alloc, &test.runs)?;
+    let runs = runs_json(alloc, &test.runs, test.is_ignored)?;
     let settings = settings_json(alloc, &test.settings)?;
     json!(in alloc; {
         "binary-id": test.binary.as_str(),

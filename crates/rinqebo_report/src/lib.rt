@@ -39,7 +39,7 @@ pub use json_parts::{
 };
 pub use json_requested::put_text;
 pub use laws::{law_colours, law_durations};
-pub use list_page::{render_list_end, render_listed};
+pub use list_page::{render_list_end, render_list_head, render_listed};
 pub use origin::{
     FileLines, FilePlace, Origin, Part, Position, Range, Source, SourceKind, Written,
 };

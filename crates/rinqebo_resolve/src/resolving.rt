@@ -37,9 +37,10 @@ fn reason_of(alloc: Global, fault: &InputFault) -> Result<String, AllocError> {
             let word = set.word();
             format!(in alloc; "{place}: this filter uses `{word}()`, which needs `metadata`")
         }
-        InputFault::List(_, _) | InputFault::NoTarget | InputFault::Memory => {
-            format!(in alloc; "{fault}")
-        }
+        InputFault::List(_, _)
+        | InputFault::NoHost(_)
+        | InputFault::NoTarget
+        | InputFault::Memory => format!(in alloc; "{fault}"),
     }
 }
 
@@ -51,6 +52,9 @@ fn failed(alloc: Global, failure: &Failure) -> Result<Ending, AllocError>
         Failure::Engines(fault) => Ok(Ending::NoEngines(reason_of(alloc, fault)?)),
         Failure::Refused(report) => Ok(Ending::Refused(document_of(alloc, report)?)),
         Failure::NoProfile(report) => Ok(Ending::NoProfile(document_of(alloc, report)?)),
+        Failure::NoTest(report) | Failure::SeveralTests(report) => {
+            Ok(Ending::NoEngines(document_of(alloc, report)?))
+        }
         Failure::Memory => Err(AllocError),
     }
 }

@@ -2,7 +2,6 @@
 //! write for a setting, and what their conditions say of a test; and what counts where none decides.
 #![tactic(auto)]
 
-mod binary;
 mod chain_rules;
 mod conditions;
 mod evaluated_filters;
@@ -26,7 +25,6 @@ mod values;
 mod verdict;
 mod verdict_laws;
 
-pub use binary::query_of;
 pub use chain_rules::{SettingRule, rules_for, rules_on};
 pub use conditions::{Answers, Asking};
 pub use evaluated_filters::{FilterPlace, PlacedFilter, filters_asking, filters_left_open};

@@ -4,6 +4,7 @@ pub mod Loads
 pub mod Rows
 pub mod Reasons
 pub mod Pairs
+pub mod Requests
 pub mod Meant
 pub mod Gathering
 pub mod Listing

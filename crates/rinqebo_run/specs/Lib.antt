@@ -1,4 +1,5 @@
 pub mod Statuses
+pub mod Requested
 pub mod Explained
 pub mod Checked
 pub mod Answered

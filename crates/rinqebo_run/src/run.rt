@@ -7,9 +7,11 @@ ghost use Rattle.nextest_shape.specs.Page.{schema_data};
 ghost use Rattle.serde_json.specs.Written.{compact_text};
 ghost use Rattle.rinqebo_findings.specs.Reports.{IsReportOf};
 ghost use Rattle.rinqebo_report.specs.Rendered.{rendered};
-ghost use Rattle.rinqebo_run.specs.Answered.{AnswersQuestion, IsAnswer, Tells};
+ghost use Rattle.rinqebo_run.specs.Answered.{AnswersQuestion, IsAboutTest, IsAnswer, Tells};
 ghost use Rattle.rinqebo_run.specs.Begun.{IsBegun};
-ghost use Rattle.rinqebo_run.specs.Refused.{Fails, IsFailureIn, IsReportedBy, TellsRefusal};
+ghost use Rattle.rinqebo_run.specs.Explained.{Explains};
+ghost use Rattle.rinqebo_run.specs.Refused.{Fails, IsFailureAboutTest, IsFailureIn, IsReportedBy, TellsRefusal};
+ghost use Rattle.rinqebo_run.specs.TellsReasons.{TellsReasons};
 ghost use Rattle.rinqebo_run.specs.Statuses.{IsStatus, IsAnswerStatus, IsGatherStatus, IsWordsStatus, TellsWords};
 ghost use Rattle.rinqebo_run.specs.Written.{AsksList, IsStopStatus};
 ghost use Rattle.rinqebo_report.specs.declared.format.Format.TheVariants as formats;
@@ -29,11 +31,13 @@ use crate::status::Status;
 use crate::telling::{refuse_for_memory, refuse_message, tell};
 use crate::unset::add_unset;
 use crate::why::why;
+use nextest_config::Setting;
 use nextest_shape::schema_page;
 use rinqebo_files::{GatherFault, Gathered};
+use rinqebo_findings::find_test;
 use rinqebo_load::{Failure, Session};
 use rinqebo_report::{Colour, Content, Format, Report, render, render_findings};
-use rinqebo_request::{ParseStop, Question, Request};
+use rinqebo_request::{ParseStop, Question, Request, RequestedSettings, RequestedTest};
 use rinqebo_rules::Progress;
 use std::alloc::{AllocError, Global};
 use std::io::Write;
@@ -69,6 +73,40 @@ pub fn answer_of<P: Progress>(
     answer_in(alloc, request, &session, progress)
 }
 
+/// Whether the test that a request names runs, and its settings.
+fn explain_test(
+    alloc: Global,
+    session: &Session<'_>,
+    profile: &str,
+    test: &RequestedTest<'_>,
+    asked: &RequestedSettings,
+) -> Result<Report, Failure>
+    ensures ok { IfOk result (λ report. IsAboutTest session.now test.now
+        (λ found. Explains session.now profile.now found asked.now report)) }
+    ensures about { IfOk result (IsReportOf session.now) }
+    ensures err { IfErr result (IsFailureAboutTest session.now profile.now test.now) }
+{
+    let found = find_test(alloc, session, test)?;
+    explain(alloc, session, profile, &found, asked)
+}
+
+/// The rules of a setting of the test that a request names.
+fn why_of_test(
+    alloc: Global,
+    session: &Session<'_>,
+    profile: &str,
+    test: &RequestedTest<'_>,
+    setting: Setting,
+) -> Result<Report, Failure>
+    ensures ok { IfOk result (λ report. IsAboutTest session.now test.now
+        (λ found. TellsReasons session.now profile.now found setting report)) }
+    ensures about { IfOk result (IsReportOf session.now) }
+    ensures err { IfErr result (IsFailureAboutTest session.now profile.now test.now) }
+{
+    let found = find_test(alloc, session, test)?;
+    why(alloc, session, profile, &found, setting)
+}
+
 /// What a request is answered in a session.
 fn answer_in<P: Progress>(
     alloc: Global,
@@ -86,12 +124,12 @@ fn answer_in<P: Progress>(
             profile,
             test,
             asked,
-        } => answered(explain(alloc, session, *profile, test, asked)),
+        } => answered(explain_test(alloc, session, *profile, test, asked)),
         Question::Why {
             profile,
             test,
             setting,
-        } => answered(why(alloc, session, *profile, test, *setting)),
+        } => answered(why_of_test(alloc, session, *profile, test, *setting)),
         Question::List {
             profile,
             mode,
@@ -252,10 +290,11 @@ fn answer_list<O: Write, E: Write>(
 }
 
 /// Answers a request over the files that it names, and answers the exit status: 0, or 1 for warnings
-/// that are denied and where no leaf is found, 2 for platforms and metadata that are not understood,
-/// 3 where the files are refused, 4 where there is no such profile, 5 for want of memory, 6 where a
-/// write fails. Nothing goes to standard output where a run refuses, but for the findings of a check,
-/// and where JSON is asked for a document of why the files are refused or a profile is missing.
+/// that are denied and where no leaf is found, 2 for platforms and metadata that are not understood
+/// and for several tests of the name, 3 where the files are refused, 4 where there is no such profile
+/// or test, 5 for want of memory, 6 where a write fails. Nothing goes to standard output where a run
+/// refuses, but for the findings of a check, and where JSON is asked for a document of why the files
+/// are refused, a profile or a test is missing, or several tests have the name.
 /// The text of a list goes out as its tests are asked: where memory runs out meanwhile, it has the
 /// first tests, each whole. Where a request says so, standard error is told how far a list is, on a
 /// line of its own that is gone in the end.

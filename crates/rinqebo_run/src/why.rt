@@ -2,8 +2,9 @@
 ghost use Rattle.std.specs.Prelude.{◌≡◌, IfErr, IfOk, List, map, option_map};
 ghost use Rattle.filter_language.specs.declared.filterset.Filterset.{Filterset};
 ghost use Rattle.filter_engine.specs.declared.compiling.FieldMatcher.{FieldMatcher};
-ghost use Rattle.nextest_inheritance.specs.Parents.{with_default};
+ghost use Rattle.nextest_inheritance.specs.Parents.{parents_in, with_default};
 ghost use Rattle.nextest_inheritance.specs.View.{borrowed_view};
+ghost use Rattle.nextest_load.specs.Config.{config_parents};
 ghost use Rattle.nextest_settings.specs.Chains.{fields_of};
 ghost use Rattle.nextest_settings.specs.Profile.{Configured, profile_of};
 ghost use Rattle.nextest_settings.specs.Settings.{fallback_of};
@@ -18,6 +19,7 @@ ghost use Rattle.rinqebo_findings.specs.Failures.{IsFailureAbout};
 ghost use Rattle.rinqebo_findings.specs.Reports.{IsReportOf};
 ghost use Rattle.rinqebo_rules.specs.RuleViews.{setting_rule_view, Rule as ReadRule};
 ghost use Rattle.rinqebo_rules.specs.declared.conditions.Asking.{Asking};
+ghost use Rattle.rinqebo_run.specs.Requested.{IsRequestedIn};
 ghost use Rattle.rinqebo_run.specs.TellsReasons.{AreReasons, AreReasonsIn, IfWhy, IsTestNamed, TellsReasons};
 ghost use Rattle.rinqebo_rules.specs.Told.{reported_of, value_view};
 ghost use Rattle.platform_language.specs.declared.expression.TargetSpec.{TargetSpec};
@@ -31,12 +33,12 @@ use nextest_config::{
 use platform_table::Platform;
 use rinqebo_files::{Layer, host_text, target_text, text_at};
 use rinqebo_findings::{config_with, report_of};
-use rinqebo_load::{Config, Failure, Session, chain_of_profile};
+use rinqebo_load::{Config, Failure, FoundTest, Session, chain_of_profile};
 use rinqebo_report::{Condition, ConditionAnswer, Content, Origin, Report, Rule, TestId, Verdict};
-use rinqebo_request::{SettingKey, TestName};
+use rinqebo_request::SettingKey;
 use rinqebo_rules::{
-    Asking, SettingRule, fallback_of_chain, profile_grounds, query_of, reported_if_set,
-    reported_platform, rules_for, rules_on, verdicts_of,
+    Asking, SettingRule, fallback_of_chain, profile_grounds, reported_if_set, reported_platform,
+    rules_for, rules_on, verdicts_of,
 };
 use std::alloc::{AllocError, Global};
 
@@ -186,7 +188,7 @@ fn rules_and_fallback<'c>(
     session: &'c Session<'_>,
     config: &'c Config,
     chain: &[&'c str],
-    test: &'c TestName<'_>,
+    test: &'c FoundTest,
     setting: Setting,
 ) -> Result<Vec<Rule>, AllocError>
     ensures { (configured : Configured (Filterset FieldMatcher) TargetSpec) (name : Name)
@@ -197,9 +199,9 @@ fn rules_and_fallback<'c>(
         rules.items) }
 {
     let platforms = &session.engines.platforms;
-    let query = query_of(test);
+    let listed = test.listed();
     let on = rules_on(alloc, config, chain, platforms)?;
-    let asking = asking_of(platforms, &query, on.default_filter.expr);
+    let asking = asking_of(platforms, &listed.query, on.default_filter.expr);
     let rules = rules_for(alloc, &on, setting, test.mode, &asking)?;
     let mut reported = reported_rules(alloc, &session.layers, &rules)?;
     let fallback = fallback_rule(alloc, session, config, chain, setting, test.mode)?;
@@ -208,12 +210,12 @@ fn rules_and_fallback<'c>(
 }
 
 /// The names of a test, as they are reported.
-fn named_test(alloc: Global, test: &TestName<'_>) -> Result<TestId, AllocError>
+fn named_test(alloc: Global, test: &FoundTest) -> Result<TestId, AllocError>
     ensures { IfOk result (IsTestNamed test.now) }
 {
     Ok(TestId {
-        binary: String::from_str(alloc, test.binary)?,
-        name: String::from_str(alloc, test.name)?,
+        binary: String::from_str(alloc, test.binary.as_str())?,
+        name: String::from_str(alloc, test.name.as_str())?,
         platform: reported_platform(test.platform),
     })
 }
@@ -224,10 +226,13 @@ fn reasons<'c>(
     session: &'c Session<'_>,
     config: &'c Config,
     profile: &'c str,
-    test: &'c TestName<'_>,
+    test: &'c FoundTest,
     setting: Setting,
 ) -> Result<Content, AllocError>
-    ensures { (configured : Configured (Filterset FieldMatcher) TargetSpec)
+    ensures requested { IsIn (names_in config.now.config.profiles) profile.now
+        → IfOk result (IsRequestedIn session.now
+        (parents_in (config_parents config.now.config)) profile.now test.now.mode) }
+    ensures told { (configured : Configured (Filterset FieldMatcher) TargetSpec)
         → configured.config ≡ config.now.config
         → IsIn (names_in config.now.config.profiles) profile.now
         → IfOk result (λ content. IfWhy content (λ named key rules. IsTestNamed test.now named
@@ -245,6 +250,7 @@ fn reasons<'c>(
         test: named,
         key,
         rules,
+        is_ignored: test.ignored,
     })
 }
 
@@ -253,7 +259,7 @@ pub fn why(
     alloc: Global,
     session: &Session<'_>,
     profile: &str,
-    test: &TestName<'_>,
+    test: &FoundTest,
     setting: Setting,
 ) -> Result<Report, Failure>
     ensures ok { IfOk result (TellsReasons session.now profile.now test.now setting) }

@@ -7,7 +7,7 @@ returns-clause-ok c =
     let config = c.in_ok-config.ensures in
     explains c.args.session.now c.args.profile.now c.args.test.now c.args.asked.now c.in_ok-report.report
     c.in_ok-content.content c.in_ok-config.config config.accepted config.means config.known c.in_ok-report.ensures.content
-    c.in_ok-content.ensures
+    c.in_ok-content.ensures.told c.in_ok-content.ensures.requested
 
 pub returns-in_err-content-clause-err : goal.returns-in_err-content-clause-err
 returns-in_err-content-clause-err c =

@@ -40,9 +40,8 @@ returns c = λ configured name names same_config same_names.
       c.asking_of-asking.ensures.query,
       c.asking_of-asking.ensures.default_filter,
     ) at (c.in_ok-reported.ensures c.asking_of-asking.result written judged) in
-    reasons_here c.args.session.now.layers.items platforms c.args.test.now c.query_of-query.result c.args.setting _
+    reasons_here c.args.session.now.layers.items platforms c.args.test.now c.listed-listed.result.query c.args.setting _
     configured name names written c.in_ok-reported.reported.items c.in_ok-fallback.fallback _ default gathered
-    c.query_of-query.ensures.name c.query_of-query.ensures.binary c.query_of-query.ensures.platform
-    told
+    (ap (λ t. t.test) c.listed-listed.ensures) told
     c.in_ok-fallback.ensures.verdict valued
     c.in_ok-push.ensures.items

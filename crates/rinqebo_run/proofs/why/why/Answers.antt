@@ -8,7 +8,7 @@ returns-clause-ok c =
     let config = c.in_ok-config.ensures in
     tells c.args.session.now c.args.profile.now c.args.test.now c.args.setting c.in_ok-report.report
     c.in_ok-content.content c.in_ok-config.config config.accepted config.means config.known c.in_ok-report.ensures.content
-    (c.in_ok-content.ensures _ refl config.known)
+    (c.in_ok-content.ensures.told _ refl config.known) (c.in_ok-content.ensures.requested config.known)
 
 pub returns-in_err-findings-clause-err : goal.returns-in_err-findings-clause-err
 returns-in_err-findings-clause-err c =
