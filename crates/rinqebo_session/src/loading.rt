@@ -3,6 +3,8 @@ ghost use Rattle.std.specs.Prelude.{◌≡◌, [], IfErr, IfOk, option_map, stri
 ghost use Rattle.nextest_sources.specs.Sources.{file_view};
 ghost use Rattle.nextest_sources.specs.WarningsView.{warnings_view};
 ghost use Rattle.nextest_rules.specs.KnownView.{features_view};
+ghost use Rattle.nextest_tree.specs.View.{tree_view};
+ghost use Rattle.rinqebo_features.specs.Features.{AreFeaturesBy};
 ghost use Rattle.rinqebo_forms.specs.Requests.{request_view};
 ghost use Rattle.rinqebo_session.specs.Loading.{repository_file, AreFeaturesFor, LoadsBy, IsLoadedBy, IsFailureBy, IsLoadedFrom, IsFailureOf};
 ghost use Rattle.rinqebo_session.specs.Readings.{readings};
@@ -12,7 +14,7 @@ use crate::features::features_of;
 use filter_engine::NextestFilters;
 use nextest_config::{
     BuildPlatforms, ConfigExperimental, ConfigFileSelection, ConfigParseError,
-    DefaultConfigWarnings, FileInput, NextestConfig, ParseContext,
+    DefaultConfigWarnings, FileInput, NextestConfig, ParseContext, Tree,
 };
 use platform_language::TargetSpecs;
 use platform_table::Platform;
@@ -61,6 +63,17 @@ fn repository_file(asked: &LoadRequest) -> &FileInput
     }
 }
 
+/// Features, with those that a document switches on, if there is one.
+fn features_with(
+    named: &BTreeSet<ConfigExperimental>,
+    document: &Option<Tree>,
+) -> Result<BTreeSet<ConfigExperimental>, AllocError>
+    ensures { IfOk result (λ features. AreFeaturesBy (features_view named.now)
+        (option_map tree_view document.now) (features_view features)) }
+{
+    features_by(named, document.as_ref())
+}
+
 /// The features of a load: those that the request switches on, and those that the repository's file
 /// enables.
 fn features_for(
@@ -72,7 +85,8 @@ fn features_for(
 {
     let named = features_of(alloc, asked.features)?;
     let document = tree_of(alloc, &repository_file(asked).outcome)?;
-    features_by(&named, document.as_ref())
+    let features = features_with(&named, &document)?;
+    Ok(features)
 }
 
 /// The configuration of a request's files, with its warnings behind those from before.
