@@ -150,4 +150,4 @@ objects facts run profiles ws ds =
 pub objects_are_whole : {facts : ProfileFacts} {profiles : List Name} {ws : List Warning} {ds : Option Directories}
     (value : Data) → AreObjectsOf facts profiles ws ds value → has_float value ≡ false
 objects_are_whole {facts} {profiles} {ws} {ds} value are =
-    rw are.value (objects facts are.run profiles ws ds).whole
+    rw are.same (objects facts are.run profiles ws ds).whole

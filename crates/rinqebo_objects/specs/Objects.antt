@@ -78,4 +78,4 @@ pub record AreObjectsOf (facts : ProfileFacts) (profiles : List Name) (warnings 
     (directories : Option Directories) (value : Data) : Type 0 where
   pub run : RunValues
   pub is_run : IsRunOf facts run
-  pub value : value ≡ objects_data facts run profiles warnings directories
+  pub same : value ≡ objects_data facts run profiles warnings directories

@@ -35,9 +35,9 @@ fn objects_with<F: Filters, S: Specs>(
     run: &RunValues<'_>,
     around: Surroundings<'_>,
 ) -> Result<Value, AllocError>
-    ensures { let profiles = map string_bytes around.profiles.entry.now in
-        let warnings = warnings_view around.warnings.entry.now in
-        let directories = directories_view around.directories.entry in
+    ensures { let profiles = map string_bytes around.entry.profiles.now in
+        let warnings = warnings_view around.entry.warnings.now in
+        let directories = directories_view around.entry.directories in
         IfOk result (λ value. view value
         ≡ objects_data profile.now.facts run.now profiles warnings directories) }
 {
@@ -62,9 +62,9 @@ fn objects_json<F: Filters, S: Specs>(
     profile: &EvaluatableProfile<'_, F, S>,
     around: Surroundings<'_>,
 ) -> Result<Value, AllocError>
-    ensures { let profiles = map string_bytes around.profiles.entry.now in
-        let warnings = warnings_view around.warnings.entry.now in
-        let directories = directories_view around.directories.entry in
+    ensures { let profiles = map string_bytes around.entry.profiles.now in
+        let warnings = warnings_view around.entry.warnings.now in
+        let directories = directories_view around.entry.directories in
         IfOk result (λ value. AreObjectsOf profile.now.facts profiles warnings directories
         (view value)) }
 {
@@ -80,9 +80,9 @@ pub fn objects_text<F: Filters, S: Specs>(
     profile: &EvaluatableProfile<'_, F, S>,
     around: Surroundings<'_>,
 ) -> Result<String, AllocError>
-    ensures { let profiles = map string_bytes around.profiles.entry.now in
-        let warnings = warnings_view around.warnings.entry.now in
-        let directories = directories_view around.directories.entry in
+    ensures { let profiles = map string_bytes around.entry.profiles.now in
+        let warnings = warnings_view around.entry.warnings.now in
+        let directories = directories_view around.entry.directories in
         IfOk result (λ text. (value : Data)
         × AreObjectsOf profile.now.facts profiles warnings directories value
         × (string_bytes text ≡ compact_text value)) }

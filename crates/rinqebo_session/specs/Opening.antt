@@ -51,7 +51,7 @@ pub record IsObjectsText (loaded : Loaded) (facts : ProfileFacts) (text : List �
   pub value : Data
   pub are : AreObjectsOf facts (names_in loaded.config.config.profiles)
       (warnings_view loaded.warnings) (directories_in loaded) value
-  pub text : text ≡ compact_text value
+  pub written : text ≡ compact_text value
 
 -- A profile of a configuration is open: it is the one of the name, by its chain, on the platforms
 -- of the build, by what its rules mean; its groups and wrappers are those that are defined; what its
