@@ -1,5 +1,5 @@
 -- What marks in memory ask about, and what their views do.
-use Rattle.std.proofs.Common.{◌≡◌, Bool, true, false, ◌||◌, List, [], ◌∷◌, map, refl, ap, sym, ◌∙◌}
+use Rattle.std.proofs.Common.{◌≡◌, Bool, ◌||◌, List, [], ◌∷◌, map, refl, ap, ◌∙◌}
 use Rattle.std.specs.List.{list_any}
 use Rattle.filter_language.specs.declared.mark.Mark as mark
 use Rattle.filter_language.specs.declared.mark.Mark.TheVariants.{Predicate, Not, Open, Close, And, Or, Minus}
@@ -7,8 +7,7 @@ use Rattle.filter_language.specs.declared.mark.Question as question
 use Rattle.filter_language.specs.declared.mark.Question.TheVariants.{All, Nothing, Default, Platform, Matches}
 use Rattle.filter_language.specs.Asks.{mark_is_default, asks_default_filter}
 use Rattle.filter_language.specs.FilterMarks.{is_default, asks_default}
-use Rattle.filter_language.specs.Grammar.{Mark, mark_view}
-use Rattle.filter_language.specs.Formula.{Question, question_view}
+use Rattle.filter_language.specs.Grammar.{mark_view}
 
 -- A test passes for one of the views where it passes for one of what they are of.
 pub any_of_views : {X Y : Type 0} (p : Y → Bool) (f : X → Y) (xs : List X)

@@ -3,7 +3,7 @@ use Rattle.std.specs.Prelude.{Bool, true, false, List}
 use Rattle.std.specs.List.{list_any}
 use Rattle.filter_language.specs.declared.words.Field.{Field}
 use Rattle.filter_language.specs.declared.words.Field.TheVariants.{TestName, Package, Deps, Rdeps, BinaryId, BinaryName, Kind, Group}
-use Rattle.filter_language.specs.Formula.{Question, Always, Never, TheDefault, OfPlatform, OfName}
+use Rattle.filter_language.specs.Formula.{Question, TheDefault, OfName}
 use Rattle.filter_language.specs.Grammar.{Mark, Asked}
 
 -- Whether two fields are one.

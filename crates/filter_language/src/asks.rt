@@ -1,5 +1,5 @@
 //! What filters ask about.
-ghost use Rattle.std.specs.Prelude.{◌≡◌, map};
+ghost use Rattle.std.specs.Prelude.{◌≡◌};
 ghost use Rattle.std.specs.List.{list_any};
 ghost use Rattle.filter_language.specs.Asks.{mark_is_about, asks, asks_default_filter};
 ghost use Rattle.filter_language.specs.Filtersets.{marks_view};
@@ -21,9 +21,8 @@ fn is_about<E: Matchers>(mark: &Mark<E::Matcher>, field: Field) -> bool
 }
 
 /// Whether one of the marks is.
-#[tactic(auto, using(crate::proofs::FieldsAsked::any_of_views))]
 fn is_any_about<E: Matchers>(marks: &[Mark<E::Matcher>], field: Field) -> bool
-    ensures { result ≡ asks field (map (mark_view E.meaning) marks.now) }
+    ensures { result ≡ list_any (λ mark. mark_is_about field (mark_view E.meaning mark)) marks.now }
 {
     marks.iter().any(|mark| is_about::<E>(mark, field))
 }
@@ -40,7 +39,6 @@ impl<M> Filterset<M> {
     }
 
     /// Whether one of its predicates is `default()`.
-    #[tactic(auto, using(crate::proofs::FieldsAsked::default_is_asked))]
     pub fn names_default<E: Matchers<Matcher = M>>(&self) -> bool
         ensures { result ≡ asks_default_filter (marks_view E.meaning self.now) }
     {

@@ -68,9 +68,16 @@ fn is_library(value: &Value) -> bool
 
 /// Returns whether some values have the kind of a library that is linked.
 fn has_library(kinds: &[Value]) -> bool
-    ensures { result ≡ list_any is_library (map view kinds.now) }
+    ensures { result ≡ list_any (λ kind. is_library (view kind)) kinds.now }
 {
     kinds.iter().any(|kind| is_library(kind))
+}
+
+/// Returns whether a target that is listed with some kinds is a library that is linked.
+fn is_linked(kinds: &[Value]) -> bool
+    ensures { result ≡ list_any is_library (map view kinds.now) }
+{
+    has_library(kinds)
 }
 
 /// Reads the kind of a target that is listed with some kinds.
@@ -78,7 +85,7 @@ fn kind_in(kinds: &[Value], place: Place) -> Result<&str, MetadataFault>
     ensures { result_map_both (λ kind. kind.now) (λ e. e) result
         ≡ kind_in place (map view kinds.now) }
 {
-    if has_library(kinds) {
+    if is_linked(kinds) {
         return Ok("lib");
     }
     let first = Field {
@@ -153,11 +160,18 @@ fn member_targets(
     target_list(alloc, Member { place, id, name }, values)
 }
 
-/// Returns whether an id is among the ids of members.
+/// Returns whether an id is in a list.
+fn has_id(ids: &[&str], id: &str) -> bool
+    ensures { result ≡ list_any (λ other. bytes_eq other.now id.now) ids.now }
+{
+    ids.iter().any(|other| *other == id)
+}
+
+/// Returns whether a package of an id is a member of the workspace.
 fn is_member(members: &[&str], id: &str) -> bool
     ensures { result ≡ list_any (λ member. bytes_eq member id.now) (ids_view members.now) }
 {
-    members.iter().any(|member| *member == id)
+    has_id(members, id)
 }
 
 /// Reads the targets of a package, if it is a member of the workspace.

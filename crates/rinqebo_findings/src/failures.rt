@@ -119,16 +119,18 @@ fn failure_of_test(
     }
 }
 
-/// The test that a request names, or why a run answers nothing about it.
+/// The test that a request names, or why a run answers nothing about it. The metadata were read at a
+/// path.
 pub fn find_test(
     alloc: Global,
     session: &Session<'_>,
     requested: &RequestedTest<'_>,
+    path: Option<&str>,
 ) -> Result<FoundTest, Failure>
     ensures found { IfOk result (IsFoundFor session.now requested.now) }
     ensures err { IfErr result (IsFailureToFind session.now requested.now) }
 {
-    match session.find_test(alloc, requested) {
+    match session.find_test(alloc, requested, path) {
         Ok(found) => Ok(found),
         Err(fault) => Err(failure_of_test(alloc, session, fault)?),
     }

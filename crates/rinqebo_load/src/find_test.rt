@@ -67,8 +67,12 @@ fn named_tests<'t>(
     Ok(named)
 }
 
-/// The targets of the metadata.
-fn metadata_targets(alloc: Global, metadata: &str) -> Result<Vec<PackageTarget>, InputFault>
+/// The targets of the metadata that were read at a path.
+fn metadata_targets(
+    alloc: Global,
+    path: Option<&str>,
+    metadata: &str,
+) -> Result<Vec<PackageTarget>, InputFault>
     ensures ok { IfOk result (λ targets.
         targets_of_text metadata.now ≡ Ok (targets_view targets.items)) }
     ensures err { IfErr result (OfEngine (AreNoTargets metadata.now)) }
@@ -77,7 +81,7 @@ fn metadata_targets(alloc: Global, metadata: &str) -> Result<Vec<PackageTarget>,
         Ok(targets) => Ok(targets),
         Err(MetadataFault::Memory) => Err(InputFault::Memory),
         Err(fault) => {
-            let file = NamedFile::new(alloc, None, FileOption::Metadata)?;
+            let file = NamedFile::new(alloc, path, FileOption::Metadata)?;
             let fault = EngineFault::Metadata(fault);
             Err(InputFault::Engine(Subject::File(file), fault))
         }
@@ -112,9 +116,10 @@ fn target_for<'t>(
     Ok(None)
 }
 
-/// The test of the binary of an id, by the metadata.
+/// The test of the binary of an id, by the metadata that were read at a path.
 fn test_of_metadata(
     alloc: Global,
+    path: Option<&str>,
     metadata: &str,
     id: &str,
     requested: &RequestedTest<'_>,
@@ -122,7 +127,7 @@ fn test_of_metadata(
     ensures ok { IfOk result (λ found. IsOfMetadata metadata.now id.now requested.now found) }
     ensures err { IfErr result (IsNotOfMetadata metadata.now id.now) }
 {
-    let targets = metadata_targets(alloc, metadata)?;
+    let targets = metadata_targets(alloc, path, metadata)?;
     match target_for(alloc, &targets, id)? {
         Some(target) => Ok(FoundTest::of_target(alloc, target, requested)?),
         None => Err(TestFault::NoTest(Missing::in_metadata(alloc, id, &targets)?)),
@@ -149,7 +154,8 @@ impl Session<'_> {
     }
 
     /// The test that a request names: one of the list, if there is a list; else one of the binary that it
-    /// names, which the metadata have, if they are given, and else is known by its id.
+    /// names, which the metadata, which were read at a path, have, if they are given, and else is known
+    /// by its id.
     ///
     /// # Errors
     ///
@@ -160,6 +166,7 @@ impl Session<'_> {
         &self,
         alloc: Global,
         requested: &RequestedTest<'_>,
+        path: Option<&str>,
     ) -> Result<FoundTest, TestFault>
         ensures found { IfOk result (IsFoundFor self.now requested.now) }
         ensures err { IfErr result (IsNotFound self.now requested.now) }
@@ -171,7 +178,7 @@ impl Session<'_> {
             return self.test_of_list(alloc, requested);
         }
         match &self.gathered.metadata {
-            Some(metadata) => test_of_metadata(alloc, metadata.as_str(), id, requested),
+            Some(metadata) => test_of_metadata(alloc, path, metadata.as_str(), id, requested),
             None => Ok(FoundTest::of_id(alloc, id, requested)?),
         }
     }

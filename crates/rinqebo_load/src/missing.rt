@@ -52,6 +52,14 @@ impl From<InputFault> for TestFault {
     }
 }
 
+/// Whether a name ends in a word behind `::`.
+fn has_end(name: &str, word: &str) -> bool {
+    match name.strip_suffix(word) {
+        Some(front) => front.ends_with("::"),
+        None => false,
+    }
+}
+
 impl Missing {
     /// That a name is missing beside some names.
     fn beside(
@@ -95,12 +103,17 @@ impl Missing {
 
     /// That a binary of a list has no test of a name.
     fn of_test(alloc: Global, name: &str, binary: &ListedBinary) -> Result<Missing, AllocError> {
-        let mut known = Vec::new(alloc);
-        for case in &binary.tests {
-            known.push(case.name.as_str())?;
-        }
         let id = binary.id.as_str();
         let message = format!(in alloc; "binary `{id}` of LIST has no test `{name}`")?;
+        let mut known = Vec::new(alloc);
+        for case in &binary.tests {
+            let test = case.name.as_str();
+            if has_end(test, name) {
+                let near = Some(String::from_str(alloc, test)?);
+                return Ok(Missing { message, near });
+            }
+            known.push(test)?;
+        }
         Missing::beside(alloc, message, name, &known)
     }
 

@@ -7,7 +7,7 @@ ghost use Rattle.rinqebo_report.specs.Documents.{count_data, list_data};
 
 use nextest_elements::{GlobalTimeout, JunitConfig, LeakTimeout, MaxFail, TestThreads};
 use nextest_scripts::SetupScriptSlowTimeout;
-use rinqebo_report::{add_duration, texts_json};
+use rinqebo_report::{Scalar, Value as ReportedValue, optional_value_json, texts_json};
 use serde_json::{Value, json};
 use std::alloc::{AllocError, Global};
 
@@ -15,9 +15,8 @@ use std::alloc::{AllocError, Global};
 pub(crate) fn duration_json(alloc: Global, nanoseconds: u128) -> Result<Value, AllocError>
     ensures { IfOk result (λ value. view value ≡ duration_data nanoseconds) }
 {
-    let mut text = String::new(alloc);
-    add_duration(&mut text, nanoseconds)?;
-    Ok(Value::String(text))
+    let duration = Some(ReportedValue::Scalar(Scalar::Duration(nanoseconds)));
+    optional_value_json(alloc, &duration)
 }
 
 /// How many tests run at a time.

@@ -1,5 +1,5 @@
 -- The document of a report.
-use Rattle.std.specs.Prelude.{ℕ, Bool, true, false, List, codes, string_bytes}
+use Rattle.std.specs.Prelude.{ℕ, Bool, true, List, codes, string_bytes, if◌then◌else◌}
 use Rattle.serde_json.specs.Data.{Data, null, boolean, string, array, object, no_items, item, Members, no_members, member, put}
 use Rattle.rinqebo_report.specs.declared.origin.Origin.{Origin}
 use Rattle.rinqebo_report.specs.declared.report.Asked.{Asked}
@@ -54,8 +54,8 @@ with_explain asked test members =
 
 -- members, with that a list says that a test is ignored
 abbrev pub with_ignored : Bool → Members → Members
-with_ignored true members = put (codes "ignored") (boolean true) members
-with_ignored false members = members
+with_ignored is_ignored members =
+    if is_ignored then put (codes "ignored") (boolean true) members else members
 
 -- members, with those of the page of a setting
 abbrev pub with_why : Asked → TestId → List ℕ → List Rule → Bool → Members → Members

@@ -1,5 +1,5 @@
 -- Reports as JSON: objects with their keys in the order of bytes.
-use Rattle.std.specs.Prelude.{ℕ, Bool, true, false, List, Option, None, Some, map, fold, codes, String, string_bytes}
+use Rattle.std.specs.Prelude.{ℕ, Bool, true, List, Option, None, Some, map, fold, codes, String, string_bytes, if◌then◌else◌}
 use Rattle.std.specs.declared.alloc.Global.{Global}
 use Rattle.serde_json.specs.Data.{Data, null, boolean, number, unsigned, string, array, object, no_items, item, Members, no_members, member, put}
 use Rattle.serde_json.specs.Find.{of_integer}
@@ -136,11 +136,11 @@ setting_data row =
 
 -- whether a test runs: of one that a list says to be ignored, a member says so
 abbrev pub runs_data : Bool → SettingRow → Data
-runs_data true row =
-    object (member (codes "ignored") (boolean true)
+runs_data is_ignored row =
+    if is_ignored then object (member (codes "ignored") (boolean true)
     (member (codes "origins") (list_data origin_data row.origins.items)
     (member (codes "value") (optional_value_data row.value) no_members)))
-runs_data false row = setting_data row
+    else setting_data row
 
 -- members, with a setting
 abbrev pub with_setting : Members → SettingRow → Members

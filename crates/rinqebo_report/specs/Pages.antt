@@ -240,8 +240,9 @@ rules_runs root sources key n (rule ∷ rules) =
 
 -- that a test does not run, since a list says that it is ignored
 abbrev pub ignored_runs : Bool → List Run
-ignored_runs true = styled styles.Remark (codes "# runs = false: ignored in LIST") ∷ ending ∷ []
-ignored_runs false = []
+ignored_runs is_ignored =
+    if is_ignored then styled styles.Remark (codes "# runs = false: ignored in LIST") ∷ ending ∷ []
+    else []
 
 -- rules, and whether what they decide is that a test runs which a list says to be ignored
 abbrev pub why_runs : List ℕ → List Source → List ℕ → List Rule → Bool → List Run

@@ -94,7 +94,7 @@ fn unit_of(nanoseconds: u128) -> Unit
 }
 
 /// Writes a duration as one number and a unit.
-pub fn add_duration(out: &mut String, nanoseconds: u128) -> Result<(), AllocError>
+pub(crate) fn add_duration(out: &mut String, nanoseconds: u128) -> Result<(), AllocError>
     ensures { OnOk result (string_bytes out.new
         ≡ string_bytes out.old ++ duration_text nanoseconds) }
 {

@@ -27,7 +27,6 @@ mod toml_text;
 mod value;
 mod why_page;
 
-pub use duration::add_duration;
 pub use finding::{CharSpan, Finding, Level, RefusedExpression};
 pub use format::{Format, render, render_findings};
 pub use github::{add_message, add_property};

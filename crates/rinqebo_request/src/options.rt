@@ -274,7 +274,7 @@ fn with_test<'a>(alloc: Global, command: Command<'a>) -> Result<Command<'a>, All
         alloc,
         "list",
         "LIST",
-        "Find the test in LIST, the output of\n`cargo nextest list --message-format json`,\nor - for standard input",
+        "Find the test in LIST, the output of\n`cargo nextest list --message-format json`\n(- for standard input)",
     );
     let key = option(
         alloc,

@@ -172,7 +172,7 @@ pub struct EngineOptions<'a> {
     pub host_cfg: Option<&'a str>,
     /// The path of what the compiler prints for the target. Without it, a table knows the triple.
     pub target_cfg: Option<&'a str>,
-    /// The path of what `cargo metadata` prints. Without it, `deps` and `rdeps` are refused.
+    /// The path of what `cargo metadata` prints. Without it, `deps` and `rdeps` are left open.
     pub metadata: Option<&'a str>,
 }
 

@@ -1,5 +1,5 @@
 -- The filters that a profile evaluates on the platforms of a build, by what they ask about.
-use Rattle.std.specs.Prelude.{Bool, ◌||◌, List, [], ◌∷◌, ◌++◌, Option, None, Some, if◌then◌else◌}
+use Rattle.std.specs.Prelude.{ℕ, Bool, ◌||◌, codes, List, [], ◌∷◌, ◌++◌, Option, None, Some, if◌then◌else◌}
 use Rattle.std.specs.List.{flat_map, list_any}
 use Rattle.filter_engine.specs.Compiling.{names_of}
 use Rattle.filter_engine.specs.Engine.{Filter}
@@ -32,6 +32,18 @@ site_view (places.Rule place) = filter_of (place_view place)
 -- a filter with where it is written, as code holds it
 abbrev pub placed_view : PlacedFilter → Site × Filter
 placed_view placed = (site_view placed.place, marks_view names_of placed.filter.now)
+
+-- the rule that writes a filter, if one does
+abbrev pub site_rule : Site → Option Place
+site_rule chain_default = None
+site_rule (default_of place) = Some place
+site_rule (filter_of place) = Some place
+
+-- the key at which a filter is written
+abbrev pub site_key : Site → List ℕ
+site_key chain_default = codes "default-filter"
+site_key (default_of place) = codes "default-filter"
+site_key (filter_of place) = codes "filter"
 
 -- whether a filter asks about one of some fields
 abbrev pub asks_any : List Field → Filter → Bool

@@ -1,15 +1,18 @@
 //! The filters that a profile evaluates on the platforms of a build, by what they ask about.
-ghost use Rattle.std.specs.Prelude.{◌≡◌, ◌++◌, IfOk, Some, map, option_map};
+ghost use Rattle.std.specs.Prelude.{◌≡◌, ◌++◌, IfOk, None, map, option_map};
 ghost use Rattle.std.specs.List.{flat_map};
 ghost use Rattle.filter_engine.specs.Compiling.{names_of};
 ghost use Rattle.filter_language.specs.Filtersets.{marks_view};
 ghost use Rattle.nextest_profiles.specs.Meaning.{profile_meaning};
 ghost use Rattle.nextest_settings.specs.View.{meant_override, meant_script_rule};
-ghost use Rattle.rinqebo_rules.specs.EvaluatedFilters.{asks_any, default_site, evaluated_filters, evaluated_of, open_filters, placed_view, site_view, which_has};
-ghost use Rattle.rinqebo_rules.specs.RulePlaces.{id_place, script_place};
+ghost use Rattle.rinqebo_rules.specs.EvaluatedFilters.{asks_any, default_site, evaluated_filters, evaluated_of, open_filters, placed_view, site_key, site_rule, site_view, which_has};
+ghost use Rattle.nextest_inheritance.specs.View.{borrowed_view};
+ghost use Rattle.rinqebo_rules.specs.KnownOrigins.{AreOriginsAt};
+ghost use Rattle.rinqebo_rules.specs.RulePlaces.{id_place, place_view, script_place};
 ghost use Rattle.rinqebo_rules.specs.Runs.{filtering_place};
 
 use crate::conditions::Filter;
+use crate::origins::found;
 use crate::rule_places::RulePlace;
 use crate::runs::filtering_place;
 use filter_engine::{Field, NextestFilters};
@@ -17,6 +20,9 @@ use nextest_engines::BuildPlatform;
 use nextest_profiles::EvaluatableProfile;
 use nextest_settings::{EvaluatedOverride, EvaluatedScriptRule};
 use platform_language::TargetSpecs;
+use rinqebo_files::Layer;
+use rinqebo_report::Origin;
+use rinqebo_request::SettingKey;
 use std::alloc::{AllocError, Global};
 
 /// A profile on the platforms of a build.
@@ -37,6 +43,45 @@ pub enum FilterPlace<'c> {
     DefaultOf(RulePlace<'c>),
     /// It is the filter of this rule.
     Rule(RulePlace<'c>),
+}
+
+impl<'c> FilterPlace<'c> {
+    /// The rule that writes the filter, if one does.
+    fn rule(self) -> Option<RulePlace<'c>>
+        ensures { option_map place_view result ≡ site_rule (site_view self.entry) }
+    {
+        match self {
+            FilterPlace::Chain => None,
+            FilterPlace::DefaultOf(rule) | FilterPlace::Rule(rule) => Some(rule),
+        }
+    }
+
+    /// The key at which the filter is written.
+    fn key(self) -> SettingKey
+        ensures table { option_map (λ table. table.now) result.table ≡ None }
+        ensures key { result.key.now ≡ site_key (site_view self.entry) }
+    {
+        let key = match self {
+            FilterPlace::Chain | FilterPlace::DefaultOf(_) => "default-filter",
+            FilterPlace::Rule(_) => "filter",
+        };
+        SettingKey { table: None, key }
+    }
+
+    /// Where the filter is written in the layers, by a rule or by a chain of profiles.
+    pub fn origins(
+        self,
+        alloc: Global,
+        layers: &[Layer],
+        chain: &[&str],
+    ) -> Result<Vec<Origin>, AllocError>
+        ensures { IfOk result (λ origins. AreOriginsAt
+            (record { layers = layers.now; chain = borrowed_view chain.now })
+            (site_rule (site_view self.entry)) None (site_key (site_view self.entry))
+            origins.items) }
+    {
+        found(alloc, layers, chain, self.rule(), self.key())
+    }
 }
 
 /// A filter, with where it is written.
@@ -177,6 +222,7 @@ pub fn filters_asking<'c>(
 }
 
 /// The filters of a profile that are evaluated and have sets of packages that were not looked up.
+#[tactic(auto, using(crate::proofs::OpenFilters::all_open, crate::proofs::OpenFilters::none_open))]
 pub fn filters_left_open<'c>(
     alloc: Global,
     filters: &NextestFilters,

@@ -10,6 +10,7 @@ use Rattle.rinqebo_request.specs.declared.request.Request.{Request as Asked}
 use Rattle.rinqebo_run.proofs.Statuses.{shown_low}
 use Rattle.rinqebo_run.specs.Answered.{AnswersQuestion, IsAboutTest, IsAnswer}
 use Rattle.rinqebo_load.specs.Accepted.{AreAccepted}
+use Rattle.rinqebo_run.specs.LookedUp.{IsFailureOn}
 use Rattle.rinqebo_run.specs.Refused.{AreRefusedFor, Fails, IsFailureIn, IsReportedBy, LackProfileFor, LackTestFor, LacksProfileOf, LacksTestOf}
 use Rattle.rinqebo_findings.specs.Failures.{IsFailureAbout}
 use Rattle.rinqebo_load.specs.FindTests.{IsFoundFor}
@@ -33,6 +34,12 @@ pub want_reported : {A : Type 0} (session : Session) (profile : Name) (r : Resul
     → IsErrAnd r (λ failure. failure ≡ failures.Memory) → IfErr r (IsFailureAbout session profile)
 want_reported session profile (Ok answer) is = tt
 want_reported session profile (Err failure) is = subst (IsFailureAbout session profile) (sym is) tt
+
+-- and one for which the filters of a profile are evaluated
+pub want_evaluated : {A : Type 0} (session : Session) (profile : Name) (r : Result A Failure)
+    → IsErrAnd r (λ failure. failure ≡ failures.Memory) → IfErr r (IsFailureOn session profile)
+want_evaluated session profile (Ok answer) is = tt
+want_evaluated session profile (Err failure) is = subst (IsFailureOn session profile) (sym is) tt
 
 -- what holds of a failure holds of it where it is told
 pub passed_on : {A : Type 0} (P : Failure → Type 0) (r : Result A Failure) (failure : Failure)

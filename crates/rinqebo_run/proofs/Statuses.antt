@@ -9,6 +9,7 @@ use Rattle.rinqebo_report.specs.declared.report.Entry.{Entry}
 use Rattle.rinqebo_report.specs.declared.report.Report.{Report}
 use Rattle.rinqebo_run.specs.Answered.{AnswersQuestion, IsAnswer, Tells}
 use Rattle.rinqebo_load.specs.SessionOf.{IsSessionOf}
+use Rattle.rinqebo_run.specs.LookedUp.{AreLookedUp}
 use Rattle.rinqebo_run.specs.Refused.{Fails, IsFailureIn}
 use Rattle.rinqebo_run.specs.ShownConfig.{entries_status, shown_status}
 use Rattle.rinqebo_run.specs.Statuses.{IsAnswerStatus, IsStatus, failure_status}
@@ -179,11 +180,13 @@ pub is_answered : (request : Request) (gathered : Gathered) (session : Session) 
     → IsSessionOf request gathered session
     → IfOk answer (λ a. AnswersQuestion request.question session a.report a.status)
     → IfOk answer (λ a. IsReportOf session a.report)
+    → IfOk answer (λ _. AreLookedUp session request.question)
     → IfOk answer (λ a. IsAnswer request gathered a.report a.status)
-is_answered request gathered session (Ok answer) begun answers about = record {
+is_answered request gathered session (Ok answer) begun answers about looked_up = record {
   session = session;
   begun = begun;
   about = about;
   answers = answers;
+  looked_up = looked_up;
 }
-is_answered request gathered session (Err failure) begun answers about = tt
+is_answered request gathered session (Err failure) begun answers about looked_up = tt

@@ -9,6 +9,7 @@ use Rattle.rinqebo_run.specs.Checked.{IsCheckStatus}
 use Rattle.rinqebo_run.specs.Explained.{Explains}
 use Rattle.rinqebo_run.specs.Listed.{TellsTests}
 use Rattle.rinqebo_load.specs.FindTests.{IsFoundFor}
+use Rattle.rinqebo_run.specs.LookedUp.{AreLookedUp}
 use Rattle.rinqebo_load.specs.SessionOf.{IsSessionOf}
 use Rattle.rinqebo_run.specs.ShownConfig.{ShowsConfig}
 use Rattle.rinqebo_run.specs.TellsReasons.{TellsReasons}
@@ -42,13 +43,15 @@ AnswersQuestion (questions.Check deny_warnings) session report status =
     IsCheckStatus session status
 
 -- A report and a status answer a request over the files that were read: the report is one of a
--- session of the request, and answers the question of it.
+-- session of the request, and answers the question of it. Each filter that is evaluated for it was looked
+-- up.
 pub record IsAnswer (request : Request) (gathered : Gathered) (report : Report) (status : ℕ)
     : Type 0 where
   pub session : Session
   pub begun : IsSessionOf request gathered session
   pub about : IsReportOf session report
   pub answers : AnswersQuestion request.question session report status
+  pub looked_up : AreLookedUp session request.question
 
 -- A writer was given the page of an answer: known bytes grew by exactly the report, in the format
 -- and the colours that are asked for.

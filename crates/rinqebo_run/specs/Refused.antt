@@ -17,24 +17,25 @@ use Rattle.rinqebo_load.specs.declared.failure.Failure.TheVariants as failures
 use Rattle.rinqebo_report.specs.Rendered.{rendered}
 use Rattle.rinqebo_report.specs.declared.format.Format.TheVariants as formats
 use Rattle.rinqebo_report.specs.declared.report.Report.{Report}
+use Rattle.rinqebo_run.specs.LookedUp.{IsFailureOn}
 use Rattle.rinqebo_run.specs.Statuses.{failure_status}
 use Rattle.rinqebo_load.specs.declared.session.Session.{Session}
 
--- a session answers nothing about a profile and a test: it does not find the test, or it answers
--- nothing about the profile
+-- A session answers nothing about a profile and a test: it does not find the test, or it answers
+-- nothing for which it evaluates the filters of the profile.
 abbrev pub IsFailureAboutTest : Session → Name → RequestedTest → Failure → Type 0
 IsFailureAboutTest session profile test failure =
-    IsFailureToFind session test failure ⊎ IsFailureAbout session profile failure
+    IsFailureToFind session test failure ⊎ IsFailureOn session profile failure
 
 -- A session does not answer a question. A check answers refused files, and asks for no profile and
--- no test.
+-- no test. For `show-config` and `check` no filter is evaluated.
 abbrev pub IsFailureIn : Session → Question → Failure → Type 0
 IsFailureIn session (questions.Explain profile test asked) failure =
     IsFailureAboutTest session profile.now test failure
 IsFailureIn session (questions.Why profile test setting) failure =
     IsFailureAboutTest session profile.now test failure
 IsFailureIn session (questions.List profile mode list asked) failure =
-    IsFailureAbout session profile.now failure
+    IsFailureOn session profile.now failure
 IsFailureIn session (questions.ShowConfig profile keys with_hidden) failure =
     IsFailureAbout session profile.now failure
 IsFailureIn session (questions.Check deny_warnings) failure = IsBeginningFailure failure

@@ -3,7 +3,7 @@ ghost use Rattle.std.specs.Prelude.{IfErr, IfOk};
 ghost use Rattle.nextest_inheritance.specs.Parents.{parents_in};
 ghost use Rattle.nextest_load.specs.Config.{config_parents};
 ghost use Rattle.nextest_tables.specs.FileTexts.{names_in, IsIn};
-ghost use Rattle.rinqebo_findings.specs.Failures.{IsFailureAbout};
+ghost use Rattle.rinqebo_run.specs.LookedUp.{IsFailureOn, IsLookedUp};
 ghost use Rattle.rinqebo_findings.specs.Reports.{IsReportOf};
 ghost use Rattle.rinqebo_run.specs.Explained.{Explains, IfExplained};
 ghost use Rattle.rinqebo_run.specs.ListedBy.{explained_by};
@@ -12,9 +12,10 @@ ghost use Rattle.rinqebo_run.specs.Requested.{IsRequestedIn};
 use crate::asked::requested_of;
 use crate::idle::findings_on;
 use crate::list::profile_on;
+use crate::looked_up::config_looked_up;
 use filter_engine::NextestTally;
 use nextest_config::DefaultConfigWarnings;
-use rinqebo_findings::{config_with, report_of};
+use rinqebo_findings::report_of;
 use rinqebo_load::{Config, Failure, FoundTest, Session, chain_of_profile};
 use rinqebo_report::{Content, Report};
 use rinqebo_request::RequestedSettings;
@@ -64,10 +65,11 @@ pub fn explain(
 ) -> Result<Report, Failure>
     ensures ok { IfOk result (Explains session.now profile.now test.now asked.now) }
     ensures about { IfOk result (IsReportOf session.now) }
-    ensures err { IfErr result (IsFailureAbout session.now profile.now) }
+    ensures looked_up { IfOk result (λ _. IsLookedUp session.now profile.now) }
+    ensures err { IfErr result (IsFailureOn session.now profile.now) }
 {
     let mut warnings = DefaultConfigWarnings::new(alloc);
-    let config = config_with(alloc, session, profile, &mut warnings)?;
+    let config = config_looked_up(alloc, session, profile, &mut warnings)?;
     let content = explained(alloc, &*session, &config, profile, test, asked)?;
     let findings = findings_on(alloc, session, &warnings, &content)?;
     let report = report_of(alloc, session, findings, Vec::new(alloc), content)?;

@@ -10,6 +10,7 @@ ghost use Rattle.rinqebo_report.specs.Rendered.{rendered};
 ghost use Rattle.rinqebo_run.specs.Answered.{AnswersQuestion, IsAboutTest, IsAnswer, Tells};
 ghost use Rattle.rinqebo_run.specs.Begun.{IsBegun};
 ghost use Rattle.rinqebo_run.specs.Explained.{Explains};
+ghost use Rattle.rinqebo_run.specs.LookedUp.{AreLookedUp, IsLookedUp};
 ghost use Rattle.rinqebo_run.specs.Refused.{Fails, IsFailureAboutTest, IsFailureIn, IsReportedBy, TellsRefusal};
 ghost use Rattle.rinqebo_run.specs.TellsReasons.{TellsReasons};
 ghost use Rattle.rinqebo_run.specs.Statuses.{IsStatus, IsAnswerStatus, IsGatherStatus, IsWordsStatus, TellsWords};
@@ -52,6 +53,7 @@ fn answered(report: Result<Report, Failure>) -> Result<Answer, Failure>
         Ok(report) => Ok(Answer {
             report,
             status: Status::Success as u8,
+            note: None,
         }),
         Err(failure) => Err(failure),
     }
@@ -73,37 +75,41 @@ pub fn answer_of<P: Progress>(
     answer_in(alloc, request, &session, progress)
 }
 
-/// Whether the test that a request names runs, and its settings.
+/// Whether the test that a request names runs, and its settings. Its metadata were read at a path.
 fn explain_test(
     alloc: Global,
     session: &Session<'_>,
     profile: &str,
     test: &RequestedTest<'_>,
+    path: Option<&str>,
     asked: &RequestedSettings,
 ) -> Result<Report, Failure>
     ensures ok { IfOk result (λ report. IsAboutTest session.now test.now
         (λ found. Explains session.now profile.now found asked.now report)) }
     ensures about { IfOk result (IsReportOf session.now) }
+    ensures looked_up { IfOk result (λ _. IsLookedUp session.now profile.now) }
     ensures err { IfErr result (IsFailureAboutTest session.now profile.now test.now) }
 {
-    let found = find_test(alloc, session, test)?;
+    let found = find_test(alloc, session, test, path)?;
     explain(alloc, session, profile, &found, asked)
 }
 
-/// The rules of a setting of the test that a request names.
+/// The rules of a setting of the test that a request names. Its metadata were read at a path.
 fn why_of_test(
     alloc: Global,
     session: &Session<'_>,
     profile: &str,
     test: &RequestedTest<'_>,
+    path: Option<&str>,
     setting: Setting,
 ) -> Result<Report, Failure>
     ensures ok { IfOk result (λ report. IsAboutTest session.now test.now
         (λ found. TellsReasons session.now profile.now found setting report)) }
     ensures about { IfOk result (IsReportOf session.now) }
+    ensures looked_up { IfOk result (λ _. IsLookedUp session.now profile.now) }
     ensures err { IfErr result (IsFailureAboutTest session.now profile.now test.now) }
 {
-    let found = find_test(alloc, session, test)?;
+    let found = find_test(alloc, session, test, path)?;
     why(alloc, session, profile, &found, setting)
 }
 
@@ -117,19 +123,21 @@ fn answer_in<P: Progress>(
     ensures ok { IfOk result (λ answer.
         AnswersQuestion request.now.question session.now answer.report answer.status) }
     ensures about { IfOk result (λ answer. IsReportOf session.now answer.report) }
+    ensures looked_up { IfOk result (λ _. AreLookedUp session.now request.now.question) }
     ensures err { IfErr result (IsFailureIn session.now request.now.question) }
 {
+    let path = request.engines.metadata;
     match &request.question {
         Question::Explain {
             profile,
             test,
             asked,
-        } => answered(explain_test(alloc, session, *profile, test, asked)),
+        } => answered(explain_test(alloc, session, *profile, test, path, asked)),
         Question::Why {
             profile,
             test,
             setting,
-        } => answered(why_of_test(alloc, session, *profile, test, *setting)),
+        } => answered(why_of_test(alloc, session, *profile, test, path, *setting)),
         Question::List {
             profile,
             mode,
@@ -158,6 +166,14 @@ fn notes_of(
     }
 }
 
+/// Adds the note of an answer. The forms for other programs have none.
+fn add_note(request: &Request<'_>, answer: &Answer, notes: &mut String) -> Result<(), AllocError> {
+    match &answer.note {
+        Some(note) if matches!(request.format, Format::Text) => notes.push_str(note.as_str()),
+        _ => Ok(()),
+    }
+}
+
 /// The notes on an answer, for standard error.
 fn notes_on(
     alloc: Global,
@@ -168,6 +184,7 @@ fn notes_on(
     let mut notes = notes_of(alloc, &answer.report, request.format, request.colour)?;
     add_unset(alloc, request, answer, &mut notes)?;
     add_read_files(alloc, request, gathered, answer, &mut notes)?;
+    add_note(request, answer, &mut notes)?;
     Ok(notes)
 }
 

@@ -1,6 +1,6 @@
 use Rattle.std.proofs.Common.{inr}
 use Rattle.std.proofs.lemmas.Result.{IfErr-weaker}
-use Rattle.rinqebo_findings.specs.Failures.{IsFailureAbout}
+use Rattle.rinqebo_run.specs.LookedUp.{IsFailureOn}
 use Rattle.rinqebo_run.proofs.Refused.{is_about}
 use Rattle.rinqebo_run.specs.Refused.{IsFailureAboutTest}
 use Rattle.rinqebo_run.proofs.run.explain_test.Goals as goal
@@ -10,5 +10,5 @@ returns-clause-ok c = is_about c.args.session.now c.args.test.now _ _ c.explain.
 
 pub returns-clause-err : goal.returns-clause-err
 returns-clause-err c =
-    IfErr-weaker c.explain.result (IsFailureAbout c.args.session.now c.args.profile.now)
+    IfErr-weaker c.explain.result (IsFailureOn c.args.session.now c.args.profile.now)
     (IsFailureAboutTest c.args.session.now c.args.profile.now c.args.test.now) (λ failure is. inr is) c.explain.ensures.err
