@@ -1,13 +1,15 @@
 //! Which parts of tests the filters of a profile ask for.
 ghost use Rattle.std.specs.List.{list_any};
 ghost use Rattle.std.specs.Option.{option_map_or};
-ghost use Rattle.std.specs.Prelude.{◌≡◌, false};
+ghost use Rattle.std.specs.Prelude.{◌≡◌, ◌||◌, false, map};
 ghost use Rattle.nextest_settings.specs.View.{evaluated_override_view, evaluated_script_rule_view};
 ghost use Rattle.rinqebo_session.specs.Needs.{asked_on, filter_asks, is_missing, lacks, rule_asks, AreNeeds};
 
 use crate::test::RequestedTest;
 use filter_engine::{Field, FieldMatcher, Filterset, NextestFilters};
-use nextest_config::{BuildPlatform, EvaluatableProfile, EvaluatedOverride, EvaluatedScriptRule};
+use nextest_config::{
+    BuildPlatform, EvaluatableProfile, EvaluatedOverride, EvaluatedRules, EvaluatedScriptRule,
+};
 use platform_language::TargetSpecs;
 
 /// Which parts of a test the filters of a profile ask for.
@@ -58,13 +60,14 @@ fn script_rule_asks(
 }
 
 /// Whether some override asks for a field, for binaries of a platform.
+#[tactic(auto, using(filter_language::proofs::FieldsAsked::any_of_views))]
 fn overrides_ask(
     rules: &[EvaluatedOverride<'_, NextestFilters, TargetSpecs>],
     platform: BuildPlatform,
     field: Field,
 ) -> bool
     ensures { result
-        ≡ list_any (λ rule. rule_asks platform field (evaluated_override_view rule)) rules.now }
+        ≡ list_any (rule_asks platform field) (map evaluated_override_view rules.now) }
 {
     rules
         .iter()
@@ -72,17 +75,33 @@ fn overrides_ask(
 }
 
 /// Whether some script rule asks for a field, for binaries of a platform.
+#[tactic(auto, using(filter_language::proofs::FieldsAsked::any_of_views))]
 fn script_rules_ask(
     rules: &[EvaluatedScriptRule<'_, NextestFilters, TargetSpecs>],
     platform: BuildPlatform,
     field: Field,
 ) -> bool
     ensures { result
-        ≡ list_any (λ rule. rule_asks platform field (evaluated_script_rule_view rule)) rules.now }
+        ≡ list_any (rule_asks platform field) (map evaluated_script_rule_view rules.now) }
 {
     rules
         .iter()
         .any(|rule| script_rule_asks(rule, platform, field))
+}
+
+/// Whether some rule asks for a field, for binaries of a platform.
+fn rules_ask(
+    rules: &EvaluatedRules<'_, NextestFilters, TargetSpecs>,
+    platform: BuildPlatform,
+    field: Field,
+) -> bool
+    ensures { result ≡ (list_any (rule_asks platform field)
+        (map evaluated_override_view rules.now.overrides.items)
+        || list_any (rule_asks platform field)
+        (map evaluated_script_rule_view rules.now.script_rules.items)) }
+{
+    overrides_ask(&rules.overrides, platform, field)
+        || script_rules_ask(&rules.script_rules, platform, field)
 }
 
 /// Whether a filter of a profile asks for a field, for binaries of a platform.
@@ -93,10 +112,8 @@ fn asks_on(
 ) -> bool
     ensures { result ≡ asked_on profile.now platform field }
 {
-    let rules = profile.rules();
     filter_asks(Some(profile.default_filter().expr), field)
-        || overrides_ask(&rules.overrides, platform, field)
-        || script_rules_ask(&rules.script_rules, platform, field)
+        || rules_ask(profile.rules(), platform, field)
 }
 
 /// Whether something is missing: it is asked for, and not given.
