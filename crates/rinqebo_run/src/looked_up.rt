@@ -25,7 +25,7 @@ use std::alloc::{AllocError, Global};
 type Filter = <NextestFilters as Filters>::Expr;
 
 /// Where a filter is written, as messages show it.
-fn place_text(
+pub fn place_text(
     alloc: Global,
     session: &Session<'_>,
     chain: &[&str],
