@@ -77,11 +77,10 @@ pub record LoadsWith (asked : RequestText) (warnings : List Warning)
     pub loads : LoadsBy (readings filters) features asked warnings answer
 
 -- What was loaded is what a request asks for: the load of its files answers the configuration with
--- the warnings, the platforms are those of its machines, and the directories are its own.
+-- the warnings, the platforms are those of its machines, and the target directory is its own.
 pub record IsLoadedBy (asked : RequestText) (loaded : Loaded) : Type 0 where
   pub loads : LoadsWith asked (warnings_view loaded.warnings) (Ok loaded.config)
   pub platforms : ArePlatformsFor asked.host asked.target loaded.platforms
-  pub root : string_bytes loaded.root ≡ asked.root
   pub target_directory :
       option_map string_bytes loaded.target_directory ≡ asked.target_directory
 

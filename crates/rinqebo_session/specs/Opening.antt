@@ -42,7 +42,7 @@ group_entry group = (group.name.now, Some (record { max_threads = group.threads 
 -- the directories that programs are relative to, where the target directory is given
 abbrev pub directories_in : Loaded → Option Directories
 directories_in loaded = option_map (λ target. record {
-  root = string_bytes loaded.root;
+  root = loaded.config.root;
   target = string_bytes target;
 }) loaded.target_directory
 

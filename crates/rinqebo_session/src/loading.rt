@@ -35,8 +35,6 @@ pub struct Loaded {
     pub platforms: BuildPlatforms<Platform>,
     /// The warnings, in their order.
     pub warnings: DefaultConfigWarnings,
-    /// The root of the workspace.
-    pub root: String,
     /// The target directory, if the request gives it.
     pub target_directory: Option<String>,
 }
@@ -136,7 +134,6 @@ fn loaded_by(alloc: Global, asked: &LoadRequest) -> Result<Loaded, Failure>
     let filters = filters_of(alloc, &asked.metadata)?;
     let platforms = platforms_of(alloc, asked)?;
     let features = features_for(alloc, asked)?;
-    let root = asked.paths.workspace_root.clone()?;
     let target_directory = target_directory_of(asked)?;
     let mut warnings = DefaultConfigWarnings::new(alloc);
     match config_of(alloc, &filters, &features, asked, &mut warnings) {
@@ -144,7 +141,6 @@ fn loaded_by(alloc: Global, asked: &LoadRequest) -> Result<Loaded, Failure>
             config,
             platforms,
             warnings,
-            root,
             target_directory,
         }),
         Err(error) => Err(Failure::Refused(error)),

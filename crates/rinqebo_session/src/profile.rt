@@ -1,7 +1,6 @@
 //! Profiles of a session, and what they answer.
 ghost use Rattle.std.specs.Prelude.{◌≡◌, ◌↔◌, IfOk, IfErr, IsTrue, map, option_map, slice_get, string_bytes};
 ghost use Rattle.nextest_load.specs.ConfigView.{groups_view};
-ghost use Rattle.nextest_tables.specs.FileTexts.{names_in};
 ghost use Rattle.nextest_scripts.specs.ScriptId.{script_text};
 ghost use Rattle.rinqebo_session.specs.Answering.{Answers, AreSized, IsAnswerOf};
 ghost use Rattle.rinqebo_objects.specs.Scripts.{directories_view};
@@ -16,7 +15,7 @@ ghost use Rattle.rinqebo_session.specs.Texts.{MayNotOpenFor, profile_status, nam
 
 use crate::copies::{copy_nothing, copy_out};
 use crate::failure::OpenFailure;
-use crate::loading::{Config, Loaded};
+use crate::loading::Loaded;
 use crate::needs::Needs;
 use crate::session::Session;
 use crate::settings::{SettingNumbers, numbers_of};
@@ -25,8 +24,8 @@ use crate::test::{Asked, RequestedTest, TestFault};
 use filter_engine::{NextestFilters, NextestTally};
 use indexmap::IndexMap;
 use nextest_config::{
-    BuildPlatform, CustomTestGroup, EvaluatableProfile, Filters, ProfileError, ScriptId,
-    TestGroupConfig, TestThreads, WrapperScriptConfig,
+    BuildPlatform, CustomTestGroup, EvaluatableProfile, Filters, ScriptId, TestGroupConfig,
+    TestThreads, WrapperScriptConfig,
 };
 use platform_language::TargetSpecs;
 use rinqebo_objects::{Directories, Surroundings, objects_text};
@@ -102,30 +101,13 @@ fn ids_of<'a>(
     Ok(ids)
 }
 
-/// The names of all profiles of a configuration, in the order of their bytes: they are listed where a
-/// name is asked for that no profile has.
-fn profile_names(alloc: Global, config: &Config) -> Result<Vec<String>, AllocError>
-    ensures { IfOk result (λ names. map string_bytes names.items
-        ≡ names_in config.now.config.profiles) }
-{
-    let mut unknown = String::new(alloc);
-    for _ in 0..u64::MAX {
-        match config.profile(alloc, unknown.as_str()) {
-            Ok(_) => unknown.push('-')?,
-            Err(ProfileError::NotFound(missing)) => return Ok(missing.known),
-            Err(ProfileError::Memory) => return Err(AllocError),
-        }
-    }
-    Err(AllocError)
-}
-
 /// The directories that programs are relative to, where the target directory is given.
 fn directories_of(loaded: &Loaded) -> Option<Directories<'_>>
     ensures { directories_view result ≡ directories_in loaded.now }
 {
     match &loaded.target_directory {
         Some(target) => Some(Directories {
-            root: loaded.root.as_str(),
+            root: loaded.config.workspace_root(),
             target: target.as_str(),
         }),
         None => None,
@@ -141,7 +123,7 @@ fn objects_of(
     ensures { IfOk result (λ text.
         IsObjectsText loaded.now profile.now.facts (string_bytes text)) }
 {
-    let profiles = profile_names(alloc, &loaded.config)?;
+    let profiles = loaded.config.profile_names(alloc)?;
     let around = Surroundings {
         profiles: &profiles,
         warnings: &loaded.warnings,
