@@ -41,8 +41,8 @@ enum rinqebo_status {
 
 // The version that this header is of, as a text and as a number: 1,000,000 times the first of its numbers, 1,000
 // times the second, and the third.
-#define RINQEBO_VERSION "0.1.0"
-#define RINQEBO_VERSION_NUMBER 1000
+#define RINQEBO_VERSION "0.2.0"
+#define RINQEBO_VERSION_NUMBER 2000
 
 // Writes the version of the library, as a text. DONE or SMALL.
 uint32_t rinqebo_version(uint8_t *out, size_t out_len, size_t *needed);
