@@ -1,5 +1,5 @@
-mod Switching
 mod Layering
 mod Seeking
 mod Highest
 pub mod Ranges
+pub mod Documents

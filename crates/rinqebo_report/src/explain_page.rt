@@ -63,7 +63,7 @@ pub(crate) fn widest_shown(test: &TestRows) -> usize
 
 impl RunMode {
     /// Its word.
-    pub(crate) fn word(self) -> &'static str
+    pub fn word(self) -> &'static str
         ensures { result.now ≡ mode_word self }
     {
         match self {
@@ -75,7 +75,7 @@ impl RunMode {
 
 impl BuiltFor {
     /// Its word.
-    pub(crate) fn word(self) -> &'static str
+    pub fn word(self) -> &'static str
         ensures { result.now ≡ platform_word self }
     {
         match self {

@@ -14,7 +14,7 @@ use serde_json::{Map, Value, json, put};
 use std::alloc::{AllocError, Global};
 
 /// A text, or null.
-pub(crate) fn optional_text_json(alloc: Global, text: &Option<String>) -> Result<Value, AllocError>
+pub fn optional_text_json(alloc: Global, text: &Option<String>) -> Result<Value, AllocError>
     ensures { IfOk result (λ value. view value ≡ optional_text_data text.now) }
 {
     match text {
@@ -34,7 +34,7 @@ pub(crate) fn optional_count_json(count: Option<u64>) -> Value
 }
 
 /// A list of texts.
-pub(crate) fn texts_json(alloc: Global, texts: &[String]) -> Result<Value, AllocError>
+pub fn texts_json(alloc: Global, texts: &[String]) -> Result<Value, AllocError>
     ensures { IfOk result (λ value. view value ≡ list_data text_data texts.now) }
 {
     let mut list = Vec::new(alloc);
@@ -107,7 +107,7 @@ fn value_json(alloc: Global, value: &SettingValue) -> Result<Value, AllocError>
 }
 
 /// A value, or null.
-fn optional_value_json(alloc: Global, value: &Option<SettingValue>) -> Result<Value, AllocError>
+pub fn optional_value_json(alloc: Global, value: &Option<SettingValue>) -> Result<Value, AllocError>
     ensures { IfOk result (λ json. view json ≡ optional_value_data value.now) }
 {
     match value {
@@ -202,7 +202,7 @@ fn origin_json(alloc: Global, origin: &Origin) -> Result<Value, AllocError>
 }
 
 /// Origins.
-pub(crate) fn origins_json(alloc: Global, origins: &[Origin]) -> Result<Value, AllocError>
+pub fn origins_json(alloc: Global, origins: &[Origin]) -> Result<Value, AllocError>
     ensures { IfOk result (λ value. view value ≡ list_data origin_data origins.now) }
 {
     let mut list = Vec::new(alloc);
@@ -262,7 +262,7 @@ pub(crate) fn test_json(alloc: Global, test: &TestRows) -> Result<Value, AllocEr
 }
 
 /// The names of a test.
-pub(crate) fn test_id_json(alloc: Global, test: &TestId) -> Result<Value, AllocError>
+pub fn test_id_json(alloc: Global, test: &TestId) -> Result<Value, AllocError>
     ensures { IfOk result (λ value. view value ≡ test_id_data test.now) }
 {
     json!(in alloc; {
@@ -294,7 +294,7 @@ fn wrapper_json(alloc: Global, wrapper: &ListWrapper) -> Result<Value, AllocErro
 }
 
 /// The list wrappers of binaries.
-pub(crate) fn wrappers_json(alloc: Global, wrappers: &[ListWrapper]) -> Result<Value, AllocError>
+pub fn wrappers_json(alloc: Global, wrappers: &[ListWrapper]) -> Result<Value, AllocError>
     ensures { IfOk result (λ value. view value ≡ list_data wrapper_data wrappers.now) }
 {
     let mut list = Vec::new(alloc);
@@ -411,7 +411,7 @@ fn source_json(alloc: Global, source: &Source) -> Result<Value, AllocError>
 }
 
 /// Sources.
-pub(crate) fn sources_json(alloc: Global, sources: &[Source]) -> Result<Value, AllocError>
+pub fn sources_json(alloc: Global, sources: &[Source]) -> Result<Value, AllocError>
     ensures { IfOk result (λ value. view value ≡ list_data source_data sources.now) }
 {
     let mut list = Vec::new(alloc);

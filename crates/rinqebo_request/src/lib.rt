@@ -7,18 +7,20 @@ mod hints;
 mod keys;
 mod named;
 mod notes;
-mod options;
+pub mod options;
 mod request;
-mod words;
+pub mod rows;
+mod test_words;
+pub mod words;
 
-pub use environment::{Environment, RunVariables};
+pub use environment::{Environment, RunVariables, set};
 pub use features::{FEATURES, feature_name, feature_of, law_all_features};
 pub use hints::{name_hint, text_hint};
-pub use keys::{RUNS, SettingKey, all_keys, setting_of};
+pub use keys::{RUNS, SettingKey, all_keys, setting_of, settings_of};
 pub use named::{FileOption, NamedFile, ProfileSource};
 pub use notes::notes_of;
 pub use request::{
     Command, ConfigFile, EngineOptions, FileOptions, HOST, ListFile, Question, Request,
-    RequestedSettings, TestName, ToolFile,
+    RequestedSettings, RequestedTest, ToolFile,
 };
 pub use words::{ParseStop, parse};

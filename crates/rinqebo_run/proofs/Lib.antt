@@ -11,3 +11,4 @@ pub mod Listing
 pub mod Showing
 pub mod Writing
 pub mod Documents
+pub mod LookedUp

@@ -1,5 +1,5 @@
 -- What is told of the settings of a test.
-use Rattle.std.proofs.Common.{◌≡◌, false, List, string_bytes, subst, sym}
+use Rattle.std.proofs.Common.{◌≡◌, List, string_bytes, subst, sym}
 use Rattle.filter_language.specs.Filtersets.{marks_view}
 use Rattle.filter_language.specs.declared.filterset.Filterset.{Filterset}
 use Rattle.nextest_lists.specs.Lists.{ListTest}
@@ -18,13 +18,14 @@ use Rattle.nextest_tables.specs.Written.{Name}
 use Rattle.rinqebo_rules.specs.TestOrigins.{Basis}
 use Rattle.rinqebo_rules.specs.Rows.{IsTestReported}
 use Rattle.rinqebo_load.specs.Accepted.{AreAccepted}
+use Rattle.rinqebo_load.specs.FoundTests.{found_view}
 use Rattle.rinqebo_load.specs.Sessions.{files_view, readings, IsLoadedFrom}
+use Rattle.rinqebo_load.specs.declared.found_test.FoundTest.{FoundTest}
 use Rattle.rinqebo_load.specs.declared.session.Session.{Session}
 use Rattle.rinqebo_report.specs.declared.report.Content.{Content}
 use Rattle.rinqebo_report.specs.declared.report.Report.{Report}
 use Rattle.rinqebo_report.specs.declared.report.TestRows.{TestRows}
 use Rattle.rinqebo_request.specs.declared.request.RequestedSettings.{RequestedSettings}
-use Rattle.rinqebo_request.specs.declared.request.TestName.{TestName}
 use Rattle.rinqebo_rules.specs.Conditions.{is_met_by}
 use Rattle.rinqebo_run.proofs.Listing.{given_means}
 use Rattle.rinqebo_run.proofs.Requests.{requested_meant}
@@ -37,35 +38,29 @@ use Rattle.platform_language.specs.declared.expression.TargetSpec.{TargetSpec}
 
 -- a test is told by a configuration that was loaded
 pub explained_here : (session : Session) (loaded : Loaded (Filterset FieldMatcher) TargetSpec) (name : Name)
-    (test : TestName) (rows : RequestedSettings) (asked : ListTest) (basis : Basis)
+    (test : FoundTest) (rows : RequestedSettings) (asked : ListTest) (basis : Basis)
     (on : EvaluatableModel (Filterset FieldMatcher)) (names : List Name) (told : TestRows)
     → IsProfileOn is_met_by session.engines.platforms (read_by session loaded) name on
     → IsChainAndDefault (parents_in (config_parents loaded.config)) name names → basis ≡ basis_of session names
-    → asked.test.name ≡ test.name.now → asked.test.binary.binary_id ≡ test.binary.now
-    → asked.test.binary.platform ≡ test.platform → asked.ignored ≡ false
+    → asked ≡ found_view test
     → IsTestReported basis (query_in filter_holds (profile_meaning (marks_view names_of) on) asked.test) test.mode
     (profile_meaning (marks_view names_of) on) rows asked told
     → explained_by session loaded name test rows told
-explained_here session loaded name test rows asked basis on names told is ends same_basis same_name binary platform
-    flag reported =
+explained_here session loaded name test rows asked basis on names told is ends same_basis same reported =
     let profile = profile_meaning (marks_view names_of) on in
-    let query = query_in filter_holds profile asked.test in
+    let Told : Basis → ListTest → Type 0 =
+    λ b listed. IsTestReported b (query_in filter_holds profile listed.test) test.mode profile rows listed told in
     record {
-      asked = asked;
-      requested_name = same_name;
-      requested_binary = binary;
-      requested_platform = platform;
-      requested_flag = flag;
       profile = profile;
       is_profile = given_means (marks_view names_of) spec_view (readings session.engines.filters).meets
           session.engines.platforms (read_by session loaded) name on is;
       chain = names;
       is_chain = ends;
-      reported = subst (λ b. IsTestReported b query test.mode profile rows asked told) same_basis reported;
+      reported = subst (Told (basis_of session names)) same (subst (λ b. Told b asked) same_basis reported);
     }
 
 -- a report tells the settings of a test by what was loaded
-pub explains : (session : Session) (profile : Name) (test : TestName) (rows : RequestedSettings) (report : Report)
+pub explains : (session : Session) (profile : Name) (test : FoundTest) (rows : RequestedSettings) (report : Report)
     (content : Content) (loaded : Loaded (Filterset FieldMatcher) TargetSpec) → AreAccepted session
     → IsLoadedFrom (readings session.engines.filters) (files_view session.gathered.now) loaded
     → IsIn (names_in loaded.config.profiles) profile → report.content ≡ content

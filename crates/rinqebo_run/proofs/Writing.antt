@@ -56,7 +56,7 @@ use Rattle.rinqebo_run.specs.ListedBy.{basis_of, listed_by, read_by}
 use Rattle.rinqebo_run.specs.Requested.{IsRequestedIn, IsRequestedOf}
 use Rattle.rinqebo_run.proofs.Requests.{requested_on}
 use Rattle.rinqebo_run.specs.Refused.{Fails, IsFailureIn, IsReportedBy}
-use Rattle.rinqebo_findings.specs.Failures.{IsFailureAbout}
+use Rattle.rinqebo_run.specs.LookedUp.{AreLookedUp, IsFailureOn, IsLookedUp}
 use Rattle.rinqebo_load.specs.SessionOf.{IsSessionOf}
 use Rattle.rinqebo_load.specs.Sessions.{files_view, readings, IsLoadedFrom}
 use Rattle.rinqebo_run.specs.Statuses.{IsAnswerStatus, IsStatus}
@@ -232,14 +232,15 @@ pub writes_list : (session : Session) (profile : Name) (mode : NextestRunMode) (
     → IsIn (names_in loaded.config.profiles) profile → IsReportOf session head
     → IfListed content (listed_by session loaded profile mode asked)
     → IsRequestedIn session (parents_in (config_parents loaded.config)) profile mode content
-    → Appends old new (page_text tint (content_runs head content))
+    → IsLookedUp session profile → Appends old new (page_text tint (content_runs head content))
     → WritesList session profile mode asked tint old new
-writes_list session profile mode asked tint head content loaded old new accepted from there about listed requested
+writes_list session profile mode asked tint head content loaded old new accepted from there about listed requested looked
     page = record {
       report = record head { content = content };
       about = record { root = about.root; sources = about.sources };
       tells = tells_tests session profile mode asked (record head { content = content }) content loaded accepted from there
           refl listed requested;
+      looked_up = looked;
       page = page_of_list head tint content (listed_by session loaded profile mode asked) old new listed page;
     }
 
@@ -272,6 +273,13 @@ answers_list (questions.List profile mode file settings) list session report ask
 )
 answers_list _ list session report asks tells = absurd asks
 
+-- each filter was looked up that is evaluated for a list
+looked_list : (q : Question) (list : RequestedList) (session : Session) → AsksList q list
+    → IsLookedUp session list.profile.now → AreLookedUp session q
+looked_list (questions.List profile mode file settings) list session asks looked =
+    subst (λ p. IsLookedUp session p) asks.0 looked
+looked_list _ list session asks looked = absurd asks
+
 begins_page : (q : Question) (list : RequestedList) (session : Session) (tint : Colour) (old new : Option (List ℕ))
     → AsksList q list
     → BeginsList session list.profile.now list.mode list.settings.now tint old new
@@ -283,9 +291,9 @@ begins_page (questions.List profile mode file settings) list session tint old ne
 begins_page _ list session tint old new asks begins = absurd asks
 
 fails_about : (q : Question) (list : RequestedList) (session : Session) (failure : Failure) → AsksList q list
-    → IsFailureAbout session list.profile.now failure → IsFailureIn session q failure
+    → IsFailureOn session list.profile.now failure → IsFailureIn session q failure
 fails_about (questions.List profile mode file settings) list session failure asks cause =
-    subst (λ p. IsFailureAbout session p failure) asks.0 cause
+    subst (λ p. IsFailureOn session p failure) asks.0 cause
 fails_about _ list session failure asks cause = absurd asks
 
 -- status 0 answers a question that asks for a list
@@ -306,6 +314,7 @@ list_reported request gathered list session old new begun asks is_text writes = 
     begun = begun;
     about = writes.about;
     answers = answers_list request.question list session writes.report asks writes.tells;
+    looked_up = looked_list request.question list session asks writes.looked_up;
   };
   page = subst (λ format. Appends old new (rendered writes.report format request.colour)) (sym is_text) writes.page;
 }
@@ -314,11 +323,11 @@ list_reported request gathered list session old new begun asks is_text writes = 
 pub list_stopped : (request : Request) (gathered : Gathered) (list : RequestedList) (session : Session)
     (old new : Option (List ℕ)) (fault : ListFault) → IsSessionOf request gathered session
     → AsksList request.question list → request.format ≡ formats.Text
-    → StopsList (IsFailureAbout session list.profile.now)
+    → StopsList (IsFailureOn session list.profile.now)
     (BeginsList session list.profile.now list.mode list.settings.now request.colour old new) old new fault
     → StopsList (Fails request gathered) (IsBegun request gathered old new) old new fault
 list_stopped request gathered list session old new fault begun asks is_text stop =
-    stops_so (IsFailureAbout session list.profile.now) (Fails request gathered)
+    stops_so (IsFailureOn session list.profile.now) (Fails request gathered)
     (BeginsList session list.profile.now list.mode list.settings.now request.colour old new)
     (IsBegun request gathered old new) old new fault
     (λ failure cause. inr (record {

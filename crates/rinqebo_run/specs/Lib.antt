@@ -11,3 +11,4 @@ pub mod ListedBy
 pub mod ShownConfig
 pub mod Begun
 pub mod Written
+pub mod LookedUp

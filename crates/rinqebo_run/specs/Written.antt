@@ -32,6 +32,7 @@ use Rattle.rinqebo_run.specs.Begun.{AreFirstOf}
 use Rattle.rinqebo_run.specs.Listed.{TellsTests}
 use Rattle.rinqebo_run.specs.ListedBy.{read_by}
 use Rattle.rinqebo_run.specs.Requested.{IsRequestedOf}
+use Rattle.rinqebo_run.specs.LookedUp.{IsLookedUp}
 use Rattle.rinqebo_load.specs.Sessions.{readings}
 use Rattle.rinqebo_run.specs.Statuses.{failure_status}
 use Rattle.rinqebo_load.specs.declared.failure.Failure.{Failure}
@@ -66,12 +67,13 @@ AreFirstBy session loaded profile mode asked =
     (IsRequestedOf session profile mode) asked session.layers.items
     (list_tests (list_view session.tests))
 
--- The page of a list went out whole.
+-- The page of a list went out whole. Each filter that is evaluated for it was looked up.
 pub record WritesList (session : Session) (profile : Name) (mode : NextestRunMode)
     (asked : RequestedSettings) (tint : Colour) (old new : Option (List ℕ)) : Type 0 where
   pub report : Report
   pub about : IsReportOf session report
   pub tells : TellsTests session profile mode asked report
+  pub looked_up : IsLookedUp session profile
   pub page : Appends old new (rendered report formats.Text tint)
 
 -- A list was not written whole: a run refuses for a reason, and nothing went out; or memory ran out,

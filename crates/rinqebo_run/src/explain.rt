@@ -1,25 +1,28 @@
 //! Whether a test runs, and its settings.
-ghost use Rattle.std.specs.Prelude.{IfErr, IfOk};
+ghost use Rattle.std.specs.Prelude.{◌≡◌, IfErr, IfOk};
 ghost use Rattle.nextest_inheritance.specs.Parents.{parents_in};
 ghost use Rattle.nextest_load.specs.Config.{config_parents};
 ghost use Rattle.nextest_tables.specs.FileTexts.{names_in, IsIn};
-ghost use Rattle.rinqebo_findings.specs.Failures.{IsFailureAbout};
+ghost use Rattle.rinqebo_run.specs.LookedUp.{IsFailureOn, IsLookedUp};
 ghost use Rattle.rinqebo_findings.specs.Reports.{IsReportOf};
 ghost use Rattle.rinqebo_run.specs.Explained.{Explains, IfExplained};
 ghost use Rattle.rinqebo_run.specs.ListedBy.{explained_by};
 ghost use Rattle.rinqebo_run.specs.Requested.{IsRequestedIn};
 
+use crate::answer::Answer;
 use crate::asked::requested_of;
+use crate::id_note::id_note;
 use crate::idle::findings_on;
 use crate::list::profile_on;
+use crate::looked_up::config_looked_up;
+use crate::status::Status;
 use filter_engine::NextestTally;
 use nextest_config::DefaultConfigWarnings;
-use nextest_lists::ListedTest;
-use rinqebo_findings::{config_with, report_of};
-use rinqebo_load::{Config, Failure, Session, chain_of_profile};
-use rinqebo_report::{Content, Report};
-use rinqebo_request::{RequestedSettings, TestName};
-use rinqebo_rules::{Lister, Origins, query_of};
+use rinqebo_findings::report_of;
+use rinqebo_load::{Config, Failure, FoundTest, Session, chain_of_profile};
+use rinqebo_report::Content;
+use rinqebo_request::RequestedSettings;
+use rinqebo_rules::{Lister, Origins};
 use std::alloc::{AllocError, Global};
 
 /// Whether a test runs and its settings, by a configuration: the rows of a list of this one test.
@@ -28,7 +31,7 @@ fn explained<'c>(
     session: &'c Session<'_>,
     config: &'c Config,
     profile: &'c str,
-    test: &TestName<'_>,
+    test: &FoundTest,
     asked: &RequestedSettings,
 ) -> Result<Content, AllocError>
     requires { IsIn (names_in config.now.config.profiles) profile.now }
@@ -45,11 +48,7 @@ fn explained<'c>(
         mode: test.mode,
         asked,
     };
-    let query = query_of(test);
-    let listed = ListedTest {
-        query,
-        ignored: false,
-    };
+    let listed = test.listed();
     let mut tally = NextestTally::new();
     let mut origins = Origins::new(alloc, &session.layers, &chain);
     let rows = asking.rows_of(alloc, &listed, &mut tally, &mut origins)?;
@@ -64,17 +63,24 @@ pub fn explain(
     alloc: Global,
     session: &Session<'_>,
     profile: &str,
-    test: &TestName<'_>,
+    test: &FoundTest,
     asked: &RequestedSettings,
-) -> Result<Report, Failure>
-    ensures ok { IfOk result (Explains session.now profile.now test.now asked.now) }
-    ensures about { IfOk result (IsReportOf session.now) }
-    ensures err { IfErr result (IsFailureAbout session.now profile.now) }
+) -> Result<Answer, Failure>
+    ensures status { IfOk result (λ answer. answer.status ≡ 0) }
+    ensures ok { IfOk result (λ answer.
+        Explains session.now profile.now test.now asked.now answer.report) }
+    ensures about { IfOk result (λ answer. IsReportOf session.now answer.report) }
+    ensures looked_up { IfOk result (λ _. IsLookedUp session.now profile.now) }
+    ensures err { IfErr result (IsFailureOn session.now profile.now) }
 {
     let mut warnings = DefaultConfigWarnings::new(alloc);
-    let config = config_with(alloc, session, profile, &mut warnings)?;
+    let config = config_looked_up(alloc, session, profile, &mut warnings)?;
     let content = explained(alloc, &*session, &config, profile, test, asked)?;
     let findings = findings_on(alloc, session, &warnings, &content)?;
-    let report = report_of(alloc, session, findings, Vec::new(alloc), content)?;
-    Ok(report)
+    let note = id_note(alloc, session, &config, profile, test)?;
+    Ok(Answer {
+        report: report_of(alloc, session, findings, Vec::new(alloc), content)?,
+        status: Status::Success as u8,
+        note,
+    })
 }

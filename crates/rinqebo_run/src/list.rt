@@ -17,16 +17,18 @@ ghost use Rattle.rinqebo_rules.specs.Conditions.{is_met_by};
 ghost use Rattle.rinqebo_run.specs.Listed.{IfListed, IsProfileOn, TellsTests};
 ghost use Rattle.rinqebo_run.specs.ListedBy.{basis_of, read_by, listed_by};
 ghost use Rattle.rinqebo_run.specs.Requested.{IsRequestedIn};
-ghost use Rattle.rinqebo_findings.specs.Failures.{IsFailureAbout};
+ghost use Rattle.rinqebo_run.specs.LookedUp.{IsFailureOn, IsLookedUp};
 ghost use Rattle.rinqebo_findings.specs.Reports.{IsReportOf};
 
 use crate::asked::requested_of;
 use crate::list_origins::unused_origins;
 use crate::list_scripts::scripts_of_list;
+use crate::looked_up::config_looked_up;
+use crate::profile::early_profile;
 use filter_engine::{NextestFilters, NextestTally};
-use nextest_config::{DefaultConfigWarnings, EarlyProfile, EvaluatableProfile, NextestRunMode};
+use nextest_config::{DefaultConfigWarnings, EvaluatableProfile, NextestRunMode};
 use platform_language::TargetSpecs;
-use rinqebo_findings::{config_with, report_of, warning_findings};
+use rinqebo_findings::{report_of, warning_findings};
 use rinqebo_load::{Config, Failure, Session, chain_of_profile};
 use rinqebo_report::{Content, Report};
 use rinqebo_request::RequestedSettings;
@@ -47,8 +49,7 @@ pub fn profile_on<'c>(
     ensures { IfOk result (IsProfileOn is_met_by session.now.engines.platforms
         (read_by session.now config.now) profile.now) }
 {
-    let root = session.gathered.paths.workspace_root.as_str();
-    let early = EarlyProfile::new(alloc, root, config, profile)?;
+    let early = early_profile(alloc, session, config, profile)?;
     match early.apply_build_platforms(alloc, &session.engines.platforms) {
         Ok(profile) => Ok(profile),
         Err(_) => Err(AllocError),
@@ -125,10 +126,11 @@ pub fn list<P: Progress>(
 ) -> Result<Report, Failure>
     ensures ok { IfOk result (TellsTests session.now profile.now mode asked.now) }
     ensures about { IfOk result (IsReportOf session.now) }
-    ensures err { IfErr result (IsFailureAbout session.now profile.now) }
+    ensures looked_up { IfOk result (λ _. IsLookedUp session.now profile.now) }
+    ensures err { IfErr result (IsFailureOn session.now profile.now) }
 {
     let mut warnings = DefaultConfigWarnings::new(alloc);
-    let config = config_with(alloc, session, profile, &mut warnings)?;
+    let config = config_looked_up(alloc, session, profile, &mut warnings)?;
     let content = listed(alloc, &*session, &config, profile, mode, asked, progress)?;
     let findings = warning_findings(alloc, &session.layers, &warnings)?;
     let report = report_of(alloc, session, findings, Vec::new(alloc), content)?;

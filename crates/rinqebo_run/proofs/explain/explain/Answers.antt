@@ -1,4 +1,4 @@
-use Rattle.rinqebo_run.proofs.Refused.{want_reported}
+use Rattle.rinqebo_run.proofs.Refused.{want_evaluated}
 use Rattle.rinqebo_run.proofs.Rows.{explains}
 use Rattle.rinqebo_run.proofs.explain.explain.Goals as goal
 
@@ -11,8 +11,12 @@ returns-clause-ok c =
 
 pub returns-in_err-content-clause-err : goal.returns-in_err-content-clause-err
 returns-in_err-content-clause-err c =
-    want_reported c.args.session.now c.args.profile.now _ c.from_residual-in_err-content.ensures.1
+    want_evaluated c.args.session.now c.args.profile.now _ c.from_residual-in_err-content.ensures.1
+
+pub returns-in_err-note-clause-err : goal.returns-in_err-note-clause-err
+returns-in_err-note-clause-err c =
+    want_evaluated c.args.session.now c.args.profile.now _ c.from_residual-in_err-note.ensures.1
 
 pub returns-in_err-findings-clause-err : goal.returns-in_err-findings-clause-err
 returns-in_err-findings-clause-err c =
-    want_reported c.args.session.now c.args.profile.now _ c.from_residual-in_err-findings.ensures.1
+    want_evaluated c.args.session.now c.args.profile.now _ c.from_residual-in_err-findings.ensures.1

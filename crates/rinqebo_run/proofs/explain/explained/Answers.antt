@@ -1,4 +1,4 @@
-use Rattle.std.proofs.Common.{◌∙◌, ap, false, refl}
+use Rattle.std.proofs.Common.{◌∙◌, ap}
 use Rattle.nextest_inheritance.specs.View.{borrowed_view}
 use Rattle.nextest_lists.specs.ListView.{list_test_view}
 use Rattle.rinqebo_run.proofs.Listing.{basis_here}
@@ -13,13 +13,12 @@ profile_on-requires c = c.requires
 pub returns-clause-told : goal.returns-clause-told
 returns-clause-told c =
     let session = c.args.session.now in
-    let query = c.query_of-query in
     explained_here session c.args.config.now c.args.profile.now c.args.test.now c.args.asked.now
-    (list_test_view (record { query = query.result; ignored = false })) c.new-origins.result c.in_ok-on.on (borrowed_view c.in_ok-chain.chain.items)
+    (list_test_view c.listed-listed.result) c.new-origins.result c.in_ok-on.on (borrowed_view c.in_ok-chain.chain.items)
     c.in_ok-rows.rows c.in_ok-on.ensures (c.in_ok-chain.ensures c.requires)
     (basis_here session c.new-origins.result _ _ c.new-origins.ensures c.deref-2.ensures.value
     ∙ ap (λ names. basis_of session (borrowed_view names)) c.deref-3.ensures.value)
-    query.ensures.name query.ensures.binary query.ensures.platform refl c.in_ok-rows.ensures.told
+    c.listed-listed.ensures c.in_ok-rows.ensures.told
 
 pub returns-clause-requested : goal.returns-clause-requested
 returns-clause-requested c = record {

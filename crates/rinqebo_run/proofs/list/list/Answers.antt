@@ -1,5 +1,5 @@
 use Rattle.rinqebo_run.proofs.Listing.{tells_tests}
-use Rattle.rinqebo_run.proofs.Refused.{want_reported}
+use Rattle.rinqebo_run.proofs.Refused.{want_evaluated}
 use Rattle.rinqebo_run.proofs.list.list.Goals as goal
 
 pub returns-clause-ok : goal.returns-clause-ok
@@ -11,4 +11,4 @@ returns-clause-ok g c =
 
 pub returns-in_err-findings-clause-err : goal.returns-in_err-findings-clause-err
 returns-in_err-findings-clause-err g c =
-    want_reported c.args.session.now c.args.profile.now _ c.from_residual-in_err-findings.ensures.1
+    want_evaluated c.args.session.now c.args.profile.now _ c.from_residual-in_err-findings.ensures.1
