@@ -110,7 +110,7 @@ fn with_asking<'c>(
     fields: &[Field],
 ) -> Result<Vec<PlacedFilter<'c>>, AllocError>
     ensures { IfOk result (λ all. map placed_view all.items ≡ map placed_view found.entry.items
-        ++ which_has (asks_any fields.now) (site_view place)
+        ++ which_has (asks_any fields.now) (site_view place.entry)
         (option_map (λ filter. marks_view names_of filter.now) filter.entry)) }
 {
     let mut found = found;
