@@ -22,7 +22,7 @@ returns-then-branch c =
     let i = c.loop-target.target-index in
     let below : i < length (targets_view targets) = omega (arith, c.loop-target-test.true, length-map targets target_view) in
     let at = seen_at target_view targets i c.target-item.result c.loop-target-test.true c.target-item.is in (
-      (i, below, slice_get-get_or (targets_view targets) i (target_view c.target-item.result) below ∙ ap Some (sym at)),
+      (i, below, sym at),
       c.in_ok-builds.ensures.0 c.if-branch.true,
     )
 
@@ -33,4 +33,5 @@ returns c =
     let within : has.0 < length (targets_view targets) = has.1 in
     let so_far : has.0 < c.loop-target.target-index =
     omega (arith, within, c.loop-target-test.false, length-map targets target_view) in
-    c.loop-target.invariant has.0 so_far target has.2
+    c.loop-target.invariant has.0 so_far target
+    (slice_get-get_or (targets_view targets) has.0 target within ∙ ap Some has.2)

@@ -11,7 +11,7 @@ returns-in-Some c =
 pub loop-line-preserved : goal.loop-line-preserved
 loop-line-preserved c =
     none_more (λ line. line.now) host_of_line c.args.lines.now c.loop-line.line-index _ _
-    c.loop-line-test.true refl c.in-None.ensures c.loop-line.invariant
+    c.loop-line-test.true refl c.in_default.ensures c.loop-line.invariant
 
 pub returns : goal.returns
 returns c =
