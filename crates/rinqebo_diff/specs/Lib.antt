@@ -1,5 +1,0 @@
-pub mod Matched
-pub mod Compared
-pub mod Loaded
-pub mod Written
-pub mod Differences
