@@ -1,6 +1,6 @@
 // Rinqebo as a library: whole runs, and configurations that are loaded once and queried often.
 //
-// Names, types and the order of parameters are those of crates/rinqebo_c; nothing compares the two.
+// Names, types and the order of parameters are those of crates/rinqebo_c: scripts/compare-layouts compares them.
 // docs/LIBRARY.md says what each call does, and what is proved of it.
 //
 // What a caller keeps, which no call checks:

@@ -1,4 +1,4 @@
-//! The calls of the library, as `include/rinqebo.h` declares them. Nothing compares the two.
+//! The calls of the library, as `include/rinqebo.h` declares them: `scripts/compare-layouts` compares the two.
 
 #[repr(C)]
 #[derive(Clone, Copy)]
