@@ -41,12 +41,17 @@ other_key row =
     if bytes_eq (string_bytes row.from.key) (string_bytes row.to.key) then []
     else string_bytes row.to.key ++ codes ": "
 
+-- a line with a setting, and its two values
+abbrev pub value_runs : List ℕ → List ℕ → List ℕ → List ℕ → List Run
+value_runs key from other to =
+    styled styles.Key key ∷ plain (codes ": ") ∷ plain from ∷ plain (codes " -> ")
+    ∷ styled styles.Key other ∷ plain to ∷ ending ∷ []
+
 -- a setting, and its two values
 abbrev pub heading_runs : RowChange → List Run
 heading_runs row =
-    styled styles.Key (string_bytes row.from.key) ∷ plain (codes ": ")
-    ∷ plain (setting_text row.from.value) ∷ plain (codes " -> ")
-    ∷ styled styles.Key (other_key row) ∷ plain (setting_text row.to.value) ∷ ending ∷ []
+    value_runs (string_bytes row.from.key) (setting_text row.from.value) (other_key row)
+    (setting_text row.to.value)
 
 -- two origins
 abbrev pub two_site_runs : List ℕ → List ℕ → List Run
@@ -65,11 +70,14 @@ site_runs diff row =
 abbrev pub change_runs : Diff → RowChange → List Run
 change_runs diff row = heading_runs row ++ site_runs diff row
 
+-- the names of a test
+abbrev pub names_runs : List ℕ → List ℕ → List Run
+names_runs binary name =
+    plain (codes "    ") ∷ plain binary ∷ plain (codes " ") ∷ plain name ∷ ending ∷ []
+
 -- a test
 abbrev pub test_runs : TestId → List Run
-test_runs test =
-    plain (codes "    ") ∷ plain (string_bytes test.binary) ∷ plain (codes " ")
-    ∷ plain (string_bytes test.name) ∷ ending ∷ []
+test_runs test = names_runs (string_bytes test.binary) (string_bytes test.name)
 
 -- that all tests of a binary change
 abbrev pub whole_runs : List ℕ → ℕ → List Run
