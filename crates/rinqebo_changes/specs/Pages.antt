@@ -1,7 +1,6 @@
 -- The page of a diff.
-use Rattle.std.specs.Prelude.{◌≡◌, ℕ, ◌==◌, ◌-◌, ◌&&◌, Bool, true, false, List, [], ◌∷◌, ◌++◌, Option, None, Some, length, slice_get, flat_map, not, codes, bytes_eq, String, string_bytes, if◌then◌else◌}
+use Rattle.std.specs.Prelude.{◌≡◌, ℕ, ◌==◌, nat_lt, ◌-◌, ◌&&◌, Bool, true, false, List, [], ◌∷◌, ◌++◌, Option, None, Some, length, slice_get, flat_map, not, codes, bytes_eq, String, string_bytes, if◌then◌else◌}
 use Rattle.std.specs.declared.alloc.Global.{Global}
-use lib.Dec.{ltb}
 use Rattle.rinqebo_report.specs.declared.origin.Origin.{Origin}
 use Rattle.rinqebo_report.specs.declared.origin.Source.{Source}
 use Rattle.rinqebo_report.specs.declared.piece.Colour.{Colour}
@@ -96,7 +95,7 @@ total_of (b ∷ bs) binary =
 abbrev pub whole_at : List BinaryTests → ℕ → Option Item → Bool
 whole_at binaries n None = false
 whole_at binaries n (Some item) =
-    ltb 1 n && (n == total_of binaries (string_bytes item.test.now.binary))
+    nat_lt 1 n && (n == total_of binaries (string_bytes item.test.now.binary))
 
 -- whether changes of a binary's tests are those of all its tests, of which there are several
 abbrev pub is_whole : List BinaryTests → List Item → Bool
