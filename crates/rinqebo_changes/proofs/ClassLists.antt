@@ -1,5 +1,5 @@
 -- Classes of changes: a loop that takes them from a list, one after another, and what they are.
-use Rattle.std.proofs.Common.{◌≡◌, ℕ, ◌<◌, ◌≤◌, ◌+◌, ◌∙◌, Bool, true, false, cond, not, List, [], ◌∷◌, ◌++◌, length, map, filter, flat_map, suc, take, Option, get_or, refl, sym, ap, subst, arith}
+use Rattle.std.proofs.Common.{◌≡◌, ℕ, ◌<◌, ◌≤◌, ◌+◌, ◌∙◌, Bool, true, false, cond, not, List, [], ◌∷◌, ◌++◌, length, map, filter, flat_map, zero, suc, take, Option, get_or, refl, sym, ap, subst, arith}
 use Rattle.std.specs.List.{AllByRecursion, Contains}
 use Rattle.std.proofs.lemmas.List.Sorted.{IsPermutation-refl, IsPermutation-trans, IsPermutation-filter_both, IsPermutation-append_right}
 use Rattle.std.proofs.lemmas.List.Filters.{length-filter_both}
@@ -97,9 +97,9 @@ pub items_more : (tests : List TestChanges) (i : ℕ) (test : TestChanges) → i
     → (n : ℕ) → length test.rows.items ≤ n → (old new : List (TestId × RowChange))
     → old ≡ items_of (take i tests) → new ≡ old ++ map (λ row. (test.test, row)) (take n test.rows.items)
     → new ≡ items_of (take (i + 1) tests)
-items_more tests i test lt is n le old new before more =
+items_more tests i test lt is n le old new before then =
     let f : TestChanges → List (TestId × RowChange) = λ t. map (λ row. (t.test, row)) t.rows.items in
-    more ∙ ap (λ rows. old ++ map (λ row. (test.test, row)) rows) (take_all n test.rows.items le)
+    then ∙ ap (λ rows. old ++ map (λ row. (test.test, row)) rows) (take_all n test.rows.items le)
     ∙ ap (λ t. t ++ f test) before ∙ ap (λ t. items_of (take i tests) ++ t) (sym (append-nil (f test)))
     ∙ sym (flat_map-append f (take i tests) (test ∷ []))
     ∙ ap items_of (sym (one_behind tests i test lt is))

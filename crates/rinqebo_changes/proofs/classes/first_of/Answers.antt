@@ -14,7 +14,7 @@ loop-item-preserved c =
     elim c.if-item-first.branch [
       | then-item-first w ↦
           let lower : place_of x < place_of first = omega arith in record {
-            here = subst (Contains items) (sym w.first-is) (i, (c.loop-item-test.true, sym c.item-item.is));
+            here = subst (Contains items) (sym w.first-is) (i, c.loop-item-test.true, sym c.item-item.is);
             least = subst (λ f. All (λ y. place_of f ≤ place_of y) (take (i + 1) items)) (sym w.first-is)
                 (lower_all items i x first c.loop-item-test.true c.item-item.is lower c.loop-item.invariant.least);
           }
