@@ -35,6 +35,24 @@ fewer p xs x here passes =
     let some : 0 < length (filter p xs) = keeps_some p xs x here.0 here.1 here.2 passes in
     omega (arith, length-filter_both p (λ y. not (p y)) (λ y. refl) xs)
 
+-- one that passes is among those that pass
+pub contains_kept : {X : Type 0} (p : X → Bool) (xs : List X) (x : X) → Contains xs x → p x ≡ true
+    → Contains (filter p xs) x
+contains_kept {X} p xs x here passes = kept xs here.0 here.1 here.2
+  where
+    behind : (b : Bool) (y : X) (ys : List X) → Contains ys x → Contains (cond b (y ∷ ys) ys) x
+    behind true y ys one = (suc one.0, omega (arith, one.1), one.2)
+    behind false y ys one = one
+
+    first : (b : Bool) (y : X) (ys : List X) → y ≡ x → b ≡ true → Contains (cond b (y ∷ ys) ys) x
+    first true y ys is holds = (0, omega arith, is)
+    first false y ys is holds = absurd (cc)
+
+    kept : (ys : List X) (k : ℕ) → k < length ys → get_or ys k x ≡ x → Contains (filter p ys) x
+    kept [] k lt is = absurd (omega arith)
+    kept (y ∷ ys) zero lt is = first (p y) y (filter p ys) is (ap p is ∙ passes)
+    kept (y ∷ ys) (suc k) lt is = behind (p y) y (filter p ys) (kept ys k (omega arith) is)
+
 -- classes so far, one more, and others
 pub one_more : {X Y : Type 0} (f : X → Y) (xs : List X) (x : X) (ys : List Y)
     → map f (xs ++ x ∷ []) ++ ys ≡ map f xs ++ f x ∷ ys

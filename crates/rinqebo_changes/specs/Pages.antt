@@ -123,7 +123,7 @@ binary_runs binaries lists_all items =
 abbrev pub group_runs : Diff → Bool → Group → List Run
 group_runs diff lists_all group =
     change_runs diff group.head.row.now
-    ++ flat_map (λ binary. binary_runs diff.binaries.items lists_all binary.items)
+    ++ flat_map (λ binary. binary_runs diff.binaries.items lists_all binary.items.items)
     group.binaries.items
 
 -- the target, if there is one

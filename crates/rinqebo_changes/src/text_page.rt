@@ -280,7 +280,7 @@ fn add_group(
 {
     add_change(alloc, out, colour, diff, group.head.row)?;
     for binary in &group.binaries {
-        add_binary(out, colour, diff, lists_all, binary)?;
+        add_binary(out, colour, diff, lists_all, &binary.items)?;
     }
     Ok(())
 }
