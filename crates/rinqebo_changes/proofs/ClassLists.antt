@@ -6,7 +6,8 @@ use Rattle.std.proofs.lemmas.List.Filters.{length-filter_both}
 use Rattle.std.proofs.lemmas.Grind.{flat_map-append, take_at_read}
 use Rattle.std.proofs.lemmas.List.{append-nil, take_all}
 use Rattle.std.proofs.lemmas.List.Elements.{All-push}
-use Rattle.std.specs.List.{All}
+use Rattle.std.proofs.lemmas.List.{map-append}
+use Rattle.std.specs.List.{All, AllZip}
 use Rattle.rinqebo_report.specs.declared.report.TestId.{TestId}
 use Rattle.rinqebo_changes.specs.declared.change.RowChange.{RowChange}
 use Rattle.rinqebo_changes.specs.declared.change.TestChanges.{TestChanges}
@@ -18,15 +19,15 @@ use Rattle.rinqebo_changes.specs.Laws.{AreWhole}
 -- a test that an element passes keeps one at least
 keeps_some : {X : Type 0} (p : X → Bool) (xs : List X) (x : X) (k : ℕ) → k < length xs → get_or xs k x ≡ x
     → p x ≡ true → 0 < length (filter p xs)
-keeps_some p [] x k lt is passes = absurd (omega arith)
-keeps_some p (y ∷ ys) x zero lt is passes =
+keeps_some {X} p [] x k lt is passes = absurd (omega arith)
+keeps_some {X} p (y ∷ ys) x zero lt is passes =
     let here : p y ≡ true = ap p is ∙ passes in rw here (omega arith)
-keeps_some p (y ∷ ys) x (suc k) lt is passes =
-    longer (p y) (keeps_some p ys x k (omega arith) is passes)
+keeps_some {X} p (y ∷ ys) x (suc k) lt is passes =
+    longer (p y) y (filter p ys) (keeps_some p ys x k (omega arith) is passes)
   where
-    longer : {X : Type 0} {y : X} {ys : List X} (b : Bool) → 0 < length ys → 0 < length (cond b (y ∷ ys) ys)
-    longer true h = omega arith
-    longer false h = h
+    longer : (b : Bool) (z : X) (zs : List X) → 0 < length zs → 0 < length (cond b (z ∷ zs) zs)
+    longer true z zs h = omega arith
+    longer false z zs h = h
 
 -- what does not stand together with one of some elements is less than they all
 pub fewer : {X : Type 0} (p : X → Bool) (xs : List X) (x : X) → Contains xs x → p x ≡ true
@@ -136,3 +137,20 @@ class_more rule items rest one two three head others class before cs o t h first
     let here : class ≡ filter p rest = is ∙ ap (filter p) h in
     subst (λ k. AreClasses (same_item rule) items (before ++ k ∷ cs)) (sym here)
     (all (filter p rest ∷ cs) (more head least left))
+
+zip_push : {A B : Type 0} (R : A → B → Type 0) (xs : List A) (ys : List B) (x : A) (y : B)
+    → AllZip R xs ys → R x y → AllZip R (xs ++ x ∷ []) (ys ++ y ∷ [])
+zip_push R [] [] x y all r = (r, tt)
+zip_push R [] (z ∷ zs) x y all r = absurd all
+zip_push R (z ∷ zs) [] x y all r = absurd all
+zip_push R (z ∷ zs) (w ∷ ws) x y all r = (all.0, zip_push R zs ws x y all.1 r)
+
+-- one more beside what is made of one more
+pub zip_step : {A B C : Type 0} (f : A → B) (R : B → C → Type 0) (xs : List A) (i : ℕ) (x : A) → i < length xs
+    → x ≡ get_or xs i x → (ys : List C) (y : C) (zs : List C) → AllZip R (map f (take i xs)) ys → R (f x) y
+    → zs ≡ ys ++ y ∷ [] → AllZip R (map f (take (i + 1) xs)) zs
+zip_step f R xs i x lt is ys y zs all r then =
+    let more : map f (take (i + 1) xs) ≡ map f (take i xs) ++ f x ∷ [] =
+    ap (map f) (one_behind xs i x lt is) ∙ map-append f (take i xs) (x ∷ []) in
+    subst (λ ws. AllZip R (map f (take (i + 1) xs)) ws) (sym then)
+    (subst (λ ws. AllZip R ws (ys ++ y ∷ [])) (sym more) (zip_push R (map f (take i xs)) ys (f x) y all r))

@@ -10,5 +10,5 @@ returns c =
     items_from_collect _ c.collect.ensures.ran
     (YieldsList-from_map _ change_of
     (YieldsList-from_enumerate
-    (YieldsList-from_zip (YieldsList-from_vec c.args.from.items cc ?) (YieldsList-from_vec c.args.to.items ? ?)) cc)
+    (YieldsList-from_zip (YieldsList-from_vec c.args.from.items (cc) (cc)) (YieldsList-from_vec c.args.to.items (cc) (cc))) (cc))
     c.map.ensures.closure (λ x r q k. search (rules, tests)))
