@@ -1,4 +1,4 @@
-// Rinqebo as a library: whole runs, and configurations that are loaded once and asked often.
+// Rinqebo as a library: whole runs, and configurations that are loaded once and queried often.
 //
 // Names, types and the order of parameters are those of crates/rinqebo_c: scripts/compare-layouts compares them.
 // docs/LIBRARY.md says what each call does, and what is proved of it.
@@ -26,14 +26,14 @@ extern "C" {
 enum rinqebo_status {
     RINQEBO_DONE = 0,           // the call did what it is for
     RINQEBO_REFUSED = 1,        // the configuration is refused
-    RINQEBO_SMALL = 2,          // the buffer is too small: it is left as it was, and *needed says what it takes
+    RINQEBO_SMALL = 2,          // the buffer is too small: it is unchanged, and *needed is the size that it must have
     RINQEBO_NOT_TEXT = 3,       // bytes are not valid UTF-8
-    RINQEBO_MEMORY = 4,         // malloc gave nothing
+    RINQEBO_MEMORY = 4,         // malloc returned null
     RINQEBO_NOT_UNDERSTOOD = 5, // the request is not valid JSON, or not of its form
     RINQEBO_NO_ENGINES = 6,     // the metadata, a machine or the list of tests of the request is not understood
     RINQEBO_NO_PROFILE = 7,     // there is no such profile
     RINQEBO_NOT_LOADED = 8,     // the session holds no configuration
-    RINQEBO_UNKNOWN_NUMBER = 9, // a number stands for nothing: a platform, a mode, a kind of text, an index
+    RINQEBO_UNKNOWN_NUMBER = 9, // a number is out of range: a platform, a mode, a kind of text, an index
     RINQEBO_BAD_SIZE = 10,      // the size in a struct is not that of the library's version
     RINQEBO_NOT_KNOWN = 11      // a filter of the profile asks for a part of the test that is empty
 };
@@ -42,8 +42,8 @@ enum rinqebo_status {
 
 // The version that this header is of, as a text and as a number: 1,000,000 times the first of its numbers, 1,000
 // times the second, and the third.
-#define RINQEBO_VERSION "0.1.0"
-#define RINQEBO_VERSION_NUMBER 1000
+#define RINQEBO_VERSION "0.2.0"
+#define RINQEBO_VERSION_NUMBER 2000
 
 // Writes the version of the library, as a text. DONE or SMALL.
 uint32_t rinqebo_version(uint8_t *out, size_t out_len, size_t *needed);
@@ -53,21 +53,21 @@ uint32_t rinqebo_version_number(void);
 
 // ---- a whole run
 
-// Answers which settings a profile gives to each test of a list. The request is that of a session, as
+// Returns the settings that a profile gives to each test of a list. The request is that of a session, as
 // rinqebo_session_load has it, with three members more:
 //   "profile": TEXT, "mode": "test" or "benchmark",
 //   "list": what `cargo nextest list --message-format json` prints, a TEXT
-// What is told is written at the start of the buffer, and by the status that is
+// The output is written at the start of the buffer. With each status it is
 //   DONE             the document of `rinqebo list --all --format json`, on a line
 //   REFUSED          the document of the findings for which the files are refused
-//   NO_PROFILE       the document that tells that there is no such profile
+//   NO_PROFILE       the document of the finding that there is no such profile
 //   NOT_UNDERSTOOD   why the request is not understood: a text that says where
 //   NO_ENGINES       why the metadata, a machine or the list is not understood: a text that says where
 //   NOT_TEXT, MEMORY nothing
 //   SMALL            nothing: the buffer has less than *needed bytes, and is left as it was
-// *needed is the length of what is told: 0 where that is nothing, and with SMALL the length of what would be told.
-// The buffer behind it stays as it was. The features are those of the request and those that its file switches on.
-// Without a target, the one that the list names counts, if it does. Nothing is kept: the same call tells the same.
+// *needed is the length of the output: 0 where that is nothing, and with SMALL the length that it would have. The
+// rest of the buffer is unchanged. The features are those of the request and those that its file switches on.
+// Without a target, that of the list is used, if it names one. Nothing is kept: the same call has the same output.
 uint32_t rinqebo_resolve(const uint8_t *request, size_t request_len, uint8_t *answer, size_t answer_len, size_t *needed);
 
 // The same, kept: a run is computed once, and its output can be read in pieces, as often as needed.
@@ -103,7 +103,7 @@ size_t rinqebo_session_size(void);
 //    "features": {"setup-scripts": BOOL, "wrapper-scripts": BOOL}, "metadata": TEXT or null,
 //    "host": {"triple": TEXT, "cfg": TEXT or null}, "target": the same or null,
 //    "target-directory": TEXT or null}
-// where a FILE is {"path": TEXT, "outcome": WORD, "text": TEXT or null}: what came of reading it, with the word
+// where a FILE is {"path": TEXT, "outcome": WORD, "text": TEXT or null}: the outcome of reading it, and its text
 //   "text"                           its text
 //   "not-found", "not-a-directory"   null: there is none, or a part of its path is no directory
 //   "failed"                         a message: anything else, as bytes that are not valid UTF-8
@@ -116,7 +116,7 @@ void rinqebo_session_load(const uint8_t *request, size_t request_len, struct rin
 void rinqebo_session_free(struct rinqebo_session *session);
 uint32_t rinqebo_session_status(const struct rinqebo_session *session);
 
-// Writes why there is no configuration, or nothing where there is one. DONE or SMALL.
+// Writes the reason why the session holds no configuration, or nothing where it holds one. DONE or SMALL.
 uint32_t rinqebo_session_reason(const struct rinqebo_session *session, uint8_t *out, size_t out_len, size_t *needed);
 
 // ---- profiles

@@ -1,4 +1,3 @@
 pub mod Failing
 pub mod Elements
 pub mod Ids
-pub mod Finding

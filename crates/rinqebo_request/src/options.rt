@@ -3,7 +3,7 @@ use clap::{Arg, ArgAction, Command};
 use std::alloc::{AllocError, Global};
 
 /// The version of the program.
-const VERSION: &str = "0.1.0";
+const VERSION: &str = "0.2.0";
 
 /// The formats of answers.
 const ANSWER_FORMATS: &[&str] = &["text", "json"];

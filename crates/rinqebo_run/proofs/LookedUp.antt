@@ -25,7 +25,10 @@ use Rattle.rinqebo_rules.specs.declared.evaluated_filters.PlacedFilter.{PlacedFi
 use Rattle.rinqebo_run.proofs.Listing.{given_means}
 use Rattle.rinqebo_run.specs.Listed.{IsProfileOn}
 use Rattle.rinqebo_run.specs.ListedBy.{read_by}
-use Rattle.rinqebo_run.specs.LookedUp.{IsLookedUp, LeavesOpen}
+use Rattle.rinqebo_load.specs.declared.failure.Failure.{Failure}
+use Rattle.rinqebo_load.specs.declared.failure.Failure.TheVariants as failures
+use Rattle.rinqebo_load.specs.declared.fault.InputFault.TheVariants as faults
+use Rattle.rinqebo_run.specs.LookedUp.{IsFailureFor, IsFailureOn, LeavesOpen}
 
 -- each filter has something
 abbrev AllHave : {M : Type 0} → (M → Bool) → List (Site × M) → Type 0
@@ -105,3 +108,11 @@ open_here session loaded name on found left from is are same =
           (read_by session loaded) name on is);
       are_open = sym are ∙ same;
     }
+
+-- The failure for the first filter that was not looked up.
+pub fails_for : (session : Session) (name : Name) (failure : Failure) (first : Site × Filter)
+    (others : List (Site × Filter)) → LeavesOpen session name (first ∷ others) → IsFailureFor failure first.1
+    → IsFailureOn session name failure
+fails_for session name (failures.Engines (faults.NoMetadata told)) first others are is =
+    record { first = first; others = others; are_open = are; set = is }
+fails_for session name _ first others are is = absurd is
