@@ -61,7 +61,7 @@ fn failure_of(
 ) -> Result<Failure, AllocError>
     requires asks { asks_for_packages (marks_view names_of placed.filter.now) ≡ true }
     ensures { IfOk result
-        (λ failure. IsFailureFor failure (marks_view names_of placed.filter.now)) }
+        (λ failure. IsFailureFor failure (marks_view names_of placed.entry.filter.now)) }
 {
     let chain = chain_of_profile(alloc, config, profile)?;
     Ok(Failure::Engines(InputFault::NoMetadata(OpenFilter {
