@@ -222,7 +222,6 @@ pub fn filters_asking<'c>(
 }
 
 /// The filters of a profile that are evaluated and have sets of packages that were not looked up.
-#[tactic(auto, using(crate::proofs::OpenFilters::all_open, crate::proofs::OpenFilters::none_open))]
 pub fn filters_left_open<'c>(
     alloc: Global,
     filters: &NextestFilters,

@@ -15,6 +15,7 @@ use Rattle.nextest_settings.specs.Profile.{EvaluatableModel}
 use Rattle.nextest_tables.specs.Written.{Name}
 use Rattle.platform_language.specs.Expressions.{spec_view}
 use Rattle.platform_language.specs.declared.expression.TargetSpec.{TargetSpec}
+use Rattle.rinqebo_findings.specs.Failures.{IsFailureAbout}
 use Rattle.rinqebo_load.specs.Sessions.{files_view, readings, IsLoadedFrom}
 use Rattle.rinqebo_load.specs.declared.session.Session.{Session}
 use Rattle.rinqebo_rules.specs.Conditions.{is_met_by}
@@ -66,11 +67,12 @@ module _ {M : Type 0} (P : M → Bool) where
   have_evaluated profile =
       let overrides = flat_map (evaluated_of P (λ w. id_place w.id)) profile.overrides in
       let script_rules = flat_map (evaluated_of P (λ w. script_place w.id)) profile.script_rules in
-      have_more (which_has P (default_site (filtering_place profile)) (Some profile.default_filter.filter))
-      (overrides ++ script_rules)
+      let default = which_has P (default_site (filtering_place profile)) (Some profile.default_filter.filter) in
+      have_more (default ++ overrides) script_rules
+      (have_more default overrides
       (have_which (default_site (filtering_place profile)) (Some profile.default_filter.filter))
-      (have_more overrides script_rules (have_rules (λ w. id_place w.id) profile.overrides)
-      (have_rules (λ w. script_place w.id) profile.script_rules))
+      (have_rules (λ w. id_place w.id) profile.overrides))
+      (have_rules (λ w. script_place w.id) profile.script_rules)
 
 second : (a b : Bool) → (a && b) ≡ true → b ≡ true
 second true b is = is
@@ -116,3 +118,13 @@ pub fails_for : (session : Session) (name : Name) (failure : Failure) (first : S
 fails_for session name (failures.Engines (faults.NoMetadata told)) first others are is =
     record { first = first; others = others; are_open = are; set = is }
 fails_for session name _ first others are is = absurd is
+
+-- What is a failure about a profile is one where its filters are evaluated.
+pub on_about : (session : Session) (name : Name) (failure : Failure) → IsFailureAbout session name failure
+    → IsFailureOn session name failure
+on_about session name (failures.Engines fault) is = absurd is
+on_about session name (failures.Refused report) is = is
+on_about session name (failures.NoProfile report) is = is
+on_about session name (failures.NoTest report) is = is
+on_about session name (failures.SeveralTests report) is = is
+on_about session name failures.Memory is = is

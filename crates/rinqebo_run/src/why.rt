@@ -266,8 +266,9 @@ pub fn why(
     let content = reasons(alloc, &*session, &config, profile, test, setting)?;
     let findings = findings_on(alloc, session, &warnings, &content)?;
     let note = id_note(alloc, session, &config, profile, test)?;
+    let report = report_of(alloc, session, findings, Vec::new(alloc), content)?;
     Ok(Answer {
-        report: report_of(alloc, session, findings, Vec::new(alloc), content)?,
+        report,
         status: Status::Success as u8,
         note,
     })
