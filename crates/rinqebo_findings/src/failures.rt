@@ -2,7 +2,8 @@
 ghost use Rattle.std.specs.Prelude.{IfOk};
 ghost use Rattle.rinqebo_findings.specs.Failures.{IsLoadFailure, IsProfileFailure};
 
-use crate::findings::{SourceAt, finding_at, warning_findings};
+use crate::codes::Code;
+use crate::findings::{Label, SourceAt, finding_at, warning_findings};
 use crate::report::{report_of, report_of_refusal};
 use nextest_config::{ConfigParseError, DefaultConfigWarnings, ProfileNotFound};
 use nextest_places::Step;
@@ -41,7 +42,7 @@ fn no_profile(alloc: Global, missing: &ProfileNotFound) -> Result<Finding, Alloc
     let mut found = finding_at(
         alloc,
         Level::Error,
-        "NoProfile",
+        Label::own(Code::UnknownProfile),
         nowhere,
         &path,
         part,

@@ -20,16 +20,24 @@ fn tree_at<'t>(tree: &'t Tree, path: &[Step<'_>]) -> Option<&'t Tree> {
     Some(found)
 }
 
+/// The kind of a table, in words.
+const TABLE: &str = "a table";
+
 /// The kind of a value, in words.
 fn kind_words(tree: &Tree) -> &'static str {
     match tree {
-        Tree::Table(_) => "a table",
+        Tree::Table(_) => TABLE,
         Tree::Array(_) => "an array",
         Tree::Text(_) => "a string",
         Tree::Int(_) => "an integer",
         Tree::Bool(_) => "a boolean",
         Tree::Opaque => "a float or a date",
     }
+}
+
+/// Whether a table stands at a path in a source, or in the highest one that writes the path.
+pub fn is_table_at(source: SourceAt<'_, '_>, path: &[Step<'_>]) -> bool {
+    given_at(source, path) == Some(TABLE)
 }
 
 /// The kind of what stands at a path in a source, in words. A source that does not write the path is

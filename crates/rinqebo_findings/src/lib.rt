@@ -4,6 +4,9 @@
 
 mod above;
 mod checks;
+mod codes;
+mod elements;
+mod excerpts;
 mod expected;
 mod expressions;
 mod failures;
@@ -11,6 +14,8 @@ mod findings;
 mod given;
 mod hints;
 mod loading;
+mod order;
+mod parents;
 mod paths;
 mod refusals;
 mod refused;
@@ -21,6 +26,7 @@ mod unknown_names;
 mod unreached;
 mod ways;
 
+pub use codes::{CODES, Code};
 pub use findings::warning_findings;
 pub use loading::config_with;
 pub use report::{report_of, report_of_refusal};
