@@ -1,9 +1,7 @@
 //! The lines of files that show findings.
 use nextest_config::{FileInput, ReadOutcome};
 use rinqebo_files::Gathered;
-use rinqebo_report::{
-    CharSpan, FileLines, FilePlace, Finding, LinePart, Position, Range, Sign, SourceLine,
-};
+use rinqebo_report::{CharSpan, FilePlace, Finding, LinePart, Range, Sign, SourceLine};
 use std::alloc::{AllocError, Global};
 
 /// How many findings have lines: a page shows no more.
@@ -152,40 +150,28 @@ pub fn lines_of(alloc: Global, text: &str, marks: &[Mark]) -> Result<Vec<SourceL
     Ok(shown)
 }
 
-/// Returns the part of a file that a finding is about: its range, or the character at its column.
-fn range_of(place: FilePlace, column: Option<u64>) -> Option<Range> {
-    match (place.range, place.lines, column) {
-        (Some(range), _, _) => Some(range),
-        (None, Some(FileLines { first, .. }), Some(column)) => Some(Range {
-            start: Position {
-                line: first,
-                column,
-            },
-            end: Position {
-                line: first,
-                column: column.saturating_add(1),
-            },
-        }),
-        _ => None,
-    }
-}
-
 /// Returns the lines of files that show a finding.
 fn lines_at(
     alloc: Global,
     gathered: &Gathered,
     place: Option<FilePlace>,
-    column: Option<u64>,
 ) -> Result<Vec<SourceLine>, AllocError> {
-    let Some(place) = place else {
+    let Some(
+        FilePlace {
+            source,
+            range: Some(range),
+            ..
+        },
+    ) = place
+    else {
         return Ok(Vec::new(alloc));
     };
-    match (range_of(place, column), text_of(gathered, place.source)) {
-        (Some(range), Some(text)) => {
+    match text_of(gathered, source) {
+        Some(text) => {
             let sign = Sign::Fault;
             lines_of(alloc, text, &[Mark { sign, range }])
         }
-        _ => Ok(Vec::new(alloc)),
+        None => Ok(Vec::new(alloc)),
     }
 }
 
@@ -199,7 +185,7 @@ pub fn with_lines(
     for finding in findings {
         let mut finding = finding;
         if shown.len() < WITH_LINES && finding.lines.is_empty() {
-            finding.lines = lines_at(alloc, gathered, finding.place, finding.column)?;
+            finding.lines = lines_at(alloc, gathered, finding.place)?;
         }
         shown.push(finding)?;
     }

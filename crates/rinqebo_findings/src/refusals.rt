@@ -15,7 +15,7 @@ use nextest_config::{
 use nextest_places::Step;
 use rinqebo_files::{Layer, place_at};
 use rinqebo_load::Session;
-use rinqebo_report::{FileLines, Finding};
+use rinqebo_report::{FileLines, Finding, Position, Range};
 use std::alloc::{AllocError, Global};
 use std::collections::BTreeSet;
 
@@ -49,6 +49,17 @@ fn from_one(count: usize) -> u64 {
     (count as u64).saturating_add(1)
 }
 
+/// The range of the character at a position.
+fn character_at(start: Position) -> Range {
+    Range {
+        start,
+        end: Position {
+            line: start.line,
+            column: start.column.saturating_add(1),
+        },
+    }
+}
+
 /// The text is not a document: where it is at fault, and why.
 fn add_no_document(refused: &mut Refused<'_, '_>, message: &str) -> Result<(), AllocError> {
     let alloc = refused.alloc;
@@ -58,12 +69,16 @@ fn add_no_document(refused: &mut Refused<'_, '_>, message: &str) -> Result<(), A
     };
     let mut found = refused.finding(Code::NotToml, on_one_line(alloc, fault.reason.as_str())?)?;
     if let (Some(place), Some(position)) = (&mut found.place, fault.position) {
-        let line = from_one(position.line);
+        let start = Position {
+            line: from_one(position.line),
+            column: from_one(position.column),
+        };
         place.lines = Some(FileLines {
-            first: line,
-            last: line,
+            first: start.line,
+            last: start.line,
         });
-        found.column = Some(from_one(position.column));
+        place.range = Some(character_at(start));
+        found.column = Some(start.column);
     }
     refused.add_finding(found)
 }
