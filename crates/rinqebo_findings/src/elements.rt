@@ -1,5 +1,4 @@
 //! Findings of values that may not stand where they do.
-use crate::codes::Code;
 use crate::expected::expected_at;
 use crate::findings::SourceAt;
 use crate::given::{given_at, is_table_at};
@@ -9,6 +8,7 @@ use crate::refused::Refused;
 use crate::refused_values::Fault;
 use nextest_config::{ElementCause, ElementFault};
 use nextest_places::Step;
+use rinqebo_codes::Code;
 use rinqebo_files::SpanPart;
 use std::alloc::{AllocError, Global};
 

@@ -1,5 +1,4 @@
 //! Filters and platforms that are refused, with the part that is wrong.
-use crate::codes::Code;
 use crate::refused::Refused;
 use filter_engine::FaultKind;
 use nextest_config::{
@@ -7,6 +6,7 @@ use nextest_config::{
 };
 use nextest_places::Step;
 use nextest_spans::offsets_of;
+use rinqebo_codes::Code;
 use rinqebo_files::{host_text, profile_table, rule_table, target_text, text_at};
 use rinqebo_report::{CharSpan, FilePlace, Position, Range as ReportRange, RefusedExpression};
 use std::alloc::{AllocError, Global};

@@ -2,11 +2,11 @@
 ghost use Rattle.std.specs.Prelude.{IfOk};
 ghost use Rattle.rinqebo_findings.specs.Failures.{IsLoadFailure, IsProfileFailure};
 
-use crate::codes::Code;
 use crate::findings::{Label, SourceAt, finding_at, warning_findings};
 use crate::report::{report_of, report_of_refusal};
 use nextest_config::{ConfigParseError, DefaultConfigWarnings, ProfileNotFound};
 use nextest_places::Step;
+use rinqebo_codes::Code;
 use rinqebo_files::SpanPart;
 use rinqebo_load::{Failure, Session};
 use rinqebo_report::{Content, Finding, Level};

@@ -1,11 +1,11 @@
 //! Findings: how they are made, and those of warnings.
-use crate::codes::Code;
 use crate::hints::key_hint;
 use crate::paths::{path_text, spelled_path};
 use crate::refused_values::Fault;
 use nextest_config::{ConfigSource, ConfigWarning, DefaultConfigWarnings, Tree};
 use nextest_places::Step;
 use nextest_spans::PathSpans;
+use rinqebo_codes::Code;
 use rinqebo_files::{Layer, NoDocument, SpanPart, part_place, place_of};
 use rinqebo_report::{FilePlace, Finding, Level};
 use std::alloc::{AllocError, Global};

@@ -4,7 +4,6 @@
 
 mod above;
 mod checks;
-mod codes;
 mod elements;
 mod excerpts;
 mod expected;
@@ -26,7 +25,6 @@ mod unknown_names;
 mod unreached;
 mod ways;
 
-pub use codes::{CODES, Code};
 pub use findings::warning_findings;
 pub use loading::config_with;
 pub use report::{report_of, report_of_refusal};

@@ -1,8 +1,8 @@
 //! Findings of parents that profiles may not have.
-use crate::codes::Code;
 use crate::refused::Refused;
 use nextest_config::InheritsError;
 use nextest_places::Step;
+use rinqebo_codes::Code;
 use rinqebo_files::Layer;
 use rinqebo_request::name_hint;
 use std::alloc::{AllocError, Global};

@@ -1,5 +1,4 @@
 //! Findings of a refused configuration: one for each thing that is wrong.
-use crate::codes::Code;
 use crate::elements::add_element;
 use crate::excerpts::text_of;
 use crate::expressions::add_refused_texts;
@@ -13,6 +12,7 @@ use nextest_config::{
     ReadOutcome, ScriptId, ToolName, Tree, UnknownTestGroupError,
 };
 use nextest_places::Step;
+use rinqebo_codes::Code;
 use rinqebo_files::{Layer, place_at};
 use rinqebo_load::Session;
 use rinqebo_report::{FileLines, Finding, Position, Range};

@@ -1,8 +1,8 @@
 //! The findings of a refused source.
-use crate::codes::Code;
 use crate::findings::{Label, SourceAt, finding, finding_at};
 use crate::paths::path_text;
 use nextest_places::Step;
+use rinqebo_codes::Code;
 use rinqebo_files::{Layer, SpanPart, part_place};
 use rinqebo_report::{FilePlace, Finding, Level};
 use std::alloc::{AllocError, Global};

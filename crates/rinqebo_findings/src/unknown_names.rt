@@ -1,9 +1,9 @@
 //! Findings of rules that name groups and scripts which they may not.
-use crate::codes::Code;
 use crate::hints::known_hint;
 use crate::refused::Refused;
 use nextest_config::{ProfileScriptErrors, Tree, UnknownTestGroupError};
 use nextest_places::Step;
+use rinqebo_codes::Code;
 use rinqebo_files::profile_table;
 use std::alloc::AllocError;
 use std::collections::BTreeSet;

@@ -1,6 +1,7 @@
-//! The codes of findings: a table of all, with what each means, an example and its correction.
-ghost use Rattle.std.specs.Prelude.{◌≡◌};
-ghost use Rattle.rinqebo_findings.specs.Codes.{code_word};
+//! The codes of findings.
+ghost use Rattle.std.specs.Prelude.{◌≡◌, ◌≢◌, ◌↔◌, Contains, IsTrue, MatchOption, option_map};
+ghost use Rattle.rinqebo_codes.specs.Codes.{code_word, code_upstream};
+ghost use Rattle.rinqebo_codes.specs.declared.code.Code.{Code};
 
 /// What a finding says, in a word.
 #[derive(Clone, Copy, Debug, PartialEq, Eq)]
@@ -9,13 +10,13 @@ pub enum Code {
     UnknownKey,
     /// Names of profiles that begin with `default-` are nextest's own.
     ReservedProfile,
-    /// Setup scripts stand in the table `script`, where earlier versions of nextest had them.
+    /// Setup scripts are in the table `script`, their place in earlier versions.
     OldScriptTable,
     /// A rule under `scripts` of a profile names no script, so it has no effect.
     EmptyScriptRule,
     /// A setting of the JUnit report has no effect where no `junit.path` is set.
     JunitWithoutPath,
-    /// A tool may provide one file; two `--tool-config-file` options name the same tool.
+    /// Two `--tool-config-file` options name one tool, which may provide one file.
     SecondToolFile,
     /// A file that an option names cannot be read.
     UnreadableFile,
@@ -25,21 +26,17 @@ pub enum Code {
     WrongKind,
     /// A table lacks a key that it has to have.
     MissingKey,
-    /// A string is none of those that its key takes, or does not have the form that the key asks
-    /// for.
+    /// A string is none that its key takes, or has another form.
     InvalidValue,
     /// A value is too small, too large or empty.
     OutOfRange,
-    /// Delays between retries grow from `delay` up to `max-delay`, which may not be the shorter
-    /// one.
+    /// Delays grow from `delay` up to `max-delay`, which may not be the shorter one.
     MaxDelayBelowDelay,
     /// A table that takes no keys but its own has another one.
     RefusedKey,
-    /// A file defines a group whose name belongs to another file: `@tool:NAME:` begins those of a
-    /// tool, `@org:` those of an organisation, and nothing those of a repository.
+    /// The name of a group begins as another file's: `@tool:NAME:`, `@org:` or neither.
     ForeignGroup,
-    /// A file defines a script whose name belongs to another file: `@tool:NAME:` begins those of a
-    /// tool, `@org:` those of an organisation, and nothing those of a repository.
+    /// The name of a script begins as another file's: `@tool:NAME:`, `@org:` or neither.
     ForeignScript,
     /// A file has the table `scripts` and its old spelling `script`.
     TwoScriptTables,
@@ -67,16 +64,15 @@ pub enum Code {
     UnknownGroup,
     /// A rule names a script that no file defines.
     UnknownScript,
-    /// A rule names a setup script as a wrapper, or a wrapper script as a setup script.
+    /// A rule names a script at a key that takes scripts of another kind.
     WrongScriptKind,
-    /// A list wrapper wraps a whole binary, so the filter of its rule may not ask for the name of a
-    /// test.
+    /// A list wrapper wraps a whole binary, so its filter may not ask for tests.
     ListWrapperFilter,
     /// No file has the profile that is asked for.
     UnknownProfile,
 }
 
-/// The codes, in the order in which they are listed.
+/// All codes, in the order in which they are listed.
 pub const CODES: [Code; 32] = [
     Code::UnknownKey,
     Code::ReservedProfile,
@@ -114,6 +110,7 @@ pub const CODES: [Code; 32] = [
 
 impl Code {
     /// Its word, in kebab case.
+    #[tactic(auto, unfolding(crate::specs::Codes::code_word))]
     pub fn word(self) -> &'static str
         ensures { result.now ≡ code_word self }
     {
@@ -152,4 +149,70 @@ impl Code {
             Code::UnknownProfile => "unknown-profile",
         }
     }
+
+    /// The name that nextest-runner has for it, if it has one.
+    #[tactic(auto, unfolding(crate::specs::Codes::code_upstream))]
+    pub fn upstream(self) -> Option<&'static str>
+        ensures { option_map (λ name. name.now) result ≡ code_upstream self }
+    {
+        match self {
+            Code::UnknownKey => Some("UnknownConfigKeys"),
+            Code::ReservedProfile => Some("UnknownReservedProfiles"),
+            Code::OldScriptTable => Some("DeprecatedScriptConfig"),
+            Code::EmptyScriptRule => Some("EmptyScriptSections"),
+            Code::JunitWithoutPath => None,
+            Code::SecondToolFile => Some("DuplicateToolConfigFile"),
+            Code::UnreadableFile => Some("ReadError"),
+            Code::NotToml => Some("BuildError"),
+            Code::WrongKind => Some("DeserializeError"),
+            Code::MissingKey => Some("DeserializeError"),
+            Code::InvalidValue => Some("DeserializeError"),
+            Code::OutOfRange => Some("DeserializeError"),
+            Code::MaxDelayBelowDelay => Some("DeserializeError"),
+            Code::RefusedKey => Some("DeserializeError"),
+            Code::ForeignGroup => Some("InvalidTestGroupsDefined"),
+            Code::ForeignScript => Some("InvalidConfigScriptsDefined"),
+            Code::TwoScriptTables => Some("BothScriptAndScriptsDefined"),
+            Code::FeatureOff => Some("ExperimentalFeaturesNotEnabled"),
+            Code::DuplicateScript => Some("DuplicateConfigScriptNames"),
+            Code::DefaultInherits => Some("InheritanceErrors"),
+            Code::InheritsItself => Some("InheritanceErrors"),
+            Code::UnknownParent => Some("InheritanceErrors"),
+            Code::InheritanceCycle => Some("InheritanceErrors"),
+            Code::InvalidFilter => Some("CompileErrors"),
+            Code::InvalidPlatform => Some("CompileErrors"),
+            Code::RuleWithoutCondition => Some("CompileErrors"),
+            Code::TwoFilters => Some("CompileErrors"),
+            Code::UnknownGroup => Some("UnknownTestGroups"),
+            Code::UnknownScript => Some("ProfileScriptErrors"),
+            Code::WrongScriptKind => Some("ProfileScriptErrors"),
+            Code::ListWrapperFilter => Some("ProfileScriptErrors"),
+            Code::UnknownProfile => None,
+        }
+    }
 }
+
+/// Whether a code has a word.
+fn has_word(code: Code, word: &str) -> bool
+    ensures { IsTrue result ↔ (code_word code ≡ word.now) }
+{
+    code.word() == word
+}
+
+/// Returns the code of a word, if there is one.
+pub fn find_code(word: &str) -> Option<Code>
+    ensures { MatchOption result ((code : Code) → code_word code ≢ word.now)
+        (λ code. code_word code ≡ word.now) }
+{
+    for code in CODES.iter() {
+        if has_word(*code, word) {
+            return Some(*code);
+        }
+    }
+    None
+}
+
+/// Each code is among all.
+pub fn law_all_codes()
+    ensures { (code : Code) → Contains CODES code }
+{}
