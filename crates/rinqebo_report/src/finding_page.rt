@@ -1,5 +1,5 @@
 //! Findings as pages show them: in full, or a line each.
-ghost use Rattle.std.specs.Prelude.{◌≡◌, ◌++◌, OnOk, IfOk, flat_map, string_bytes, take};
+ghost use Rattle.std.specs.Prelude.{◌≡◌, ◌≤◌, ◌++◌, OnOk, IfOk, flat_map, length, string_bytes, take};
 ghost use Rattle.rinqebo_report.specs.OriginText.{path_at};
 ghost use Rattle.rinqebo_report.specs.Pages.{level_word, level_style, line_text, spot_text, finding_place, level_text, head_line_runs, head_runs, concise_line_runs, shown_width, caret_runs, expression_runs, apart_runs, arrow_runs, title_line_runs, title_runs, framed_runs, finding_runs, is_refusal, further_runs, findings_runs, concise_runs};
 ghost use Rattle.rinqebo_report.specs.Pieces.{page_text};
@@ -368,11 +368,24 @@ fn add_finding(
     add_framed(alloc, out, colour, margin, root, sources, finding)
 }
 
+/// The first findings, so many of them.
+fn front(findings: &[Finding], count: usize) -> &[Finding]
+    requires { count ≤ length findings.now }
+    ensures { result.now ≡ take count findings.now }
+{
+    &findings[..count]
+}
+
 /// The findings that a page shows.
+#[tactic(auto, using(crate::proofs::Shown::few_are_all))]
 fn shown_findings(findings: &[Finding]) -> &[Finding]
     ensures { result.now ≡ take 100 findings.now }
 {
-    &findings[..findings.len().min(SHOWN)]
+    if findings.len() <= SHOWN {
+        findings
+    } else {
+        front(findings, SHOWN)
+    }
 }
 
 /// Writes findings that a page shows.
