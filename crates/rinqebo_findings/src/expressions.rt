@@ -1,4 +1,5 @@
 //! Filters and platforms that are refused, with the part that is wrong.
+use crate::meant::{filter_meant, platform_meant};
 use crate::refused::Refused;
 use filter_engine::FaultKind;
 use nextest_config::{
@@ -120,6 +121,25 @@ fn filter_help(label: &str) -> Option<&'static str> {
     None
 }
 
+/// What to do about a filter or a platform that is refused, where that is plain.
+fn text_help(
+    alloc: Global,
+    code: Code,
+    text: &str,
+    label: &str,
+) -> Result<Option<String>, AllocError> {
+    if let Some(help) = filter_help(label) {
+        return Ok(Some(String::from_str(alloc, help)?));
+    }
+    if code == Code::InvalidFilter {
+        return filter_meant(alloc, text);
+    }
+    match platform_meant(text) {
+        Some(help) => Ok(Some(String::from_str(alloc, help)?)),
+        None => Ok(None),
+    }
+}
+
 /// Adds what is wrong with a text at a path.
 fn add_text(
     refused: &mut Refused<'_, '_>,
@@ -140,9 +160,7 @@ fn add_text(
         }
     }
     found.expression = Some(refused_text);
-    if let Some(help) = filter_help(span.label.as_str()) {
-        found.help = Some(String::from_str(alloc, help)?);
-    }
+    found.help = text_help(alloc, code, text, span.label.as_str())?;
     refused.add_finding(found)
 }
 

@@ -1,7 +1,7 @@
 //! Findings: how they are made, and those of warnings.
-use crate::hints::key_hint;
 use crate::paths::{path_text, spelled_path};
 use crate::refused_values::Fault;
+use crate::tables::{keys_note, unknown_key_help, unknown_key_text};
 use nextest_config::{ConfigSource, ConfigWarning, DefaultConfigWarnings, Tree};
 use nextest_places::Step;
 use nextest_spans::PathSpans;
@@ -142,10 +142,17 @@ fn key_warning(
 
 /// Warns of a key without effect.
 fn unknown_key(alloc: Global, source: SourceAt<'_, '_>, path: &str) -> Result<Finding, AllocError> {
-    let message = format!(in alloc; "{path} has no effect")?;
     let at = spelled_path(alloc, source, path, Fault::UnknownKey)?;
+    let message = unknown_key_text(alloc, &at)?;
     let mut found = key_warning(alloc, UNKNOWN_KEY, source, &at, message)?;
-    found.help = key_hint(alloc, &at)?;
+    let (help, help_place) = unknown_key_help(alloc, &at)?;
+    found.help = help;
+    found.help_place = help_place;
+    if let Some((_key, table)) = at.split_last() {
+        if let Some(note) = keys_note(alloc, table)? {
+            found.notes.push(note)?;
+        }
+    }
     Ok(found)
 }
 
@@ -156,7 +163,7 @@ fn reserved_profile(
     name: &str,
 ) -> Result<Finding, AllocError> {
     let message = format!(in alloc;
-        "profile.{name}: names that begin `default-` are nextest's own"
+        "`{name}`: names of profiles that begin with `default-` are nextest's own"
     )?;
     key_warning(
         alloc,
@@ -171,7 +178,7 @@ fn reserved_profile(
 fn old_scripts(alloc: Global, source: SourceAt<'_, '_>) -> Result<Finding, AllocError> {
     let message = String::from_str(
         alloc,
-        "script: this table is the old place of setup scripts",
+        "the table `script` is the old place of setup scripts",
     )?;
     let mut found = key_warning(
         alloc,
@@ -191,9 +198,7 @@ fn empty_rules(
     profile: &str,
     count: usize,
 ) -> Result<Finding, AllocError> {
-    let message = format!(in alloc;
-        "profile.{profile}.scripts: rules that name no script: {count}"
-    )?;
+    let message = format!(in alloc; "rules that name no script: {count}")?;
     key_warning(
         alloc,
         EMPTY_SCRIPT_RULE,

@@ -20,13 +20,10 @@ fn tree_at<'t>(tree: &'t Tree, path: &[Step<'_>]) -> Option<&'t Tree> {
     Some(found)
 }
 
-/// The kind of a table, in words.
-const TABLE: &str = "a table";
-
 /// The kind of a value, in words.
-fn kind_words(tree: &Tree) -> &'static str {
+pub fn kind_words(tree: &Tree) -> &'static str {
     match tree {
-        Tree::Table(_) => TABLE,
+        Tree::Table(_) => "a table",
         Tree::Array(_) => "an array",
         Tree::Text(_) => "a string",
         Tree::Int(_) => "an integer",
@@ -35,21 +32,16 @@ fn kind_words(tree: &Tree) -> &'static str {
     }
 }
 
-/// Whether a table stands at a path in a source, or in the highest one that writes the path.
-pub fn is_table_at(source: SourceAt<'_, '_>, path: &[Step<'_>]) -> bool {
-    given_at(source, path) == Some(TABLE)
-}
-
-/// The kind of what stands at a path in a source, in words. A source that does not write the path is
-/// refused for what stands below it: the highest one counts that does.
-pub fn given_at(source: SourceAt<'_, '_>, path: &[Step<'_>]) -> Option<&'static str> {
+/// What stands at a path in a source. A source that does not write the path is refused for what
+/// stands below it: the highest one counts that does.
+pub fn value_at<'l>(source: SourceAt<'l, '_>, path: &[Step<'_>]) -> Option<&'l Tree> {
     if let Some(found) = tree_at(source.tree()?, path) {
-        return Some(kind_words(found));
+        return Some(found);
     }
     for layer in source.layers.iter().rev() {
         if let Some(tree) = layer.tree() {
             if let Some(found) = tree_at(tree, path) {
-                return Some(kind_words(found));
+                return Some(found);
             }
         }
     }

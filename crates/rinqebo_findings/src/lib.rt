@@ -4,6 +4,7 @@
 
 mod above;
 mod checks;
+mod delays;
 mod elements;
 mod excerpts;
 mod expected;
@@ -13,6 +14,7 @@ mod findings;
 mod given;
 mod hints;
 mod loading;
+mod meant;
 mod order;
 mod parents;
 mod paths;
@@ -21,6 +23,8 @@ mod refused;
 mod refused_values;
 mod report;
 mod shapes;
+mod spellings;
+mod tables;
 mod unknown_names;
 mod unreached;
 mod ways;

@@ -3,6 +3,7 @@ use crate::elements::add_element;
 use crate::excerpts::text_of;
 use crate::expressions::add_refused_texts;
 use crate::findings::SourceAt;
+use crate::meant::line_help;
 use crate::parents::add_parents;
 use crate::refused::Refused;
 use crate::unknown_names::{add_script_errors, add_unknown_group};
@@ -60,6 +61,11 @@ fn character_at(start: Position) -> Range {
     }
 }
 
+/// What to do about a line of a text, from 0, that is at fault for a reason, where that is plain.
+fn help_at(text: Option<&str>, line: usize, reason: &str) -> Option<&'static str> {
+    line_help(text?.lines().nth(line)?, reason)
+}
+
 /// The text is not a document: where it is at fault, and why.
 fn add_no_document(refused: &mut Refused<'_, '_>, message: &str) -> Result<(), AllocError> {
     let alloc = refused.alloc;
@@ -79,6 +85,9 @@ fn add_no_document(refused: &mut Refused<'_, '_>, message: &str) -> Result<(), A
         });
         place.range = Some(character_at(start));
         found.column = Some(start.column);
+        if let Some(help) = help_at(refused.text, position.line, fault.reason.as_str()) {
+            found.help = Some(String::from_str(alloc, help)?);
+        }
     }
     refused.add_finding(found)
 }

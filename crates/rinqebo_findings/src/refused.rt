@@ -1,6 +1,5 @@
 //! The findings of a refused source.
 use crate::findings::{Label, SourceAt, finding, finding_at};
-use crate::paths::path_text;
 use nextest_places::Step;
 use rinqebo_codes::Code;
 use rinqebo_files::{Layer, SpanPart, part_place};
@@ -47,8 +46,7 @@ impl Refused<'_, '_> {
         wrong: &str,
     ) -> Result<Finding, AllocError> {
         let alloc = self.alloc;
-        let text = path_text(alloc, path)?;
-        let message = format!(in alloc; "{text}: {wrong}")?;
+        let message = String::from_str(alloc, wrong)?;
         let level = Level::Error;
         let label = self.label(code);
         let mut found = finding_at(alloc, level, label, self.source, path, part, message)?;
