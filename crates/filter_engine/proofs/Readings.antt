@@ -1,5 +1,5 @@
 -- What the engine reads, and how it refuses.
-use Rattle.std.proofs.Common.{◌≡◌, ℕ, ◌+◌, ◌≤◌, List, length, Option, None, Some, Ok, Err, IfSome, MatchOption, is_some, ap, ◌∙◌, subst, arith}
+use Rattle.std.proofs.Common.{◌≡◌, ℕ, ◌+◌, ◌≤◌, List, length, Option, None, Some, Ok, Err, IfSome, MatchOption, ap, ◌∙◌, subst, arith}
 use Rattle.std.specs.Result.{result_map_both}
 use Rattle.nextest_engines.specs.Engines.{refusal_message, LiesIn, PointsInto}
 use Rattle.nextest_engines.specs.declared.queries.FiltersetKind.{FiltersetKind}
@@ -9,16 +9,16 @@ use Rattle.filter_language.specs.declared.fault.FiltersetFault.{FiltersetFault}
 use Rattle.filter_language.specs.Filters.{filter_in}
 use Rattle.filter_language.specs.Messages.{message}
 use Rattle.filter_engine.specs.declared.engine.NextestFilters.{NextestFilters}
-use Rattle.filter_engine.specs.Compiling.{compiled_in}
+use Rattle.filter_engine.specs.Compiling.{reads_packages, compiled_in}
 use Rattle.filter_engine.specs.Engine.{Filter, read_filter}
 use Rattle.filter_engine.specs.Refusals.{IsSpanOf, Says, SaysFirstFault}
 
 pub read_ok : (engine : NextestFilters) (kind : FiltersetKind) (text : List ℕ) (m : Filter)
-    → filter_in (compiled_in engine) (is_some engine.graph) kind text ≡ Ok m → read_filter engine kind text ≡ Ok m
+    → filter_in (compiled_in engine) (reads_packages engine.packages) kind text ≡ Ok m → read_filter engine kind text ≡ Ok m
 read_ok engine kind text m e = ap (result_map_both (λ (x : Filter). x) message) e
 
 pub read_err : (engine : NextestFilters) (kind : FiltersetKind) (text : List ℕ) (fault : FiltersetFault)
-    (refusal : Refusal) → filter_in (compiled_in engine) (is_some engine.graph) kind text ≡ Err fault
+    (refusal : Refusal) → filter_in (compiled_in engine) (reads_packages engine.packages) kind text ≡ Err fault
     → Says fault refusal → read_filter engine kind text ≡ Err (refusal_message refusal)
 read_err engine kind text fault refusal e says =
     ap (result_map_both (λ (x : Filter). x) message) e ∙ ap Err (is_told (refusal_message refusal) fault says.0)
@@ -37,7 +37,7 @@ points_into text fault refusal fits says = in_text refusal.span says.1
 
 -- A text has one first fault.
 pub first_fault : (engine : NextestFilters) (kind : FiltersetKind) (text : List ℕ) (fault : FiltersetFault)
-    (refusal : Refusal) → filter_in (compiled_in engine) (is_some engine.graph) kind text ≡ Err fault
+    (refusal : Refusal) → filter_in (compiled_in engine) (reads_packages engine.packages) kind text ≡ Err fault
     → Says fault refusal → SaysFirstFault engine kind text refusal
 first_fault engine kind text fault refusal e says other is =
     let same : fault ≡ other = cc in subst (λ f. Says f refusal) same says

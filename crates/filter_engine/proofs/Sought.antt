@@ -1,5 +1,5 @@
 -- What patterns are compiled to.
-use Rattle.std.proofs.Common.{◌≡◌, ℕ, Bool, List, Option, None, Some, Ok, Err, ◌∙◌, ap}
+use Rattle.std.proofs.Common.{◌≡◌, ℕ, Bool, List, Ok, Err, ◌∙◌, ap}
 use Rattle.std.specs.Result.{result_map_both}
 use Rattle.filter_language.specs.declared.matchers.PatternFault.{PatternFault}
 use Rattle.filter_language.specs.declared.words.Field.{Field}
@@ -7,26 +7,32 @@ use Rattle.filter_language.specs.declared.words.Sign.{Sign}
 use Rattle.filter_matchers.specs.Matches.{NameQuestion}
 use Rattle.filter_packages.specs.declared.graph.PackageGraph.{PackageGraph}
 use Rattle.filter_engine.specs.declared.engine.NextestFilters.{NextestFilters}
-use Rattle.filter_engine.specs.Compiling.{sought_with, sought, compiled_in}
+use Rattle.filter_engine.specs.Compiling.{sought_with, sought_openly, sought, compiled_in}
+use Rattle.filter_engine.specs.declared.engine.Packages.{Packages}
+use Rattle.filter_engine.specs.declared.engine.Packages.TheVariants.{Known, Unknown, Open}
 use Rattle.filter_engine.specs.Names.{question_in, asks}
 
-pub sought_known : (found : Option PackageGraph) (graph : PackageGraph) (field : Field)
-    (accepts : List ℕ → Bool) → found ≡ Some graph
-    → sought found field accepts ≡ sought_with graph field accepts
-sought_known found graph field accepts e = ap (λ g. sought g field accepts) e
+pub sought_known : (packages : Packages) (graph : PackageGraph) (field : Field)
+    (accepts : List ℕ → Bool) → packages ≡ Known graph
+    → sought packages field accepts ≡ sought_with graph field accepts
+sought_known packages graph field accepts e = ap (λ p. sought p field accepts) e
 
-pub sought_unknown : (found : Option PackageGraph) (field : Field) (accepts : List ℕ → Bool) → found ≡ None
-    → sought found field accepts ≡ accepts
-sought_unknown found field accepts e = ap (λ g. sought g field accepts) e
+pub sought_unknown : (packages : Packages) (field : Field) (accepts : List ℕ → Bool) → packages ≡ Unknown
+    → sought packages field accepts ≡ accepts
+sought_unknown packages field accepts e = ap (λ p. sought p field accepts) e
+
+pub sought_open : (packages : Packages) (field : Field) (accepts : List ℕ → Bool) → packages ≡ Open
+    → sought packages field accepts ≡ sought_openly field accepts
+sought_open packages field accepts e = ap (λ p. sought p field accepts) e
 
 pub compiled_ok : (engine : NextestFilters) (field : Field) (sign : Sign) (text : List ℕ) (q : NameQuestion)
     (names : List ℕ → Bool)
-    → Ok q ≡ question_in sign text → names ≡ sought engine.graph field (asks q)
+    → Ok q ≡ question_in sign text → names ≡ sought engine.packages field (asks q)
     → Ok names ≡ compiled_in engine field sign text
 compiled_ok engine field sign text q names is same =
-    ap Ok same ∙ ap (result_map_both (λ p. sought engine.graph field (asks p)) (λ (f : PatternFault). f)) is
+    ap Ok same ∙ ap (result_map_both (λ p. sought engine.packages field (asks p)) (λ (f : PatternFault). f)) is
 
 pub compiled_err : (engine : NextestFilters) (field : Field) (sign : Sign) (text : List ℕ) (fault : PatternFault)
     → Err fault ≡ question_in sign text → Err fault ≡ compiled_in engine field sign text
 compiled_err engine field sign text fault is =
-    ap (result_map_both (λ p. sought engine.graph field (asks p)) (λ (f : PatternFault). f)) is
+    ap (result_map_both (λ p. sought engine.packages field (asks p)) (λ (f : PatternFault). f)) is

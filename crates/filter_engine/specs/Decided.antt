@@ -1,5 +1,5 @@
 -- A default filter with no part that only a test can answer has an answer for each binary.
-use Rattle.std.specs.Prelude.{◌≡◌, ℕ, List, [], Result, Ok, Err, IsSome, is_some}
+use Rattle.std.specs.Prelude.{◌≡◌, ℕ, List, [], Result, Ok, Err, IsSome}
 use Rattle.std.specs.Result.{result_map_both}
 use Rattle.nextest_engines.specs.Engines.{Binary}
 use Rattle.nextest_engines.specs.declared.queries.FiltersetKind.TheVariants.{DefaultFilter}
@@ -9,7 +9,7 @@ use Rattle.filter_language.specs.Filters.{filter_in}
 use Rattle.filter_language.specs.Leaves.{leaves}
 use Rattle.filter_language.specs.Messages.{message}
 use Rattle.filter_engine.specs.declared.engine.NextestFilters.{NextestFilters}
-use Rattle.filter_engine.specs.Compiling.{compiled_in}
+use Rattle.filter_engine.specs.Compiling.{reads_packages, compiled_in}
 use Rattle.filter_engine.specs.Engine.{Filter, read_filter, is_among, filter_holds_binary}
 
 -- What is read without a message is read.
@@ -22,7 +22,7 @@ pub default_filter_answers : (engine : NextestFilters) (text : List ℕ) (m : Fi
     → read_filter engine DefaultFilter text ≡ Ok m → leaves m ≡ []
     → (binary : Binary) (default : Filter) → IsSome (filter_holds_binary m binary default)
 default_filter_answers engine text m read none binary default =
-    default_filters_answer is_among (compiled_in engine) (is_some engine.graph) text m default
+    default_filters_answer is_among (compiled_in engine) (reads_packages engine.packages) text m default
     binary
-    (read_itself (filter_in (compiled_in engine) (is_some engine.graph) DefaultFilter text) m
+    (read_itself (filter_in (compiled_in engine) (reads_packages engine.packages) DefaultFilter text) m
     read) none

@@ -1,5 +1,5 @@
 -- What filters mean: their marks, with the names that their patterns accept.
-use Rattle.std.specs.Prelude.{ℕ, Bool, List, [], ◌∷◌, Option, None, Result, is_some}
+use Rattle.std.specs.Prelude.{ℕ, Bool, List, [], ◌∷◌, Option, None, Result}
 use Rattle.std.specs.Result.{result_map_both}
 use Rattle.nextest_engines.specs.Engines.{Binary, Test}
 use Rattle.nextest_engines.specs.declared.queries.FiltersetKind.{FiltersetKind}
@@ -10,7 +10,7 @@ use Rattle.filter_language.specs.Grammar.{Mark, Asked}
 use Rattle.filter_language.specs.Messages.{message}
 use Rattle.filter_language.specs.Values.{of_test}
 use Rattle.filter_engine.specs.declared.engine.NextestFilters.{NextestFilters}
-use Rattle.filter_engine.specs.Compiling.{compiled_in}
+use Rattle.filter_engine.specs.Compiling.{reads_packages, compiled_in}
 
 -- A filter is the list of its marks.
 abbrev pub Filter : Type 0
@@ -20,7 +20,7 @@ Filter = List (Mark (List ℕ → Bool))
 abbrev pub read_filter : NextestFilters → FiltersetKind → List ℕ → Result Filter (List ℕ)
 read_filter engine kind text =
     result_map_both (λ marks. marks) message
-    (filter_in (compiled_in engine) (is_some engine.graph) kind text)
+    (filter_in (compiled_in engine) (reads_packages engine.packages) kind text)
 
 -- The filter `all()`.
 abbrev pub everything : Filter

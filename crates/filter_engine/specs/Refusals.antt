@@ -1,5 +1,5 @@
 -- How a text that is no filter is refused: by its first fault.
-use Rattle.std.specs.Prelude.{◌≡◌, ℕ, ◌+◌, List, Err, MatchOption, is_some, string_bytes}
+use Rattle.std.specs.Prelude.{◌≡◌, ℕ, ◌+◌, List, Err, MatchOption, string_bytes}
 use Rattle.filter_language.specs.declared.fault.FiltersetFault.{FiltersetFault}
 use Rattle.filter_language.specs.Filters.{filter_in}
 use Rattle.filter_language.specs.Messages.{label, message}
@@ -8,7 +8,7 @@ use Rattle.nextest_engines.specs.declared.queries.FiltersetKind.{FiltersetKind}
 use Rattle.nextest_engines.specs.declared.refusal.LabeledSpan.{LabeledSpan}
 use Rattle.nextest_engines.specs.declared.refusal.Refusal.{Refusal}
 use Rattle.filter_engine.specs.declared.engine.NextestFilters.{NextestFilters}
-use Rattle.filter_engine.specs.Compiling.{compiled_in}
+use Rattle.filter_engine.specs.Compiling.{reads_packages, compiled_in}
 
 -- A span has the bytes of a fault, and says what is wrong with them.
 abbrev pub IsSpanOf : FiltersetFault → LabeledSpan → Type 0
@@ -25,5 +25,5 @@ Says fault refusal =
 -- A refusal says what the first fault of a text is that is read for a kind.
 abbrev pub SaysFirstFault : NextestFilters → FiltersetKind → List ℕ → Refusal → Type 0
 SaysFirstFault engine kind text refusal = (fault : FiltersetFault)
-    → filter_in (compiled_in engine) (is_some engine.graph) kind text ≡ Err fault
+    → filter_in (compiled_in engine) (reads_packages engine.packages) kind text ≡ Err fault
     → Says fault refusal

@@ -1,13 +1,13 @@
 //! What predicates ask of fields.
-ghost use Rattle.std.specs.Prelude.{◌≡◌, List, ℕ, Bool, is_some, IfOk};
+ghost use Rattle.std.specs.Prelude.{◌≡◌, List, ℕ, Bool, IfOk};
 ghost use Rattle.filter_matchers.specs.Matches.{question_of};
 ghost use Rattle.filter_packages.specs.GraphView.{graph_view};
-ghost use Rattle.filter_engine.specs.Compiling.{names_of, sought_with, sought, compiled_in};
+ghost use Rattle.filter_engine.specs.Compiling.{names_of, sought_with, sought_openly, sought, reads_packages, compiled_in};
 ghost use Rattle.filter_engine.specs.Engine.{is_among};
 ghost use Rattle.filter_engine.specs.Members.{is_dependency, is_dependent};
 ghost use Rattle.filter_engine.specs.Names.{asks};
 
-use crate::engine::NextestFilters;
+use crate::engine::{NextestFilters, Packages};
 use crate::names::NamePattern;
 use filter_language::{Field, Matchers, PatternFault, Sign};
 use filter_packages::{MemberSet, PackageGraph};
@@ -21,6 +21,8 @@ pub enum FieldMatcher {
     Name(NamePattern),
     /// That a member of the workspace in a set has it.
     Members(MemberSet),
+    /// That a member of a set has it that was not looked up. No name is in it.
+    Open,
 }
 
 /// The members that a member with a matching name reaches.
@@ -73,9 +75,24 @@ fn field_matcher(
     }
 }
 
+/// What a pattern asks of a field, where sets of packages are left open.
+fn open_matcher(field: Field, pattern: NamePattern) -> FieldMatcher
+    ensures { names_of result ≡ sought_openly field (asks (question_of pattern.matcher)) }
+{
+    match field {
+        Field::Deps | Field::Rdeps => FieldMatcher::Open,
+        Field::TestName
+        | Field::Package
+        | Field::BinaryId
+        | Field::BinaryName
+        | Field::Kind
+        | Field::Group => FieldMatcher::Name(pattern),
+    }
+}
+
 impl NextestFilters {
     /// What a pattern asks of a field.
-    #[tactic(auto, using(crate::proofs::Sought::sought_known, crate::proofs::Sought::sought_unknown))]
+    #[tactic(auto, using(crate::proofs::Sought::sought_known, crate::proofs::Sought::sought_unknown, crate::proofs::Sought::sought_open))]
     fn matcher(
         &self,
         alloc: Global,
@@ -83,11 +100,12 @@ impl NextestFilters {
         pattern: NamePattern,
     ) -> Result<FieldMatcher, AllocError>
         ensures { IfOk result (λ matcher. names_of matcher
-            ≡ sought self.now.graph field (asks (question_of pattern.matcher))) }
+            ≡ sought self.now.packages field (asks (question_of pattern.matcher))) }
     {
-        match &self.graph {
-            Some(graph) => field_matcher(alloc, graph, field, pattern),
-            None => Ok(FieldMatcher::Name(pattern)),
+        match &self.packages {
+            Packages::Known(graph) => field_matcher(alloc, graph, field, pattern),
+            Packages::Unknown => Ok(FieldMatcher::Name(pattern)),
+            Packages::Open => Ok(open_matcher(field, pattern)),
         }
     }
 }
@@ -103,7 +121,7 @@ impl Matchers for NextestFilters {
 
     ghost compiled = { compiled_in };
 
-    ghost knows_packages = { λ engine. is_some engine.graph };
+    ghost knows_packages = { λ engine. reads_packages engine.packages };
 
     #[tactic(auto, using(crate::proofs::Sought::compiled_ok, crate::proofs::Sought::compiled_err))]
     fn compile(
@@ -123,10 +141,14 @@ impl Matchers for NextestFilters {
         match matcher {
             FieldMatcher::Name(pattern) => pattern.is_match(name),
             FieldMatcher::Members(members) => members.contains(name),
+            FieldMatcher::Open => false,
         }
     }
 
     fn has_package_graph(&self) -> bool {
-        self.graph.is_some()
+        match &self.packages {
+            Packages::Known(_) | Packages::Open => true,
+            Packages::Unknown => false,
+        }
     }
 }

@@ -1,15 +1,17 @@
 //! The engine of filters.
-ghost use Rattle.std.specs.Prelude.{◌≡◌, ◌+◌, ◌<◌, ◌^◌, [], None, Some, Ok, Err, IfOk, IfErr, refl};
+ghost use Rattle.std.specs.Prelude.{◌≡◌, ◌+◌, ◌<◌, ◌^◌, [], Ok, Err, IfOk, IfErr, refl};
 ghost use Rattle.filter_language.specs.Filtersets.{marks_view};
 ghost use Rattle.filter_language.specs.Leaves.{leaves};
 ghost use Rattle.nextest_engines.specs.Engines.{refusal_message, IfFilterRefused, PointsInto};
 ghost use Rattle.filter_engine.specs.Compiling.{names_of};
+ghost use Rattle.filter_engine.specs.Open.{asks_for_packages, is_open, leaves_open};
+ghost use Rattle.filter_engine.specs.declared.engine.Packages.TheVariants.{Known, Unknown, Open};
 ghost use Rattle.filter_engine.specs.Decided.{default_filter_answers};
 ghost use Rattle.filter_engine.specs.Engine.{Filter, read_filter, everything, filter_holds, filter_holds_binary};
 ghost use Rattle.filter_engine.specs.Refusals.{IsSpanOf, Says, SaysFirstFault};
 
 use crate::compiling::FieldMatcher;
-use filter_language::{Filterset, FiltersetFault, ParseFault};
+use filter_language::{Field, Filterset, FiltersetFault, ParseFault};
 use filter_packages::PackageGraph;
 use nextest_engines::history::RuleHistory;
 use nextest_engines::{
@@ -39,26 +41,76 @@ impl NextestTally {
     }
 }
 
-/// The engine of filters, with the package graph or without it.
+/// What the engine knows of the packages of a workspace.
+#[derive(Debug, Drop)]
+pub enum Packages {
+    /// Their graph, by which `deps` and `rdeps` are looked up.
+    Known(PackageGraph),
+    /// Nothing: `deps` and `rdeps` are refused.
+    Unknown,
+    /// Nothing, but `deps` and `rdeps` are read. They match no package, so what a filter with one of
+    /// them says is not known ([`NextestFilters::leaves_open`]).
+    Open,
+}
+
+/// The engine of filters, with what it knows of packages.
 #[derive(Debug, Drop)]
 pub struct NextestFilters {
-    pub(crate) graph: Option<PackageGraph>,
+    pub(crate) packages: Packages,
 }
 
 impl NextestFilters {
     /// Without a package graph: `deps` and `rdeps` are refused.
     pub fn new() -> NextestFilters
-        ensures { result.graph ≡ None }
+        ensures { result.packages ≡ Unknown }
     {
-        NextestFilters { graph: None }
+        NextestFilters {
+            packages: Packages::Unknown,
+        }
     }
 
-    /// With the package graph by which `deps` and `rdeps` are answered.
-    pub fn with_graph(graph: PackageGraph) -> NextestFilters
-        ensures { result.graph ≡ Some graph }
+    /// Without a package graph: `deps` and `rdeps` are read, and left open.
+    pub fn open() -> NextestFilters
+        ensures { result.packages ≡ Open }
     {
-        NextestFilters { graph: Some(graph) }
+        NextestFilters {
+            packages: Packages::Open,
+        }
     }
+
+    /// With the package graph by which `deps` and `rdeps` are looked up.
+    pub fn with_graph(graph: PackageGraph) -> NextestFilters
+        ensures { result.packages ≡ Known graph }
+    {
+        NextestFilters {
+            packages: Packages::Known(graph),
+        }
+    }
+
+    /// Whether `deps` and `rdeps` are read and left open.
+    pub fn is_open(&self) -> bool
+        ensures { result ≡ is_open self.now.packages }
+    {
+        match &self.packages {
+            Packages::Open => true,
+            Packages::Known(_) | Packages::Unknown => false,
+        }
+    }
+
+    /// Whether a filter that it read has a set of packages that it did not look up: `deps` or `rdeps`,
+    /// where it leaves them open. What such a filter says is not known.
+    pub fn leaves_open(&self, filter: &Filterset<FieldMatcher>) -> bool
+        ensures { result ≡ leaves_open self.now.packages (marks_view names_of filter.now) }
+    {
+        self.is_open() && asks_for_packages(filter)
+    }
+}
+
+/// Whether a filter asks for a set of packages.
+fn asks_for_packages(filter: &Filterset<FieldMatcher>) -> bool
+    ensures { result ≡ asks_for_packages (marks_view names_of filter.now) }
+{
+    filter.asks::<NextestFilters>(Field::Deps) || filter.asks::<NextestFilters>(Field::Rdeps)
 }
 
 /// The bytes of a fault, and what is wrong with them.

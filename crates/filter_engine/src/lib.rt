@@ -2,7 +2,8 @@
 //!
 //! A [`Filterset`] is read from a text for a kind, and says of a test or of a binary whether it
 //! matches. [`NextestFilters`] is the engine that a configuration reads its filters with. With a
-//! package graph it answers `deps` and `rdeps`, and without one it refuses them.
+//! package graph it looks `deps` and `rdeps` up. Without one it refuses them, or reads them and leaves
+//! them open.
 #![tactic(auto)]
 
 mod compiling;
@@ -10,9 +11,9 @@ mod engine;
 mod names;
 
 pub use compiling::FieldMatcher;
-pub use engine::{NextestFilters, NextestTally};
+pub use engine::{NextestFilters, NextestTally, Packages};
 pub use filter_language::{
-    Ban, FaultKind, Filterset, FiltersetFault, ParseFault, PatternFault, Span,
+    Ban, FaultKind, Field, Filterset, FiltersetFault, ParseFault, PatternFault, Span,
 };
 pub use filter_packages::{MetadataFault, PackageGraph};
 pub use names::NamePattern;

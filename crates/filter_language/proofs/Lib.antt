@@ -16,6 +16,7 @@ pub mod Hex
 pub mod Cuts
 pub mod Turns
 pub mod Marks
+pub mod FieldsAsked
 pub mod Spelled
 pub mod Escapes
 pub mod BodiesRead

@@ -13,6 +13,7 @@ pub mod Filtersets
 pub mod Nesting
 pub mod Bans
 pub mod Leaves
+pub mod Asks
 pub mod Lexing
 pub mod Arguments
 pub mod Predicates

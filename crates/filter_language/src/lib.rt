@@ -22,6 +22,7 @@
 //! set of the members' names that they stand for.
 #![tactic(auto)]
 
+mod asks;
 mod evaluation;
 mod fault;
 mod filter_marks;

@@ -4,4 +4,5 @@ pub mod Matching
 pub mod Placing
 pub mod Reaching
 pub mod Spreading
+pub mod Tests
 pub mod Within

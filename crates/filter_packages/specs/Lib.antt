@@ -5,3 +5,5 @@ pub mod Marks
 pub mod Metadata
 pub mod Names
 pub mod Results
+pub mod Targets
+pub mod TargetView

@@ -14,6 +14,14 @@ pub enum Place {
     PackageId(usize),
     /// The name of a package.
     PackageName(usize),
+    /// The targets of a package.
+    Targets(usize),
+    /// The name of a target, by its package and its index there.
+    TargetName(usize, usize),
+    /// The kinds of a target, by its package and its index there.
+    TargetKinds(usize, usize),
+    /// The first kind of a target, by its package and its index there.
+    TargetKind(usize, usize),
     /// The members of the workspace.
     WorkspaceMembers,
     /// A member of the workspace.
@@ -36,6 +44,16 @@ impl fmt::Display for Place {
             Place::Packages => write!(f, "packages"),
             Place::PackageId(place) => write!(f, "packages[{place}].id"),
             Place::PackageName(place) => write!(f, "packages[{place}].name"),
+            Place::Targets(place) => write!(f, "packages[{place}].targets"),
+            Place::TargetName(place, target) => {
+                write!(f, "packages[{place}].targets[{target}].name")
+            }
+            Place::TargetKinds(place, target) => {
+                write!(f, "packages[{place}].targets[{target}].kind")
+            }
+            Place::TargetKind(place, target) => {
+                write!(f, "packages[{place}].targets[{target}].kind[0]")
+            }
             Place::WorkspaceMembers => write!(f, "workspace_members"),
             Place::WorkspaceMember(place) => write!(f, "workspace_members[{place}]"),
             Place::Resolve => write!(f, "resolve"),
@@ -49,7 +67,7 @@ impl fmt::Display for Place {
     }
 }
 
-/// Why no graph can be read from metadata.
+/// Why no graph, or no targets, can be read from metadata.
 #[derive(Clone, Copy, Debug, PartialEq, Eq, Drop, Error)]
 pub enum MetadataFault {
     /// The text isn't JSON.

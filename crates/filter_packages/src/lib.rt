@@ -1,5 +1,5 @@
-//! The graph of a workspace's packages, as `cargo metadata` prints it, and the sets of members that
-//! dependencies reach in it.
+//! The graph of a workspace's packages, as `cargo metadata` prints it, the sets of members that
+//! dependencies reach in it, and the targets of the members.
 #![tactic(auto)]
 
 mod edges;
@@ -9,9 +9,11 @@ mod laws;
 mod member_set;
 mod metadata;
 mod search;
+mod targets;
 
 pub use fault::{MetadataFault, Place};
 pub use graph::PackageGraph;
 pub use json_fields::Wanted;
 pub use laws::law_reaching;
 pub use member_set::MemberSet;
+pub use targets::{PackageTarget, targets_of};

@@ -14,7 +14,7 @@ use serde_json::Value;
 use std::alloc::Global;
 
 /// Reads the string at a key.
-fn text_under<'v>(value: &'v Value, key: &str, place: Place) -> Result<&'v str, MetadataFault>
+pub fn text_under<'v>(value: &'v Value, key: &str, place: Place) -> Result<&'v str, MetadataFault>
     ensures { result_map_both (λ text. text.now) (λ e. e) result
         ≡ text_under key.now place (view value.now) }
 {

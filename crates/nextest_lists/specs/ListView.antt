@@ -1,9 +1,11 @@
 -- What contracts see of lists.
 use Rattle.std.specs.Prelude.{map, option_map, string_bytes}
-use Rattle.nextest_engines.specs.Engines.{Binary}
-use Rattle.nextest_lists.specs.Lists.{Listed, Triples, TestList}
+use Rattle.nextest_engines.specs.Engines.{Binary, test_view}
+use Rattle.nextest_lists.specs.Lists.{Case, Listed, ListTest, Triples, TestList}
 use Rattle.nextest_lists.specs.declared.list.ListedBinary.{ListedBinary}
+use Rattle.nextest_lists.specs.declared.list.ListedTest.{ListedTest}
 use Rattle.nextest_lists.specs.declared.list.ListedTests.{ListedTests}
+use Rattle.nextest_lists.specs.declared.list.TestCase.{TestCase}
 use Rattle.nextest_lists.specs.declared.platforms.Triples.{Triples as FoundTriples}
 
 -- what filters see of a binary of a list
@@ -16,12 +18,20 @@ binary_view b = record {
   platform = b.platform;
 }
 
+-- a test of a binary
+abbrev pub case_view : TestCase → Case
+case_view case = record { name = string_bytes case.name; ignored = case.ignored }
+
+-- a test of a list
+abbrev pub list_test_view : ListedTest → ListTest
+list_test_view t = record { test = test_view t.query; ignored = t.ignored }
+
 -- a binary of a list
 abbrev pub listed_view : ListedBinary → Listed
 listed_view b = record {
   binary = binary_view b;
   package_name = string_bytes b.package_name;
-  tests = map string_bytes b.tests.items;
+  tests = map case_view b.tests.items;
 }
 
 -- the triples of a build

@@ -1,6 +1,6 @@
 -- What contracts see of suites.
 use Rattle.serde_json.specs.View.{members_view}
-use Rattle.nextest_lists.specs.Lists.{Listed, keys}
+use Rattle.nextest_lists.specs.Lists.{Listed, cases_in}
 use Rattle.nextest_lists.specs.declared.suites.Suite.{Suite}
 
 -- the binary that a suite describes
@@ -14,5 +14,5 @@ suite_view suite = record {
     platform = suite.platform;
   };
   package_name = suite.package_name.now;
-  tests = keys (members_view suite.cases.now.entries);
+  tests = cases_in (members_view suite.cases.now.entries);
 }

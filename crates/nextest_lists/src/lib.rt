@@ -10,5 +10,5 @@ mod text;
 mod values;
 
 pub use fault::ListFault;
-pub use list::{ListedBinary, ListedTests};
+pub use list::{ListedBinary, ListedTest, ListedTests, TestCase, queries_of};
 pub use text::tests_of;

@@ -1,11 +1,29 @@
 //! Lists of tests.
 ghost use Rattle.std.specs.Prelude.{◌≡◌, ◌++◌, IfOk, map, string_bytes};
 ghost use Rattle.nextest_engines.specs.Engines.{binary_view as query_view, test_view};
-ghost use Rattle.nextest_lists.specs.Lists.{all_binaries, all_tests, tests_in};
-ghost use Rattle.nextest_lists.specs.ListView.{binary_view, list_view, listed_view};
+ghost use Rattle.nextest_lists.specs.Lists.{all_binaries, all_tests, list_tests, test_of, tests_in};
+ghost use Rattle.nextest_lists.specs.ListView.{binary_view, case_view, list_test_view, list_view, listed_view};
 
 use nextest_engines::{BinaryQuery, BuildPlatform, TestQuery};
 use std::alloc::{AllocError, Global};
+
+/// A test of a binary of a list.
+#[derive(Debug, Drop)]
+pub struct TestCase {
+    /// Its name.
+    pub name: String,
+    /// Whether the list says that it is ignored.
+    pub ignored: bool,
+}
+
+/// A test of a list, as filters see it.
+#[derive(Clone, Copy, Debug)]
+pub struct ListedTest<'a> {
+    /// What filters see of it.
+    pub query: TestQuery<'a>,
+    /// Whether the list says that it is ignored.
+    pub ignored: bool,
+}
 
 /// A binary of a list, and its tests.
 #[derive(Debug, Drop)]
@@ -22,8 +40,8 @@ pub struct ListedBinary {
     pub kind: String,
     /// The platform that it is built for.
     pub platform: BuildPlatform,
-    /// The names of its tests, in the order of their bytes.
-    pub tests: Vec<String>,
+    /// Its tests, in the order of the bytes of their names.
+    pub tests: Vec<TestCase>,
 }
 
 impl ListedBinary {
@@ -49,6 +67,16 @@ impl ListedBinary {
             test_name: test,
         }
     }
+
+    /// Returns a test of the binary, and whether the list says that it is ignored.
+    fn listed<'a>(&'a self, case: &'a TestCase) -> ListedTest<'a>
+        ensures { list_test_view result ≡ test_of (binary_view self.now) (case_view case.now) }
+    {
+        ListedTest {
+            query: self.query(case.name.as_str()),
+            ignored: case.ignored,
+        }
+    }
 }
 
 /// The tests of a list, by their binaries, and the triples of the build.
@@ -64,30 +92,54 @@ pub struct ListedTests {
 
 /// Adds the tests of a binary to some tests.
 fn with_tests<'a>(
-    found: Vec<TestQuery<'a>>,
+    found: Vec<ListedTest<'a>>,
     binary: &'a ListedBinary,
-) -> Result<Vec<TestQuery<'a>>, AllocError>
-    ensures { IfOk result (λ more. map test_view more.items
-        ≡ map test_view found.entry.items ++ tests_in (listed_view binary.now)) }
+) -> Result<Vec<ListedTest<'a>>, AllocError>
+    ensures { IfOk result (λ more. map list_test_view more.items
+        ≡ map list_test_view found.entry.items ++ tests_in (listed_view binary.now)) }
 {
     let mut found = found;
-    for test in &binary.tests {
-        found.push(binary.query(test.as_str()))?;
+    for case in &binary.tests {
+        found.push(binary.listed(case))?;
     }
     Ok(found)
 }
 
+/// Returns tests, as filters see them.
+pub fn queries_of<'a>(
+    alloc: Global,
+    tests: &[ListedTest<'a>],
+) -> Result<Vec<TestQuery<'a>>, AllocError>
+    ensures { IfOk result (λ queries. map test_view queries.items
+        ≡ map (λ t. t.test) (map list_test_view tests.now)) }
+{
+    let mut queries = Vec::new(alloc);
+    for test in tests {
+        queries.push(test.query)?;
+    }
+    Ok(queries)
+}
+
 impl ListedTests {
+    /// Returns the tests of all binaries, in order.
+    pub fn tests(&self, alloc: Global) -> Result<Vec<ListedTest<'_>>, AllocError>
+        ensures { IfOk result (λ tests. map list_test_view tests.items
+            ≡ list_tests (list_view self.now)) }
+    {
+        let mut tests = Vec::new(alloc);
+        for binary in &self.binaries {
+            tests = with_tests(tests, binary)?;
+        }
+        Ok(tests)
+    }
+
     /// Returns the tests of all binaries, in order, as filters see them.
     pub fn queries(&self, alloc: Global) -> Result<Vec<TestQuery<'_>>, AllocError>
         ensures { IfOk result (λ queries. map test_view queries.items
             ≡ all_tests (list_view self.now)) }
     {
-        let mut queries = Vec::new(alloc);
-        for binary in &self.binaries {
-            queries = with_tests(queries, binary)?;
-        }
-        Ok(queries)
+        let tests = self.tests(alloc)?;
+        queries_of(alloc, &tests)
     }
 
     /// Returns all binaries, in order, as filters see them. Some may have no tests.

@@ -6,13 +6,13 @@ ghost use Rattle.serde_json.specs.Find.{get};
 ghost use Rattle.serde_json.specs.View.{members_view, view};
 ghost use Rattle.nextest_lists.specs.Demands.{a_platform, of_kind, platform_of, member_demand, listed, place_text, unknown_platform, suite_demands, suites_demands, first_fault};
 ghost use Rattle.nextest_lists.specs.Faults.{fault_view, Tells, TellsFirst};
-ghost use Rattle.nextest_lists.specs.Lists.{IsSuiteOf, keys, values};
-ghost use Rattle.nextest_lists.specs.ListView.{listed_view};
+ghost use Rattle.nextest_lists.specs.Lists.{IsSuiteOf, cases_in, is_ignored, values};
+ghost use Rattle.nextest_lists.specs.ListView.{case_view, listed_view};
 ghost use Rattle.nextest_lists.specs.SuiteView.{suite_view};
 ghost use Rattle.json_fields.specs.declared.kind.Wanted.TheVariants.{Text};
 
 use crate::fault::ListFault;
-use crate::list::ListedBinary;
+use crate::list::{ListedBinary, TestCase};
 use crate::place::Place;
 use crate::values::{members_at, text_at};
 use json_fields::Field;
@@ -110,16 +110,29 @@ fn suite_of<'v>(alloc: Global, id: &str, suite: &'v Value) -> Result<Suite<'v>, 
     })
 }
 
-/// Returns the keys of an object.
-fn keys_of(alloc: Global, members: &Map<String, Value>) -> Result<Vec<String>, AllocError>
-    ensures { IfOk result (λ names. map string_bytes names.items
-        ≡ keys (members_view members.now.entries)) }
+/// Returns whether a test case says that its test is ignored.
+fn is_ignored(case: &Value) -> bool
+    ensures { result ≡ is_ignored (view case.now) }
 {
-    let mut names = Vec::new(alloc);
-    for (name, _) in members.iter() {
-        names.push(name.clone()?)?;
+    match case.get("ignored") {
+        Some(Value::Bool(ignored)) => *ignored,
+        _ => false,
     }
-    Ok(names)
+}
+
+/// Returns the tests of test cases.
+fn cases_of(alloc: Global, cases: &Map<String, Value>) -> Result<Vec<TestCase>, AllocError>
+    ensures { IfOk result (λ tests. map case_view tests.items
+        ≡ cases_in (members_view cases.now.entries)) }
+{
+    let mut tests = Vec::new(alloc);
+    for (name, case) in cases.iter() {
+        tests.push(TestCase {
+            name: name.clone()?,
+            ignored: is_ignored(case),
+        })?;
+    }
+    Ok(tests)
 }
 
 /// Returns the binary of a suite.
@@ -133,7 +146,7 @@ fn binary_of(alloc: Global, suite: &Suite<'_>) -> Result<ListedBinary, AllocErro
         name: String::from_str(alloc, suite.binary_name)?,
         kind: String::from_str(alloc, suite.kind)?,
         platform: suite.platform,
-        tests: keys_of(alloc, suite.cases)?,
+        tests: cases_of(alloc, suite.cases)?,
     })
 }
 

@@ -57,7 +57,8 @@ fn fault_of(error: &Error) -> ListFault
 /// Reads the tests from the JSON that `cargo nextest list --message-format json` prints.
 ///
 /// Suites and test cases are in the order of the bytes of their keys. If there are several targets,
-/// the first one counts. Members that a list of tests doesn't need are ignored.
+/// the first one counts. A test is ignored if the member `ignored` of its case is `true`. Members
+/// that a list of tests doesn't need have no effect.
 ///
 /// # Errors
 ///

@@ -5,3 +5,4 @@ pub mod Known
 pub mod Meaning
 pub mod SettingsOf
 pub mod Memberships
+pub mod RulesOn

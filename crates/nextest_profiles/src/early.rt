@@ -1,21 +1,27 @@
 //! Profiles before the platforms of a build are known.
-ghost use Rattle.std.specs.Prelude.{◌≡◌, Some, IfOk, IfErr, is_some};
+ghost use Rattle.std.specs.Prelude.{◌≡◌, Some, IfOk, IfErr, is_some, option_map};
 ghost use Rattle.nextest_load.specs.ConfigView.{groups_view};
 ghost use Rattle.nextest_settings.specs.Engines.{meets_by};
+ghost use Rattle.nextest_settings.specs.FilterView.{filter_view};
 ghost use Rattle.nextest_settings.specs.Profile.{profile_on};
-ghost use Rattle.nextest_settings.specs.Settings.{report_path};
+ghost use Rattle.nextest_settings.specs.SettingValues.{by_kind, setting_value_view};
+ghost use Rattle.nextest_settings.specs.Settings.{fallback_of, report_path};
 ghost use Rattle.nextest_tables.specs.FileTexts.{names_in, IsIn};
 ghost use Rattle.nextest_profiles.specs.KnownGroups.{IsKnownGroups};
 ghost use Rattle.nextest_profiles.specs.Profiles.{IsProfileOf};
+ghost use Rattle.nextest_profiles.specs.RulesOn.{AreOverridesOn, AreScriptRulesOn};
 
 use crate::chain::names_of;
 use crate::evaluatable::EvaluatableProfile;
 use crate::facts::Facts;
 use crate::known_groups::{KnownGroups, names_of_groups};
-use nextest_elements::{CustomTestGroup, TestGroupConfig};
+use nextest_elements::{CustomTestGroup, NextestRunMode, TestGroupConfig};
 use nextest_engines::{BuildPlatforms, Filters, Specs};
 use nextest_load::LoadedConfig;
-use nextest_settings::{ChainRules, CompiledDefaultFilter, nearest_filter, rules_of};
+use nextest_settings::{
+    ChainRules, CompiledDefaultFilter, EvaluatedRules, Setting, SettingValue, nearest_filter,
+    rules_of,
+};
 use std::alloc::{AllocError, Global};
 use std::collections::BTreeMap;
 use std::marker::Model;
@@ -109,6 +115,32 @@ impl<'cfg, F: Filters, S: Specs> EarlyProfile<'cfg, F, S> {
         Ok(KnownGroups::Known { custom_groups })
     }
 
+    /// Returns the value of a setting where no rule sets it, in a mode.
+    pub fn fallback(&self, setting: Setting, mode: NextestRunMode) -> Option<SettingValue<'cfg>>
+        ensures { option_map setting_value_view result
+            ≡ option_map (by_kind setting) (fallback_of self.now.facts.fields mode setting) }
+    {
+        self.facts.fallback(setting, mode)
+    }
+
+    /// The rules of the profile on the platforms of a build, each in its place, and the default
+    /// filter that counts there.
+    pub fn rules_on(
+        &self,
+        alloc: Global,
+        platforms: &BuildPlatforms<S::Platform>,
+    ) -> Result<EvaluatedRules<'cfg, F, S>, AllocError>
+        ensures overrides { IfOk result (λ rules. AreOverridesOn (meets_by S.Specs) platforms.now
+            self.now.overrides rules.overrides.items) }
+        ensures script_rules { IfOk result (λ rules. AreScriptRulesOn (meets_by S.Specs)
+            platforms.now self.now.script_rules rules.script_rules.items) }
+        ensures default_filter { IfOk result (λ rules. filter_view rules.default_filter
+            ≡ (profile_on (meets_by S.Specs) platforms.now self.now).default_filter) }
+    {
+        self.rules
+            .evaluate(alloc, platforms, self.nearest_filter, self.match_all)
+    }
+
     /// The profile on the platforms of a build. Where memory is refused, the profile comes back as
     /// it was.
     pub fn apply_build_platforms(
@@ -121,10 +153,7 @@ impl<'cfg, F: Filters, S: Specs> EarlyProfile<'cfg, F, S> {
             self.entry) }
         ensures err { IfErr result (λ profile. profile ≡ self.entry) }
     {
-        match self
-            .rules
-            .evaluate(alloc, platforms, self.nearest_filter, self.match_all)
-        {
+        match self.rules_on(alloc, platforms) {
             Ok(rules) => {
                 let EarlyProfile {
                     facts,

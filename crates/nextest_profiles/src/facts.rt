@@ -1,10 +1,10 @@
 //! What a profile says whatever the platforms.
-use nextest_elements::{CustomTestGroup, JunitConfig, TestGroupConfig};
+use nextest_elements::{CustomTestGroup, JunitConfig, NextestRunMode, TestGroupConfig};
 use nextest_engines::{Filters, Specs};
 use nextest_inheritance::parent_of;
 use nextest_load::{LoadedConfig, ScriptConfig};
 use nextest_scripts::join_paths;
-use nextest_settings::{ProfileValues, fields_of, values_of};
+use nextest_settings::{ProfileValues, Setting, SettingValue, fallback_of, fields_of, values_of};
 use nextest_tables::ProfileFields;
 use std::alloc::{AllocError, Global};
 use std::collections::BTreeMap;
@@ -49,7 +49,8 @@ impl<'cfg> Model for Facts<'cfg> {
 impl<'cfg> Facts<'cfg> {
     ghost use Rattle.std.specs.Prelude.{◌≡◌, List, Some, IfOk, is_some, option_map};
     ghost use Rattle.nextest_load.specs.ConfigView.{groups_view, scripts_view};
-    ghost use Rattle.nextest_settings.specs.Settings.{report_path};
+    ghost use Rattle.nextest_settings.specs.SettingValues.{by_kind, setting_value_view};
+    ghost use Rattle.nextest_settings.specs.Settings.{fallback_of, report_path};
     ghost use Rattle.nextest_profiles.specs.Junit.{IsReportWhereSet};
     ghost use Rattle.nextest_inheritance.specs.View.{borrowed_view};
     ghost use Rattle.nextest_inheritance.specs.Parents.{with_default};
@@ -95,6 +96,18 @@ impl<'cfg> Facts<'cfg> {
         ensures { AreValues self.now.fields result.now }
     {
         &self.values
+    }
+
+    /// Returns the value of a setting where no rule sets it, in a mode.
+    pub(crate) fn fallback(
+        &self,
+        setting: Setting,
+        mode: NextestRunMode,
+    ) -> Option<SettingValue<'cfg>>
+        ensures { option_map setting_value_view result
+            ≡ option_map (by_kind setting) (fallback_of self.now.fields mode setting) }
+    {
+        fallback_of(&self.fields, setting, mode)
     }
 
     /// The profile's name.

@@ -10,7 +10,7 @@ use Rattle.nextest_places.specs.declared.step.Step.{Step}
 use Rattle.nextest_spans.specs.Nodes.{ReadsAs, joined, nodes_of}
 use Rattle.nextest_spans.specs.declared.item.Item.{Item}
 use Rattle.nextest_spans.specs.declared.token.Span.{Span}
-use Rattle.nextest_spans.specs.Spans.{AreMarked, AreReadable, IsDocumentOf, IsMarkedAt, IsReadable, IsValueOf, ReadsAsNode, StandsAt, is_key}
+use Rattle.nextest_spans.specs.Spans.{AreMarked, AreReadable, IsDocumentOf, IsMarkedAt, IsReadable, IsUnmarked, IsValueOf, ReadsAsNode, StandsAt, is_key}
 use Rattle.nextest_spans.proofs.Leading.{of_joined, stands}
 
 pushed : (xs : List Bool) (x : Bool) (k : ℕ) (b : Bool) → slice_get (xs ++ x ∷ []) k ≡ Some b
@@ -56,6 +56,10 @@ readable text items root nodes marks document is are i item marked here =
       sort = sort;
       reads = reads;
     }
+
+-- no item is marked
+pub none_readable : IsUnmarked []
+none_readable text items i item marked here = absurd (none-some true marked)
 
 -- a marked item at a path is a value that reads as what stands there
 pub value_of : (text : List ℕ) (items : List Item) (marks : List Bool) (path : List Step) (lines : Lines) (found : Option Span)

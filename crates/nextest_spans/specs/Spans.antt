@@ -111,6 +111,10 @@ abbrev pub AreReadable : List ℕ → List Item → List Bool → Type 0
 AreReadable text items marks = (i : ℕ) (item : Item) → slice_get marks i ≡ Some true
     → slice_get items i ≡ Some item → IsReadable text items i item
 
+-- nothing is marked: the marks are right for any items of any text
+abbrev pub IsUnmarked : List Bool → Type 0
+IsUnmarked marks = (text : List ℕ) (items : List Item) → AreReadable text items marks
+
 -- a marked item is at the path, in these lines of the text
 pub record IsMarkedAt (text : List ℕ) (items : List Item) (marks : List Bool) (path : List Step)
     (lines : Lines) (span : Span) : Type 0 where

@@ -9,7 +9,7 @@ ghost use Rattle.nextest_spans.specs.Nodes.{joined, node_view, nodes_view};
 ghost use Rattle.nextest_places.specs.Place.{HasNoPlace};
 ghost use Rattle.nextest_spans.specs.Positions.{position_of};
 ghost use Rattle.nextest_spans.specs.declared.position.ColumnUnit.TheVariants.{Char};
-ghost use Rattle.nextest_spans.specs.Spans.{AreMarked, AreReadable, IsDocumentOf, IsKept, IsKeyOf, IsMarkedAt, IsPathSpan, ReadsAsNode};
+ghost use Rattle.nextest_spans.specs.Spans.{AreMarked, AreReadable, IsDocumentOf, IsKept, IsKeyOf, IsMarkedAt, IsPathSpan, IsUnmarked, ReadsAsNode};
 ghost use Rattle.nextest_spans.specs.Spans as spec;
 
 use crate::path::is_at;
@@ -61,14 +61,44 @@ impl<'a> PathSpans<'a> {
         ensures { IfOk result (λ spans. spans ≡ text.now) }
     {
         let places = Places::of(alloc, text)?;
-        PathSpans::of_places(alloc, text, places)
+        match document_of(alloc, text)? {
+            Some(root) => PathSpans::of_document(alloc, text, places, &root),
+            None => PathSpans::of_fronts(alloc, text, places),
+        }
     }
 
-    /// Reads a text whose places were read before.
+    /// Reads a text that is a document, whose places and value were read before.
     ///
     /// # Errors
     /// Memory was refused.
-    pub fn of_places(
+    pub fn of_document(
+        alloc: Global,
+        text: &'a str,
+        places: Places<'a>,
+        root: &Value,
+    ) -> Result<PathSpans<'a>, AllocError>
+        requires places { places ≡ text.now }
+        requires root { IsDocumentOf text.now (view root.now) }
+        ensures { IfOk result (λ spans. spans ≡ text.now) }
+    {
+        let lines = LineIndex::of(alloc, text)?;
+        let items = items_of(alloc, text)?;
+        let readable = readable_of(alloc, text, &items, root)?;
+        Ok(PathSpans {
+            text,
+            lines,
+            items,
+            readable,
+            places,
+        })
+    }
+
+    /// Reads a text that need not be a document, whose places were read before. The bytes of its
+    /// values are not known.
+    ///
+    /// # Errors
+    /// Memory was refused.
+    pub fn of_fronts(
         alloc: Global,
         text: &'a str,
         places: Places<'a>,
@@ -78,12 +108,11 @@ impl<'a> PathSpans<'a> {
     {
         let lines = LineIndex::of(alloc, text)?;
         let items = items_of(alloc, text)?;
-        let readable = readable_of(alloc, text, &items)?;
         Ok(PathSpans {
             text,
             lines,
             items,
-            readable,
+            readable: no_marks(alloc),
             places,
         })
     }
@@ -222,18 +251,27 @@ fn is_marked(marks: &[bool], place: usize) -> bool
 }
 
 /// Of each item of a text, whether it is a value whose bytes read as the value there in the
-/// document that the text is. Nothing is marked in a text that is no document.
+/// document that the text is.
 #[tactic(auto, using(crate::proofs::Marks::readable))]
-fn readable_of(alloc: Global, text: &str, items: &[Item]) -> Result<Vec<bool>, AllocError>
+fn readable_of(
+    alloc: Global,
+    text: &str,
+    items: &[Item],
+    root: &Value,
+) -> Result<Vec<bool>, AllocError>
+    requires { IsDocumentOf text.now (view root.now) }
     ensures { IfOk result (λ marks. AreReadable text.now items.now marks.items) }
 {
-    match document_of(alloc, text)? {
-        Some(root) => {
-            let nodes = nodes_of(alloc, &root, items)?;
-            marks_of(alloc, text, items, &nodes)
-        }
-        None => Ok(Vec::new(alloc)),
-    }
+    let nodes = nodes_of(alloc, root, items)?;
+    marks_of(alloc, text, items, &nodes)
+}
+
+/// No marks: nothing is known of the items of a text.
+#[tactic(auto, using(crate::proofs::Marks::none_readable))]
+fn no_marks(alloc: Global) -> Vec<bool>
+    ensures { IsUnmarked result.items }
+{
+    Vec::new(alloc)
 }
 
 /// Of each item, whether it is a value whose bytes read as its node.

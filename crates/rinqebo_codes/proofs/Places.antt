@@ -39,8 +39,10 @@ place variants.UnknownScript = 28
 place variants.WrongScriptKind = 29
 place variants.ListWrapperFilter = 30
 place variants.UnknownProfile = 31
+place variants.UnknownTest = 32
+place variants.SeveralTests = 33
 
-pub within : (code : Code) → place code < 32
+pub within : (code : Code) → place code < 34
 within variants.UnknownKey = search rules
 within variants.ReservedProfile = search rules
 within variants.OldScriptTable = search rules
@@ -73,6 +75,8 @@ within variants.UnknownScript = search rules
 within variants.WrongScriptKind = search rules
 within variants.ListWrapperFilter = search rules
 within variants.UnknownProfile = search rules
+within variants.UnknownTest = search rules
+within variants.SeveralTests = search rules
 
 pub at_place : (code : Code) → slice_get CODES (place code) ≡ Some code
 at_place variants.UnknownKey = refl
@@ -107,6 +111,8 @@ at_place variants.UnknownScript = refl
 at_place variants.WrongScriptKind = refl
 at_place variants.ListWrapperFilter = refl
 at_place variants.UnknownProfile = refl
+at_place variants.UnknownTest = refl
+at_place variants.SeveralTests = refl
 
 pub contained : (code : Code) → Contains CODES code
 contained variants.UnknownKey = (0, search rules, refl)
@@ -141,3 +147,5 @@ contained variants.UnknownScript = (28, search rules, refl)
 contained variants.WrongScriptKind = (29, search rules, refl)
 contained variants.ListWrapperFilter = (30, search rules, refl)
 contained variants.UnknownProfile = (31, search rules, refl)
+contained variants.UnknownTest = (32, search rules, refl)
+contained variants.SeveralTests = (33, search rules, refl)

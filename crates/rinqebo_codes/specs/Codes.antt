@@ -38,6 +38,8 @@ code_word variants.UnknownScript = codes "unknown-script"
 code_word variants.WrongScriptKind = codes "wrong-script-kind"
 code_word variants.ListWrapperFilter = codes "list-wrapper-filter"
 code_word variants.UnknownProfile = codes "unknown-profile"
+code_word variants.UnknownTest = codes "unknown-test"
+code_word variants.SeveralTests = codes "several-tests"
 
 -- the name that nextest-runner has for it, if it has one
 unfoldable pub code_upstream : Code → Option (List ℕ)
@@ -73,6 +75,8 @@ code_upstream variants.UnknownScript = Some (codes "ProfileScriptErrors")
 code_upstream variants.WrongScriptKind = Some (codes "ProfileScriptErrors")
 code_upstream variants.ListWrapperFilter = Some (codes "ProfileScriptErrors")
 code_upstream variants.UnknownProfile = None
+code_upstream variants.UnknownTest = None
+code_upstream variants.SeveralTests = None
 
 -- what it means
 unfoldable pub code_meaning : Code → List ℕ
@@ -127,6 +131,8 @@ code_meaning variants.WrongScriptKind =
 code_meaning variants.ListWrapperFilter =
     codes "A list wrapper wraps a whole binary, so its filter may not ask for tests."
 code_meaning variants.UnknownProfile = codes "No file has the profile that is asked for."
+code_meaning variants.UnknownTest = codes "The list has no test of the name that is asked for."
+code_meaning variants.SeveralTests = codes "Several tests have the name that is asked for."
 
 -- the lines of an example
 unfoldable pub code_example : Code → List (List ℕ)
@@ -181,6 +187,8 @@ code_example variants.WrongScriptKind =
 code_example variants.ListWrapperFilter =
     codes "Ask for packages, binaries or kinds."
 code_example variants.UnknownProfile = codes "rinqebo explain --profile cii api db_test" ∷ []
+code_example variants.UnknownTest = codes "rinqebo explain --list list.json api db_tset" ∷ []
+code_example variants.SeveralTests = codes "rinqebo explain --list list.json db_test" ∷ []
 
 -- what to do
 unfoldable pub code_advice : Code → List ℕ
@@ -216,6 +224,8 @@ code_advice variants.UnknownScript = codes "Name a script that is defined, or de
 code_advice variants.WrongScriptKind = codes "Name the script at the key of its kind."
 code_advice variants.ListWrapperFilter = codes "Ask for packages, binaries or kinds."
 code_advice variants.UnknownProfile = codes "Name a profile that is there."
+code_advice variants.UnknownTest = codes "Name a test that is in the list."
+code_advice variants.SeveralTests = codes "Name the binary, too."
 
 -- the lines of the example, corrected
 unfoldable pub code_correction : Code → List (List ℕ)
@@ -270,3 +280,5 @@ code_correction variants.WrongScriptKind =
 code_correction variants.ListWrapperFilter =
     codes "Ask for packages, binaries or kinds."
 code_correction variants.UnknownProfile = codes "rinqebo explain --profile ci api db_test" ∷ []
+code_correction variants.UnknownTest = codes "rinqebo explain --list list.json api db_test" ∷ []
+code_correction variants.SeveralTests = codes "rinqebo explain --list list.json api db_test" ∷ []

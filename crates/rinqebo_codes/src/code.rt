@@ -70,10 +70,14 @@ pub enum Code {
     ListWrapperFilter,
     /// No file has the profile that is asked for.
     UnknownProfile,
+    /// The list has no test of the name that is asked for.
+    UnknownTest,
+    /// Several tests have the name that is asked for.
+    SeveralTests,
 }
 
 /// All codes, in the order in which they are listed.
-pub const CODES: [Code; 32] = [
+pub const CODES: [Code; 34] = [
     Code::UnknownKey,
     Code::ReservedProfile,
     Code::OldScriptTable,
@@ -106,6 +110,8 @@ pub const CODES: [Code; 32] = [
     Code::WrongScriptKind,
     Code::ListWrapperFilter,
     Code::UnknownProfile,
+    Code::UnknownTest,
+    Code::SeveralTests,
 ];
 
 impl Code {
@@ -147,6 +153,8 @@ impl Code {
             Code::WrongScriptKind => "wrong-script-kind",
             Code::ListWrapperFilter => "list-wrapper-filter",
             Code::UnknownProfile => "unknown-profile",
+            Code::UnknownTest => "unknown-test",
+            Code::SeveralTests => "several-tests",
         }
     }
 
@@ -188,6 +196,8 @@ impl Code {
             Code::WrongScriptKind => Some("ProfileScriptErrors"),
             Code::ListWrapperFilter => Some("ProfileScriptErrors"),
             Code::UnknownProfile => None,
+            Code::UnknownTest => None,
+            Code::SeveralTests => None,
         }
     }
 }

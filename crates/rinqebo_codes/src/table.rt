@@ -57,6 +57,8 @@ impl Code {
             Code::ListWrapperFilter =>
                 "A list wrapper wraps a whole binary, so its filter may not ask for tests.",
             Code::UnknownProfile => "No file has the profile that is asked for.",
+            Code::UnknownTest => "The list has no test of the name that is asked for.",
+            Code::SeveralTests => "Several tests have the name that is asked for.",
         }
     }
 
@@ -155,6 +157,8 @@ impl Code {
                 "list-wrapper = 'db'",
             ],
             Code::UnknownProfile => &["rinqebo explain --profile cii api db_test"],
+            Code::UnknownTest => &["rinqebo explain --list list.json api db_tset"],
+            Code::SeveralTests => &["rinqebo explain --list list.json db_test"],
         }
     }
 
@@ -196,6 +200,8 @@ impl Code {
             Code::WrongScriptKind => "Name the script at the key of its kind.",
             Code::ListWrapperFilter => "Ask for packages, binaries or kinds.",
             Code::UnknownProfile => "Name a profile that is there.",
+            Code::UnknownTest => "Name a test that is in the list.",
+            Code::SeveralTests => "Name the binary, too.",
         }
     }
 
@@ -302,6 +308,8 @@ impl Code {
                 "list-wrapper = 'db'",
             ],
             Code::UnknownProfile => &["rinqebo explain --profile ci api db_test"],
+            Code::UnknownTest => &["rinqebo explain --list list.json api db_test"],
+            Code::SeveralTests => &["rinqebo explain --list list.json api db_test"],
         }
     }
 }

@@ -3,3 +3,4 @@ mod Layering
 mod Seeking
 mod Highest
 pub mod Ranges
+pub mod Documents

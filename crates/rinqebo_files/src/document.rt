@@ -1,14 +1,17 @@
 //! The tree and the places of a file's text, or why the text is not a document.
 ghost use Rattle.std.specs.Prelude.{◌≡◌, IfOk, option_map};
+ghost use Rattle.toml.specs.View.{view};
+ghost use Rattle.nextest_spans.specs.Spans.{IsDocumentOf};
 ghost use Rattle.nextest_tree.specs.View.{tree_view};
 ghost use Rattle.rinqebo_files.specs.Features.{tree_read};
 ghost use Rattle.rinqebo_files.specs.Layers.{text_read};
 
 use nextest_config::{ReadOutcome, Tree};
-use nextest_documents::{DocumentFault, TextFault, tree_from_text};
+use nextest_documents::{TextFault, tree_from_text};
 use nextest_places::Places;
 use nextest_spans::{ColumnUnit, PathSpans, TextPosition, position_at};
 use std::alloc::{AllocError, Global};
+use toml::Value;
 
 /// Why a text is not a TOML document.
 #[derive(Drop)]
@@ -21,35 +24,57 @@ pub struct NoDocument {
 
 impl NoDocument {
     /// Returns where a text is at fault, and why.
-    fn of(text: &str, fault: DocumentFault) -> NoDocument {
-        let start = fault.span.start;
+    fn of(text: &str, start: usize, reason: String) -> NoDocument {
         let position = if text.is_char_boundary(start) {
             Some(position_at(text, start, ColumnUnit::Char))
         } else {
             None
         };
-        NoDocument {
-            position,
-            reason: fault.reason,
-        }
+        NoDocument { position, reason }
     }
 }
 
-/// Returns the lines of a text's paths, with its tree, and why it is not a document, if it is not
-/// one. A text that is a document is parsed once for these.
-fn places_in<'t>(
+/// Returns the document that a text is, or why it is not one.
+fn document_of(alloc: Global, text: &str) -> Result<Result<Value, NoDocument>, AllocError>
+    ensures { IfOk result (λ read. IfOk read (λ root. IsDocumentOf text.now (view root))) }
+{
+    let error = match toml::table_from_str(alloc, text) {
+        Ok(table) => return Ok(Ok(Value::Table(table))),
+        Err(error) => error,
+    };
+    let Some(span) = error.span() else {
+        return Err(AllocError);
+    };
+    let reason = error.message().to_string(alloc)?;
+    Ok(Err(NoDocument::of(text, span.start, reason)))
+}
+
+/// Returns where the paths and values of a document are written in its text. The text is not parsed
+/// again.
+#[tactic(auto, using(crate::proofs::Documents::tree_is))]
+fn spans_of<'t>(alloc: Global, text: &'t str, root: &Value) -> Result<PathSpans<'t>, AllocError>
+    requires { IsDocumentOf text.now (view root.now) }
+    ensures { IfOk result (λ spans. spans ≡ text.now) }
+{
+    let tree = Tree::from_toml(alloc, root)?;
+    let places = Places::of_document(alloc, text, tree)?;
+    PathSpans::of_document(alloc, text, places, root)
+}
+
+/// Returns where the paths and values of a text are written, and why the text is not a document, if
+/// it is not one. A text that is a document is parsed once for these.
+fn spans_in<'t>(
     alloc: Global,
     text: &'t str,
-) -> Result<(Places<'t>, Option<NoDocument>), AllocError>
+) -> Result<(PathSpans<'t>, Option<NoDocument>), AllocError>
     ensures { IfOk result (λ read. read.0 ≡ text.now) }
 {
-    match tree_from_text(alloc, text) {
-        Ok(tree) => Ok((Places::of_document(alloc, text, tree)?, None)),
-        Err(TextFault::NotDocument(fault)) => Ok((
-            Places::of(alloc, text)?,
-            Some(NoDocument::of(text, fault)),
-        )),
-        Err(TextFault::Memory) => Err(AllocError),
+    match document_of(alloc, text)? {
+        Ok(root) => Ok((spans_of(alloc, text, &root)?, None)),
+        Err(fault) => {
+            let places = Places::of(alloc, text)?;
+            Ok((PathSpans::of_fronts(alloc, text, places)?, Some(fault)))
+        }
     }
 }
 
@@ -63,9 +88,7 @@ pub fn read_places<'t>(
 {
     match outcome {
         ReadOutcome::Text(text) => {
-            let text = text.as_str();
-            let (places, fault) = places_in(alloc, text)?;
-            let spans = PathSpans::of_places(alloc, text, places)?;
+            let (spans, fault) = spans_in(alloc, text.as_str())?;
             Ok((Some(spans), fault))
         }
         ReadOutcome::NotFound | ReadOutcome::NotADirectory | ReadOutcome::Failed(_) => {

@@ -24,6 +24,8 @@ pub struct Gathered {
     pub organisation_file: Option<FileInput>,
     /// The files of tools, in the order of the words: the first is the highest.
     pub tools: Vec<ToolConfigFile>,
+    /// What the compiler prints of itself, if it is given.
+    pub rustc_version: Option<String>,
     /// What the compiler prints for the host, if it is given.
     pub host_cfg: Option<String>,
     /// What the compiler prints for the target, if it is given.
@@ -249,6 +251,12 @@ pub fn gather<R: FileReader>(
         config_file: named_file(alloc, options.config_file, input, files)?,
         organisation_file: organisation_file(alloc, options.organisation_config_file, files)?,
         tools: tool_files(alloc, &options.tools, files)?,
+        rustc_version: text_at(
+            alloc,
+            engines.rustc_version,
+            FileOption::RustcVersion,
+            files,
+        )?,
         host_cfg: text_at(alloc, engines.host_cfg, FileOption::HostCfg, files)?,
         target_cfg: text_at(alloc, engines.target_cfg, FileOption::TargetCfg, files)?,
         metadata: text_at(alloc, engines.metadata, FileOption::Metadata, files)?,

@@ -1,6 +1,7 @@
 //! Why a run answers nothing.
-ghost use Rattle.std.specs.Prelude.{IfOk};
-ghost use Rattle.rinqebo_findings.specs.Failures.{IsLoadFailure, IsProfileFailure};
+ghost use Rattle.std.specs.Prelude.{IfErr, IfOk};
+ghost use Rattle.rinqebo_load.specs.FindTests.{IsFoundFor};
+ghost use Rattle.rinqebo_findings.specs.Failures.{IsFailureToFind, IsLoadFailure, IsProfileFailure, IsTestFailure};
 
 use crate::findings::{Label, SourceAt, finding_at, warning_findings};
 use crate::report::{report_of, report_of_refusal};
@@ -8,9 +9,9 @@ use nextest_config::{ConfigParseError, DefaultConfigWarnings, ProfileNotFound};
 use nextest_places::Step;
 use rinqebo_codes::Code;
 use rinqebo_files::SpanPart;
-use rinqebo_load::{Failure, Session};
-use rinqebo_report::{Content, Finding, Level};
-use rinqebo_request::text_hint;
+use rinqebo_load::{Failure, FoundTest, Missing, Session, TestFault};
+use rinqebo_report::{Content, Finding, Level, Report};
+use rinqebo_request::{RequestedTest, text_hint};
 use std::alloc::{AllocError, Global};
 
 /// Why a run answers nothing whose load refuses.
@@ -29,25 +30,28 @@ pub fn failure_of_load(
     Ok(Failure::Refused(report))
 }
 
-/// The finding that there is no profile of a name.
-fn no_profile(alloc: Global, missing: &ProfileNotFound) -> Result<Finding, AllocError> {
-    let name = missing.name.as_str();
-    let path = [Step::Key("profile"), Step::Key(name)];
-    let message = missing.to_string(alloc)?;
+/// An error of what a request names, which stands in no file.
+fn request_finding(
+    alloc: Global,
+    code: Code,
+    path: &[Step<'_>],
+    message: String,
+) -> Result<Finding, AllocError> {
     let nowhere = SourceAt {
         layers: &[],
         position: None,
     };
     let part = SpanPart::Key;
-    let mut found = finding_at(
-        alloc,
-        Level::Error,
-        Label::own(Code::UnknownProfile),
-        nowhere,
-        &path,
-        part,
-        message,
-    )?;
+    let level = Level::Error;
+    finding_at(alloc, level, Label::own(code), nowhere, path, part, message)
+}
+
+/// The finding that there is no profile of a name.
+fn no_profile(alloc: Global, missing: &ProfileNotFound) -> Result<Finding, AllocError> {
+    let name = missing.name.as_str();
+    let path = [Step::Key("profile"), Step::Key(name)];
+    let message = missing.to_string(alloc)?;
+    let mut found = request_finding(alloc, Code::UnknownProfile, &path, message)?;
     found.help = text_hint(alloc, name, &missing.known)?;
     Ok(found)
 }
@@ -65,4 +69,71 @@ pub fn failure_of_profile(
     findings.push(no_profile(alloc, missing)?)?;
     let report = report_of(alloc, session, findings, Vec::new(alloc), Content::Check)?;
     Ok(Failure::NoProfile(report))
+}
+
+/// The report whose one finding is about the test that a request names.
+fn test_report(
+    alloc: Global,
+    session: &Session<'_>,
+    code: Code,
+    message: String,
+    help: Option<String>,
+) -> Result<Report, AllocError> {
+    let mut found = request_finding(alloc, code, &[], message)?;
+    found.path = None;
+    found.help = help;
+    let mut findings = Vec::new(alloc);
+    findings.push(found)?;
+    report_of(alloc, session, findings, Vec::new(alloc), Content::Check)
+}
+
+/// The report that there is no test, or no binary, of a name.
+fn missing_report(
+    alloc: Global,
+    session: &Session<'_>,
+    missing: Missing,
+) -> Result<Report, AllocError> {
+    let help = match &missing.near {
+        Some(near) => Some(format!(in alloc; "did you mean `{near}`?")?),
+        None => None,
+    };
+    test_report(alloc, session, Code::UnknownTest, missing.message, help)
+}
+
+/// Why a run answers nothing whose test is not found.
+fn failure_of_test(
+    alloc: Global,
+    session: &Session<'_>,
+    fault: TestFault,
+) -> Result<Failure, AllocError>
+    ensures { IfOk result (IsTestFailure fault) }
+{
+    match fault {
+        TestFault::NoTest(missing) => {
+            Ok(Failure::NoTest(missing_report(alloc, session, missing)?))
+        }
+        TestFault::SeveralTests(tests) => {
+            let report = test_report(alloc, session, Code::SeveralTests, tests, None)?;
+            Ok(Failure::SeveralTests(report))
+        }
+        TestFault::Input(fault) => Ok(Failure::Engines(fault)),
+        TestFault::Memory => Ok(Failure::Memory),
+    }
+}
+
+/// The test that a request names, or why a run answers nothing about it. The metadata were read at a
+/// path.
+pub fn find_test(
+    alloc: Global,
+    session: &Session<'_>,
+    requested: &RequestedTest<'_>,
+    path: Option<&str>,
+) -> Result<FoundTest, Failure>
+    ensures found { IfOk result (IsFoundFor session.now requested.now) }
+    ensures err { IfErr result (IsFailureToFind session.now requested.now) }
+{
+    match session.find_test(alloc, requested, path) {
+        Ok(found) => Ok(found),
+        Err(fault) => Err(failure_of_test(alloc, session, fault)?),
+    }
 }

@@ -29,6 +29,7 @@ mod unknown_names;
 mod unreached;
 mod ways;
 
+pub use failures::find_test;
 pub use findings::warning_findings;
 pub use loading::config_with;
 pub use report::{report_of, report_of_refusal};

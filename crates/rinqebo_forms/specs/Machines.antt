@@ -2,6 +2,8 @@
 use Rattle.std.specs.Prelude.{◌≡◌, ◌⊎◌, ℕ, List, Option, None, Some, option_map, string_bytes, Ok, Err}
 use Rattle.nextest_engines.specs.declared.queries.BuildPlatforms.{BuildPlatforms}
 use Rattle.filter_engine.specs.declared.engine.NextestFilters.{NextestFilters}
+use Rattle.filter_engine.specs.declared.engine.Packages.{Packages}
+use Rattle.filter_engine.specs.declared.engine.Packages.TheVariants as packages
 use Rattle.filter_packages.specs.Graph.{Graph}
 use Rattle.filter_packages.specs.GraphView.{graph_view}
 use Rattle.filter_packages.specs.Metadata.{graph_of_text}
@@ -17,12 +19,25 @@ use Rattle.rinqebo_forms.specs.Requests.{MachineText}
 use Rattle.rinqebo_forms.specs.declared.machines.EngineFault.{EngineFault}
 use Rattle.rinqebo_forms.specs.declared.machines.EngineFault.TheVariants as refused
 
--- Filters are those of metadata: with the graph in these, or without a graph if none are given.
+-- what is known of packages is a graph
+abbrev pub IsGraph : Graph → Packages → Type 0
+IsGraph graph (packages.Known known) = graph_view known ≡ graph
+IsGraph graph packages.Unknown = ⊥
+IsGraph graph packages.Open = ⊥
+
+-- Filters are those of metadata: with the graph in these, or with what is known without any.
+abbrev pub AreFiltersOr : Packages → Option (List ℕ) → NextestFilters → Type 0
+AreFiltersOr without None filters = filters.packages ≡ without
+AreFiltersOr without (Some metadata) filters =
+    (graph : Graph) × (graph_of_text metadata ≡ Ok graph) × IsGraph graph filters.packages
+
+-- Filters are those of metadata: without any, `deps` and `rdeps` are refused.
 abbrev pub AreFiltersFor : Option (List ℕ) → NextestFilters → Type 0
-AreFiltersFor None filters = filters.graph ≡ None
-AreFiltersFor (Some metadata) filters =
-    (graph : Graph) × (graph_of_text metadata ≡ Ok graph)
-    × (option_map graph_view filters.graph ≡ Some graph)
+AreFiltersFor metadata filters = AreFiltersOr packages.Unknown metadata filters
+
+-- Filters are those of metadata: without any, `deps` and `rdeps` are left open.
+abbrev pub AreOpenFiltersFor : Option (List ℕ) → NextestFilters → Type 0
+AreOpenFiltersFor metadata filters = AreFiltersOr packages.Open metadata filters
 
 -- no graph can be read from metadata, for this fault, unless an allocation failed
 abbrev pub IsMetadataFault : Option (List ℕ) → EngineFault → Type 0

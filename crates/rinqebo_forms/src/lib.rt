@@ -11,7 +11,7 @@ mod run_request;
 mod values;
 
 pub use fault::{ExpectedValue, Holder, Place, RequestFault};
-pub use machines::{EngineFault, filters_of, platform_of, platforms_of};
+pub use machines::{EngineFault, filters_of, open_filters_of, platform_of, platforms_of};
 pub use numbers::{
     Duration, GroupThreads, LeakNumbers, RetryNumbers, SlowNumbers, ThreadNumbers, duration_parts,
     flag_number, flaky_number, group_threads, leak_numbers, output_number, report_number,

@@ -1,6 +1,6 @@
 //! The filters and the platforms of a request.
 ghost use Rattle.std.specs.Prelude.{IfOk, IfErr, option_map, string_bytes};
-ghost use Rattle.rinqebo_forms.specs.Machines.{AreFiltersFor, IsMetadataFault, IsPlatformBy, IsPlatformFor, IsFaultBy, ArePlatformsFor, IsTripleRefused, IsMachineRefused, IsBuildRefused};
+ghost use Rattle.rinqebo_forms.specs.Machines.{AreFiltersFor, AreFiltersOr, AreOpenFiltersFor, IsMetadataFault, IsPlatformBy, IsPlatformFor, IsFaultBy, ArePlatformsFor, IsTripleRefused, IsMachineRefused, IsBuildRefused};
 ghost use Rattle.rinqebo_forms.specs.Requests.{machine_view};
 
 use crate::request::{LoadRequest, Machine};
@@ -35,19 +35,45 @@ impl From<AllocError> for EngineFault {
     }
 }
 
-/// Returns the filters of a request, with the graph of packages if the metadata are given.
-pub fn filters_of(alloc: Global, metadata: &Option<String>) -> Result<NextestFilters, EngineFault>
-    ensures ok { IfOk result (AreFiltersFor (option_map string_bytes metadata.now)) }
+/// Returns the filters with the graph of packages if the metadata are given, or else others.
+fn filters_or(
+    alloc: Global,
+    metadata: &Option<String>,
+    others: NextestFilters,
+) -> Result<NextestFilters, EngineFault>
+    ensures ok { IfOk result
+        (AreFiltersOr others.packages (option_map string_bytes metadata.now)) }
     ensures err { IfErr result (IsMetadataFault (option_map string_bytes metadata.now)) }
 {
     let Some(metadata) = metadata else {
-        return Ok(NextestFilters::new());
+        return Ok(others);
     };
     match PackageGraph::from_metadata(alloc, metadata.as_str()) {
         Ok(graph) => Ok(NextestFilters::with_graph(graph)),
         Err(MetadataFault::Memory) => Err(EngineFault::Memory),
         Err(fault) => Err(EngineFault::Metadata(fault)),
     }
+}
+
+/// Returns the filters of a request, with the graph of packages if the metadata are given. Without
+/// them, `deps` and `rdeps` are refused.
+pub fn filters_of(alloc: Global, metadata: &Option<String>) -> Result<NextestFilters, EngineFault>
+    ensures ok { IfOk result (AreFiltersFor (option_map string_bytes metadata.now)) }
+    ensures err { IfErr result (IsMetadataFault (option_map string_bytes metadata.now)) }
+{
+    filters_or(alloc, metadata, NextestFilters::new())
+}
+
+/// Returns the filters of a request, with the graph of packages if the metadata are given. Without
+/// them, `deps` and `rdeps` are read and left open.
+pub fn open_filters_of(
+    alloc: Global,
+    metadata: &Option<String>,
+) -> Result<NextestFilters, EngineFault>
+    ensures ok { IfOk result (AreOpenFiltersFor (option_map string_bytes metadata.now)) }
+    ensures err { IfErr result (IsMetadataFault (option_map string_bytes metadata.now)) }
+{
+    filters_or(alloc, metadata, NextestFilters::open())
 }
 
 /// Reads the platform of a triple from what the compiler prints for it, if that is given, or else

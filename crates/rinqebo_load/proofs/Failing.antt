@@ -13,6 +13,8 @@ pub begins : (fault : InputFault) (failure : Failure) → IsFailureOf fault fail
 begins fault (failures.Engines told) is = tt
 begins fault (failures.Refused report) is = absurd is
 begins fault (failures.NoProfile report) is = absurd is
+begins fault (failures.NoTest report) is = absurd is
+begins fault (failures.SeveralTests report) is = absurd is
 begins fault failures.Memory is = tt
 
 -- the failure of a fault of what a request names
@@ -21,4 +23,6 @@ pub unusable : (request : Request) (gathered : Gathered) (fault : InputFault) (f
 unusable request gathered fault (failures.Engines told) why is = rw is why
 unusable request gathered fault (failures.Refused report) why is = absurd is
 unusable request gathered fault (failures.NoProfile report) why is = absurd is
+unusable request gathered fault (failures.NoTest report) why is = absurd is
+unusable request gathered fault (failures.SeveralTests report) why is = absurd is
 unusable request gathered fault failures.Memory why is = tt

@@ -12,6 +12,8 @@ abbrev pub IsBeginningFailure : Failure → Type 0
 IsBeginningFailure (failures.Engines fault) = Unit {0}
 IsBeginningFailure (failures.Refused report) = ⊥
 IsBeginningFailure (failures.NoProfile report) = ⊥
+IsBeginningFailure (failures.NoTest report) = ⊥
+IsBeginningFailure (failures.SeveralTests report) = ⊥
 IsBeginningFailure failures.Memory = Unit {0}
 
 -- a failure is that of a fault, or want of memory
@@ -19,6 +21,8 @@ abbrev pub IsFailureOf : InputFault → Failure → Type 0
 IsFailureOf fault (failures.Engines told) = told ≡ fault
 IsFailureOf fault (failures.Refused report) = ⊥
 IsFailureOf fault (failures.NoProfile report) = ⊥
+IsFailureOf fault (failures.NoTest report) = ⊥
+IsFailureOf fault (failures.SeveralTests report) = ⊥
 IsFailureOf fault failures.Memory = Unit {0}
 
 -- A request has no session: what it names is not understood, for the fault that is told; want of
@@ -27,4 +31,6 @@ abbrev pub IsUnusable : Request → Gathered → Failure → Type 0
 IsUnusable request gathered (failures.Engines fault) = IsInputFault request gathered fault
 IsUnusable request gathered (failures.Refused report) = ⊥
 IsUnusable request gathered (failures.NoProfile report) = ⊥
+IsUnusable request gathered (failures.NoTest report) = ⊥
+IsUnusable request gathered (failures.SeveralTests report) = ⊥
 IsUnusable request gathered failures.Memory = Unit {0}

@@ -10,6 +10,7 @@ use Rattle.nextest_lists.specs.Faults.{fault_view}
 use Rattle.nextest_lists.specs.ListView.{list_view}
 use Rattle.nextest_lists.specs.Reading.{IsFaultIn}
 use Rattle.nextest_lists.specs.declared.list.ListedTests.{ListedTests}
+use Rattle.rinqebo_load.specs.HostLines.{IsHostFault, printed_host}
 use Rattle.rinqebo_load.specs.Machines.{machine_of}
 use Rattle.rinqebo_load.specs.Triples.{IsListFor, host_for, target_for}
 use Rattle.rinqebo_load.specs.declared.fault.InputFault.{InputFault}
@@ -65,10 +66,13 @@ pub record LacksEngines (request : Request) (gathered : Gathered) (fault : Input
   where
     pub tests : ListedTests
     pub are_tests : IsListFor gathered.list tests
-    pub cause : IsEngineFault (host_for request.engines (list_view tests))
+    pub cause : IsEngineFault
+        (host_for request.engines (printed_host gathered.rustc_version) (list_view tests))
         (target_for request.engines (list_view tests)) gathered fault
 
--- what a request names is not understood: its list of tests, its metadata or a machine
+-- what a request names is not understood: its list of tests, what the compiler prints of itself, its
+-- metadata or a machine
 abbrev pub IsInputFault : Request → Gathered → InputFault → Type 0
 IsInputFault request gathered fault =
-    IsListFault gathered.list fault ⊎ LacksEngines request gathered fault
+    IsListFault gathered.list fault ⊎ IsHostFault gathered.rustc_version fault
+    ⊎ LacksEngines request gathered fault

@@ -1,3 +1,4 @@
+pub mod HostLines
 pub mod Triples
 pub mod Machines
 pub mod InputFaults
@@ -6,3 +7,5 @@ pub mod SessionOf
 pub mod Accepted
 pub mod Meant
 pub mod Beginning
+pub mod FoundTests
+pub mod FindTests

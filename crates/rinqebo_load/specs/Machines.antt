@@ -8,6 +8,7 @@ use Rattle.rinqebo_request.specs.declared.request.EngineOptions.{EngineOptions}
 use Rattle.rinqebo_forms.specs.Machines.{ArePlatformsFor as AreOfMachines}
 use Rattle.rinqebo_forms.specs.Requests.{MachineText}
 use Rattle.nextest_lists.specs.Lists.{TestList}
+use Rattle.rinqebo_load.specs.HostLines.{printed_host}
 use Rattle.rinqebo_load.specs.Triples.{host_for, target_for}
 
 -- the machine of a triple, with what the compiler prints for it, where that is given
@@ -17,5 +18,6 @@ machine_of printed triple = record { triple = triple; cfg = option_map string_by
 -- the platforms of a build are those that are asked for, beside a list of tests
 abbrev pub ArePlatformsFor : EngineOptions → TestList → Gathered → BuildPlatforms Platform → Type 0
 ArePlatformsFor options list gathered =
-    AreOfMachines (machine_of gathered.host_cfg (host_for options list))
+    AreOfMachines
+    (machine_of gathered.host_cfg (host_for options (printed_host gathered.rustc_version) list))
     (option_map (machine_of gathered.target_cfg) (target_for options list))

@@ -4,24 +4,26 @@ use Rattle.rinqebo_files.specs.Features.{AreFeaturesOf}
 use Rattle.rinqebo_files.specs.Layers.{layer_view, layers_read}
 use Rattle.rinqebo_files.specs.declared.files.Gathered.{Gathered}
 use Rattle.rinqebo_request.specs.declared.request.Request.{Request}
-use Rattle.rinqebo_forms.specs.Machines.{AreFiltersFor}
+use Rattle.rinqebo_forms.specs.Machines.{AreOpenFiltersFor}
 use Rattle.nextest_lists.specs.ListView.{list_view}
+use Rattle.rinqebo_load.specs.HostLines.{printed_host}
 use Rattle.rinqebo_load.specs.Machines.{ArePlatformsFor}
 use Rattle.rinqebo_load.specs.Triples.{IsListFor, host_for, target_for}
 use Rattle.rinqebo_load.specs.declared.session.Session.{Session}
 
 -- A session is that of a request over the files that were read: it has these files, with their texts
 -- and trees upon the default table, the features that the request names or that the repository's file switches
--- on, the tests that the list says, the filters with the graph that the metadata say, the triples and the
--- platforms that are asked for, beside those of the list, and what names the profile.
+-- on, the tests that the list says, the filters with the graph that the metadata say, or else with sets
+-- of packages left open, the triples and the platforms that are asked for, beside those of the compiler
+-- and of the list, and what names the profile.
 pub record IsSessionOf (request : Request) (gathered : Gathered) (session : Session) : Type 0 where
   pub read : session.gathered.now ≡ gathered
   pub layers : map layer_view session.layers.items ≡ layers_read gathered
   pub features : AreFeaturesOf request.features gathered session.features
   pub tests : IsListFor gathered.list session.tests
-  pub filters : AreFiltersFor (option_map string_bytes gathered.metadata) session.engines.filters
+  pub filters : AreOpenFiltersFor (option_map string_bytes gathered.metadata) session.engines.filters
   pub host : string_bytes session.triples.host
-      ≡ host_for request.engines (list_view session.tests)
+      ≡ host_for request.engines (printed_host gathered.rustc_version) (list_view session.tests)
   pub target : option_map string_bytes session.triples.target
       ≡ target_for request.engines (list_view session.tests)
   pub platforms : ArePlatformsFor request.engines (list_view session.tests) gathered

@@ -20,10 +20,12 @@ abbrev pub IsListFor : Option (String Global) → ListedTests → Type 0
 IsListFor (Some text) tests = IsListIn (string_bytes text) (list_view tests)
 IsListFor None tests = list_view tests ≡ no_list
 
--- The triple of the host: the one that words name, else that of the list, else that of no word.
-abbrev pub host_for : EngineOptions → TestList → List ℕ
-host_for options list =
-    unwrap_or (option_map (λ host. host.now) options.host) (unwrap_or list.triples.host HOST.now)
+-- The triple of the host: the one that words name, else the one that the compiler prints of itself,
+-- else that of the list, else that of no word.
+abbrev pub host_for : EngineOptions → Option (List ℕ) → TestList → List ℕ
+host_for options printed list =
+    unwrap_or (option_map (λ host. host.now) options.host)
+    (unwrap_or printed (unwrap_or list.triples.host HOST.now))
 
 -- The triple of the target: the one that words name, else that of the list where it says the
 -- platforms of the build, else that of the environment.
@@ -34,10 +36,11 @@ target_for options list =
     else option_map (λ target. target.now) options.build_target)
 
 -- what gives the triple of the host
-abbrev pub host_source : EngineOptions → TestList → TripleSource
-host_source options list =
+abbrev pub host_source : EngineOptions → Option (List ℕ) → TestList → TripleSource
+host_source options printed list =
     if is_some options.host then sources.Host
-    else (if is_some list.triples.host then sources.List else sources.Fallback)
+    else (if is_some printed then sources.RustcVersion
+    else (if is_some list.triples.host then sources.List else sources.Fallback))
 
 -- what gives the triple of the target: a list that says the platforms of the build gives it even
 -- where it has no target

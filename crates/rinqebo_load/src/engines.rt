@@ -1,6 +1,6 @@
 //! The languages of filters and platforms, as a request has them.
 ghost use Rattle.std.specs.Prelude.{IfErr, IfOk, option_map, string_bytes};
-ghost use Rattle.rinqebo_forms.specs.Machines.{AreFiltersFor, ArePlatformsFor, IsMachineRefused, IsMetadataFault, IsPlatformBy, IsTargetFor};
+ghost use Rattle.rinqebo_forms.specs.Machines.{AreOpenFiltersFor, ArePlatformsFor, IsMachineRefused, IsMetadataFault, IsPlatformBy, IsTargetFor};
 ghost use Rattle.rinqebo_load.specs.InputFaults.{IsBuildFault, IsEngineFault, IsTargetFault, OfEngine};
 ghost use Rattle.rinqebo_load.specs.Machines.{machine_of};
 
@@ -10,14 +10,15 @@ use filter_engine::NextestFilters;
 use nextest_config::BuildPlatforms;
 use platform_table::Platform;
 use rinqebo_files::Gathered;
-use rinqebo_forms::{EngineFault, filters_of, platform_of};
+use rinqebo_forms::{EngineFault, open_filters_of, platform_of};
 use rinqebo_request::{FileOption, ListFile, NamedFile, Request};
 use std::alloc::{AllocError, Global};
 
 /// The language of filters, and the platforms of a build.
 #[derive(Drop)]
 pub struct Engines {
-    /// The language of filters, with the graph of packages where the metadata are given.
+    /// The language of filters, with the graph of packages where the metadata are given. Else it leaves
+    /// `deps` and `rdeps` open.
     pub filters: NextestFilters,
     /// The platform of the host, and the one that is built for, if there is one.
     pub platforms: BuildPlatforms<Platform>,
@@ -49,6 +50,7 @@ impl MachineNames<'_> {
                 Ok(Subject::File(file))
             }
             TripleSource::Host
+            | TripleSource::RustcVersion
             | TripleSource::Target
             | TripleSource::Variable
             | TripleSource::Fallback => Ok(Subject::Triple(self.source)),
@@ -76,17 +78,18 @@ fn target_names<'a>(request: &Request<'a>, triples: &Triples) -> MachineNames<'a
     }
 }
 
-/// The language of filters, with the graph of the metadata that were read at a path.
+/// The language of filters, with the graph of the metadata that were read at a path. Without them
+/// `deps` and `rdeps` are left open.
 fn filters_at(
     alloc: Global,
     path: Option<&str>,
     metadata: &Option<String>,
 ) -> Result<NextestFilters, InputFault>
-    ensures ok { IfOk result (AreFiltersFor (option_map string_bytes metadata.now)) }
+    ensures ok { IfOk result (AreOpenFiltersFor (option_map string_bytes metadata.now)) }
     ensures err { IfErr result
         (OfEngine (IsMetadataFault (option_map string_bytes metadata.now))) }
 {
-    match filters_of(alloc, metadata) {
+    match open_filters_of(alloc, metadata) {
         Ok(filters) => Ok(filters),
         Err(EngineFault::Memory) => Err(InputFault::Memory),
         Err(fault) => {
@@ -164,7 +167,7 @@ impl Engines {
         triples: &Triples,
         gathered: &Gathered,
     ) -> Result<Engines, InputFault>
-        ensures filters { IfOk result (λ engines. AreFiltersFor
+        ensures filters { IfOk result (λ engines. AreOpenFiltersFor
             (option_map string_bytes gathered.now.metadata) engines.filters) }
         ensures platforms { IfOk result (λ engines. ArePlatformsFor
             (machine_of gathered.now.host_cfg (string_bytes triples.now.host))

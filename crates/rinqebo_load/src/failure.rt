@@ -12,6 +12,10 @@ pub enum Failure {
     Refused(Report),
     /// There is no such profile. The report has this one finding.
     NoProfile(Report),
+    /// There is no such test, or no such binary. The report has this one finding.
+    NoTest(Report),
+    /// Several tests have the name of the test. The report has this one finding.
+    SeveralTests(Report),
     /// Want of memory.
     Memory,
 }

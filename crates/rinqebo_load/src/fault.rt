@@ -1,4 +1,5 @@
 //! What is wrong with the list of tests, the metadata or the platforms that a request names.
+use filter_engine::Field;
 use nextest_lists::ListFault;
 use rinqebo_forms::EngineFault;
 use rinqebo_request::NamedFile;
@@ -11,6 +12,8 @@ use thiserror::Error;
 pub enum TripleSource {
     /// The option `--host`.
     Host,
+    /// What the compiler prints of itself.
+    RustcVersion,
     /// The option `--target`.
     Target,
     /// The list of tests.
@@ -25,6 +28,7 @@ impl fmt::Display for TripleSource {
     fn fmt<W: fmt::Write>(&self, f: &mut fmt::Formatter<W>) -> fmt::Result {
         f.write_str(match self {
             TripleSource::Host => "--host",
+            TripleSource::RustcVersion => "--rustc-version",
             TripleSource::Target => "--target",
             TripleSource::List => "LIST",
             TripleSource::Variable => "CARGO_BUILD_TARGET",
@@ -51,6 +55,26 @@ impl fmt::Display for Subject {
     }
 }
 
+/// A filter that is evaluated, and has a set of packages that was not looked up.
+#[derive(Debug, Drop)]
+pub struct OpenFilter {
+    /// Where it is written, as messages show it.
+    pub place: String,
+    /// What the set is of: [`Field::Deps`] or [`Field::Rdeps`].
+    pub set: Field,
+}
+
+impl fmt::Display for OpenFilter {
+    fn fmt<W: fmt::Write>(&self, f: &mut fmt::Formatter<W>) -> fmt::Result {
+        let OpenFilter { place, set } = self;
+        let word = set.word();
+        write!(
+            f,
+            "{place}: this filter uses `{word}()`, which needs `--metadata FILE` (the output of `cargo metadata --format-version 1`)"
+        )
+    }
+}
+
 /// What is wrong with the list of tests, the metadata or the platforms that a request names.
 #[derive(Debug, Drop, Error)]
 pub enum InputFault {
@@ -60,12 +84,18 @@ pub enum InputFault {
     /// What was read at a path is no list of tests, which would say the platforms of the build.
     #[error("no list of tests in `{0}`: {1}")]
     List(String, ListFault),
+    /// What the compiler prints of itself is given, and has no line with the triple of the host.
+    #[error("{0}: no line `host: TRIPLE`: expected the output of `rustc -vV`")]
+    NoHost(NamedFile),
     /// The metadata have no graph of packages, or no platform is known for a triple.
     #[error("{0}: {1}")]
     Engine(Subject, EngineFault),
     /// What the compiler prints for a target is given, and there is no target.
     #[error("`--target-cfg` goes with a target, and there is none")]
     NoTarget,
+    /// No metadata are given, and a filter that is evaluated needs them.
+    #[error("{0}")]
+    NoMetadata(OpenFilter),
     /// Want of memory.
     #[error("out of memory")]
     Memory,

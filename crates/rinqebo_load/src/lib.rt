@@ -5,13 +5,19 @@
 mod engines;
 mod failure;
 mod fault;
+mod find_test;
+mod found_test;
+mod missing;
+mod printed_host;
 mod profiles;
 mod session;
 mod triples;
 
 pub use engines::Engines;
 pub use failure::Failure;
-pub use fault::{InputFault, Subject, TripleSource};
+pub use fault::{InputFault, OpenFilter, Subject, TripleSource};
+pub use found_test::{FoundTest, TestSource};
+pub use missing::{Missing, TestFault};
 pub use profiles::{chain_of_profile, has_profile, missing_profile};
 pub use session::{Config, Session};
 pub use triples::Triples;

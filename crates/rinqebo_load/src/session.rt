@@ -9,6 +9,7 @@ ghost use Rattle.rinqebo_load.specs.Beginning.{IsBeginningFailure, IsUnusable};
 
 use crate::engines::Engines;
 use crate::failure::Failure;
+use crate::printed_host::printed_host;
 use crate::triples::{Triples, listed_tests, triples_for};
 use filter_engine::NextestFilters;
 use nextest_config::run::Inputs;
@@ -60,7 +61,8 @@ impl<'g> Session<'g> {
     {
         let path = request.list().map_or("", ListFile::path);
         let tests = listed_tests(alloc, path, gathered)?;
-        let triples = triples_for(alloc, &request.engines, &tests)?;
+        let host = printed_host(alloc, request.engines.rustc_version, gathered)?;
+        let triples = triples_for(alloc, &request.engines, host, &tests)?;
         let engines = Engines::new(alloc, request, &triples, gathered)?;
         let layers = layers_of(alloc, gathered)?;
         Ok(Session {

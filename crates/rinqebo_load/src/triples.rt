@@ -52,10 +52,18 @@ pub fn listed_tests(
 }
 
 /// The triple of the host.
-fn host_for<'a>(options: &EngineOptions<'a>, tests: &'a ListedTests) -> &'a str
-    ensures { result.now ≡ host_for options.now (list_view tests.now) }
+fn host_for<'a>(
+    options: &EngineOptions<'a>,
+    printed: Option<&'a str>,
+    tests: &'a ListedTests,
+) -> &'a str
+    ensures { result.now ≡ host_for options.now (option_map (λ host. host.now) printed)
+        (list_view tests.now) }
 {
     if let Some(host) = options.host {
+        return host;
+    }
+    if let Some(host) = printed {
         return host;
     }
     match &tests.host {
@@ -65,11 +73,18 @@ fn host_for<'a>(options: &EngineOptions<'a>, tests: &'a ListedTests) -> &'a str
 }
 
 /// What gives the triple of the host.
-fn host_source(options: &EngineOptions<'_>, tests: &ListedTests) -> TripleSource
-    ensures { result ≡ host_source options.now (list_view tests.now) }
+fn host_source(
+    options: &EngineOptions<'_>,
+    printed: Option<&str>,
+    tests: &ListedTests,
+) -> TripleSource
+    ensures { result ≡ host_source options.now (option_map (λ host. host.now) printed)
+        (list_view tests.now) }
 {
     if options.host.is_some() {
         TripleSource::Host
+    } else if printed.is_some() {
+        TripleSource::RustcVersion
     } else if tests.host.is_some() {
         TripleSource::List
     } else {
@@ -128,25 +143,27 @@ fn copied(alloc: Global, text: Option<&str>) -> Result<Option<String>, AllocErro
     }
 }
 
-/// The triples of a build: those that words name, else those of the list of tests.
+/// The triples of a build: those that words name, else, for the host, the one that the compiler
+/// prints of itself, else those of the list of tests.
 pub fn triples_for(
     alloc: Global,
     options: &EngineOptions<'_>,
+    printed: Option<&str>,
     tests: &ListedTests,
 ) -> Result<Triples, AllocError>
-    ensures host { IfOk result (λ triples.
-        string_bytes triples.host ≡ host_for options.now (list_view tests.now)) }
+    ensures host { IfOk result (λ triples. string_bytes triples.host
+        ≡ host_for options.now (option_map (λ host. host.now) printed) (list_view tests.now)) }
     ensures target { IfOk result (λ triples.
         option_map string_bytes triples.target ≡ target_for options.now (list_view tests.now)) }
-    ensures host_source { IfOk result (λ triples.
-        triples.host_source ≡ host_source options.now (list_view tests.now)) }
+    ensures host_source { IfOk result (λ triples. triples.host_source
+        ≡ host_source options.now (option_map (λ host. host.now) printed) (list_view tests.now)) }
     ensures target_source { IfOk result (λ triples.
         triples.target_source ≡ target_source options.now (list_view tests.now)) }
 {
     Ok(Triples {
-        host: String::from_str(alloc, host_for(options, tests))?,
+        host: String::from_str(alloc, host_for(options, printed, tests))?,
         target: copied(alloc, target_for(options, tests))?,
-        host_source: host_source(options, tests),
+        host_source: host_source(options, printed, tests),
         target_source: target_source(options, tests),
     })
 }

@@ -1,12 +1,12 @@
 -- The document of a report nests little, and has no number that is a float.
-use Rattle.std.proofs.Common.{◌≡◌, ◌≤◌, ◌+◌, ℕ, ℤ, pos, negsuc, false, List, [], ◌∷◌, Option, None, Some, String, string_bytes, codes, refl, arith}
+use Rattle.std.proofs.Common.{◌≡◌, ◌≤◌, ◌+◌, ℕ, ℤ, pos, negsuc, Bool, true, false, List, [], ◌∷◌, Option, None, Some, String, string_bytes, codes, refl, arith}
 use Rattle.std.specs.declared.alloc.Global.{Global}
 use Rattle.serde_json.specs.Data.{Data, null, number, array, no_items, Members, no_members, depth}
 use Rattle.serde_json.specs.Find.{of_integer}
 use Rattle.serde_json.specs.Read.{max_depth}
 use Rattle.serde_json.specs.Written.{has_float}
-use Rattle.rinqebo_report.specs.Document.{common_members, with_requested, with_content, document_data}
-use Rattle.rinqebo_report.specs.Documents.{count_data, text_data, optional_text_data, optional_count_data, list_data, pair_data, lines_data, range_data, scalar_data, value_data, optional_value_data, part_data, kind_data, origin_data, setting_data, test_data, test_id_data, entry_data, rule_data, tool_data, source_data, unreached_data, wrapper_data, place_source_data, place_lines_data, place_range_data, span_data, expression_data, expression_span_data, finding_data}
+use Rattle.rinqebo_report.specs.Document.{common_members, with_requested, with_ignored, with_content, document_data}
+use Rattle.rinqebo_report.specs.Documents.{count_data, text_data, optional_text_data, optional_count_data, list_data, pair_data, lines_data, range_data, scalar_data, value_data, optional_value_data, part_data, kind_data, origin_data, setting_data, runs_data, test_data, test_id_data, entry_data, rule_data, tool_data, source_data, unreached_data, wrapper_data, place_source_data, place_lines_data, place_range_data, span_data, expression_data, expression_span_data, finding_data}
 use Rattle.rinqebo_report.specs.declared.finding.RefusedExpression.{RefusedExpression}
 use Rattle.rinqebo_report.specs.declared.finding.Finding.{Finding}
 use Rattle.rinqebo_report.specs.declared.finding.CharSpan.{CharSpan}
@@ -126,6 +126,13 @@ setting row =
     exact_object 4 (and_member _ (exact_list 3 origin_data origin row.origins.items)
     (and_member _ (optional_value 3 row.value) (no_more 4)))
 
+runs : (is_ignored : Bool) (row : SettingRow) → IsExact 5 (runs_data is_ignored row)
+runs true row =
+    exact_object 4 (and_member _ (exact_truth 4 true)
+    (and_member _ (exact_list 3 origin_data origin row.origins.items)
+    (and_member _ (optional_value 3 row.value) (no_more 4))))
+runs false row = setting row
+
 test : (t : TestRows) → IsExact 7 (test_data t)
 test t =
     let settings = exact_object 5
@@ -134,7 +141,7 @@ test t =
     exact_object 6 (and_member _ (text 6 t.binary)
     (and_member _ (text 6 t.name)
     (and_member _ (exact_text 6 _)
-    (and_member _ (deeper 6 (setting t.runs) (omega arith)) (and_member _ settings (no_more 6))))))
+    (and_member _ (deeper 6 (runs t.is_ignored t.runs) (omega arith)) (and_member _ settings (no_more 6))))))
 
 test_id : (t : TestId) → IsExact 8 (test_id_data t)
 test_id t = exact_object 7 (and_member _ (text 7 t.binary)
@@ -222,6 +229,10 @@ asked command a h =
     (exact_put (codes "command") _ _ (exact_text 8 command)
     (exact_put (codes "chain") _ _ (texts 7 a.chain.items) h)))))
 
+ignored : {ms : Members} (is_ignored : Bool) → AreExact 8 ms → AreExact 8 (with_ignored is_ignored ms)
+ignored true h = exact_put (codes "ignored") _ _ (exact_truth 8 true) h
+ignored false h = h
+
 rules_of : (rules : List Rule) → IsExact 8 (list_data rule_data rules)
 rules_of rules = exact_list 7 rule_data (λ r. deeper 7 (rule r) (omega arith)) rules
 
@@ -237,10 +248,10 @@ wrappers_of wrappers = exact_list 7 wrapper_data (λ w. deeper 7 (wrapper w) (om
 content : {ms : Members} (c : Content) → AreExact 8 ms → AreExact 8 (with_content c ms)
 content (contents.Explain a t) h =
     exact_put (codes "tests") _ _ (exact_list 7 test_data test (t ∷ [])) (asked (codes "explain") a h)
-content (contents.Why a t key rules) h =
+content (contents.Why a t key rules is_ignored) h =
     exact_put (codes "test") _ _ (test_id t)
     (exact_put (codes "rules") _ _ (rules_of rules.items)
-    (exact_put (codes "key") _ _ (text 8 key) (asked (codes "explain") a h)))
+    (exact_put (codes "key") _ _ (text 8 key) (ignored is_ignored (asked (codes "explain") a h))))
 content (contents.List a tests unused scripts) h =
     exact_put (codes "unused") _ _ (unused_of unused.items)
     (exact_put (codes "tests") _ _ (exact_list 7 test_data test tests.items)

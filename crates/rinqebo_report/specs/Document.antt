@@ -1,6 +1,6 @@
 -- The document of a report.
-use Rattle.std.specs.Prelude.{ℕ, List, codes, string_bytes}
-use Rattle.serde_json.specs.Data.{Data, null, string, array, object, no_items, item, Members, no_members, member, put}
+use Rattle.std.specs.Prelude.{ℕ, Bool, true, List, codes, string_bytes, if◌then◌else◌}
+use Rattle.serde_json.specs.Data.{Data, null, boolean, string, array, object, no_items, item, Members, no_members, member, put}
 use Rattle.rinqebo_report.specs.declared.origin.Origin.{Origin}
 use Rattle.rinqebo_report.specs.declared.report.Asked.{Asked}
 use Rattle.rinqebo_report.specs.declared.report.Content.{Content}
@@ -52,12 +52,18 @@ with_explain asked test members =
     put (codes "tests") (array (item (test_data test) no_items))
     (with_requested (codes "explain") asked members)
 
+-- members, with that a list says that a test is ignored
+abbrev pub with_ignored : Bool → Members → Members
+with_ignored is_ignored members =
+    if is_ignored then put (codes "ignored") (boolean true) members else members
+
 -- members, with those of the page of a setting
-abbrev pub with_why : Asked → TestId → List ℕ → List Rule → Members → Members
-with_why asked test key rules members =
+abbrev pub with_why : Asked → TestId → List ℕ → List Rule → Bool → Members → Members
+with_why asked test key rules is_ignored members =
     put (codes "test") (test_id_data test)
     (put (codes "rules") (list_data rule_data rules)
-    (put (codes "key") (string key) (with_requested (codes "explain") asked members)))
+    (put (codes "key") (string key)
+    (with_ignored is_ignored (with_requested (codes "explain") asked members))))
 
 -- members, with those of the page of a list
 abbrev pub with_list : Asked → List TestRows → List Origin → ListScripts → Members → Members
@@ -77,8 +83,8 @@ with_config asked entries members =
 -- members, with those of the page of what a command answers
 abbrev pub with_content : Content → Members → Members
 with_content (contents.Explain asked test) members = with_explain asked test members
-with_content (contents.Why asked test key rules) members =
-    with_why asked test (string_bytes key) rules.items members
+with_content (contents.Why asked test key rules is_ignored) members =
+    with_why asked test (string_bytes key) rules.items is_ignored members
 with_content (contents.List asked tests unused scripts) members =
     with_list asked tests.items unused.items scripts members
 with_content (contents.ShowConfig asked entries) members =

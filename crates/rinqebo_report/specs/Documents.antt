@@ -1,5 +1,5 @@
 -- Reports as JSON: objects with their keys in the order of bytes.
-use Rattle.std.specs.Prelude.{ℕ, List, Option, None, Some, map, fold, codes, String, string_bytes}
+use Rattle.std.specs.Prelude.{ℕ, Bool, true, List, Option, None, Some, map, fold, codes, String, string_bytes, if◌then◌else◌}
 use Rattle.std.specs.declared.alloc.Global.{Global}
 use Rattle.serde_json.specs.Data.{Data, null, boolean, number, unsigned, string, array, object, no_items, item, Members, no_members, member, put}
 use Rattle.serde_json.specs.Find.{of_integer}
@@ -134,6 +134,14 @@ setting_data row =
     object (member (codes "origins") (list_data origin_data row.origins.items)
     (member (codes "value") (optional_value_data row.value) no_members))
 
+-- whether a test runs: of one that a list says to be ignored, a member says so
+abbrev pub runs_data : Bool → SettingRow → Data
+runs_data is_ignored row =
+    if is_ignored then object (member (codes "ignored") (boolean true)
+    (member (codes "origins") (list_data origin_data row.origins.items)
+    (member (codes "value") (optional_value_data row.value) no_members)))
+    else setting_data row
+
 -- members, with a setting
 abbrev pub with_setting : Members → SettingRow → Members
 with_setting members row = put (string_bytes row.key) (setting_data row) members
@@ -144,7 +152,7 @@ test_data test =
     object (member (codes "binary-id") (text_data test.binary)
     (member (codes "name") (text_data test.name)
     (member (codes "platform") (string (platform_word test.platform))
-    (member (codes "runs") (setting_data test.runs)
+    (member (codes "runs") (runs_data test.is_ignored test.runs)
     (member (codes "settings") (object (fold with_setting no_members test.settings.items))
     no_members)))))
 

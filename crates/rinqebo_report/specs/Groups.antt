@@ -6,12 +6,13 @@ use Rattle.rinqebo_report.specs.declared.origin.Origin.{Origin}
 use Rattle.rinqebo_report.specs.declared.origin.Source.{Source}
 use Rattle.rinqebo_report.specs.declared.piece.Colour.TheVariants as colours
 use Rattle.rinqebo_report.specs.declared.piece.Style.TheVariants as styles
+use Rattle.rinqebo_report.specs.declared.report.Asked.{Asked}
 use Rattle.rinqebo_report.specs.declared.report.Content.{Content}
 use Rattle.rinqebo_report.specs.declared.report.Content.TheVariants as contents
 use Rattle.rinqebo_report.specs.declared.report.Report.{Report}
 use Rattle.rinqebo_report.specs.declared.report.SettingRow.{SettingRow}
 use Rattle.rinqebo_report.specs.declared.report.TestRows.{TestRows}
-use Rattle.rinqebo_report.specs.Pages.{plain, absent_runs, rows_shown, test_line_runs, count_runs, unused_runs, content_runs}
+use Rattle.rinqebo_report.specs.Pages.{plain, absent_runs, rows_shown, test_line_runs, list_head_runs, list_end_runs, content_runs}
 use Rattle.rinqebo_report.specs.Pieces.{Run, styled, ending, page_text}
 use Rattle.rinqebo_report.specs.TomlText.{value_text}
 
@@ -27,7 +28,7 @@ reported_row_runs row = reported_line_runs (string_bytes row.key) (option_map va
 
 -- what is told of a test, a line for each row
 abbrev pub reported_runs : TestRows → List Run
-reported_runs test = rows_shown reported_row_runs test
+reported_runs test = rows_shown (reported_row_runs test.runs) reported_row_runs test
 
 -- what is told of a test, as a text
 abbrev pub reported_text : TestRows → List ℕ
@@ -61,13 +62,14 @@ group_runs tests first =
 abbrev pub groups_runs : List TestRows → List Run
 groups_runs tests = flat_map (group_runs tests) (firsts tests)
 
--- tests in groups, how many tests there are, and the rules that hold for none
-abbrev pub grouped_runs : List ℕ → List Source → List TestRows → List Origin → List Run
-grouped_runs root sources tests unused =
-    groups_runs tests ++ (count_runs (length tests) ++ flat_map (unused_runs root sources) unused)
+-- what is asked, tests in groups, how many tests there are, and the rules that hold for none
+abbrev pub grouped_runs : List ℕ → List Source → Asked → List TestRows → List Origin → List Run
+grouped_runs root sources asked tests unused =
+    list_head_runs asked
+    ++ (groups_runs tests ++ list_end_runs root sources (length tests) unused)
 
 -- the page of what a command answers, with the tests of a list in groups
 abbrev pub grouped_content_runs : Report → Content → List Run
 grouped_content_runs report (contents.List asked tests unused scripts) =
-    grouped_runs (string_bytes report.root) report.sources.items tests.items unused.items
+    grouped_runs (string_bytes report.root) report.sources.items asked tests.items unused.items
 grouped_content_runs report content = content_runs report content

@@ -62,13 +62,13 @@ widest_shown test =
     if test.shows_runs then max (widest test.settings.items) (key_width test.runs)
     else widest test.settings.items
 
--- whether a test runs, as a page shows rows: nothing where it is not shown
-abbrev pub runs_shown : (SettingRow → List Run) → TestRows → List Run
-runs_shown g test = if test.shows_runs then g test.runs else []
+-- what a page shows of whether a test runs: nothing where that is not shown
+abbrev pub runs_shown : List Run → TestRows → List Run
+runs_shown runs test = if test.shows_runs then runs else []
 
 -- the rows of a test, as a page shows them: whether it runs comes first
-abbrev pub rows_shown : (SettingRow → List Run) → TestRows → List Run
-rows_shown g test = runs_shown g test ++ flat_map g test.settings.items
+abbrev pub rows_shown : List Run → (SettingRow → List Run) → TestRows → List Run
+rows_shown runs g test = runs_shown runs test ++ flat_map g test.settings.items
 
 -- that a setting has no value
 abbrev pub absent_runs : List ℕ → List Run
@@ -93,6 +93,17 @@ row_runs root sources w row =
     setting_runs w (string_bytes row.key) (option_map value_text row.value)
     (remark_of root sources row)
 
+-- what is said beside whether a test runs: the origins, or that a list says that it is ignored
+abbrev pub runs_remark : List ℕ → List Source → TestRows → List ℕ
+runs_remark root sources test =
+    if test.is_ignored then codes "# ignored in LIST" else remark_of root sources test.runs
+
+-- the row of whether a test runs
+abbrev pub runs_row_runs : List ℕ → List Source → ℕ → TestRows → List Run
+runs_row_runs root sources w test =
+    setting_runs w (string_bytes test.runs.key) (option_map value_text test.runs.value)
+    (runs_remark root sources test)
+
 -- the word of a mode
 abbrev pub mode_word : RunMode → List ℕ
 mode_word modes.Test = codes "test"
@@ -103,24 +114,47 @@ abbrev pub platform_word : BuiltFor → List ℕ
 platform_word platforms.Host = codes "host"
 platform_word platforms.Target = codes "target"
 
+-- the triple of the host, and that it is only assumed
+abbrev pub host_text : Asked → List ℕ
+host_text asked =
+    string_bytes asked.host ++ (if asked.assumes_host then codes " (assumed)" else [])
+
 -- the triple of a platform: without a target, what is built for it runs on the host
 abbrev pub triple_of : Asked → BuiltFor → List ℕ
-triple_of asked platforms.Host = string_bytes asked.host
-triple_of asked platforms.Target = string_bytes (unwrap_or asked.target asked.host)
+triple_of asked platforms.Host = host_text asked
+triple_of asked platforms.Target =
+    unwrap_or (option_map string_bytes asked.target) (host_text asked)
+
+-- the profiles, the nearest first, and the mode
+abbrev pub profiles_text : Asked → List ℕ
+profiles_text asked =
+    codes "profile " ++ (joined (codes " < ") string_bytes asked.chain.items
+    ++ (codes ", " ++ mode_word asked.mode))
+
+-- the triples of a build: that of the host alone where there is no target
+abbrev pub build_text : List ℕ → Option (List ℕ) → List ℕ
+build_text host None = host
+build_text host (Some target) = codes "host " ++ (host ++ (codes ", target " ++ target))
 
 -- what is asked about: the test, the profiles, the mode, and what it runs on
 abbrev pub header_text : Asked → TestRows → List ℕ
 header_text asked test =
     codes "# " ++ (string_bytes test.binary ++ (codes " " ++ (string_bytes test.name
-    ++ (codes ", profile " ++ (joined (codes " < ") string_bytes asked.chain.items
-    ++ (codes ", " ++ (mode_word asked.mode ++ (codes ", " ++ (platform_word test.platform
-    ++ (codes " " ++ triple_of asked test.platform))))))))))
+    ++ (codes ", " ++ (profiles_text asked ++ (codes ", " ++ (platform_word test.platform
+    ++ (codes " " ++ triple_of asked test.platform))))))))
+
+-- what is asked of a list: the profiles, the mode, and what the tests run on
+abbrev pub list_header_text : Asked → List ℕ
+list_header_text asked =
+    codes "# " ++ (profiles_text asked
+    ++ (codes ", " ++ build_text (host_text asked) (option_map string_bytes asked.target)))
 
 -- a test: whether it runs, and its settings
 abbrev pub explain_runs : List ℕ → List Source → Asked → TestRows → List Run
 explain_runs root sources asked test =
     styled styles.Remark (header_text asked test) ∷ ending
-    ∷ rows_shown (row_runs root sources (widest_shown test)) test
+    ∷ rows_shown (runs_row_runs root sources (widest_shown test) test)
+    (row_runs root sources (widest_shown test)) test
 
 -- the words of a verdict
 abbrev pub verdict_text : Verdict → List ℕ
@@ -205,6 +239,17 @@ rules_runs root sources key n [] = []
 rules_runs root sources key n (rule ∷ rules) =
     rule_runs root sources key n rule ++ rules_runs root sources key (n + 1) rules
 
+-- that a test does not run, since a list says that it is ignored
+abbrev pub ignored_runs : Bool → List Run
+ignored_runs is_ignored =
+    if is_ignored then styled styles.Remark (codes "# runs = false: ignored in LIST") ∷ ending ∷ []
+    else []
+
+-- rules, and whether what they decide is that a test runs which a list says to be ignored
+abbrev pub why_runs : List ℕ → List Source → List ℕ → List Rule → Bool → List Run
+why_runs root sources key rules is_ignored =
+    rules_runs root sources key 0 rules ++ ignored_runs is_ignored
+
 -- the names of a test
 abbrev pub test_line_runs : List ℕ → List ℕ → List Run
 test_line_runs binary name = plain binary ∷ plain (codes " ") ∷ plain name ∷ ending ∷ []
@@ -217,7 +262,8 @@ indented_runs root sources w row = plain (codes "    ") ∷ row_runs root source
 abbrev pub listed_runs : List ℕ → List Source → TestRows → List Run
 listed_runs root sources test =
     test_line_runs (string_bytes test.binary) (string_bytes test.name)
-    ++ rows_shown (indented_runs root sources (widest_shown test)) test
+    ++ rows_shown (plain (codes "    ") ∷ runs_row_runs root sources (widest_shown test) test)
+    (indented_runs root sources (widest_shown test)) test
 
 -- how many tests there are
 abbrev pub count_runs : ℕ → List Run
@@ -231,11 +277,21 @@ unused_line_runs origin = plain (codes "unused: ") ∷ plain origin ∷ ending �
 abbrev pub unused_runs : List ℕ → List Source → Origin → List Run
 unused_runs root sources origin = unused_line_runs (origin_text root sources origin)
 
--- tests, how many there are, and the rules that hold for none
-abbrev pub list_runs : List ℕ → List Source → List TestRows → List Origin → List Run
-list_runs root sources tests unused =
-    flat_map (listed_runs root sources) tests
-    ++ (count_runs (length tests) ++ flat_map (unused_runs root sources) unused)
+-- what is asked of a list, in a line
+abbrev pub list_head_runs : Asked → List Run
+list_head_runs asked = styled styles.Remark (list_header_text asked) ∷ ending ∷ []
+
+-- how many tests a list has, and the rules that hold for none of them
+abbrev pub list_end_runs : List ℕ → List Source → ℕ → List Origin → List Run
+list_end_runs root sources n unused =
+    count_runs n ++ flat_map (unused_runs root sources) unused
+
+-- what is asked, the tests, how many there are, and the rules that hold for none
+abbrev pub list_runs : List ℕ → List Source → Asked → List TestRows → List Origin → List Run
+list_runs root sources asked tests unused =
+    list_head_runs asked
+    ++ (flat_map (listed_runs root sources) tests
+    ++ list_end_runs root sources (length tests) unused)
 
 -- how wide the key of a leaf is: one that is hidden counts for nothing
 abbrev pub entry_width : Entry → ℕ
@@ -430,10 +486,11 @@ concise_runs report =
 abbrev pub content_runs : Report → Content → List Run
 content_runs report (contents.Explain asked test) =
     explain_runs (string_bytes report.root) report.sources.items asked test
-content_runs report (contents.Why asked test key rules) =
-    rules_runs (string_bytes report.root) report.sources.items (string_bytes key) 0 rules.items
+content_runs report (contents.Why asked test key rules is_ignored) =
+    why_runs (string_bytes report.root) report.sources.items (string_bytes key) rules.items
+    is_ignored
 content_runs report (contents.List asked tests unused scripts) =
-    list_runs (string_bytes report.root) report.sources.items tests.items unused.items
+    list_runs (string_bytes report.root) report.sources.items asked tests.items unused.items
 content_runs report (contents.ShowConfig asked entries) =
     config_runs (string_bytes report.root) report.sources.items entries.items
 content_runs report contents.Check =

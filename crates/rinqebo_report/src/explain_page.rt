@@ -3,7 +3,7 @@ ghost use Rattle.std.specs.Prelude.{◌≡◌, ◌++◌, Some, OnOk, IfOk, codes
 ghost use Rattle.serde_json.specs.View.{members_view};
 ghost use Rattle.rinqebo_report.specs.Document.{with_explain};
 ghost use Rattle.rinqebo_report.specs.Joined.{joined};
-ghost use Rattle.rinqebo_report.specs.Pages.{width, key_width, widest, widest_shown, runs_shown, rows_shown, mode_word, platform_word, triple_of, header_text, absent_runs, setting_runs, row_runs, explain_runs};
+ghost use Rattle.rinqebo_report.specs.Pages.{width, key_width, widest, widest_shown, runs_shown, rows_shown, runs_remark, runs_row_runs, mode_word, platform_word, host_text, triple_of, profiles_text, header_text, absent_runs, setting_runs, row_runs, explain_runs};
 ghost use Rattle.rinqebo_report.specs.Pieces.{page_text};
 
 use crate::json_parts::test_json;
@@ -63,7 +63,7 @@ pub(crate) fn widest_shown(test: &TestRows) -> usize
 
 impl RunMode {
     /// Its word.
-    pub(crate) fn word(self) -> &'static str
+    pub fn word(self) -> &'static str
         ensures { result.now ≡ mode_word self }
     {
         match self {
@@ -75,7 +75,7 @@ impl RunMode {
 
 impl BuiltFor {
     /// Its word.
-    pub(crate) fn word(self) -> &'static str
+    pub fn word(self) -> &'static str
         ensures { result.now ≡ platform_word self }
     {
         match self {
@@ -85,13 +85,27 @@ impl BuiltFor {
     }
 }
 
-/// The triple of a platform: without a target, what is built for it runs on the host.
-fn triple_of(asked: &Asked, platform: BuiltFor) -> &str
-    ensures { result.now ≡ triple_of asked.now platform }
+/// Writes the triple of the host, and that it is only assumed.
+pub(crate) fn add_host(out: &mut String, asked: &Asked) -> Result<(), AllocError>
+    ensures { OnOk result (string_bytes out.new
+        ≡ string_bytes out.old ++ host_text asked.now) }
+{
+    out.push_str(asked.host.as_str())?;
+    if asked.assumes_host {
+        out.push_str(" (assumed)")
+    } else {
+        Ok(())
+    }
+}
+
+/// Writes the triple of a platform: without a target, what is built for it runs on the host.
+fn add_triple(out: &mut String, asked: &Asked, platform: BuiltFor) -> Result<(), AllocError>
+    ensures { OnOk result (string_bytes out.new
+        ≡ string_bytes out.old ++ triple_of asked.now platform) }
 {
     match (platform, &asked.target) {
-        (BuiltFor::Target, Some(target)) => target.as_str(),
-        _ => asked.host.as_str(),
+        (BuiltFor::Target, Some(target)) => out.push_str(target.as_str()),
+        _ => add_host(out, asked),
     }
 }
 
@@ -109,18 +123,15 @@ fn add_chain(out: &mut String, chain: &[String]) -> Result<(), AllocError>
     Ok(())
 }
 
-/// Writes what a test runs on.
-fn add_run(out: &mut String, asked: &Asked, platform: BuiltFor) -> Result<(), AllocError>
-    ensures { OnOk result (string_bytes out.new ≡ string_bytes out.old
-        ++ (codes ", " ++ (mode_word asked.now.mode ++ (codes ", " ++ (platform_word platform
-        ++ (codes " " ++ triple_of asked.now platform)))))) }
+/// Writes the profiles, the nearest first, and the mode.
+pub(crate) fn add_profiles(out: &mut String, asked: &Asked) -> Result<(), AllocError>
+    ensures { OnOk result (string_bytes out.new
+        ≡ string_bytes out.old ++ profiles_text asked.now) }
 {
+    out.push_str("profile ")?;
+    add_chain(out, &asked.chain)?;
     out.push_str(", ")?;
-    out.push_str(asked.mode.word())?;
-    out.push_str(", ")?;
-    out.push_str(platform.word())?;
-    out.push_str(" ")?;
-    out.push_str(triple_of(asked, platform))
+    out.push_str(asked.mode.word())
 }
 
 /// What is asked about, in one line.
@@ -131,9 +142,12 @@ fn header_text(alloc: Global, asked: &Asked, test: &TestRows) -> Result<String, 
     text.push_str(test.binary.as_str())?;
     text.push_str(" ")?;
     text.push_str(test.name.as_str())?;
-    text.push_str(", profile ")?;
-    add_chain(&mut text, &asked.chain)?;
-    add_run(&mut text, asked, test.platform)?;
+    text.push_str(", ")?;
+    add_profiles(&mut text, asked)?;
+    text.push_str(", ")?;
+    text.push_str(test.platform.word())?;
+    text.push_str(" ")?;
+    add_triple(&mut text, asked, test.platform)?;
     Ok(text)
 }
 
@@ -207,6 +221,47 @@ pub(crate) fn add_row(
     }
 }
 
+/// What is said beside whether a test runs: the origins, or that a list says that it is ignored.
+fn runs_remark(
+    alloc: Global,
+    root: &str,
+    sources: &[Source],
+    test: &TestRows,
+) -> Result<String, AllocError>
+    ensures { IfOk result (λ text.
+        string_bytes text ≡ runs_remark root.now sources.now test.now) }
+{
+    if test.is_ignored {
+        String::from_str(alloc, "# ignored in LIST")
+    } else {
+        origins_text(alloc, root, sources, &test.runs.origins)
+    }
+}
+
+/// Writes the row of whether a test runs.
+pub(crate) fn add_runs_row(
+    alloc: Global,
+    out: &mut String,
+    colour: Colour,
+    root: &str,
+    sources: &[Source],
+    widest: usize,
+    test: &TestRows,
+) -> Result<(), AllocError>
+    ensures { OnOk result (string_bytes out.new ≡ string_bytes out.old
+        ++ page_text colour (runs_row_runs root.now sources.now widest test.now)) }
+{
+    let key = test.runs.key.as_str();
+    match &test.runs.value {
+        Some(value) => {
+            let value = value_text(alloc, value)?;
+            let remark = runs_remark(alloc, root, sources, test)?;
+            add_valued(out, colour, widest, key, value.as_str(), remark.as_str())
+        }
+        None => add_absent(alloc, out, colour, key),
+    }
+}
+
 /// Writes the row of whether a test runs, if it is shown.
 fn add_runs(
     alloc: Global,
@@ -218,10 +273,11 @@ fn add_runs(
     test: &TestRows,
 ) -> Result<(), AllocError>
     ensures { OnOk result (string_bytes out.new ≡ string_bytes out.old
-        ++ page_text colour (runs_shown (row_runs root.now sources.now widest) test.now)) }
+        ++ page_text colour (runs_shown (runs_row_runs root.now sources.now widest test.now)
+        test.now)) }
 {
     if test.shows_runs {
-        add_row(alloc, out, colour, root, sources, widest, &test.runs)
+        add_runs_row(alloc, out, colour, root, sources, widest, test)
     } else {
         Ok(())
     }
@@ -237,8 +293,9 @@ fn add_rows(
     test: &TestRows,
 ) -> Result<(), AllocError>
     ensures { OnOk result (string_bytes out.new ≡ string_bytes out.old
-        ++ page_text colour (rows_shown (row_runs root.now sources.now (widest_shown test.now))
-        test.now)) }
+        ++ page_text colour (rows_shown
+        (runs_row_runs root.now sources.now (widest_shown test.now) test.now)
+        (row_runs root.now sources.now (widest_shown test.now)) test.now)) }
 {
     let widest = widest_shown(test);
     add_runs(alloc, out, colour, root, sources, widest, test)?;

@@ -50,12 +50,21 @@ fn add_content(
         Content::Explain { asked, test } => {
             add_explain(alloc, out, colour, root, sources, asked, test)
         }
-        Content::Why { key, rules, .. } => {
-            add_why(alloc, out, colour, root, sources, key.as_str(), rules)
+        Content::Why {
+            key,
+            rules,
+            is_ignored,
+            ..
+        } => {
+            let key = key.as_str();
+            add_why(alloc, out, colour, root, sources, key, rules, *is_ignored)
         }
-        Content::List { tests, unused, .. } => {
-            add_list(alloc, out, colour, root, sources, tests, unused)
-        }
+        Content::List {
+            asked,
+            tests,
+            unused,
+            ..
+        } => add_list(alloc, out, colour, root, sources, asked, tests, unused),
         Content::ShowConfig { entries, .. } => {
             add_config(alloc, out, colour, root, sources, entries)
         }
@@ -84,17 +93,15 @@ fn add_grouped_content(
         ++ page_text colour (grouped_content_runs report.now report.now.content)) }
 {
     match &report.content {
-        Content::List { tests, unused, .. } => {
+        Content::List {
+            asked,
+            tests,
+            unused,
+            ..
+        } => {
+            let root = report.root.as_str();
             let sources = report.sources.as_slice();
-            add_grouped(
-                alloc,
-                out,
-                colour,
-                report.root.as_str(),
-                sources,
-                tests,
-                unused,
-            )
+            add_grouped(alloc, out, colour, root, sources, asked, tests, unused)
         }
         Content::Explain { .. }
         | Content::Why { .. }

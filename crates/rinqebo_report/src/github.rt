@@ -34,7 +34,7 @@ fn add_property_char(out: &mut String, c: char) -> Result<(), AllocError>
 }
 
 /// Writes a message.
-fn add_message(out: &mut String, text: &str) -> Result<(), AllocError>
+pub fn add_message(out: &mut String, text: &str) -> Result<(), AllocError>
     ensures { OnOk result (string_bytes out.new
         ≡ string_bytes out.old ++ flat_map message_char (chars text.now)) }
 {
@@ -45,7 +45,7 @@ fn add_message(out: &mut String, text: &str) -> Result<(), AllocError>
 }
 
 /// Writes the value of a property.
-fn add_property(out: &mut String, text: &str) -> Result<(), AllocError>
+pub fn add_property(out: &mut String, text: &str) -> Result<(), AllocError>
     ensures { OnOk result (string_bytes out.new
         ≡ string_bytes out.old ++ flat_map property_char (chars text.now)) }
 {

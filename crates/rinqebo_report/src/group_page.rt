@@ -6,10 +6,10 @@ ghost use Rattle.rinqebo_report.specs.Pages.{runs_shown};
 ghost use Rattle.rinqebo_report.specs.Pieces.{page_text};
 
 use crate::explain_page::add_absent;
-use crate::list_page::{add_count, add_test_line, add_unused};
+use crate::list_page::{add_list_end, add_list_head, add_test_line};
 use crate::origin::{Origin, Source};
 use crate::piece::{Colour, Piece, Style, add_pieces};
-use crate::report::{SettingRow, TestRows};
+use crate::report::{Asked, SettingRow, TestRows};
 use crate::toml_text::value_text;
 use std::alloc::{AllocError, Global};
 
@@ -63,7 +63,7 @@ fn add_reported_runs(
     test: &TestRows,
 ) -> Result<(), AllocError>
     ensures { OnOk result (string_bytes out.new ≡ string_bytes out.old
-        ++ page_text colour (runs_shown reported_row_runs test.now)) }
+        ++ page_text colour (runs_shown (reported_row_runs test.now.runs) test.now)) }
 {
     if test.shows_runs {
         add_reported_row(alloc, out, colour, &test.runs)
@@ -200,13 +200,15 @@ pub(crate) fn add_grouped(
     colour: Colour,
     root: &str,
     sources: &[Source],
+    asked: &Asked,
     tests: &[TestRows],
     unused: &[Origin],
 ) -> Result<(), AllocError>
     ensures { OnOk result (string_bytes out.new ≡ string_bytes out.old
-        ++ page_text colour (grouped_runs root.now sources.now tests.now unused.now)) }
+        ++ page_text colour (grouped_runs root.now sources.now asked.now tests.now unused.now)) }
 {
+    add_list_head(alloc, out, colour, asked)?;
     add_groups(alloc, out, colour, tests)?;
-    add_count(out, colour, tests.len() as u64)?;
-    add_unused(alloc, out, colour, root, sources, unused)
+    let count = tests.len() as u64;
+    add_list_end(alloc, out, colour, root, sources, count, unused)
 }

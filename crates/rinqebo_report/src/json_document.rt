@@ -74,7 +74,11 @@ impl Content {
                 test,
                 key,
                 rules,
-            } => put_why(members, alloc, asked, test, key.as_str(), rules),
+                is_ignored,
+            } => {
+                let key = key.as_str();
+                put_why(members, alloc, asked, test, key, rules, *is_ignored)
+            }
             Content::List {
                 asked,
                 tests,

@@ -2,7 +2,7 @@
 ghost use Rattle.std.specs.Prelude.{◌≡◌, IfOk, codes, fold};
 ghost use Rattle.serde_json.specs.Data.{null, object, no_members};
 ghost use Rattle.serde_json.specs.View.{members_view, view};
-ghost use Rattle.rinqebo_report.specs.Documents.{count_data, text_data, optional_text_data, optional_count_data, list_data, lines_data, range_data, scalar_data, with_field, value_data, optional_value_data, part_word, part_data, kind_data, origin_data, setting_data, with_setting, test_data, test_id_data, entry_data, answer_word, rule_data, kind_word, tool_data, source_data, unreached_data, wrapper_data};
+ghost use Rattle.rinqebo_report.specs.Documents.{count_data, text_data, optional_text_data, optional_count_data, list_data, lines_data, range_data, scalar_data, with_field, value_data, optional_value_data, part_word, part_data, kind_data, origin_data, setting_data, runs_data, with_setting, test_data, test_id_data, entry_data, answer_word, rule_data, kind_word, tool_data, source_data, unreached_data, wrapper_data};
 
 use crate::duration::add_duration;
 use crate::origin::{FileLines, FilePlace, Origin, Part, Range, Source, SourceKind, Written};
@@ -14,7 +14,7 @@ use serde_json::{Map, Value, json, put};
 use std::alloc::{AllocError, Global};
 
 /// A text, or null.
-pub(crate) fn optional_text_json(alloc: Global, text: &Option<String>) -> Result<Value, AllocError>
+pub fn optional_text_json(alloc: Global, text: &Option<String>) -> Result<Value, AllocError>
     ensures { IfOk result (λ value. view value ≡ optional_text_data text.now) }
 {
     match text {
@@ -34,7 +34,7 @@ pub(crate) fn optional_count_json(count: Option<u64>) -> Value
 }
 
 /// A list of texts.
-pub(crate) fn texts_json(alloc: Global, texts: &[String]) -> Result<Value, AllocError>
+pub fn texts_json(alloc: Global, texts: &[String]) -> Result<Value, AllocError>
     ensures { IfOk result (λ value. view value ≡ list_data text_data texts.now) }
 {
     let mut list = Vec::new(alloc);
@@ -107,7 +107,7 @@ fn value_json(alloc: Global, value: &SettingValue) -> Result<Value, AllocError>
 }
 
 /// A value, or null.
-fn optional_value_json(alloc: Global, value: &Option<SettingValue>) -> Result<Value, AllocError>
+pub fn optional_value_json(alloc: Global, value: &Option<SettingValue>) -> Result<Value, AllocError>
     ensures { IfOk result (λ json. view json ≡ optional_value_data value.now) }
 {
     match value {
@@ -202,7 +202,7 @@ fn origin_json(alloc: Global, origin: &Origin) -> Result<Value, AllocError>
 }
 
 /// Origins.
-pub(crate) fn origins_json(alloc: Global, origins: &[Origin]) -> Result<Value, AllocError>
+pub fn origins_json(alloc: Global, origins: &[Origin]) -> Result<Value, AllocError>
     ensures { IfOk result (λ value. view value ≡ list_data origin_data origins.now) }
 {
     let mut list = Vec::new(alloc);
@@ -219,6 +219,18 @@ fn setting_json(alloc: Global, row: &SettingRow) -> Result<Value, AllocError>
     let origins = origins_json(alloc, &row.origins)?;
     let value = optional_value_json(alloc, &row.value)?;
     json!(in alloc; {"value": value, "origins": origins})
+}
+
+/// Whether a test runs, and whether a list says that it is ignored.
+fn runs_json(alloc: Global, row: &SettingRow, is_ignored: bool) -> Result<Value, AllocError>
+    ensures { IfOk result (λ value. view value ≡ runs_data is_ignored row.now) }
+{
+    if !is_ignored {
+        return setting_json(alloc, row);
+    }
+    let origins = origins_json(alloc, &row.origins)?;
+    let value = optional_value_json(alloc, &row.value)?;
+    json!(in alloc; {"ignored": true, "value": value, "origins": origins})
 }
 
 /// Settings, by their keys.
@@ -238,7 +250,7 @@ fn settings_json(alloc: Global, rows: &[SettingRow]) -> Result<Value, AllocError
 pub(crate) fn test_json(alloc: Global, test: &TestRows) -> Result<Value, AllocError>
     ensures { IfOk result (λ value. view value ≡ test_data test.now) }
 {
-    let runs = setting_json(alloc, &test.runs)?;
+    let runs = runs_json(alloc, &test.runs, test.is_ignored)?;
     let settings = settings_json(alloc, &test.settings)?;
     json!(in alloc; {
         "binary-id": test.binary.as_str(),
@@ -250,7 +262,7 @@ pub(crate) fn test_json(alloc: Global, test: &TestRows) -> Result<Value, AllocEr
 }
 
 /// The names of a test.
-pub(crate) fn test_id_json(alloc: Global, test: &TestId) -> Result<Value, AllocError>
+pub fn test_id_json(alloc: Global, test: &TestId) -> Result<Value, AllocError>
     ensures { IfOk result (λ value. view value ≡ test_id_data test.now) }
 {
     json!(in alloc; {
@@ -282,7 +294,7 @@ fn wrapper_json(alloc: Global, wrapper: &ListWrapper) -> Result<Value, AllocErro
 }
 
 /// The list wrappers of binaries.
-pub(crate) fn wrappers_json(alloc: Global, wrappers: &[ListWrapper]) -> Result<Value, AllocError>
+pub fn wrappers_json(alloc: Global, wrappers: &[ListWrapper]) -> Result<Value, AllocError>
     ensures { IfOk result (λ value. view value ≡ list_data wrapper_data wrappers.now) }
 {
     let mut list = Vec::new(alloc);
@@ -399,7 +411,7 @@ fn source_json(alloc: Global, source: &Source) -> Result<Value, AllocError>
 }
 
 /// Sources.
-pub(crate) fn sources_json(alloc: Global, sources: &[Source]) -> Result<Value, AllocError>
+pub fn sources_json(alloc: Global, sources: &[Source]) -> Result<Value, AllocError>
     ensures { IfOk result (λ value. view value ≡ list_data source_data sources.now) }
 {
     let mut list = Vec::new(alloc);

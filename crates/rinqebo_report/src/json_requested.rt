@@ -10,7 +10,7 @@ use serde_json::{Map, Value, put};
 use std::alloc::{AllocError, Global};
 
 /// Puts a text among members.
-pub(crate) fn put_text(
+pub fn put_text(
     members: &mut Map<String, Value>,
     alloc: Global,
     key: &str,

@@ -33,16 +33,24 @@ pub use finding::{
     CharSpan, Finding, HelpPlace, Level, LinePart, RefusedExpression, Sign, SourceLine,
 };
 pub use format::{Format, render, render_findings};
+pub use github::{add_message, add_property};
 pub use hint::nearest_name;
 pub use json_document::{document, render_json};
+pub use json_parts::{
+    optional_text_json, optional_value_json, origins_json, sources_json, test_id_json, texts_json,
+    wrappers_json,
+};
+pub use json_requested::put_text;
 pub use laws::{law_colours, law_durations};
-pub use list_page::{render_list_end, render_listed};
+pub use list_page::{render_list_end, render_list_head, render_listed};
 pub use origin::{
     FileLines, FilePlace, Origin, Part, Position, Range, Source, SourceKind, Written,
 };
-pub use piece::Colour;
+pub use origin_text::{add_origins, path_at};
+pub use piece::{Colour, Piece, Style, add_pieces};
 pub use report::{
     Asked, BuiltFor, Condition, ConditionAnswer, Content, Entry, ListScripts, ListWrapper, Report,
     Rule, RunMode, SettingRow, TestId, TestRows, Unreached, Verdict,
 };
+pub use toml_text::value_text;
 pub use value::{Scalar, TableMember, Value};

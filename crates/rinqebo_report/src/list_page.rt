@@ -1,11 +1,12 @@
-//! The page of a list: each test, what is set for it, and the rules that hold for none.
-ghost use Rattle.std.specs.Prelude.{◌≡◌, ◌++◌, IfOk, OnOk, flat_map, string_bytes};
+//! The page of a list: what is asked, each test and what is set for it, and the rules that hold for
+//! none.
+ghost use Rattle.std.specs.Prelude.{◌≡◌, ◌++◌, ◌∷◌, IfOk, OnOk, codes, flat_map, option_map, string_bytes};
 ghost use Rattle.serde_json.specs.View.{members_view};
 ghost use Rattle.rinqebo_report.specs.Document.{with_list};
-ghost use Rattle.rinqebo_report.specs.Pages.{widest_shown, runs_shown, test_line_runs, indented_runs, listed_runs, unused_line_runs, unused_runs, count_runs, list_runs};
+ghost use Rattle.rinqebo_report.specs.Pages.{plain, widest_shown, runs_shown, runs_row_runs, host_text, build_text, list_header_text, test_line_runs, indented_runs, listed_runs, unused_line_runs, unused_runs, count_runs, list_head_runs, list_end_runs, list_runs};
 ghost use Rattle.rinqebo_report.specs.Pieces.{page_text};
 
-use crate::explain_page::{add_row, widest_shown};
+use crate::explain_page::{add_host, add_profiles, add_row, add_runs_row, widest_shown};
 use crate::json_parts::{origins_json, tests_json, texts_json, wrappers_json};
 use crate::json_requested::put_requested;
 use crate::origin::{Origin, Source};
@@ -14,6 +15,51 @@ use crate::piece::{Colour, Piece, Style, add_pieces};
 use crate::report::{Asked, ListScripts, Report, SettingRow, TestRows};
 use serde_json::{Map, Value, put};
 use std::alloc::{AllocError, Global};
+
+/// Writes the triples of a build: that of the host alone where there is no target.
+fn add_build(out: &mut String, asked: &Asked) -> Result<(), AllocError>
+    ensures { OnOk result (string_bytes out.new ≡ string_bytes out.old
+        ++ build_text (host_text asked.now) (option_map string_bytes asked.now.target)) }
+{
+    match &asked.target {
+        Some(target) => {
+            out.push_str("host ")?;
+            add_host(out, asked)?;
+            out.push_str(", target ")?;
+            out.push_str(target.as_str())
+        }
+        None => add_host(out, asked),
+    }
+}
+
+/// What is asked of a list: the profiles, the mode, and what the tests run on.
+fn list_header_text(alloc: Global, asked: &Asked) -> Result<String, AllocError>
+    ensures { IfOk result (λ text. string_bytes text ≡ list_header_text asked.now) }
+{
+    let mut text = String::from_str(alloc, "# ")?;
+    add_profiles(&mut text, asked)?;
+    text.push_str(", ")?;
+    add_build(&mut text, asked)?;
+    Ok(text)
+}
+
+/// Writes what is asked of a list, in a line.
+pub(crate) fn add_list_head(
+    alloc: Global,
+    out: &mut String,
+    colour: Colour,
+    asked: &Asked,
+) -> Result<(), AllocError>
+    ensures { OnOk result (string_bytes out.new ≡ string_bytes out.old
+        ++ page_text colour (list_head_runs asked.now)) }
+{
+    let header = list_header_text(alloc, asked)?;
+    add_pieces(
+        out,
+        colour,
+        &[Piece::Text(Style::Remark, header.as_str()), Piece::End],
+    )
+}
 
 /// Writes the names of a test.
 pub(crate) fn add_test_line<'x>(
@@ -65,13 +111,14 @@ fn add_indented_runs(
     test: &TestRows,
 ) -> Result<(), AllocError>
     ensures { OnOk result (string_bytes out.new ≡ string_bytes out.old
-        ++ page_text colour (runs_shown (indented_runs root.now sources.now widest) test.now)) }
+        ++ page_text colour (runs_shown
+        (plain (codes "    ") ∷ runs_row_runs root.now sources.now widest test.now) test.now)) }
 {
-    if test.shows_runs {
-        add_indented(alloc, out, colour, root, sources, widest, &test.runs)
-    } else {
-        Ok(())
+    if !test.shows_runs {
+        return Ok(());
     }
+    add_pieces(out, colour, &[Piece::Text(Style::Plain, "    ")])?;
+    add_runs_row(alloc, out, colour, root, sources, widest, test)
 }
 
 /// Writes a test and its rows.
@@ -146,6 +193,41 @@ pub(crate) fn add_count(out: &mut String, colour: Colour, count: u64) -> Result<
     )
 }
 
+/// Writes how many tests a list has, and the rules that hold for none of them.
+pub(crate) fn add_list_end(
+    alloc: Global,
+    out: &mut String,
+    colour: Colour,
+    root: &str,
+    sources: &[Source],
+    count: u64,
+    unused: &[Origin],
+) -> Result<(), AllocError>
+    ensures { OnOk result (string_bytes out.new ≡ string_bytes out.old
+        ++ page_text colour (list_end_runs root.now sources.now count unused.now)) }
+{
+    add_count(out, colour, count)?;
+    add_unused(alloc, out, colour, root, sources, unused)
+}
+
+/// Writes tests and their rows.
+fn add_tests(
+    alloc: Global,
+    out: &mut String,
+    colour: Colour,
+    root: &str,
+    sources: &[Source],
+    tests: &[TestRows],
+) -> Result<(), AllocError>
+    ensures { OnOk result (string_bytes out.new ≡ string_bytes out.old
+        ++ page_text colour (flat_map (listed_runs root.now sources.now) tests.now)) }
+{
+    for test in tests {
+        add_listed(alloc, out, colour, root, sources, test)?;
+    }
+    Ok(())
+}
+
 /// Writes the page of a list.
 pub(crate) fn add_list(
     alloc: Global,
@@ -153,17 +235,27 @@ pub(crate) fn add_list(
     colour: Colour,
     root: &str,
     sources: &[Source],
+    asked: &Asked,
     tests: &[TestRows],
     unused: &[Origin],
 ) -> Result<(), AllocError>
     ensures { OnOk result (string_bytes out.new ≡ string_bytes out.old
-        ++ page_text colour (list_runs root.now sources.now tests.now unused.now)) }
+        ++ page_text colour (list_runs root.now sources.now asked.now tests.now unused.now)) }
 {
-    for test in tests {
-        add_listed(alloc, out, colour, root, sources, test)?;
-    }
-    add_count(out, colour, tests.len() as u64)?;
-    add_unused(alloc, out, colour, root, sources, unused)
+    add_list_head(alloc, out, colour, asked)?;
+    add_tests(alloc, out, colour, root, sources, tests)?;
+    let count = tests.len() as u64;
+    add_list_end(alloc, out, colour, root, sources, count, unused)
+}
+
+/// What the page of a list shows before its tests: what is asked, in a line.
+pub fn render_list_head(alloc: Global, asked: &Asked, colour: Colour) -> Result<String, AllocError>
+    ensures { IfOk result (λ text. string_bytes text
+        ≡ page_text colour (list_head_runs asked.now)) }
+{
+    let mut text = String::new(alloc);
+    add_list_head(alloc, &mut text, colour, asked)?;
+    Ok(text)
 }
 
 /// A test and its rows, as the page of a list shows them. The root and the sources are those of a
@@ -192,14 +284,12 @@ pub fn render_list_end(
     count: u64,
     unused: &[Origin],
 ) -> Result<String, AllocError>
-    ensures { IfOk result (λ text. string_bytes text ≡ page_text colour (count_runs count
-        ++ flat_map (unused_runs (string_bytes report.now.root) report.now.sources.items)
-        unused.now)) }
+    ensures { IfOk result (λ text. string_bytes text ≡ page_text colour (list_end_runs
+        (string_bytes report.now.root) report.now.sources.items count unused.now)) }
 {
     let (root, sources) = (report.root.as_str(), report.sources.as_slice());
     let mut text = String::new(alloc);
-    add_count(&mut text, colour, count)?;
-    add_unused(alloc, &mut text, colour, root, sources, unused)?;
+    add_list_end(alloc, &mut text, colour, root, sources, count, unused)?;
     Ok(text)
 }
 

@@ -41,7 +41,7 @@ pub(crate) fn below<'a>(root: &str, path: &'a str) -> &'a str
 }
 
 /// The path of a source, below the root where it is. The defaults have none.
-pub(crate) fn path_at<'a>(root: &str, sources: &'a [Source], source: usize) -> &'a str
+pub fn path_at<'a>(root: &str, sources: &'a [Source], source: usize) -> &'a str
     ensures { result.now ≡ path_at root.now sources.now source }
 {
     match sources.get(source) {
@@ -212,7 +212,7 @@ pub(crate) fn all_origins_text(
 }
 
 /// Writes origins, with commas between them.
-fn add_origins(
+pub fn add_origins(
     out: &mut String,
     root: &str,
     sources: &[Source],

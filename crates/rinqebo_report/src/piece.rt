@@ -18,7 +18,7 @@ pub enum Colour {
 
 /// What a text of a page is.
 #[derive(Clone, Copy, PartialEq, Eq)]
-pub(crate) enum Style {
+pub enum Style {
     /// A text like others.
     Plain,
     /// The name of a setting.
@@ -37,7 +37,8 @@ pub(crate) enum Style {
 
 /// A piece of a page.
 #[derive(Clone, Copy)]
-pub(crate) enum Piece<'a> {
+pub enum Piece<'a> {
+    /// A text in a style.
     Text(Style, &'a str),
     /// So many characters of one kind.
     Repeat(char, usize),
@@ -126,11 +127,7 @@ fn add_piece(out: &mut String, colour: Colour, piece: &Piece<'_>) -> Result<(), 
 }
 
 /// Writes pieces, one behind another.
-pub(crate) fn add_pieces(
-    out: &mut String,
-    colour: Colour,
-    pieces: &[Piece<'_>],
-) -> Result<(), AllocError>
+pub fn add_pieces(out: &mut String, colour: Colour, pieces: &[Piece<'_>]) -> Result<(), AllocError>
     ensures { OnOk result (string_bytes out.new
         ≡ string_bytes out.old ++ page_text colour (map piece_view pieces.now)) }
 {

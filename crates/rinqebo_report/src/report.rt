@@ -32,6 +32,8 @@ pub struct Asked {
     pub mode: RunMode,
     /// The triple of the host.
     pub host: String,
+    /// Whether the triple of the host is only assumed: neither an option nor a list says it.
+    pub assumes_host: bool,
     /// The triple of the target, where there is one.
     pub target: Option<String>,
 }
@@ -58,6 +60,8 @@ pub struct TestRows {
     pub platform: BuiltFor,
     /// Whether it runs: the row of `runs`.
     pub runs: SettingRow,
+    /// Whether a list says that it is ignored. Such a test does not run, whatever selects it.
+    pub is_ignored: bool,
     /// Whether pages show whether it runs. A document of JSON always has it.
     pub shows_runs: bool,
     /// What is told of it. The keys are apart from each other.
@@ -192,6 +196,8 @@ pub enum Content {
         /// The key of the setting.
         key: String,
         rules: Vec<Rule>,
+        /// Whether the key is that of whether the test runs, and a list says that it is ignored.
+        is_ignored: bool,
     },
     /// What is set for each test.
     List {

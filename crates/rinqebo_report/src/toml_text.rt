@@ -152,7 +152,7 @@ fn add_value(out: &mut String, value: &Value) -> Result<(), AllocError>
 }
 
 /// A value as TOML, on one line.
-pub(crate) fn value_text(alloc: Global, value: &Value) -> Result<String, AllocError>
+pub fn value_text(alloc: Global, value: &Value) -> Result<String, AllocError>
     ensures { IfOk result (λ text. string_bytes text ≡ value_text value.now) }
 {
     let mut text = String::new(alloc);

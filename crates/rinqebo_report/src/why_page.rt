@@ -1,8 +1,8 @@
-//! The page of a setting: what comes of each rule, and what counts where none decides.
+//! The page of a key: what comes of each rule, and what counts where none decides.
 ghost use Rattle.std.specs.Prelude.{◌≡◌, ◌++◌, ◌+◌, ◌^◌, ◌<◌, option_map, OnOk, string_bytes};
 ghost use Rattle.serde_json.specs.View.{members_view};
-ghost use Rattle.rinqebo_report.specs.Document.{with_why};
-ghost use Rattle.rinqebo_report.specs.Pages.{verdict_text, verdict_style, number_run, reported_answer, condition_runs, shows_value, value_runs, written_runs, verdict_runs, conditions_runs, rule_runs, rules_runs};
+ghost use Rattle.rinqebo_report.specs.Document.{with_ignored, with_why};
+ghost use Rattle.rinqebo_report.specs.Pages.{verdict_text, verdict_style, number_run, reported_answer, condition_runs, shows_value, value_runs, written_runs, verdict_runs, conditions_runs, rule_runs, rules_runs, ignored_runs, why_runs};
 ghost use Rattle.rinqebo_report.specs.Pieces.{page_text};
 ghost use Rattle.rinqebo_report.specs.PieceView.{piece_view};
 ghost use Rattle.rinqebo_report.specs.TomlText.{value_text};
@@ -214,8 +214,8 @@ fn add_rule(
     add_written(alloc, out, colour, key, rule.verdict, rule.value.as_ref())
 }
 
-/// Writes the page of a setting.
-pub(crate) fn add_why(
+/// Writes rules, one after another.
+fn add_rules(
     alloc: Global,
     out: &mut String,
     colour: Colour,
@@ -233,7 +233,58 @@ pub(crate) fn add_why(
     Ok(())
 }
 
-/// Puts among members those of the page of a setting.
+/// Writes that a test does not run, where a list says that it is ignored.
+fn add_ignored(out: &mut String, colour: Colour, is_ignored: bool) -> Result<(), AllocError>
+    ensures { OnOk result (string_bytes out.new ≡ string_bytes out.old
+        ++ page_text colour (ignored_runs is_ignored)) }
+{
+    if !is_ignored {
+        return Ok(());
+    }
+    add_pieces(
+        out,
+        colour,
+        &[
+            Piece::Text(Style::Remark, "# runs = false: ignored in LIST"),
+            Piece::End,
+        ],
+    )
+}
+
+/// Writes the page of a key.
+pub(crate) fn add_why(
+    alloc: Global,
+    out: &mut String,
+    colour: Colour,
+    root: &str,
+    sources: &[Source],
+    key: &str,
+    rules: &[Rule],
+    is_ignored: bool,
+) -> Result<(), AllocError>
+    ensures { OnOk result (string_bytes out.new ≡ string_bytes out.old
+        ++ page_text colour (why_runs root.now sources.now key.now rules.now is_ignored)) }
+{
+    add_rules(alloc, out, colour, root, sources, key, rules)?;
+    add_ignored(out, colour, is_ignored)
+}
+
+/// Puts among members that a list says that a test is ignored.
+fn put_ignored(
+    members: &mut Map<String, Json>,
+    alloc: Global,
+    is_ignored: bool,
+) -> Result<(), AllocError>
+    ensures { OnOk result (members_view members.new.entries
+        ≡ with_ignored is_ignored (members_view members.old.entries)) }
+{
+    if !is_ignored {
+        return Ok(());
+    }
+    put(members, alloc, "ignored", Json::Bool(true))
+}
+
+/// Puts among members those of the page of a key.
 pub(crate) fn put_why(
     members: &mut Map<String, Json>,
     alloc: Global,
@@ -241,11 +292,14 @@ pub(crate) fn put_why(
     test: &TestId,
     key: &str,
     rules: &[Rule],
+    is_ignored: bool,
 ) -> Result<(), AllocError>
     ensures { OnOk result (members_view members.new.entries
-        ≡ with_why asked.now test.now key.now rules.now (members_view members.old.entries)) }
+        ≡ with_why asked.now test.now key.now rules.now is_ignored
+        (members_view members.old.entries)) }
 {
     put_requested(members, alloc, "explain", asked)?;
+    put_ignored(members, alloc, is_ignored)?;
     put_text(members, alloc, "key", key)?;
     put(members, alloc, "rules", rules_json(alloc, rules)?)?;
     put(members, alloc, "test", test_id_json(alloc, test)?)

@@ -1,2 +1,2 @@
-mod KeyLists
+pub mod KeyLists
 mod FeatureNames

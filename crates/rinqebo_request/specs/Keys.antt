@@ -1,5 +1,5 @@
 -- The keys of settings, as files write them.
-use Rattle.std.specs.Prelude.{ℕ, Bool, false, List, ◌++◌, Option, None, Some, codes}
+use Rattle.std.specs.Prelude.{ℕ, Bool, false, ◌||◌, List, ◌++◌, Option, None, Some, codes}
 use Rattle.std.specs.Str.{bytes_eq}
 use Rattle.nextest_elements.specs.declared.run_mode.NextestRunMode.{NextestRunMode}
 use Rattle.nextest_elements.specs.declared.run_mode.NextestRunMode.TheVariants.{Benchmark}
@@ -38,3 +38,13 @@ dotted (Some name) key = name ++ (codes "." ++ key)
 -- a setting as files write it
 abbrev pub key_text : Setting → NextestRunMode → List ℕ
 key_text s mode = dotted (key_table s mode) (key_name s)
+
+-- whether a table, if there is one, has a name
+abbrev pub is_table : Option (List ℕ) → List ℕ → Bool
+is_table None name = false
+is_table (Some table) name = bytes_eq table name
+
+-- whether a key names a setting: it is the key of the setting, or that of the table in which the
+-- setting is written
+abbrev pub is_named_by : List ℕ → NextestRunMode → Setting → Bool
+is_named_by key mode s = bytes_eq (key_text s mode) key || is_table (key_table s mode) key

@@ -2,13 +2,27 @@
 ghost use Rattle.std.specs.Prelude.{◌≡◌, ◌≢◌, ◌↔◌, IfOk, IsTrue, MatchOption, Some, codes, map, option_map, string_bytes};
 ghost use Rattle.nextest_settings.specs.Settings.{settings};
 ghost use Rattle.nextest_settings.specs.declared.setting.Setting.{Setting};
-ghost use Rattle.rinqebo_request.specs.Keys.{key_table, key_name, is_report, dotted, key_text};
+ghost use Rattle.std.specs.List.{filter};
+ghost use Rattle.rinqebo_request.specs.Keys.{key_table, key_name, is_named_by, is_report, is_table, dotted, key_text};
 
 use nextest_config::{NextestRunMode, Setting};
 use std::alloc::{AllocError, Global};
 
 /// The key of whether a test runs, which stands in no file.
 pub const RUNS: &str = "runs";
+
+/// The keys of a profile whose values are those of the whole run.
+const RUN_KEYS: [&str; 9] = [
+    "archive",
+    "default-filter",
+    "fail-fast",
+    "final-status-level",
+    "global-timeout",
+    "junit.path",
+    "junit.report-name",
+    "status-level",
+    "test-threads",
+];
 
 /// Where a profile or a rule writes a setting: the table within it, if there is one, and the key.
 #[derive(Clone, Copy, PartialEq, Eq)]
@@ -58,6 +72,16 @@ impl SettingKey {
     {
         match self.table {
             Some(table) => table == "junit",
+            None => false,
+        }
+    }
+
+    /// Whether it stands in a table of a name.
+    fn is_in(self, table: &str) -> bool
+        ensures { result ≡ is_table (option_map (λ table. table.now) self.table) table.now }
+    {
+        match self.table {
+            Some(name) => name == table,
             None => false,
         }
     }
@@ -123,4 +147,42 @@ pub fn setting_of(
         }
     }
     Ok(None)
+}
+
+/// Whether a key names a setting: it is that of the setting, or that of the table which has it.
+fn is_named_by(
+    alloc: Global,
+    setting: Setting,
+    mode: NextestRunMode,
+    key: &str,
+) -> Result<bool, AllocError>
+    ensures { IfOk result (λ is. is ≡ is_named_by key.now mode setting) }
+{
+    let is_key = has_key(alloc, setting, mode, key)?;
+    Ok(is_key || SettingKey::of(setting, mode).is_in(key))
+}
+
+/// The settings that a key names, in the order of all settings: that of the key, or those of a table.
+pub fn settings_of(
+    alloc: Global,
+    key: &str,
+    mode: NextestRunMode,
+) -> Result<Vec<Setting>, AllocError>
+    ensures { IfOk result (λ found. found.items ≡ filter (is_named_by key.now mode) settings) }
+{
+    let mut found = Vec::new(alloc);
+    for setting in Setting::ALL.iter() {
+        if is_named_by(alloc, *setting, mode, key)? {
+            found.push(*setting)?;
+        }
+    }
+    Ok(found)
+}
+
+/// The key by which `show-config` shows what a key sets for the whole run, if it sets that.
+pub fn run_key(key: &str) -> Option<&'static str> {
+    if key == "max-fail" {
+        return Some("fail-fast");
+    }
+    RUN_KEYS.iter().find(|known| **known == key).copied()
 }

@@ -9,16 +9,18 @@ mod named;
 mod notes;
 mod options;
 mod request;
+mod rows;
+mod test_words;
 mod words;
 
 pub use environment::{Environment, RunVariables};
 pub use features::{FEATURES, feature_name, feature_of, law_all_features};
 pub use hints::{name_hint, text_hint};
-pub use keys::{RUNS, SettingKey, all_keys, setting_of};
+pub use keys::{RUNS, SettingKey, all_keys, setting_of, settings_of};
 pub use named::{FileOption, NamedFile, ProfileSource};
 pub use notes::notes_of;
 pub use request::{
     Command, ConfigFile, EngineOptions, FileOptions, HOST, ListFile, Question, Request,
-    RequestedSettings, TestName, ToolFile,
+    RequestedSettings, RequestedTest, ToolFile,
 };
 pub use words::{ParseStop, parse};

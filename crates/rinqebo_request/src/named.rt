@@ -15,6 +15,8 @@ pub enum FileOption {
     HostCfg,
     /// `--target-cfg`.
     TargetCfg,
+    /// `--rustc-version`.
+    RustcVersion,
 }
 
 impl fmt::Display for FileOption {
@@ -24,6 +26,7 @@ impl fmt::Display for FileOption {
             FileOption::Metadata => "--metadata",
             FileOption::HostCfg => "--host-cfg",
             FileOption::TargetCfg => "--target-cfg",
+            FileOption::RustcVersion => "--rustc-version",
         })
     }
 }

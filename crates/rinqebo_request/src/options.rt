@@ -37,12 +37,13 @@ Examples:
   rinqebo explain api::smoke smoke::whole
   rinqebo explain api::smoke smoke::whole -P ci retries slow-timeout
   rinqebo explain api::smoke smoke::whole --why retries
+  rinqebo explain whole --list list.json -k retries -k junit
 
 Exit status:
   0  success
-  2  invalid command line, metadata or platform
+  2  invalid command line, list, metadata or platform; several tests match
   3  error in a configuration file
-  4  no such profile
+  4  no such profile, binary or test
   5  out of memory
   6  the output could not be written";
 
@@ -52,6 +53,7 @@ Examples:
   cargo nextest list --message-format json | rinqebo list -P ci -
   rinqebo list list.json retries slow-timeout
   rinqebo list list.json --by test-group
+  rinqebo list list.json --rustc-version rustc.txt
 
 Exit status:
   0  success
@@ -178,7 +180,7 @@ fn with_files<'a>(alloc: Global, command: Command<'a>) -> Result<Command<'a>, Al
             alloc,
             "metadata",
             "FILE",
-            "File with the output of `cargo metadata\n--format-version 1`, for deps and rdeps",
+            "File with the output of `cargo metadata\n--format-version 1`: packages and targets",
         ))
 }
 
@@ -201,16 +203,28 @@ fn with_output<'a>(
         ))
 }
 
-/// The options that say on what tests run, with what counts without the triples.
-fn with_platforms<'a>(
-    alloc: Global,
-    command: Command<'a>,
-    host: &'a str,
-    target: &'a str,
-) -> Result<Command<'a>, AllocError> {
+/// The options that say on what tests run.
+fn with_platforms<'a>(alloc: Global, command: Command<'a>) -> Result<Command<'a>, AllocError> {
+    let host = option(
+        alloc,
+        "host",
+        "TRIPLE",
+        "Host triple [default: that of\n--rustc-version, else that of LIST, else\nx86_64-unknown-linux-gnu]",
+    );
     command
-        .arg(option(alloc, "host", "TRIPLE", host))?
-        .arg(option(alloc, "target", "TRIPLE", target))?
+        .arg(host.conflicts_with("rustc-version")?)?
+        .arg(option(
+            alloc,
+            "rustc-version",
+            "FILE",
+            "Output of `rustc -vV`, which has the host\ntriple",
+        ))?
+        .arg(option(
+            alloc,
+            "target",
+            "TRIPLE",
+            "Target triple [default: that of LIST, else\nCARGO_BUILD_TARGET, else host]",
+        ))?
         .arg(option(
             alloc,
             "host-cfg",
@@ -254,29 +268,55 @@ fn with_profile<'a>(alloc: Global, command: Command<'a>) -> Result<Command<'a>, 
         .arg(mode.default_value("test").hide_default_value(true))
 }
 
-/// The command that explains the settings of a test.
-fn explain_command<'a>(alloc: Global) -> Result<Command<'a>, AllocError> {
-    let command = Command::new(alloc, "explain")
-        .about("Show the settings of one test, and where each value comes from")
-        .after_help(EXPLAIN_NOTES)
-        .arg(word(alloc, "BINARY", "Binary id, such as api::smoke").required(true))?
-        .arg(word(alloc, "TEST", "Test name").required(true))?
-        .arg(keys(alloc, "Settings to show, or `runs` [default: all]"))?
+/// The words and options that name a test, and what is shown of it.
+fn with_test<'a>(alloc: Global, command: Command<'a>) -> Result<Command<'a>, AllocError> {
+    let list = option(
+        alloc,
+        "list",
+        "LIST",
+        "Find the test in LIST, the output of\n`cargo nextest list --message-format json`\n(- for standard input)",
+    );
+    let key = option(
+        alloc,
+        "key",
+        "KEY",
+        "Show KEY; repeatable. Without BINARY, this\nis how KEYs are named",
+    );
+    command
+        .arg(word(
+            alloc,
+            "BINARY",
+            "Binary id, such as api::smoke; needed without --list",
+        ))?
+        .arg(word(
+            alloc,
+            "TEST",
+            "Test name; without BINARY, its end behind :: is enough",
+        ))?
+        .arg(keys(
+            alloc,
+            "Settings to show, or a table of them, or `runs` [default: all]",
+        ))?
+        .arg(key.short('k').action(ArgAction::Append))?
+        .arg(list)?
         .arg(option(
             alloc,
             "why",
             "KEY",
             "List each rule that could set KEY, and\nwhether and why it applies",
-        ))?;
+        ))
+}
+
+/// The command that explains the settings of a test.
+fn explain_command<'a>(alloc: Global) -> Result<Command<'a>, AllocError> {
+    let command = Command::new(alloc, "explain")
+        .about("Show the settings of one test, and where each value comes from")
+        .after_help(EXPLAIN_NOTES)
+        .override_usage("rinqebo explain [OPTIONS] [BINARY] <TEST> [KEY]...");
+    let command = with_test(alloc, command)?;
     let command = with_profile(alloc, command)?;
     let command = with_files(alloc, command)?;
-    let command = with_platforms(
-        alloc,
-        command,
-        "Host triple\n[default: x86_64-unknown-linux-gnu]",
-        "Target triple\n[default: CARGO_BUILD_TARGET, else host]",
-    )?
-    .arg(flag(
+    let command = with_platforms(alloc, command)?.arg(flag(
         alloc,
         "host-binary",
         "The binary is built for the host, as those\nof proc-macros are",
@@ -297,18 +337,13 @@ fn list_command<'a>(alloc: Global) -> Result<Command<'a>, AllocError> {
         .arg(list.required(true))?
         .arg(keys(
             alloc,
-            "Settings to show, or `runs` [default: those that a rule sets]",
+            "Settings to show, or a table of them, or `runs`\n[default: those that a rule sets]",
         ))?
         .arg(flag(alloc, "all", "Show all settings of each test"))?
         .arg(option(alloc, "by", "KEY", "Group the tests by their value of KEY"))?;
     let command = with_profile(alloc, command)?;
     let command = with_files(alloc, command)?;
-    let command = with_platforms(
-        alloc,
-        command,
-        "Host triple [default: that of LIST, else\nx86_64-unknown-linux-gnu]",
-        "Target triple [default: that of LIST, else\nCARGO_BUILD_TARGET, else host]",
-    )?;
+    let command = with_platforms(alloc, command)?;
     with_output(alloc, command, ANSWER_FORMATS, ANSWER_FORMATS_HELP)
 }
 

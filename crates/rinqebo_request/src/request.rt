@@ -4,20 +4,7 @@ use nextest_config::{BuildPlatform, ConfigExperimental, NextestRunMode, Setting,
 use rinqebo_report::{Colour, Format};
 use std::collections::BTreeSet;
 
-/// A test, as a user names it.
-#[derive(Clone, Copy)]
-pub struct TestName<'a> {
-    /// The id of its binary.
-    pub binary: &'a str,
-    /// Its name within the binary.
-    pub name: &'a str,
-    /// What its binary is built for.
-    pub platform: BuildPlatform,
-    /// For what it is run.
-    pub mode: NextestRunMode,
-}
-
-/// The list of tests that a command is about.
+/// The list of tests that a command reads.
 #[derive(Clone, Copy)]
 pub enum ListFile<'a> {
     /// The one at this path.
@@ -27,6 +14,14 @@ pub enum ListFile<'a> {
 }
 
 impl<'a> ListFile<'a> {
+    /// The one at a path that a user writes: `-` is standard input.
+    pub fn at(path: &'a str) -> ListFile<'a> {
+        match path {
+            "-" => ListFile::Input,
+            path => ListFile::Named(path),
+        }
+    }
+
     /// Its path, as messages show it.
     pub fn path(self) -> &'a str {
         match self {
@@ -34,6 +29,21 @@ impl<'a> ListFile<'a> {
             ListFile::Input => "-",
         }
     }
+}
+
+/// A test, as the words of a command name it.
+#[derive(Clone, Copy)]
+pub struct RequestedTest<'a> {
+    /// The id of its binary. Without it, the test is one of the list.
+    pub binary: Option<&'a str>,
+    /// Its name within the binary. Without a binary, the end of its name behind `::` names it, too.
+    pub name: &'a str,
+    /// The platform that its binary is built for, where neither a list nor metadata give it.
+    pub platform: BuildPlatform,
+    /// For what it is run.
+    pub mode: NextestRunMode,
+    /// The list that has the test, if one is named.
+    pub list: Option<ListFile<'a>>,
 }
 
 /// What is told of a test.
@@ -69,7 +79,7 @@ pub enum Question<'a> {
         /// The name of the profile.
         profile: &'a str,
         /// The test that is asked about.
-        test: TestName<'a>,
+        test: RequestedTest<'a>,
         /// What is told of it.
         asked: RequestedSettings,
     },
@@ -78,7 +88,7 @@ pub enum Question<'a> {
         /// The name of the profile.
         profile: &'a str,
         /// The test that is asked about.
-        test: TestName<'a>,
+        test: RequestedTest<'a>,
         /// The setting whose rules are told.
         setting: Setting,
     },
@@ -148,8 +158,11 @@ pub const HOST: &str = "x86_64-unknown-linux-gnu";
 /// What the languages of filters and platforms know.
 #[derive(Clone, Copy)]
 pub struct EngineOptions<'a> {
-    /// The triple of the host. Without it, a list of tests may say it, and else it is [`HOST`].
+    /// The triple of the host. Without it, what the compiler prints of itself or a list of tests may
+    /// give it, and else it is [`HOST`].
     pub host: Option<&'a str>,
+    /// The path of what the compiler prints of itself, which has the triple of the host.
+    pub rustc_version: Option<&'a str>,
     /// The triple of the target. Without it, a list of tests may say it.
     pub target: Option<&'a str>,
     /// The triple of the target where neither words nor a list say it. Without it, what is built for
@@ -159,7 +172,7 @@ pub struct EngineOptions<'a> {
     pub host_cfg: Option<&'a str>,
     /// The path of what the compiler prints for the target. Without it, a table knows the triple.
     pub target_cfg: Option<&'a str>,
-    /// The path of what `cargo metadata` prints. Without it, `deps` and `rdeps` are refused.
+    /// The path of what `cargo metadata` prints. Without it, `deps` and `rdeps` are left open.
     pub metadata: Option<&'a str>,
 }
 
@@ -186,14 +199,12 @@ pub struct Request<'a> {
 }
 
 impl<'a> Request<'a> {
-    /// The list of tests that it is about, if it is about one.
+    /// The list of tests that it names, if it names one.
     pub fn list(&self) -> Option<ListFile<'a>> {
         match &self.question {
             Question::List { list, .. } => Some(*list),
-            Question::Explain { .. }
-            | Question::Why { .. }
-            | Question::ShowConfig { .. }
-            | Question::Check { .. } => None,
+            Question::Explain { test, .. } | Question::Why { test, .. } => test.list,
+            Question::ShowConfig { .. } | Question::Check { .. } => None,
         }
     }
 

@@ -1,19 +1,17 @@
 //! Reads the words of the command line.
 use crate::environment::{Environment, set};
 use crate::features::{FEATURES, feature_of};
-use crate::hints::{key_hint, name_hint};
-use crate::keys::{RUNS, setting_of};
+use crate::hints::name_hint;
 use crate::named::ProfileSource;
 use crate::options::program;
 use crate::request::{
-    Command, ConfigFile, EngineOptions, FileOptions, ListFile, Question, Request,
-    RequestedSettings, TestName, ToolFile,
+    Command, ConfigFile, EngineOptions, FileOptions, ListFile, Question, Request, ToolFile,
 };
+use crate::rows::listed_rows;
+use crate::test_words::explain_request;
 use clap::ArgMatches;
 use clap::error::ErrorKind;
-use nextest_config::{
-    BuildPlatform, ConfigExperimental, InvalidIdentifier, NextestRunMode, Setting, ToolName,
-};
+use nextest_config::{ConfigExperimental, InvalidIdentifier, NextestRunMode, ToolName};
 use rinqebo_report::{Colour, Format};
 use std::alloc::{AllocError, Global};
 use std::collections::BTreeSet;
@@ -36,7 +34,7 @@ impl From<AllocError> for ParseStop {
 }
 
 /// A fault of usage, with a hint if there is one.
-fn usage(alloc: Global, message: &str, hint: Option<String>) -> Result<ParseStop, AllocError> {
+pub fn usage(alloc: Global, message: &str, hint: Option<String>) -> Result<ParseStop, AllocError> {
     match hint {
         Some(hint) => Ok(ParseStop::Usage(format!(in alloc; "error: {message}\n  {hint}\n")?)),
         None => Ok(ParseStop::Usage(format!(in alloc; "error: {message}\n")?)),
@@ -92,7 +90,7 @@ fn tool_files<'a>(alloc: Global, matches: &ArgMatches<'a>) -> Result<Vec<ToolFil
 }
 
 /// The experimental features that variables and options switch on.
-fn features(
+pub fn features(
     alloc: Global,
     matches: &ArgMatches<'_>,
     environment: &Environment,
@@ -115,7 +113,7 @@ fn features(
 }
 
 /// The files that are read, beside the repository's.
-fn files<'a>(
+pub fn files<'a>(
     alloc: Global,
     matches: &ArgMatches<'a>,
     config_file: ConfigFile<'a>,
@@ -129,7 +127,7 @@ fn files<'a>(
 }
 
 /// The repository's file that an option names.
-fn named_file<'a>(matches: &ArgMatches<'a>) -> ConfigFile<'a> {
+pub fn named_file<'a>(matches: &ArgMatches<'a>) -> ConfigFile<'a> {
     match matches.get_str("config-file") {
         Some(path) => ConfigFile::Named(path),
         None => ConfigFile::Discovered,
@@ -157,9 +155,10 @@ fn checked_file<'a>(alloc: Global, matches: &ArgMatches<'a>) -> Result<ConfigFil
 
 /// What the languages of filters and platforms know. For a list of tests that may say the target it
 /// is told later whether there is one.
-fn engines<'a>(matches: &ArgMatches<'a>, environment: &'a Environment) -> EngineOptions<'a> {
+pub fn engines<'a>(matches: &ArgMatches<'a>, environment: &'a Environment) -> EngineOptions<'a> {
     EngineOptions {
         host: matches.get_str("host"),
+        rustc_version: matches.get_str("rustc-version"),
         target: matches.get_str("target"),
         build_target: set(&environment.target),
         host_cfg: matches.get_str("host-cfg"),
@@ -172,6 +171,7 @@ fn engines<'a>(matches: &ArgMatches<'a>, environment: &'a Environment) -> Engine
 fn file_engines<'a>(matches: &ArgMatches<'a>) -> EngineOptions<'a> {
     EngineOptions {
         host: None,
+        rustc_version: None,
         target: None,
         build_target: None,
         host_cfg: None,
@@ -181,7 +181,7 @@ fn file_engines<'a>(matches: &ArgMatches<'a>) -> EngineOptions<'a> {
 }
 
 /// How an answer is written.
-fn format<'a>(matches: &ArgMatches<'a>, environment: &'a Environment) -> Format<'a> {
+pub fn format<'a>(matches: &ArgMatches<'a>, environment: &'a Environment) -> Format<'a> {
     match matches.get_str("format") {
         Some("json") => Format::Json,
         Some("concise") => Format::Concise,
@@ -191,7 +191,7 @@ fn format<'a>(matches: &ArgMatches<'a>, environment: &'a Environment) -> Format<
 }
 
 /// Whether an answer has colours.
-fn colour(matches: &ArgMatches<'_>, environment: &Environment) -> Colour {
+pub fn colour(matches: &ArgMatches<'_>, environment: &Environment) -> Colour {
     let when = matches
         .get_str("color")
         .or(set(&environment.colour))
@@ -208,113 +208,16 @@ fn colour(matches: &ArgMatches<'_>, environment: &Environment) -> Colour {
     }
 }
 
-/// The setting of a key.
-fn setting(alloc: Global, key: &str, mode: NextestRunMode) -> Result<Setting, ParseStop> {
-    if let Some(setting) = setting_of(alloc, key, mode)? {
-        return Ok(setting);
-    }
-    let message = format!(in alloc; "unknown setting `{key}`")?;
-    let hint = key_hint(alloc, key, mode)?;
-    Err(usage(alloc, message.as_str(), hint)?)
-}
-
-/// What is named of a test: whether it runs, and settings.
-#[derive(Drop)]
-struct NamedRows {
-    runs: bool,
-    settings: Vec<Setting>,
-}
-
-impl NamedRows {
-    /// Whether nothing is named.
-    fn is_empty(&self) -> bool {
-        !self.runs && self.settings.is_empty()
-    }
-
-    /// Adds what a key names.
-    fn add(&mut self, alloc: Global, key: &str, mode: NextestRunMode) -> Result<(), ParseStop> {
-        if key == RUNS {
-            self.runs = true;
-            return Ok(());
-        }
-        let setting = setting(alloc, key, mode)?;
-        self.settings.push(setting).map_err(AllocError::from)?;
-        Ok(())
-    }
-
-    /// The same, as it is asked for.
-    fn requested(self) -> RequestedSettings {
-        let NamedRows { runs, settings } = self;
-        RequestedSettings::These { runs, settings }
-    }
-}
-
-/// What is named of a test.
-fn named_rows(
-    alloc: Global,
-    matches: &ArgMatches<'_>,
-    mode: NextestRunMode,
-) -> Result<NamedRows, ParseStop> {
-    let mut named = NamedRows {
-        runs: false,
-        settings: Vec::new(alloc),
-    };
-    for key in matches.get_strs("KEY").unwrap_or(&[]) {
-        named.add(alloc, *key, mode)?;
-    }
-    Ok(named)
-}
-
-/// Whether a test runs, and all settings.
-fn all_rows(alloc: Global) -> Result<RequestedSettings, AllocError> {
-    let mut settings = Vec::new(alloc);
-    for setting in Setting::ALL.iter() {
-        settings.push(*setting)?;
-    }
-    Ok(RequestedSettings::These {
-        runs: true,
-        settings,
-    })
-}
-
-/// What is asked for of a test: all, where nothing is named.
-fn explained_rows(
-    alloc: Global,
-    matches: &ArgMatches<'_>,
-    mode: NextestRunMode,
-) -> Result<RequestedSettings, ParseStop> {
-    let named = named_rows(alloc, matches, mode)?;
-    if named.is_empty() {
-        return Ok(all_rows(alloc)?);
-    }
-    Ok(named.requested())
-}
-
 /// The mode that is asked for.
-fn mode(matches: &ArgMatches<'_>) -> NextestRunMode {
+pub fn mode(matches: &ArgMatches<'_>) -> NextestRunMode {
     match matches.get_str("mode") {
         Some("benchmark") => NextestRunMode::Benchmark,
         _ => NextestRunMode::Test,
     }
 }
 
-/// The test that is asked about.
-fn test_name<'a>(matches: &ArgMatches<'a>) -> TestName<'a> {
-    let platform = if matches.get_flag("host-binary") {
-        BuildPlatform::Host
-    } else {
-        BuildPlatform::Target
-    };
-    TestName {
-        binary: matches.get_str("BINARY").unwrap_or(""),
-        name: matches.get_str("TEST").unwrap_or(""),
-        platform,
-        mode: mode(matches),
-    }
-}
-
 /// The profile that is asked for.
-fn profile<'a>(matches: &ArgMatches<'a>, environment: &'a Environment) -> &'a str {
+pub fn profile<'a>(matches: &ArgMatches<'a>, environment: &'a Environment) -> &'a str {
     matches
         .get_str("profile")
         .or(set(&environment.profile))
@@ -322,7 +225,7 @@ fn profile<'a>(matches: &ArgMatches<'a>, environment: &'a Environment) -> &'a st
 }
 
 /// What names the profile that is asked for.
-fn profile_source(matches: &ArgMatches<'_>, environment: &Environment) -> ProfileSource {
+pub fn profile_source(matches: &ArgMatches<'_>, environment: &Environment) -> ProfileSource {
     if matches.get_str("profile").is_some() {
         ProfileSource::CommandLine
     } else if set(&environment.profile).is_some() {
@@ -332,86 +235,6 @@ fn profile_source(matches: &ArgMatches<'_>, environment: &Environment) -> Profil
     }
 }
 
-/// What is asked about a test.
-fn explain_question<'a>(
-    alloc: Global,
-    matches: &ArgMatches<'a>,
-    environment: &'a Environment,
-) -> Result<Question<'a>, ParseStop> {
-    let test = test_name(matches);
-    let profile = profile(matches, environment);
-    let Some(key) = matches.get_str("why") else {
-        return Ok(Question::Explain {
-            profile,
-            test,
-            asked: explained_rows(alloc, matches, test.mode)?,
-        });
-    };
-    if matches.contains_id("KEY") {
-        return Err(usage(alloc, "`--why` stands in place of settings", None)?);
-    }
-    if key == RUNS {
-        return Err(usage(
-            alloc,
-            "`--why` lists rules of a setting, and `runs` is no setting",
-            None,
-        )?);
-    }
-    Ok(Question::Why {
-        profile,
-        test,
-        setting: setting(alloc, key, test.mode)?,
-    })
-}
-
-/// The request of the command `explain`.
-fn explain_request<'a>(
-    alloc: Global,
-    matches: &ArgMatches<'a>,
-    environment: &'a Environment,
-) -> Result<Request<'a>, ParseStop> {
-    let engines = engines(matches, environment);
-    if engines.target.or(engines.build_target).is_none() && engines.target_cfg.is_some() {
-        return Err(usage(alloc, "`--target-cfg` goes with `--target`", None)?);
-    }
-    Ok(Request {
-        question: explain_question(alloc, matches, environment)?,
-        profile_source: profile_source(matches, environment),
-        files: files(alloc, matches, named_file(matches))?,
-        engines,
-        features: features(alloc, matches, environment)?,
-        format: format(matches, environment),
-        colour: colour(matches, environment),
-        shows_progress: false,
-    })
-}
-
-/// What is asked for of each test: without a word, the settings that rules decide.
-fn requested_settings(
-    alloc: Global,
-    matches: &ArgMatches<'_>,
-    mode: NextestRunMode,
-) -> Result<RequestedSettings, ParseStop> {
-    let mut named = named_rows(alloc, matches, mode)?;
-    let is_all = matches.get_flag("all");
-    if is_all && !named.is_empty() {
-        return Err(usage(alloc, "`--all` stands in place of settings", None)?);
-    }
-    if let Some(key) = matches.get_str("by") {
-        if is_all || !named.is_empty() {
-            return Err(usage(alloc, "`--by` stands in place of settings", None)?);
-        }
-        named.add(alloc, key, mode)?;
-    }
-    if is_all {
-        return Ok(all_rows(alloc)?);
-    }
-    if named.is_empty() {
-        return Ok(RequestedSettings::Decided);
-    }
-    Ok(named.requested())
-}
-
 /// What is asked about a list of tests.
 fn list_question<'a>(
     alloc: Global,
@@ -419,15 +242,14 @@ fn list_question<'a>(
     environment: &'a Environment,
 ) -> Result<Question<'a>, ParseStop> {
     let mode = mode(matches);
-    let list = match matches.get_str("LIST") {
-        Some("-") | None => ListFile::Input,
-        Some(path) => ListFile::Named(path),
-    };
+    let list = matches
+        .get_str("LIST")
+        .map_or(ListFile::Input, ListFile::at);
     Ok(Question::List {
         profile: profile(matches, environment),
         mode,
         list,
-        asked: requested_settings(alloc, matches, mode)?,
+        asked: listed_rows(alloc, matches, mode)?,
     })
 }
 

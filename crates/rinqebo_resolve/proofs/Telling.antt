@@ -11,7 +11,7 @@ use Rattle.rinqebo_request.specs.declared.request.Question.{Question}
 use Rattle.rinqebo_request.specs.declared.request.Question.TheVariants as questions
 use Rattle.rinqebo_request.specs.declared.request.Request.{Request}
 use Rattle.rinqebo_run.specs.Answered.{AnswersQuestion, IsAnswer}
-use Rattle.rinqebo_run.specs.Refused.{Fails}
+use Rattle.rinqebo_run.specs.Refused.{Fails, LackProfileFor, LackTestFor, LacksTestOf}
 use Rattle.rinqebo_run.specs.declared.answer.Answer.{Answer}
 use Rattle.rinqebo_load.specs.declared.failure.Failure.{Failure}
 use Rattle.rinqebo_load.specs.declared.failure.Failure.TheVariants as failures
@@ -48,6 +48,22 @@ answered asked request gathered report status text is_request is_answer document
       document = document;
     }
 
+-- a question about a list lacks no test
+tested : {X : Type 0} (asked : RequestedText) (q : Question) (session : Session) → AsksForAll asked q
+    → LacksTestOf session q → X
+tested asked (questions.Explain profile test settings) session asks lacks = absurd asks
+tested asked (questions.Why profile test setting) session asks lacks = absurd asks
+tested asked (questions.List profile mode list shown) session asks lacks = absurd lacks
+tested asked (questions.ShowConfig profile keys with_hidden) session asks lacks = absurd asks
+tested asked (questions.Check deny_warnings) session asks lacks = absurd asks
+
+-- what a request for a list lacks is the profile
+profile_lacks : (asked : RequestedText) (request : Request) (gathered : Gathered) → IsRequestFor asked request
+    → LackProfileFor request gathered ⊎ LackTestFor request gathered → LackProfileFor request gathered
+profile_lacks asked request gathered is_request (inl profile) = profile
+profile_lacks asked request gathered is_request (inr test) =
+    tested asked request.question test.session is_request.question test.lacks
+
 -- the ending for which the program answers nothing
 unanswered : (asked : RequestedText) (request : Request) (gathered : Gathered) (failure : Failure) (ending : Ending)
     → IsRequestFor asked request → Fails request gathered failure → TellsFailure failure ending
@@ -64,9 +80,12 @@ unanswered asked request gathered (failures.NoProfile report) (ends.NoProfile te
   request = request;
   is_request = is_request;
   report = report;
-  holds = (failure_reported request gathered (failures.NoProfile report) 4 fails (inl refl)).lacking refl;
+  holds = profile_lacks asked request gathered is_request
+      ((failure_reported request gathered (failures.NoProfile report) 4 fails (inl refl)).lacking refl);
   document = tells;
 }
+unanswered asked request gathered (failures.NoTest report) (ends.NoEngines reason) is_request fails tells = tt
+unanswered asked request gathered (failures.SeveralTests report) (ends.NoEngines reason) is_request fails tells = tt
 unanswered asked request gathered failure ending is_request fails tells = absurd tells
 
 -- the ending that tells what the program answers

@@ -60,13 +60,15 @@ pub record IsEndingOf (run : RunText) (ending : Ending) : Type 0 where
   pub is_ending : IsEndingIn (requested_of run) gathered ending
 
 -- an ending tells why the program answers nothing: the report of the refusal, or of the profile that
--- is missing, in JSON
+-- is missing, in JSON; a run of a list asks for no test that may be missing
 abbrev pub TellsFailure : Failure → Ending → Type 0
 TellsFailure (failures.Engines fault) (ends.NoEngines reason) = Unit {0}
 TellsFailure (failures.Refused report) (ends.Refused text) =
     string_bytes text ≡ rendered report Json Plain
 TellsFailure (failures.NoProfile report) (ends.NoProfile text) =
     string_bytes text ≡ rendered report Json Plain
+TellsFailure (failures.NoTest report) (ends.NoEngines reason) = Unit {0}
+TellsFailure (failures.SeveralTests report) (ends.NoEngines reason) = Unit {0}
 TellsFailure failure ending = ⊥
 
 -- an ending tells what the program answers: its report in JSON, or why there is none

@@ -77,6 +77,7 @@ impl Asked {
     {
         EngineOptions {
             host: Some(self.host.as_str()),
+            rustc_version: None,
             target: text_of(&self.target),
             build_target: None,
             host_cfg: None,
@@ -155,6 +156,7 @@ pub fn parted(run: RunRequest) -> (Asked, Gathered)
         config_file,
         organisation_file,
         tools,
+        rustc_version: None,
         host_cfg: cfg,
         target_cfg,
         metadata,

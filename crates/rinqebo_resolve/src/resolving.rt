@@ -12,7 +12,7 @@ use crate::asking::{Asked, LIST, parted};
 use crate::ending::Ending;
 use rinqebo_files::Gathered;
 use rinqebo_forms::{RequestFault, RunRequest};
-use rinqebo_load::{Failure, InputFault};
+use rinqebo_load::{Failure, InputFault, OpenFilter};
 use rinqebo_report::{Colour, Format, Report, render};
 use rinqebo_rules::NoProgress;
 use rinqebo_run::{Answer, answer_of};
@@ -33,9 +33,14 @@ fn reason_of(alloc: Global, fault: &InputFault) -> Result<String, AllocError> {
             let list = LIST;
             format!(in alloc; "no list of tests in `{list}`: it is empty")
         }
-        InputFault::List(_, _) | InputFault::NoTarget | InputFault::Memory => {
-            format!(in alloc; "{fault}")
+        InputFault::NoMetadata(OpenFilter { place, set }) => {
+            let word = set.word();
+            format!(in alloc; "{place}: this filter uses `{word}()`, which needs `metadata`")
         }
+        InputFault::List(_, _)
+        | InputFault::NoHost(_)
+        | InputFault::NoTarget
+        | InputFault::Memory => format!(in alloc; "{fault}"),
     }
 }
 
@@ -47,6 +52,9 @@ fn failed(alloc: Global, failure: &Failure) -> Result<Ending, AllocError>
         Failure::Engines(fault) => Ok(Ending::NoEngines(reason_of(alloc, fault)?)),
         Failure::Refused(report) => Ok(Ending::Refused(document_of(alloc, report)?)),
         Failure::NoProfile(report) => Ok(Ending::NoProfile(document_of(alloc, report)?)),
+        Failure::NoTest(report) | Failure::SeveralTests(report) => {
+            Ok(Ending::NoEngines(document_of(alloc, report)?))
+        }
         Failure::Memory => Err(AllocError),
     }
 }

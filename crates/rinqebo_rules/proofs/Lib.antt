@@ -13,3 +13,4 @@ pub mod RowsMore
 pub mod Selected
 pub mod ScriptRules
 pub mod Selecting
+pub mod OpenFilters

@@ -6,9 +6,3 @@ pub ok_same : {T E X : Type 0} (f : T → X) (r : Result T E) (a b : X) → a �
     → IfOk r (λ t. f t ≡ b)
 ok_same f (Ok t) a b same is = is ∙ same
 ok_same f (Err e) a b same is = tt
-
--- what follows from two facts of a result
-pub ok_both : {T E : Type 0} (P Q R : T → Type 0) (r : Result T E) → ((t : T) → P t → Q t → R t) → IfOk r P
-    → IfOk r Q → IfOk r R
-ok_both P Q R (Ok t) follows first second = follows t first second
-ok_both P Q R (Err e) follows first second = tt

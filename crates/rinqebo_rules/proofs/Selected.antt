@@ -11,14 +11,14 @@ use Rattle.nextest_settings.specs.declared.platforms.EvaluatedRule.{EvaluatedRul
 use Rattle.rinqebo_report.specs.declared.report.SettingRow.{SettingRow}
 use Rattle.rinqebo_rules.proofs.NoneHold.{meant_overrides}
 use Rattle.rinqebo_rules.specs.RulePlaces.{id_place}
-use Rattle.rinqebo_rules.specs.Runs.{IsRunReported, IsRunsRow, filtering_id, filtering_place, is_selected}
+use Rattle.rinqebo_rules.specs.Runs.{IsRunReported, IsRunsRow, filtering_id, filtering_place, is_selected, runs_if}
 use Rattle.rinqebo_rules.specs.TestOrigins.{Basis}
 
--- the row tells what the default filter says
-pub reported_run : {M : Type 0} (basis : Basis) (query : QueryContext M) (profile : EvaluatableModel M) (runs : Bool)
-    → runs ≡ is_selected query profile → (row : SettingRow) → IsRunsRow basis (filtering_place profile) runs row
-    → IsRunReported basis query profile row
-reported_run basis query profile runs same row told =
+-- the row tells what the default filter and the list say
+pub reported_run : {M : Type 0} (basis : Basis) (query : QueryContext M) (profile : EvaluatableModel M)
+    (ignored runs : Bool) → runs ≡ runs_if (is_selected query profile) ignored → (row : SettingRow)
+    → IsRunsRow basis (filtering_place profile) runs row → IsRunReported basis query profile ignored row
+reported_run basis query profile ignored runs same row told =
     subst (λ b. IsRunsRow basis (filtering_place profile) b row) same told
 
 -- the override whose default filter counts is that of what the rules of a profile mean

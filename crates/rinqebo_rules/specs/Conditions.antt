@@ -1,16 +1,11 @@
 -- What the conditions of a rule say of a test.
-use Rattle.std.specs.Prelude.{Bool, true, false, if◌then◌else◌, List, map, Option, None, Some}
+use Rattle.std.specs.Prelude.{Bool, true, false, if◌then◌else◌, Option, None, Some}
 use Rattle.filter_language.specs.Filtersets.{marks_view}
 use Rattle.filter_language.specs.declared.filterset.Filterset.{Filterset}
 use Rattle.nextest_engines.specs.Engines.{Test}
-use Rattle.nextest_engines.specs.declared.queries.BuildPlatforms.{BuildPlatforms}
 use Rattle.filter_engine.specs.Compiling.{names_of}
 use Rattle.filter_engine.specs.Engine.{filter_holds}
 use Rattle.filter_engine.specs.declared.compiling.FieldMatcher.{FieldMatcher}
-use Rattle.nextest_load.specs.Config.{ConfigModel}
-use Rattle.nextest_settings.specs.Chains.{overrides_of, nearest_filter, match_all_filter}
-use Rattle.nextest_settings.specs.Platforms.{rule_on, default_filter_of}
-use Rattle.nextest_tables.specs.Written.{Name}
 use Rattle.rinqebo_report.specs.declared.report.ConditionAnswer.{ConditionAnswer}
 use Rattle.rinqebo_report.specs.declared.report.ConditionAnswer.TheVariants as says
 use Rattle.platform_language.specs.Expressions.{spec_view}
@@ -50,10 +45,3 @@ abbrev pub reported_by_facts : Bool → RuleFacts → ConditionAnswer
 reported_by_facts has_filter facts =
     requested_if facts.is_on
     (if has_filter then reported_answer (Some facts.holds) else says.Absent)
-
--- The default filter that counts for profiles of these names, on the platforms of a build.
-abbrev pub default_filter_here : BuildPlatforms Platform
-    → ConfigModel (Filterset FieldMatcher) TargetSpec → List Name → Filterset FieldMatcher
-default_filter_here platforms config names =
-    (default_filter_of (map (rule_on is_met_by platforms) (overrides_of config.layers names))
-    (nearest_filter config.layers names) (match_all_filter config.match_all)).filter

@@ -18,5 +18,6 @@ pub mod Selections
 pub mod Unused
 pub mod Settings
 pub mod Runs
+pub mod EvaluatedFilters
 pub mod Rows
 pub mod Scripts

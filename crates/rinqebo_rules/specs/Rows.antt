@@ -3,12 +3,13 @@ use Rattle.std.specs.Prelude.{◌≡◌, Bool, List, string_bytes}
 use Rattle.std.specs.List.{AllZip}
 use Rattle.nextest_elements.specs.declared.run_mode.NextestRunMode.{NextestRunMode}
 use Rattle.nextest_engines.specs.Engines.{Test}
+use Rattle.nextest_lists.specs.Lists.{ListTest}
 use Rattle.nextest_settings.specs.Deciding.{QueryContext}
 use Rattle.nextest_settings.specs.Profile.{EvaluatableModel}
 use Rattle.nextest_settings.specs.Queries.{query_in, setting_origin, setting_value}
 use Rattle.nextest_settings.specs.declared.setting.Setting.{Setting}
 use Rattle.rinqebo_rules.specs.TestOrigins.{Basis, wrapping_id}
-use Rattle.rinqebo_rules.specs.Runs.{IsRunReported, is_selected, shows_runs}
+use Rattle.rinqebo_rules.specs.Runs.{IsRunReported, is_selected, runs_if, shows_runs}
 use Rattle.rinqebo_rules.specs.Settings.{IsSettingReported, reported_settings}
 use Rattle.rinqebo_request.specs.declared.request.RequestedSettings.{RequestedSettings}
 use Rattle.rinqebo_report.specs.declared.report.SettingRow.{SettingRow}
@@ -22,21 +23,23 @@ AreSettingsReported basis query mode profile = AllZip
     (IsSettingReported basis (wrapping_id query profile) (setting_value query mode profile)
     (setting_origin query mode profile) mode)
 
--- A test is told: its binary, its name, whether it runs, and the settings that rules decide, or that
--- are asked for.
+-- A test is told: its binary, its name, whether it runs, whether a list says that it is ignored, and
+-- the settings that rules decide, or that are asked for.
 pub record IsTestReported {M : Type 0} (basis : Basis) (query : QueryContext M)
-    (mode : NextestRunMode) (profile : EvaluatableModel M) (asked : RequestedSettings) (test : Test)
-    (told : TestRows) : Type 0
+    (mode : NextestRunMode) (profile : EvaluatableModel M) (asked : RequestedSettings)
+    (listed : ListTest) (told : TestRows) : Type 0
   where
-    pub binary : string_bytes told.binary ≡ test.binary.binary_id
-    pub name : string_bytes told.name ≡ test.name
-    pub run_reported : IsRunReported basis query profile told.runs
-    pub run_shown : told.shows_runs ≡ shows_runs asked (is_selected query profile)
+    pub binary : string_bytes told.binary ≡ listed.test.binary.binary_id
+    pub name : string_bytes told.name ≡ listed.test.name
+    pub run_reported : IsRunReported basis query profile listed.ignored told.runs
+    pub run_shown : told.shows_runs
+        ≡ shows_runs asked (runs_if (is_selected query profile) listed.ignored)
+    pub ignored_reported : told.is_ignored ≡ listed.ignored
     pub settings_reported : AreSettingsReported basis query mode profile
         (reported_settings asked (setting_origin query mode profile)) told.settings.items
 
 -- tests are told in their order, each as a profile gives it settings
 abbrev pub AreTestsReported : {M : Type 0} → Basis → (M → Test → M → Bool) → NextestRunMode
-    → EvaluatableModel M → RequestedSettings → List Test → List TestRows → Type 0
+    → EvaluatableModel M → RequestedSettings → List ListTest → List TestRows → Type 0
 AreTestsReported basis matches mode profile asked = AllZip
-    (λ test. IsTestReported basis (query_in matches profile test) mode profile asked test)
+    (λ t. IsTestReported basis (query_in matches profile t.test) mode profile asked t)

@@ -1,13 +1,11 @@
 -- What contracts see of rules as code holds them.
-use Rattle.std.specs.Prelude.{◌≡◌, Bool, List, map, Option, option_map}
+use Rattle.std.specs.Prelude.{option_map}
 use Rattle.filter_language.specs.declared.filterset.Filterset.{Filterset}
 use Rattle.nextest_elements.specs.declared.run_mode.NextestRunMode.{NextestRunMode}
-use Rattle.nextest_engines.specs.declared.queries.BuildPlatforms.{BuildPlatforms}
 use Rattle.filter_engine.specs.declared.compiling.FieldMatcher.{FieldMatcher}
 use Rattle.nextest_rules.specs.Rules.{Compiled, OverrideUse, ScriptRuleUse}
 use Rattle.nextest_rules.specs.declared.overrides.CompiledOverride.{CompiledOverride}
 use Rattle.nextest_rules.specs.declared.overrides.CompiledProfileScripts.{CompiledProfileScripts}
-use Rattle.nextest_settings.specs.Platforms.{rule_on}
 use Rattle.nextest_settings.specs.View.{override_ref_view, script_rule_ref_view, evaluated_override_view, evaluated_script_rule_view}
 use Rattle.nextest_settings.specs.declared.platforms.EvaluatedRule.{EvaluatedRule}
 use Rattle.nextest_settings.specs.declared.setting.Setting.{Setting}
@@ -52,17 +50,3 @@ abbrev pub judged_script_rule : {F S T P : Type 0} → Asking
 judged_script_rule asking rule =
     judged asking (for_setting wrapper_written (script_rule_ref_view rule.rule))
     (on_setting wrapper_written (evaluated_script_rule_view rule))
-
--- Overrides as code holds them are these, in their order, on the platforms of a build.
-pub record AreOverridesOn {F S E T N P Q : Type 0} (meets : N → Q → Option Bool)
-    (platforms : BuildPlatforms Q) (rules : List (Compiled E N (OverrideUse E)))
-    (held : List (EvaluatedRule (CompiledOverride F S E T N P))) : Type 0 where
-  pub written : map (λ rule. override_ref_view rule.rule) held ≡ rules
-  pub on : map evaluated_override_view held ≡ map (rule_on meets platforms) rules
-
--- Script rules as code holds them are these, in their order, on the platforms of a build.
-pub record AreScriptRulesOn {F S E T N P Q : Type 0} (meets : N → Q → Option Bool)
-    (platforms : BuildPlatforms Q) (rules : List (Compiled E N ScriptRuleUse))
-    (held : List (EvaluatedRule (CompiledProfileScripts F S E T N P))) : Type 0 where
-  pub written : map (λ rule. script_rule_ref_view rule.rule) held ≡ rules
-  pub on : map evaluated_script_rule_view held ≡ map (rule_on meets platforms) rules

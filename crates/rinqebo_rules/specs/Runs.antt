@@ -1,5 +1,5 @@
 -- Whether a test runs, and where the default filter is written that decides it.
-use Rattle.std.specs.Prelude.{◌≡◌, Bool, not, None, Option, Some, codes, option_map, string_bytes}
+use Rattle.std.specs.Prelude.{◌≡◌, Bool, true, false, not, None, Option, Some, codes, option_map, string_bytes}
 use Rattle.nextest_rules.specs.Rules.{OverrideUse, RuleId}
 use Rattle.nextest_settings.specs.Chains.{first_of}
 use Rattle.nextest_settings.specs.Deciding.{QueryContext}
@@ -16,6 +16,12 @@ use Rattle.rinqebo_report.specs.declared.report.SettingRow.{SettingRow}
 -- whether the default filter that counts in a profile matches a test
 abbrev pub is_selected : {M : Type 0} → QueryContext M → EvaluatableModel M → Bool
 is_selected query profile = query.matches profile.default_filter.filter
+
+-- whether a test runs that the default filter matches, or does not: it runs where the filter matches
+-- it, and no list says that it is ignored
+abbrev pub runs_if : Bool → Bool → Bool
+runs_if true ignored = not ignored
+runs_if false ignored = false
 
 -- the id of an override whose default filter would count: it has one, and its platforms hold for
 -- binaries of the target
@@ -42,9 +48,9 @@ pub record IsRunsRow (basis : Basis) (place : Option Place) (runs : Bool) (told 
       ≡ Some (ReportedValue.scalar (ReportedScalar.boolean runs))
   pub origins_reported : AreOriginsAt basis place None (codes "default-filter") told.origins.items
 
--- It is told whether a test runs: whether the default filter that counts matches it, with where that
--- filter is written.
-abbrev pub IsRunReported : {M : Type 0} → Basis → QueryContext M → EvaluatableModel M → SettingRow
-    → Type 0
-IsRunReported basis query profile =
-    IsRunsRow basis (filtering_place profile) (is_selected query profile)
+-- It is told whether a test runs, which a list may say to be ignored: whether the default filter that
+-- counts matches it, and it is not ignored, with where that filter is written.
+abbrev pub IsRunReported : {M : Type 0} → Basis → QueryContext M → EvaluatableModel M → Bool
+    → SettingRow → Type 0
+IsRunReported basis query profile ignored =
+    IsRunsRow basis (filtering_place profile) (runs_if (is_selected query profile) ignored)

@@ -1,11 +1,10 @@
-//! The rules of a chain of profiles that may write a setting, and what they say of a test.
+//! The rules of a profile that may write a setting, and what they say of a test.
 ghost use Rattle.std.specs.Prelude.{◌≡◌, IfOk, List, map, option_map};
-ghost use Rattle.nextest_inheritance.specs.View.{borrowed_view};
-ghost use Rattle.nextest_settings.specs.Chains.{overrides_of, script_rules_of};
+ghost use Rattle.nextest_profiles.specs.RulesOn.{AreOverridesOn, AreScriptRulesOn};
 ghost use Rattle.nextest_settings.specs.View.{script_rule_ref_view};
-ghost use Rattle.rinqebo_rules.specs.Conditions.{default_filter_here, is_met_by};
+ghost use Rattle.rinqebo_rules.specs.Conditions.{is_met_by};
 ghost use Rattle.rinqebo_rules.specs.RuleAnswers.{judged_here};
-ghost use Rattle.rinqebo_rules.specs.RuleViews.{AreOverridesOn, AreScriptRulesOn, ReadOverride, ReadScriptRule, judged_override, judged_script_rule, setting_rule_view};
+ghost use Rattle.rinqebo_rules.specs.RuleViews.{ReadOverride, ReadScriptRule, judged_override, judged_script_rule, setting_rule_view};
 ghost use Rattle.rinqebo_rules.specs.SettingRules.{is_of_scripts, rules_for, wrapper_written};
 ghost use Rattle.rinqebo_rules.specs.SettingValues.{reported_value};
 
@@ -14,17 +13,14 @@ use crate::holds::{override_holds, script_rule_holds};
 use crate::rule_places::RulePlace;
 use crate::verdict::RuleFacts;
 use filter_engine::{NextestFilters, NextestTally};
-use nextest_config::{BuildPlatforms, NextestRunMode, Setting};
+use nextest_config::{NextestRunMode, Setting};
 use nextest_settings::{
     EvaluatedOverride, EvaluatedRules, EvaluatedScriptRule, SettingValue, SettingValues,
-    nearest_filter, rules_of,
 };
 use platform_language::TargetSpecs;
-use platform_table::Platform;
-use rinqebo_load::Config;
 use std::alloc::{AllocError, Global};
 
-/// The rules of a chain on the platforms of a build.
+/// The rules of a profile on the platforms of a build.
 type Rules<'c> = EvaluatedRules<'c, NextestFilters, TargetSpecs>;
 
 /// An override on the platforms of a build.
@@ -143,33 +139,11 @@ fn is_of_scripts(setting: Setting) -> bool
     matches!(setting, Setting::RunWrapper)
 }
 
-/// The rules of a chain on the platforms of a build, and the default filter that counts there.
-pub fn rules_on<'c>(
-    alloc: Global,
-    config: &'c Config,
-    chain: &[&'c str],
-    platforms: &BuildPlatforms<Platform>,
-) -> Result<EvaluatedRules<'c, NextestFilters, TargetSpecs>, AllocError>
-    ensures overrides { let layers = config.now.config.layers in
-        IfOk result (λ rules. AreOverridesOn is_met_by platforms.now
-        (overrides_of layers (borrowed_view chain.now)) rules.overrides.items) }
-    ensures script_rules { let layers = config.now.config.layers in
-        IfOk result (λ rules. AreScriptRulesOn is_met_by platforms.now
-        (script_rules_of layers (borrowed_view chain.now)) rules.script_rules.items) }
-    ensures default_filter { IfOk result (λ rules. rules.default_filter.expr.now
-        ≡ default_filter_here platforms.now config.now.config (borrowed_view chain.now)) }
-{
-    let layers = config.layers();
-    let rules = rules_of(alloc, layers, chain)?;
-    let nearest = nearest_filter(layers, chain);
-    rules.evaluate(alloc, platforms, nearest, config.match_all())
-}
-
-/// Of the rules of a chain those that may write a setting, in order, held against a test: script
+/// Of the rules of a profile those that may write a setting, in order, held against a test: script
 /// rules name run wrappers, and overrides write all other settings.
 pub fn rules_for<'c>(
     alloc: Global,
-    rules: &EvaluatedRules<'c, NextestFilters, TargetSpecs>,
+    rules: &Rules<'c>,
     setting: Setting,
     mode: NextestRunMode,
     asking: &Asking<'_, '_>,

@@ -2,10 +2,9 @@
 //! write for a setting, and what their conditions say of a test; and what counts where none decides.
 #![tactic(auto)]
 
-mod binary;
 mod chain_rules;
 mod conditions;
-mod fallback;
+mod evaluated_filters;
 mod grounds;
 mod holds;
 mod leaf_value;
@@ -25,10 +24,9 @@ mod values;
 mod verdict;
 mod verdict_laws;
 
-pub use binary::query_of;
-pub use chain_rules::{SettingRule, rules_for, rules_on};
+pub use chain_rules::{SettingRule, rules_for};
 pub use conditions::{Answers, Asking};
-pub use fallback::fallback_of_chain;
+pub use evaluated_filters::{FilterPlace, PlacedFilter, filters_asking, filters_left_open};
 pub use grounds::{built_in, idle_grounds, profile_grounds};
 pub use leaf_value::reported_value;
 pub use lister::{ListedRows, Lister, reported_platform};

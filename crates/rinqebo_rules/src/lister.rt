@@ -1,6 +1,7 @@
 //! Lists what a profile gives to tests, one test after another.
 ghost use Rattle.std.specs.Prelude.{◌≡◌, IfOk, map};
 ghost use Rattle.nextest_engines.specs.Engines.{test_view};
+ghost use Rattle.nextest_lists.specs.ListView.{list_test_view};
 ghost use Rattle.nextest_profiles.specs.Meaning.{profile_meaning};
 ghost use Rattle.nextest_settings.specs.Queries.{query_in};
 ghost use Rattle.rinqebo_rules.specs.Rows.{AreTestsReported, IsTestReported};
@@ -9,10 +10,11 @@ ghost use Rattle.rinqebo_rules.specs.Unused.{AreUnusedIn};
 use crate::origins::Origins;
 use crate::progress::Progress;
 use crate::rows::rows_of;
-use crate::runs::{is_selected, runs_row, shows_runs};
+use crate::runs::{is_selected, runs_if, runs_row, shows_runs};
 use crate::unused::{UnusedRules, unused_rules};
 use nextest_elements::NextestRunMode;
-use nextest_engines::{BuildPlatform, Filters, Specs, TestQuery};
+use nextest_engines::{BuildPlatform, Filters, Specs};
+use nextest_lists::{ListedTest, queries_of};
 use nextest_profiles::EvaluatableProfile;
 use rinqebo_report::{BuiltFor, TestRows};
 use rinqebo_request::RequestedSettings;
@@ -52,16 +54,18 @@ impl<'l, 'c, F: Filters, S: Specs> Lister<'l, 'c, F, S> {
     pub fn rows_of(
         &self,
         alloc: Global,
-        query: &TestQuery<'_>,
+        test: &ListedTest<'_>,
         tally: &mut F::Tally,
         origins: &mut Origins<'_, '_, 'c>,
     ) -> Result<TestRows, AllocError>
         ensures same { origins.new ≡ origins.old }
         ensures told { let profile = profile_meaning F.meaning self.now.profile.now in
-            IfOk result (IsTestReported origins.old (query_in F.holds profile (test_view query.now))
-            self.now.mode profile self.now.asked.now (test_view query.now)) }
+            IfOk result (IsTestReported origins.old
+            (query_in F.holds profile (test_view test.now.query))
+            self.now.mode profile self.now.asked.now (list_test_view test.now)) }
     {
-        let runs = is_selected(self.profile, query, tally);
+        let query = &test.query;
+        let runs = runs_if(is_selected(self.profile, query, tally), test.ignored);
         let settings = self
             .profile
             .settings_with_source_for(self.mode, query, tally);
@@ -70,6 +74,7 @@ impl<'l, 'c, F: Filters, S: Specs> Lister<'l, 'c, F, S> {
             name: String::from_str(alloc, query.test_name)?,
             platform: reported_platform(query.binary_query.platform),
             runs: runs_row(alloc, self.profile, runs, origins)?,
+            is_ignored: test.ignored,
             shows_runs: shows_runs(self.asked, runs),
             settings: rows_of(alloc, &settings, self.asked, self.mode, origins)?,
         })
@@ -80,24 +85,25 @@ impl<'l, 'c, F: Filters, S: Specs> Lister<'l, 'c, F, S> {
     pub fn list<P: Progress>(
         &self,
         alloc: Global,
-        queries: &[TestQuery<'_>],
+        listed: &[ListedTest<'_>],
         tally: &mut F::Tally,
         origins: &mut Origins<'_, '_, 'c>,
         progress: &mut P,
     ) -> Result<ListedRows<'c>, AllocError>
         ensures tests { let profile = profile_meaning F.meaning self.now.profile.now in
-            IfOk result (λ listed. AreTestsReported origins.old F.holds self.now.mode profile
-            self.now.asked.now (map test_view queries.now) listed.tests.items) }
+            IfOk result (λ rows. AreTestsReported origins.old F.holds self.now.mode profile
+            self.now.asked.now (map list_test_view listed.now) rows.tests.items) }
         ensures unused { let profile = profile_meaning F.meaning self.now.profile.now in
-            IfOk result (λ listed. AreUnusedIn
-            (map (query_in F.holds profile) (map test_view queries.now)) profile listed.unused) }
+            IfOk result (λ rows. AreUnusedIn (map (query_in F.holds profile)
+            (map (λ t. t.test) (map list_test_view listed.now))) profile rows.unused) }
     {
         let mut tests = Vec::new(alloc);
-        for query in queries {
-            tests.push(self.rows_of(alloc, query, tally, origins)?)?;
-            progress.asked(tests.len(), queries.len());
+        for test in listed {
+            tests.push(self.rows_of(alloc, test, tally, origins)?)?;
+            progress.asked(tests.len(), listed.len());
         }
-        let unused = unused_rules(alloc, self.profile, queries, tally)?;
+        let queries = queries_of(alloc, listed)?;
+        let unused = unused_rules(alloc, self.profile, &queries, tally)?;
         Ok(ListedRows { tests, unused })
     }
 }

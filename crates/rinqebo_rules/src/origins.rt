@@ -151,7 +151,7 @@ fn known_of<'k>(
 }
 
 /// Where the value at a key comes from, looked up in the files.
-fn found(
+pub(crate) fn found(
     alloc: Global,
     layers: &[Layer],
     chain: &[&str],

@@ -1,4 +1,5 @@
-//! Whether a test runs: whether the default filter that counts matches it.
+//! Whether a test runs: whether the default filter that counts matches it, and no list says that it
+//! is ignored.
 ghost use Rattle.std.specs.Prelude.{◌≡◌, IfOk, None, codes, map, option_map};
 ghost use Rattle.nextest_engines.specs.Engines.{test_view};
 ghost use Rattle.nextest_profiles.specs.Meaning.{profile_meaning};
@@ -8,7 +9,7 @@ ghost use Rattle.nextest_settings.specs.Queries.{query_in};
 ghost use Rattle.nextest_settings.specs.View.{meant_override};
 ghost use Rattle.rinqebo_rules.specs.KnownOrigins.{AreOriginsAt};
 ghost use Rattle.rinqebo_rules.specs.RulePlaces.{id_place, place_view};
-ghost use Rattle.rinqebo_rules.specs.Runs.{IsRunsRow, filtering_id, filtering_place, is_selected, shows_runs};
+ghost use Rattle.rinqebo_rules.specs.Runs.{IsRunsRow, filtering_id, filtering_place, is_selected, runs_if, shows_runs};
 
 use crate::RulePlace;
 use crate::origins::Origins;
@@ -45,6 +46,13 @@ pub(crate) fn is_selected<F: Filters, S: Specs>(
 {
     let cx = profile.filterset_ecx();
     F::matches_test(cx.default_filter, NUMBER, query, &cx, tally)
+}
+
+/// Whether a test runs that the default filter matches, or does not.
+pub(crate) fn runs_if(selected: bool, ignored: bool) -> bool
+    ensures { result ≡ runs_if selected ignored }
+{
+    selected && !ignored
 }
 
 /// Whether pages show whether a test runs.
@@ -99,7 +107,7 @@ fn id_in<'c, F: Filters, S: Specs>(profile: &EvaluatableProfile<'c, F, S>) -> Op
 }
 
 /// Where the override of a profile stands whose default filter counts, if it is one of an override.
-fn filtering_place<'c, F: Filters, S: Specs>(
+pub(crate) fn filtering_place<'c, F: Filters, S: Specs>(
     profile: &EvaluatableProfile<'c, F, S>,
 ) -> Option<RulePlace<'c>>
     ensures { option_map place_view result

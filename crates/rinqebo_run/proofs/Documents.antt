@@ -24,6 +24,12 @@ no_memory (failures.Refused told) report n reported same five =
 no_memory (failures.NoProfile told) report n reported same five =
     let four : n ≡ 4 = same in
     absurd (omega arith)
+no_memory (failures.NoTest told) report n reported same five =
+    let four : n ≡ 4 = same in
+    absurd (omega arith)
+no_memory (failures.SeveralTests told) report n reported same five =
+    let two : n ≡ 2 = same in
+    absurd (omega arith)
 no_memory failures.Memory report n reported same five = absurd reported
 
 -- the status of a failure without a report
@@ -37,6 +43,8 @@ no_report (failures.Engines fault) n none same (inr four) =
     absurd (omega arith)
 no_report (failures.Refused told) n none same ends = absurd none
 no_report (failures.NoProfile told) n none same ends = absurd none
+no_report (failures.NoTest told) n none same ends = absurd none
+no_report (failures.SeveralTests told) n none same ends = absurd none
 no_report failures.Memory n none same (inl three) =
     let five : n ≡ 5 = same in
     absurd (omega arith)

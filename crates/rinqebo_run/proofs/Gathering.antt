@@ -2,15 +2,16 @@
 use Rattle.std.proofs.Common.{◌≡◌, ℕ, List, [], ◌∷◌, ◌++◌, option_map, subst, sym, string_bytes}
 use Rattle.filter_language.specs.Filtersets.{marks_view}
 use Rattle.filter_language.specs.declared.filterset.Filterset.{Filterset}
-use Rattle.nextest_engines.specs.Engines.{test_view}
+use Rattle.nextest_engines.specs.Engines.{Test, test_view}
 use Rattle.nextest_engines.specs.declared.queries.BuildPlatforms.{BuildPlatforms}
 use Rattle.nextest_engines.specs.declared.queries.TestQuery.{TestQuery}
 use Rattle.filter_engine.specs.Compiling.{names_of}
 use Rattle.filter_engine.specs.declared.compiling.FieldMatcher.{FieldMatcher}
-use Rattle.nextest_inheritance.specs.Parents.{with_default}
+use Rattle.nextest_inheritance.specs.Parents.{parents_in}
+use Rattle.nextest_load.specs.Config.{config_parents}
 use Rattle.nextest_load.specs.Load.{Loaded}
-use Rattle.nextest_settings.specs.Chains.{fields_of, overrides_of, script_rules_of}
-use Rattle.nextest_settings.specs.Profile.{Configured, profile_of}
+use Rattle.nextest_settings.specs.Chains.{FilterChoice}
+use Rattle.nextest_settings.specs.Profile.{Configured, EarlyModel, profile_on}
 use Rattle.nextest_settings.specs.Queries.{test_query}
 use Rattle.nextest_settings.specs.Settings.{fallback_of}
 use Rattle.nextest_settings.specs.declared.setting.Setting.{Setting}
@@ -24,51 +25,45 @@ use Rattle.rinqebo_report.specs.declared.report.Rule.{Rule}
 use Rattle.rinqebo_report.specs.declared.report.TestId.{TestId}
 use Rattle.rinqebo_report.specs.declared.report.Verdict.TheVariants as told
 use Rattle.rinqebo_request.specs.Keys.{key_text}
-use Rattle.rinqebo_request.specs.declared.request.TestName.{TestName}
 use Rattle.platform_language.specs.Expressions.{spec_view}
 use Rattle.platform_language.specs.declared.expression.TargetSpec.{TargetSpec}
 use Rattle.platform_table.specs.declared.Platform.{Platform}
 use Rattle.rinqebo_run.proofs.Meant.{reasons_of_texts}
+use Rattle.rinqebo_run.proofs.Requests.{requested_meant}
+use Rattle.rinqebo_run.specs.Requested.{IsRequestedIn}
 use Rattle.rinqebo_load.specs.Accepted.{AreAccepted}
-use Rattle.rinqebo_rules.specs.Conditions.{is_met_by, filter_matches, default_filter_here}
+use Rattle.rinqebo_load.specs.FoundTests.{found_view}
+use Rattle.rinqebo_rules.specs.Conditions.{is_met_by, filter_matches}
 use Rattle.rinqebo_run.specs.Reasons.{AreRulesReported}
-use Rattle.rinqebo_rules.specs.RuleViews.{Rule as ReadRule}
 use Rattle.rinqebo_load.specs.Sessions.{files_view, readings, IsLoadedFrom}
 use Rattle.rinqebo_rules.specs.SettingRules.{rules_for}
 use Rattle.rinqebo_run.specs.TellsReasons.{AreReasons, AreReasonsIn, configured_by, IfWhy, IsTestNamed, TellsReasons}
+use Rattle.rinqebo_load.specs.declared.found_test.FoundTest.{FoundTest}
 use Rattle.rinqebo_load.specs.declared.session.Session.{Session}
 use Rattle.rinqebo_rules.specs.Told.{reported_of, value_view}
 
--- what is told of the rules of a chain for a setting, and then of the fallback
-pub reasons_here : (layers : List FileLayer) (platforms : BuildPlatforms Platform) (test : TestName) (query : TestQuery) (s : Setting)
-    (default : Filterset FieldMatcher) (c : Configured (Filterset FieldMatcher) TargetSpec) (name : Name)
-    (names : List Name) (read : List ReadRule) (before : List Rule) (fallback : Rule) (rules : List Rule)
-    → default ≡ default_filter_here platforms c.config (with_default names)
-    → read ≡ rules_for s test.mode (overrides_of c.config.layers (with_default names))
-    (script_rules_of c.config.layers (with_default names))
-    → (test_view query).name ≡ test.name.now → (test_view query).binary.binary_id ≡ test.binary.now
-    → (test_view query).binary.platform ≡ test.platform
-    → AreRulesReported layers is_met_by platforms (test_query filter_matches default (test_view query)) read before
+-- what is told of the rules of a profile for a setting, and then of the fallback
+pub reasons_here : (layers : List FileLayer) (platforms : BuildPlatforms Platform) (test : FoundTest) (query : TestQuery) (s : Setting)
+    (default : FilterChoice (Filterset FieldMatcher)) (profile : EarlyModel (Filterset FieldMatcher) TargetSpec)
+    (before : List Rule) (fallback : Rule) (rules : List Rule)
+    → default ≡ (profile_on is_met_by platforms profile).default_filter
+    → test_view query ≡ (found_view test).test
+    → AreRulesReported layers is_met_by platforms (test_query filter_matches default.filter (test_view query))
+    (rules_for s test.mode profile.overrides profile.script_rules) before
     → fallback.verdict ≡ told.Fallback
     → option_map value_view fallback.value
-    ≡ option_map (reported_of s) (fallback_of (fields_of c.config.profiles (with_default names)) test.mode s)
+    ≡ option_map (reported_of s) (fallback_of profile.facts.fields test.mode s)
     → rules ≡ before ++ fallback ∷ []
-    → AreReasons layers is_met_by filter_matches platforms test s (profile_of c name names) rules
-reasons_here layers platforms test query s default c name names read before fallback rules same gathered named binary on
-    here last valued are =
-    let asked = test_view query in
-    let Told : Filterset FieldMatcher → List ReadRule → Type 0 =
-    λ d rs. AreRulesReported layers is_met_by platforms (test_query filter_matches d asked) rs before in
+    → AreReasons layers is_met_by filter_matches platforms test s profile rules
+reasons_here layers platforms test query s default profile before fallback rules same found here last valued are =
+    let Told : Test → FilterChoice (Filterset FieldMatcher) → Type 0 =
+    λ t choice. AreRulesReported layers is_met_by platforms (test_query filter_matches choice.filter t)
+    (rules_for s test.mode profile.overrides profile.script_rules) before in
     record {
-      asked = asked;
-      name = named;
-      binary = binary;
-      platform = on;
       before = before;
       fallback = fallback;
       are = are;
-      rules_reported = subst (Told (default_filter_here platforms c.config (with_default names))) gathered
-          (subst (λ d. Told d read) same here);
+      rules_reported = subst (Told (found_view test).test) same (subst (λ t. Told t default) found here);
       fallback_reported = last;
       fallback_value = valued;
     }
@@ -78,13 +73,13 @@ pub why_moved : (content : Content) (P Q : TestId → List ℕ → List Rule →
     → ((named : TestId) (key : List ℕ) (rules : List Rule) → P named key rules → Q named key rules)
     → IfWhy content P → IfWhy content Q
 why_moved (contents.Explain asked test) P Q moved is = absurd is
-why_moved (contents.Why asked test key rules) P Q moved is = moved test (string_bytes key) rules.items is
+why_moved (contents.Why asked test key rules is_ignored) P Q moved is = moved test (string_bytes key) rules.items is
 why_moved (contents.List asked tests unused scripts) P Q moved is = absurd is
 why_moved (contents.ShowConfig asked entries) P Q moved is = absurd is
 why_moved contents.Check P Q moved is = absurd is
 
 -- a report tells the rules of a setting by what was loaded
-pub tells : (session : Session) (profile : Name) (test : TestName) (s : Setting) (report : Report) (content : Content)
+pub tells : (session : Session) (profile : Name) (test : FoundTest) (s : Setting) (report : Report) (content : Content)
     (loaded : Loaded (Filterset FieldMatcher) TargetSpec)
     → AreAccepted session
     → IsLoadedFrom (readings session.engines.filters) (files_view session.gathered.now) loaded
@@ -95,8 +90,9 @@ pub tells : (session : Session) (profile : Name) (test : TestName) (s : Setting)
       config = loaded.config;
       scripts = loaded.scripts;
     }) profile test s rules)
+    → IsRequestedIn session (parents_in (config_parents loaded.config)) profile test.mode content
     → TellsReasons session profile test s report
-tells session profile test s report content loaded accepted from there same is =
+tells session profile test s report content loaded accepted from there same is requested =
     let engines = readings session.engines.filters in
     let read : Configured (Filterset FieldMatcher) TargetSpec = record {
       root = string_bytes session.gathered.now.paths.workspace_root;
@@ -121,4 +117,5 @@ tells session profile test s report content loaded accepted from there same is =
           ))
           (subst (λ content. IfWhy content (λ named key rules. IsTestNamed test named × (key ≡ key_text s test.mode)
           × AreReasonsIn session.layers.items is_met_by filter_matches session.engines.platforms read profile test s rules)) (sym same) is);
+      requested = requested_meant session profile test.mode report.content content loaded from same requested;
     }

@@ -4,9 +4,11 @@ pub mod Loads
 pub mod Rows
 pub mod Reasons
 pub mod Pairs
+pub mod Requests
 pub mod Meant
 pub mod Gathering
 pub mod Listing
 pub mod Showing
 pub mod Writing
 pub mod Documents
+pub mod LookedUp

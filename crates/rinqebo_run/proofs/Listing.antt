@@ -38,11 +38,13 @@ use Rattle.rinqebo_request.specs.declared.request.RequestedSettings.{RequestedSe
 use Rattle.platform_language.specs.Expressions.{Spec, spec_view}
 use Rattle.platform_language.specs.declared.expression.TargetSpec.{TargetSpec}
 use Rattle.nextest_lists.specs.ListView.{list_view}
-use Rattle.nextest_lists.specs.Lists.{all_binaries, all_tests}
+use Rattle.nextest_lists.specs.Lists.{all_binaries, all_tests, list_tests}
 use Rattle.rinqebo_load.specs.Accepted.{AreAccepted}
 use Rattle.rinqebo_rules.specs.Conditions.{is_met_by}
 use Rattle.rinqebo_run.specs.Listed.{IsProfileOn, unused_places, AreTestsOf, IfListed, TellsTests}
 use Rattle.rinqebo_run.specs.ListedBy.{basis_of, read_by, listed_by, places_of}
+use Rattle.rinqebo_run.specs.Requested.{IsRequestedIn}
+use Rattle.rinqebo_run.proofs.Requests.{requested_meant}
 use Rattle.rinqebo_files.specs.declared.layers.Layer.{Layer as FileLayer}
 use Rattle.rinqebo_rules.specs.Origins.{IsOriginOf}
 use Rattle.rinqebo_rules.specs.RulePlaces.{Place, id_place, script_place}
@@ -115,7 +117,7 @@ pub listed_here : (session : Session) (loaded : Loaded (Filterset FieldMatcher) 
     → IsProfileOn is_met_by session.engines.platforms (read_by session loaded) name on
     → IsChainAndDefault (parents_in (config_parents loaded.config)) name names → chain ≡ names
     → AreTestsReported (basis_of session chain) (readings session.engines.filters).matches_test mode
-    (profile_meaning (marks_view names_of) on) asked (all_tests (list_view session.tests)) tests
+    (profile_meaning (marks_view names_of) on) asked (list_tests (list_view session.tests)) tests
     → AreUnusedIn (map (query_in (readings session.engines.filters).matches_test
     (profile_meaning (marks_view names_of) on)) (all_tests (list_view session.tests)))
     (profile_meaning (marks_view names_of) on) ids
@@ -135,7 +137,7 @@ listed_here session loaded name mode asked on names chain ids tests unused scrip
       chain = names;
       is_chain = ends;
       tests_reported = subst (λ ns. AreTestsReported (basis_of session ns) engines.matches_test mode profile asked
-          (all_tests (list_view session.tests)) tests) same told;
+          (list_tests (list_view session.tests)) tests) same told;
       unused_reported = subst (λ places. AllZip (λ place. IsOriginOf session.layers.items place []) places unused)
           (unused_stand (map (query_in engines.matches_test profile) (all_tests (list_view session.tests))) profile ids
           are)
@@ -148,8 +150,10 @@ pub tells_tests : (session : Session) (profile : Name) (mode : NextestRunMode) (
     (report : Report) (content : Content) (loaded : Loaded (Filterset FieldMatcher) TargetSpec) → AreAccepted session
     → IsLoadedFrom (readings session.engines.filters) (files_view session.gathered.now) loaded
     → IsIn (names_in loaded.config.profiles) profile → report.content ≡ content
-    → IfListed content (listed_by session loaded profile mode asked) → TellsTests session profile mode asked report
-tells_tests session profile mode asked report content loaded accepted from there same is =
+    → IfListed content (listed_by session loaded profile mode asked)
+    → IsRequestedIn session (parents_in (config_parents loaded.config)) profile mode content
+    → TellsTests session profile mode asked report
+tells_tests session profile mode asked report content loaded accepted from there same is requested =
     let engines = readings session.engines.filters in
     let Listed : Content → ConfigModel Filter Spec → Type 0 =
     λ content config. IfListed content (AreTestsOf engines.meets engines.matches_test engines.matches_binary
@@ -165,4 +169,5 @@ tells_tests session profile mode asked report content loaded accepted from there
       known = subst (λ config. IsIn (names_in config.profiles) profile) from.means there;
       told = subst (Listed report.content) from.means
           (subst (λ content. IfListed content (listed_by session loaded profile mode asked)) (sym same) is);
+      requested = requested_meant session profile mode report.content content loaded from same requested;
     }

@@ -20,7 +20,8 @@ use Rattle.nextest_settings.specs.declared.setting.Setting.{Setting}
 use Rattle.nextest_tables.specs.Written.{Name}
 use Rattle.rinqebo_files.specs.declared.layers.Layer.{Layer as FileLayer}
 use Rattle.rinqebo_report.specs.declared.report.Rule.{Rule}
-use Rattle.rinqebo_request.specs.declared.request.TestName.{TestName}
+use Rattle.rinqebo_load.specs.declared.found_test.FoundTest.{FoundTest}
+use Rattle.rinqebo_load.specs.FoundTests.{found_view}
 use Rattle.rinqebo_rules.proofs.Judged.{filter_meant}
 use Rattle.rinqebo_rules.proofs.VerdictsOf.{verdicts-facts}
 use Rattle.rinqebo_run.proofs.Pairs.{zip_moved}
@@ -155,7 +156,7 @@ module _ {E N M K P : Type 0} (f : E → M) (g : N → K) (meets : K → P → O
         (map (for_setting (override_writes s mode)) overrides)
         ∙ (λ i. if is_of_scripts s then scripts_for scripts i else overrides_for overrides i)
 
-  module _ (layers : List FileLayer) (matches : M → Test → M → Bool) (test : TestName) (s : Setting)
+  module _ (layers : List FileLayer) (matches : M → Test → M → Bool) (test : FoundTest) (s : Setting)
       (c : Configured E N) (name : Name) (rules : List Rule) where
     -- whether a filter that was read matches a test
     abbrev pub read_matches : E → Test → E → Bool
@@ -171,12 +172,11 @@ module _ {E N M K P : Type 0} (f : E → M) (g : N → K) (meets : K → P → O
         let meant = profile_of (configured_meaning f g c) name chain in
         let default = (profile_on read_meets platforms profile).default_filter.filter in
         let query : M → QueryContext M =
-        λ d. record { platform = is.asked.binary.platform; matches = λ m. matches m is.asked d } in
+        λ d. record {
+          platform = (found_view test).test.binary.platform;
+          matches = λ m. matches m (found_view test).test d;
+        } in
         record {
-          asked = is.asked;
-          name = is.name;
-          binary = is.binary;
-          platform = is.platform;
           before = is.before;
           fallback = is.fallback;
           are = is.are;

@@ -1,5 +1,5 @@
 -- Why a run answers nothing: from loads and rows to questions, and from there to exit statuses.
-use Rattle.std.proofs.Common.{◌≡◌, ◌∙◌, ◌⊎◌, inl, inr, ℕ, Result, Ok, Err, IfErr, IsErrAnd, arith, subst, sym}
+use Rattle.std.proofs.Common.{◌≡◌, ◌∙◌, ◌⊎◌, inl, inr, ℕ, Result, Ok, Err, IfErr, IfOk, IsErrAnd, arith, subst, sym}
 use Rattle.std.specs.Result.{result_map_both}
 use Rattle.nextest_tables.specs.Written.{Name}
 use Rattle.rinqebo_files.specs.declared.files.Gathered.{Gathered}
@@ -8,21 +8,38 @@ use Rattle.rinqebo_request.specs.declared.request.Question.{Question}
 use Rattle.rinqebo_request.specs.declared.request.Question.TheVariants as questions
 use Rattle.rinqebo_request.specs.declared.request.Request.{Request as Asked}
 use Rattle.rinqebo_run.proofs.Statuses.{shown_low}
-use Rattle.rinqebo_run.specs.Answered.{AnswersQuestion, IsAnswer}
+use Rattle.rinqebo_run.specs.Answered.{AnswersQuestion, IsAboutTest, IsAnswer}
 use Rattle.rinqebo_load.specs.Accepted.{AreAccepted}
-use Rattle.rinqebo_run.specs.Refused.{AreRefusedFor, Fails, IsFailureIn, IsReportedBy, LackProfileFor, LacksProfileOf}
+use Rattle.rinqebo_run.specs.LookedUp.{IsFailureOn}
+use Rattle.rinqebo_run.specs.Refused.{AreRefusedFor, Fails, IsFailureIn, IsReportedBy, LackProfileFor, LackTestFor, LacksProfileOf, LacksTestOf}
 use Rattle.rinqebo_findings.specs.Failures.{IsFailureAbout}
+use Rattle.rinqebo_load.specs.FindTests.{IsFoundFor}
 use Rattle.rinqebo_load.specs.SessionOf.{IsSessionOf}
 use Rattle.rinqebo_run.specs.Statuses.{failure_status}
 use Rattle.rinqebo_load.specs.declared.failure.Failure.{Failure}
 use Rattle.rinqebo_load.specs.declared.failure.Failure.TheVariants as failures
+use Rattle.rinqebo_request.specs.declared.request.RequestedTest.{RequestedTest}
+use Rattle.rinqebo_load.specs.declared.found_test.FoundTest.{FoundTest}
 use Rattle.rinqebo_load.specs.declared.session.Session.{Session}
+
+-- what holds of a found test is about the test that is named
+pub is_about : (session : Session) (test : RequestedTest) (found : FoundTest)
+    (Holds : FoundTest → Report → Type 0) (r : Result Report Failure) → IsFoundFor session test found
+    → IfOk r (Holds found) → IfOk r (λ report. IsAboutTest session test (λ found. Holds found report))
+is_about session test found Holds (Ok report) is holds = record { found = found; is_found = is; holds = holds }
+is_about session test found Holds (Err failure) is holds = tt
 
 -- want of memory is a failure about any profile
 pub want_reported : {A : Type 0} (session : Session) (profile : Name) (r : Result A Failure)
     → IsErrAnd r (λ failure. failure ≡ failures.Memory) → IfErr r (IsFailureAbout session profile)
 want_reported session profile (Ok answer) is = tt
 want_reported session profile (Err failure) is = subst (IsFailureAbout session profile) (sym is) tt
+
+-- and one for which the filters of a profile are evaluated
+pub want_evaluated : {A : Type 0} (session : Session) (profile : Name) (r : Result A Failure)
+    → IsErrAnd r (λ failure. failure ≡ failures.Memory) → IfErr r (IsFailureOn session profile)
+want_evaluated session profile (Ok answer) is = tt
+want_evaluated session profile (Err failure) is = subst (IsFailureOn session profile) (sym is) tt
 
 -- what holds of a failure holds of it where it is told
 pub passed_on : {A : Type 0} (P : Failure → Type 0) (r : Result A Failure) (failure : Failure)
@@ -111,8 +128,10 @@ answer_reported request gathered report n m answer (inr (inr six)) = record {
 -- files are refused for which a question is not answered
 broken_in : (q : Question) (session : Session) (report : Report) → IsFailureIn session q (failures.Refused report)
     → ¬ AreAccepted session
-broken_in (questions.Explain profile test asked) session report cause = cause
-broken_in (questions.Why profile test setting) session report cause = cause
+broken_in (questions.Explain profile test asked) session report (inl finding) = absurd finding
+broken_in (questions.Explain profile test asked) session report (inr cause) = cause
+broken_in (questions.Why profile test setting) session report (inl finding) = absurd finding
+broken_in (questions.Why profile test setting) session report (inr cause) = cause
 broken_in (questions.List profile mode list asked) session report cause = cause
 broken_in (questions.ShowConfig profile keys with_hidden) session report cause = cause
 broken_in (questions.Check deny_warnings) session report cause = absurd cause
@@ -120,11 +139,24 @@ broken_in (questions.Check deny_warnings) session report cause = absurd cause
 -- files lack the profile for which a question is not answered
 lacks_in : (q : Question) (session : Session) (report : Report) → IsFailureIn session q (failures.NoProfile report)
     → LacksProfileOf session q
-lacks_in (questions.Explain profile test asked) session report cause = cause
-lacks_in (questions.Why profile test setting) session report cause = cause
+lacks_in (questions.Explain profile test asked) session report (inl finding) = absurd finding
+lacks_in (questions.Explain profile test asked) session report (inr cause) = cause
+lacks_in (questions.Why profile test setting) session report (inl finding) = absurd finding
+lacks_in (questions.Why profile test setting) session report (inr cause) = cause
 lacks_in (questions.List profile mode list asked) session report cause = cause
 lacks_in (questions.ShowConfig profile keys with_hidden) session report cause = cause
 lacks_in (questions.Check deny_warnings) session report cause = cause
+
+-- there is no test for which a question is not answered
+untested_in : (q : Question) (session : Session) (report : Report) → IsFailureIn session q (failures.NoTest report)
+    → LacksTestOf session q
+untested_in (questions.Explain profile test asked) session report (inl finding) = finding
+untested_in (questions.Explain profile test asked) session report (inr cause) = absurd cause
+untested_in (questions.Why profile test setting) session report (inl finding) = finding
+untested_in (questions.Why profile test setting) session report (inr cause) = absurd cause
+untested_in (questions.List profile mode list asked) session report cause = absurd cause
+untested_in (questions.ShowConfig profile keys with_hidden) session report cause = absurd cause
+untested_in (questions.Check deny_warnings) session report cause = absurd cause
 
 -- a failure of status 3 tells that files are refused
 refused_for : (request : Asked) (gathered : Gathered) (failure : Failure) → Fails request gathered failure
@@ -137,19 +169,28 @@ refused_for request gathered (failures.Refused report) (inr fails) three = recor
   broken = broken_in request.question fails.session report fails.cause;
 }
 refused_for request gathered (failures.NoProfile report) fails three = absurd (omega arith)
+refused_for request gathered (failures.NoTest report) fails three = absurd (omega arith)
+refused_for request gathered (failures.SeveralTests report) fails three = absurd (omega arith)
 refused_for request gathered failures.Memory fails three = absurd (omega arith)
 
--- a failure of status 4 tells that files lack the profile
+-- a failure of status 4 tells that files lack the profile, or that there is no test
 lacking_for : (request : Asked) (gathered : Gathered) (failure : Failure) → Fails request gathered failure
-    → failure_status failure ≡ 4 → LackProfileFor request gathered
+    → failure_status failure ≡ 4 → LackProfileFor request gathered ⊎ LackTestFor request gathered
 lacking_for request gathered (failures.Engines fault) fails four = absurd (omega arith)
 lacking_for request gathered (failures.Refused report) fails four = absurd (omega arith)
 lacking_for request gathered (failures.NoProfile report) (inl begins) four = absurd begins
-lacking_for request gathered (failures.NoProfile report) (inr fails) four = record {
+lacking_for request gathered (failures.NoProfile report) (inr fails) four = inl (record {
   session = fails.session;
   begun = fails.begun;
   lacks = lacks_in request.question fails.session report fails.cause;
-}
+})
+lacking_for request gathered (failures.NoTest report) (inl begins) four = absurd begins
+lacking_for request gathered (failures.NoTest report) (inr fails) four = inr (record {
+  session = fails.session;
+  begun = fails.begun;
+  lacks = untested_in request.question fails.session report fails.cause;
+})
+lacking_for request gathered (failures.SeveralTests report) fails four = absurd (omega arith)
 lacking_for request gathered failures.Memory fails four = absurd (omega arith)
 
 -- the status of a run with a failure tells of files

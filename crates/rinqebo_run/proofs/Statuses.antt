@@ -9,6 +9,7 @@ use Rattle.rinqebo_report.specs.declared.report.Entry.{Entry}
 use Rattle.rinqebo_report.specs.declared.report.Report.{Report}
 use Rattle.rinqebo_run.specs.Answered.{AnswersQuestion, IsAnswer, Tells}
 use Rattle.rinqebo_load.specs.SessionOf.{IsSessionOf}
+use Rattle.rinqebo_run.specs.LookedUp.{AreLookedUp}
 use Rattle.rinqebo_run.specs.Refused.{Fails, IsFailureIn}
 use Rattle.rinqebo_run.specs.ShownConfig.{entries_status, shown_status}
 use Rattle.rinqebo_run.specs.Statuses.{IsAnswerStatus, IsStatus, failure_status}
@@ -83,6 +84,8 @@ no_failure request gathered (failures.Refused report) (inl begins) is = begins
 no_failure request gathered (failures.Refused report) (inr fails) is =
     no_three request.question fails.session report fails.cause is
 no_failure request gathered (failures.NoProfile report) fails is = no_four request.question is
+no_failure request gathered (failures.NoTest report) fails is = no_four request.question is
+no_failure request gathered (failures.SeveralTests report) fails is = no_two request.question is
 no_failure request gathered failures.Memory fails is = no_five request.question is
 
 -- the status of a run with an answer of status m
@@ -113,6 +116,8 @@ pub failed_status : (q : Question) (f : Failure) (n : ℕ) → (n ≡ failure_st
 failed_status q (failures.Engines fault) n (inl same) = inr (omega arith, omega arith)
 failed_status q (failures.Refused report) n (inl same) = inr (omega arith, omega arith)
 failed_status q (failures.NoProfile report) n (inl same) = inr (omega arith, omega arith)
+failed_status q (failures.NoTest report) n (inl same) = inr (omega arith, omega arith)
+failed_status q (failures.SeveralTests report) n (inl same) = inr (omega arith, omega arith)
 failed_status q failures.Memory n (inl same) = inr (omega arith, omega arith)
 failed_status q f n (inr (inl five)) = inr (omega arith, omega arith)
 failed_status q f n (inr (inr six)) = inr (omega arith, omega arith)
@@ -134,7 +139,7 @@ entries_low (entry ∷ entries) = omega arith
 
 pub shown_low : (content : Content) → shown_status content ≤ 1
 shown_low (contents.Explain asked test) = omega arith
-shown_low (contents.Why asked test key rules) = omega arith
+shown_low (contents.Why asked test key rules is_ignored) = omega arith
 shown_low (contents.List asked tests unused scripts) = omega arith
 shown_low (contents.ShowConfig asked entries) = entries_low entries.items
 shown_low contents.Check = omega arith
@@ -175,11 +180,13 @@ pub is_answered : (request : Request) (gathered : Gathered) (session : Session) 
     → IsSessionOf request gathered session
     → IfOk answer (λ a. AnswersQuestion request.question session a.report a.status)
     → IfOk answer (λ a. IsReportOf session a.report)
+    → IfOk answer (λ _. AreLookedUp session request.question)
     → IfOk answer (λ a. IsAnswer request gathered a.report a.status)
-is_answered request gathered session (Ok answer) begun answers about = record {
+is_answered request gathered session (Ok answer) begun answers about looked_up = record {
   session = session;
   begun = begun;
   about = about;
   answers = answers;
+  looked_up = looked_up;
 }
-is_answered request gathered session (Err failure) begun answers about = tt
+is_answered request gathered session (Err failure) begun answers about looked_up = tt

@@ -1,6 +1,6 @@
 -- Lists that are written as their tests are asked.
 use Rattle.std.proofs.Common.{◌≡◌, ◌∙◌, ◌⊎◌, inl, inr, ℕ, List, [], ◌∷◌, ◌++◌, Option, Result, Ok, Err, IfErr, IsErrAnd, ap, arith, flat_map, length, map, refl, string_bytes, subst, sym, take}
-use Rattle.std.proofs.KnownBytes.{Appends-trans}
+use Rattle.std.proofs.KnownBytes.{Appends-nil, Appends-trans}
 use Rattle.std.proofs.lemmas.Grind.{flat_map-append}
 use Rattle.std.proofs.lemmas.List.{append-nil, take-map, take_all}
 use Rattle.std.specs.Io.KnownBytes.{Appends}
@@ -8,8 +8,6 @@ use Rattle.std.specs.List.{AllZip}
 use Rattle.filter_language.specs.Filtersets.{marks_view}
 use Rattle.filter_language.specs.declared.filterset.Filterset.{Filterset}
 use Rattle.nextest_elements.specs.declared.run_mode.NextestRunMode.{NextestRunMode}
-use Rattle.nextest_engines.specs.Engines.{Test, test_view}
-use Rattle.nextest_engines.specs.declared.queries.TestQuery.{TestQuery}
 use Rattle.filter_engine.specs.Compiling.{names_of}
 use Rattle.filter_engine.specs.Engine.{Filter, filter_holds}
 use Rattle.filter_engine.specs.declared.compiling.FieldMatcher.{FieldMatcher}
@@ -25,12 +23,13 @@ use Rattle.nextest_tables.specs.Written.{Name}
 use Rattle.rinqebo_files.specs.declared.files.Gathered.{Gathered}
 use Rattle.rinqebo_rules.specs.TestOrigins.{Basis}
 use Rattle.rinqebo_rules.specs.Rows.{AreTestsReported, IsTestReported}
-use Rattle.rinqebo_report.specs.Pages.{content_runs, count_runs, list_runs, listed_runs, unused_runs}
+use Rattle.rinqebo_report.specs.Pages.{content_runs, list_end_runs, list_head_runs, list_runs, listed_runs}
 use Rattle.rinqebo_report.specs.Pieces.{painted, page_text}
 use Rattle.rinqebo_report.specs.Rendered.{rendered}
 use Rattle.rinqebo_report.specs.declared.format.Format.TheVariants as formats
 use Rattle.rinqebo_report.specs.declared.origin.Origin.{Origin}
 use Rattle.rinqebo_report.specs.declared.piece.Colour.{Colour}
+use Rattle.rinqebo_report.specs.declared.report.Asked.{Asked}
 use Rattle.rinqebo_report.specs.declared.report.Content.{Content}
 use Rattle.rinqebo_report.specs.declared.report.Content.TheVariants as contents
 use Rattle.rinqebo_report.specs.declared.report.ListScripts.{ListScripts}
@@ -42,8 +41,9 @@ use Rattle.rinqebo_request.specs.declared.request.Question.TheVariants as questi
 use Rattle.rinqebo_request.specs.declared.request.Request.{Request}
 use Rattle.platform_language.specs.Expressions.{Spec, spec_view}
 use Rattle.platform_language.specs.declared.expression.TargetSpec.{TargetSpec}
-use Rattle.nextest_lists.specs.ListView.{list_view}
-use Rattle.nextest_lists.specs.Lists.{all_tests}
+use Rattle.nextest_lists.specs.ListView.{list_test_view, list_view}
+use Rattle.nextest_lists.specs.Lists.{ListTest, list_tests}
+use Rattle.nextest_lists.specs.declared.list.ListedTest.{ListedTest}
 use Rattle.rinqebo_run.proofs.Listing.{given_means, tells_tests, zip_mapped}
 use Rattle.rinqebo_run.proofs.Refused.{failure_reported}
 use Rattle.rinqebo_run.proofs.Statuses.{failed_silent, failed_status}
@@ -53,8 +53,10 @@ use Rattle.rinqebo_load.specs.Accepted.{AreAccepted}
 use Rattle.rinqebo_rules.specs.Conditions.{is_met_by}
 use Rattle.rinqebo_run.specs.Listed.{IfListed, IsProfileOn, TellsTests}
 use Rattle.rinqebo_run.specs.ListedBy.{basis_of, listed_by, read_by}
+use Rattle.rinqebo_run.specs.Requested.{IsRequestedIn, IsRequestedOf}
+use Rattle.rinqebo_run.proofs.Requests.{requested_on}
 use Rattle.rinqebo_run.specs.Refused.{Fails, IsFailureIn, IsReportedBy}
-use Rattle.rinqebo_findings.specs.Failures.{IsFailureAbout}
+use Rattle.rinqebo_run.specs.LookedUp.{AreLookedUp, IsFailureOn, IsLookedUp}
 use Rattle.rinqebo_load.specs.SessionOf.{IsSessionOf}
 use Rattle.rinqebo_load.specs.Sessions.{files_view, readings, IsLoadedFrom}
 use Rattle.rinqebo_run.specs.Statuses.{IsAnswerStatus, IsStatus}
@@ -95,44 +97,50 @@ one_more head tint tests more rows lines old mid new are shown before after =
     ∙ ap (tests_text head tint) (sym are))
     (Appends-trans old mid new (tests_text head tint tests) lines before after)
 
--- the tests went out, and then what stands behind them
-pub whole_page : (head : Report) (tint : Colour) (tests : List TestRows) (unused : List Origin) (count : ℕ)
-    (old mid new : Option (List ℕ)) → count ≡ length tests → Appends old mid (tests_text head tint tests)
-    → Appends mid new (page_text tint (count_runs count
-    ++ flat_map (unused_runs (string_bytes head.root) head.sources.items) unused))
-    → Appends old new (page_text tint (list_runs (string_bytes head.root) head.sources.items tests unused))
-whole_page head tint tests unused count old mid new all before after =
+-- what is asked went out, then the tests, and then what stands behind them
+pub whole_page : (head : Report) (tint : Colour) (asked : Asked) (tests : List TestRows) (unused : List Origin)
+    (count : ℕ) (old first mid new : Option (List ℕ)) → count ≡ length tests
+    → Appends old first (page_text tint (list_head_runs asked))
+    → Appends first mid (tests_text head tint tests)
+    → Appends mid new (page_text tint (list_end_runs (string_bytes head.root) head.sources.items count unused))
+    → Appends old new (page_text tint (list_runs (string_bytes head.root) head.sources.items asked tests unused))
+whole_page head tint asked tests unused count old first mid new all header before after =
     let root = string_bytes head.root in
     let sources = head.sources.items in
-    let ending : ℕ → List ℕ = λ n. page_text tint (count_runs n ++ flat_map (unused_runs root sources) unused) in
+    let lines = flat_map (listed_runs root sources) tests in
+    let ending : ℕ → List ℕ = λ n. page_text tint (list_end_runs root sources n unused) in
+    let opening = page_text tint (list_head_runs asked) in
     subst (Appends old new)
-    (ap (λ n. tests_text head tint tests ++ ending n) all
-    ∙ sym (flat_map-append (painted tint) (flat_map (listed_runs root sources) tests)
-    (count_runs (length tests) ++ flat_map (unused_runs root sources) unused)))
-    (Appends-trans old mid new (tests_text head tint tests) (ending count) before after)
+    (ap (λ n. opening ++ (tests_text head tint tests ++ ending n)) all
+    ∙ ap (λ text. opening ++ text)
+    (sym (flat_map-append (painted tint) lines (list_end_runs root sources (length tests) unused)))
+    ∙ sym (flat_map-append (painted tint) (list_head_runs asked)
+    (lines ++ list_end_runs root sources (length tests) unused)))
+    (Appends-trans old first new opening (tests_text head tint tests ++ ending count) header
+    (Appends-trans first mid new (tests_text head tint tests) (ending count) before after))
 
 -- the tests so far went out
 pub first_so_far : (basis : Basis) (mode : NextestRunMode) (profile : EvaluatableModel Filter) (asked : RequestedSettings)
-    (head : Report) (tint : Colour) (queries : List TestQuery) (i : ℕ) (tests : List TestRows)
+    (head : Report) (tint : Colour) (listed : List ListedTest) (i : ℕ) (tests : List TestRows)
     (old new : Option (List ℕ))
-    → AllZip (λ query. IsTestReported basis (query_in filter_holds profile (test_view query)) mode profile asked
-    (test_view query)) (take i queries) tests
+    → AllZip (λ test. IsTestReported basis (query_in filter_holds profile (list_test_view test).test) mode profile asked
+    (list_test_view test)) (take i listed) tests
     → Appends old new (tests_text head tint tests)
-    → AreFirstWritten basis filter_holds mode profile asked (map test_view queries) head tint old new
-first_so_far basis mode profile asked head tint queries i tests old new told page =
-    let Told : Test → TestRows → Type 0 =
-    λ test. IsTestReported basis (query_in filter_holds profile test) mode profile asked test in
+    → AreFirstWritten basis filter_holds mode profile asked (map list_test_view listed) head tint old new
+first_so_far basis mode profile asked head tint listed i tests old new told page =
+    let Told : ListTest → TestRows → Type 0 =
+    λ t. IsTestReported basis (query_in filter_holds profile t.test) mode profile asked t in
     record {
       count = i;
       tests = tests;
-      are_reported = subst (λ list. AllZip Told list tests) (sym (take-map test_view i queries))
-          (zip_mapped test_view Told (take i queries) tests told);
+      are_reported = subst (λ list. AllZip Told list tests) (sym (take-map list_test_view i listed))
+          (zip_mapped list_test_view Told (take i listed) tests told);
       page = page;
     }
 
 -- all tests went out
 pub all_first : (basis : Basis) (mode : NextestRunMode) (profile : EvaluatableModel Filter) (asked : RequestedSettings)
-    (head : Report) (tint : Colour) (list : List Test) (tests : List TestRows) (old new : Option (List ℕ))
+    (head : Report) (tint : Colour) (list : List ListTest) (tests : List TestRows) (old new : Option (List ℕ))
     → AreTestsReported basis filter_holds mode profile asked list tests → Appends old new (tests_text head tint tests)
     → AreFirstWritten basis filter_holds mode profile asked list head tint old new
 all_first basis mode profile asked head tint list tests old new told page = record {
@@ -143,26 +151,46 @@ all_first basis mode profile asked head tint list tests old new told page = reco
   page = page;
 }
 
--- the first tests went out by a configuration that was loaded
+-- no test went out yet
+pub none_first : (basis : Basis) (mode : NextestRunMode) (profile : EvaluatableModel Filter) (asked : RequestedSettings)
+    (head : Report) (tint : Colour) (list : List ListTest) (old new : Option (List ℕ)) → old ≡ new
+    → AreFirstWritten basis filter_holds mode profile asked list head tint old new
+none_first basis mode profile asked head tint list old new same = record {
+  count = 0;
+  tests = [];
+  are_reported = tt;
+  page = subst (λ bytes. Appends old bytes []) same (Appends-nil old);
+}
+
+-- what is asked and the first tests went out by a configuration that was loaded
 pub first_here : (session : Session) (loaded : Loaded (Filterset FieldMatcher) TargetSpec) (name : Name)
     (mode : NextestRunMode) (asked : RequestedSettings) (on : EvaluatableModel (Filterset FieldMatcher))
-    (names chain : List Name) (head : Report) (tint : Colour) (old new : Option (List ℕ))
+    (names chain headed : List Name) (header : Asked) (head : Report) (tint : Colour)
+    (old mid new : Option (List ℕ))
     → IsProfileOn is_met_by session.engines.platforms (read_by session loaded) name on
-    → IsChainAndDefault (parents_in (config_parents loaded.config)) name names → chain ≡ names
+    → IsChainAndDefault (parents_in (config_parents loaded.config)) name names → chain ≡ names → headed ≡ names
+    → IsRequestedOf session name mode headed header → Appends old mid (page_text tint (list_head_runs header))
     → AreFirstWritten (basis_of session chain) (readings session.engines.filters).matches_test mode
-    (profile_meaning (marks_view names_of) on) asked (all_tests (list_view session.tests)) head tint old new
+    (profile_meaning (marks_view names_of) on) asked (list_tests (list_view session.tests)) head tint mid new
     → AreFirstBy session loaded name mode asked tint old new
-first_here session loaded name mode asked on names chain head tint old new is ends same first = record {
-  head = head;
-  profile = profile_meaning (marks_view names_of) on;
-  is_profile = given_means (marks_view names_of) spec_view (readings session.engines.filters).meets
-      session.engines.platforms (read_by session loaded) name on is;
-  chain = names;
-  is_chain = ends;
-  first = subst (λ ns. AreFirstWritten (basis_of session ns) (readings session.engines.filters).matches_test mode
-      (profile_meaning (marks_view names_of) on) asked (all_tests (list_view session.tests)) head tint old new)
-      same first;
-}
+first_here session loaded name mode asked on names chain headed header head tint old mid new is ends same same_header
+    is_asked opening first = record {
+      head = head;
+      profile = profile_meaning (marks_view names_of) on;
+      is_profile = given_means (marks_view names_of) spec_view (readings session.engines.filters).meets
+          session.engines.platforms (read_by session loaded) name on is;
+      chain = names;
+      is_chain = ends;
+      header = header;
+      is_asked = requested_on session name mode headed names header same_header is_asked;
+      count = first.count;
+      tests = first.tests;
+      are_reported = subst (λ ns. AreTestsReported (basis_of session ns) (readings session.engines.filters).matches_test mode
+          (profile_meaning (marks_view names_of) on) asked (take first.count (list_tests (list_view session.tests)))
+          first.tests) same first.are_reported;
+      page = Appends-trans old mid new (page_text tint (list_head_runs header)) (tests_text head tint first.tests) opening
+          first.page;
+    }
 
 -- the page of a list was begun by what was loaded
 pub begins_list : (session : Session) (profile : Name) (mode : NextestRunMode) (asked : RequestedSettings) (tint : Colour)
@@ -178,7 +206,8 @@ begins_list session profile mode asked tint loaded old new accepted from there f
       root = string_bytes session.gathered.now.paths.workspace_root;
       config = config;
       scripts = loaded.scripts;
-    }) profile mode asked session.layers.items (all_tests (list_view session.tests)) tint old new in
+    }) profile mode (IsRequestedOf session profile mode) asked session.layers.items
+    (list_tests (list_view session.tests)) tint old new in
     record {
       acceptance = accepted;
       scripts = loaded.scripts;
@@ -202,15 +231,18 @@ pub writes_list : (session : Session) (profile : Name) (mode : NextestRunMode) (
     → IsLoadedFrom (readings session.engines.filters) (files_view session.gathered.now) loaded
     → IsIn (names_in loaded.config.profiles) profile → IsReportOf session head
     → IfListed content (listed_by session loaded profile mode asked)
-    → Appends old new (page_text tint (content_runs head content))
+    → IsRequestedIn session (parents_in (config_parents loaded.config)) profile mode content
+    → IsLookedUp session profile → Appends old new (page_text tint (content_runs head content))
     → WritesList session profile mode asked tint old new
-writes_list session profile mode asked tint head content loaded old new accepted from there about listed page = record {
-  report = record head { content = content };
-  about = record { root = about.root; sources = about.sources };
-  tells = tells_tests session profile mode asked (record head { content = content }) content loaded accepted from there
-      refl listed;
-  page = page_of_list head tint content (listed_by session loaded profile mode asked) old new listed page;
-}
+writes_list session profile mode asked tint head content loaded old new accepted from there about listed requested looked
+    page = record {
+      report = record head { content = content };
+      about = record { root = about.root; sources = about.sources };
+      tells = tells_tests session profile mode asked (record head { content = content }) content loaded accepted from there
+          refl listed requested;
+      looked_up = looked;
+      page = page_of_list head tint content (listed_by session loaded profile mode asked) old new listed page;
+    }
 
 -- why a list was not written whole, in other words
 pub stops_so : (refuses others : Failure → Type 0) (begun more : Type 0) (old new : Option (List ℕ))
@@ -221,13 +253,14 @@ stops_so refuses others begun more old new faults.Memory told first (inl is) = i
 stops_so refuses others begun more old new faults.Memory told first (inr same) = inr same
 stops_so refuses others begun more old new faults.Write told first stop = tt
 
--- why a list was not written whole whose end was to be written
-pub stops_at_end : (begun : Type 0) (old mid new : Option (List ℕ)) (fault : ListFault)
-    → (mid ≡ new → begun) → StopsList (λ _. ⊥) ⊥ mid new fault → StopsList (λ _. ⊥) begun old new fault
-stops_at_end begun old mid new (faults.Refused failure) first stop = absurd stop.0
-stops_at_end begun old mid new faults.Memory first (inl none) = absurd none
-stops_at_end begun old mid new faults.Memory first (inr same) = inl (first (sym same))
-stops_at_end begun old mid new faults.Write first stop = tt
+-- why a list was not written whole of which something was written before
+pub stops_behind : (more begun : Type 0) (old mid new : Option (List ℕ)) (fault : ListFault)
+    → (more → begun) → (mid ≡ new → begun) → StopsList (λ _. ⊥) more mid new fault
+    → StopsList (λ _. ⊥) begun old new fault
+stops_behind more begun old mid new (faults.Refused failure) further first stop = absurd stop.0
+stops_behind more begun old mid new faults.Memory further first (inl is) = inl (further is)
+stops_behind more begun old mid new faults.Memory further first (inr same) = inl (first (sym same))
+stops_behind more begun old mid new faults.Write further first stop = tt
 
 -- a question that asks for a list is answered by what tells its tests
 answers_list : (q : Question) (list : RequestedList) (session : Session) (report : Report) → AsksList q list
@@ -240,6 +273,13 @@ answers_list (questions.List profile mode file settings) list session report ask
 )
 answers_list _ list session report asks tells = absurd asks
 
+-- each filter was looked up that is evaluated for a list
+looked_list : (q : Question) (list : RequestedList) (session : Session) → AsksList q list
+    → IsLookedUp session list.profile.now → AreLookedUp session q
+looked_list (questions.List profile mode file settings) list session asks looked =
+    subst (λ p. IsLookedUp session p) asks.0 looked
+looked_list _ list session asks looked = absurd asks
+
 begins_page : (q : Question) (list : RequestedList) (session : Session) (tint : Colour) (old new : Option (List ℕ))
     → AsksList q list
     → BeginsList session list.profile.now list.mode list.settings.now tint old new
@@ -251,9 +291,9 @@ begins_page (questions.List profile mode file settings) list session tint old ne
 begins_page _ list session tint old new asks begins = absurd asks
 
 fails_about : (q : Question) (list : RequestedList) (session : Session) (failure : Failure) → AsksList q list
-    → IsFailureAbout session list.profile.now failure → IsFailureIn session q failure
+    → IsFailureOn session list.profile.now failure → IsFailureIn session q failure
 fails_about (questions.List profile mode file settings) list session failure asks cause =
-    subst (λ p. IsFailureAbout session p failure) asks.0 cause
+    subst (λ p. IsFailureOn session p failure) asks.0 cause
 fails_about _ list session failure asks cause = absurd asks
 
 -- status 0 answers a question that asks for a list
@@ -274,6 +314,7 @@ list_reported request gathered list session old new begun asks is_text writes = 
     begun = begun;
     about = writes.about;
     answers = answers_list request.question list session writes.report asks writes.tells;
+    looked_up = looked_list request.question list session asks writes.looked_up;
   };
   page = subst (λ format. Appends old new (rendered writes.report format request.colour)) (sym is_text) writes.page;
 }
@@ -282,11 +323,11 @@ list_reported request gathered list session old new begun asks is_text writes = 
 pub list_stopped : (request : Request) (gathered : Gathered) (list : RequestedList) (session : Session)
     (old new : Option (List ℕ)) (fault : ListFault) → IsSessionOf request gathered session
     → AsksList request.question list → request.format ≡ formats.Text
-    → StopsList (IsFailureAbout session list.profile.now)
+    → StopsList (IsFailureOn session list.profile.now)
     (BeginsList session list.profile.now list.mode list.settings.now request.colour old new) old new fault
     → StopsList (Fails request gathered) (IsBegun request gathered old new) old new fault
 list_stopped request gathered list session old new fault begun asks is_text stop =
-    stops_so (IsFailureAbout session list.profile.now) (Fails request gathered)
+    stops_so (IsFailureOn session list.profile.now) (Fails request gathered)
     (BeginsList session list.profile.now list.mode list.settings.now request.colour old new)
     (IsBegun request gathered old new) old new fault
     (λ failure cause. inr (record {

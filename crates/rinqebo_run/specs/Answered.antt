@@ -8,6 +8,8 @@ use Rattle.rinqebo_report.specs.declared.report.Report.{Report}
 use Rattle.rinqebo_run.specs.Checked.{IsCheckStatus}
 use Rattle.rinqebo_run.specs.Explained.{Explains}
 use Rattle.rinqebo_run.specs.Listed.{TellsTests}
+use Rattle.rinqebo_load.specs.FindTests.{IsFoundFor}
+use Rattle.rinqebo_run.specs.LookedUp.{AreLookedUp}
 use Rattle.rinqebo_load.specs.SessionOf.{IsSessionOf}
 use Rattle.rinqebo_run.specs.ShownConfig.{ShowsConfig}
 use Rattle.rinqebo_run.specs.TellsReasons.{TellsReasons}
@@ -15,14 +17,24 @@ use Rattle.rinqebo_files.specs.declared.files.Gathered.{Gathered}
 use Rattle.rinqebo_request.specs.declared.request.Question.{Question}
 use Rattle.rinqebo_request.specs.declared.request.Question.TheVariants as questions
 use Rattle.rinqebo_request.specs.declared.request.Request.{Request}
+use Rattle.rinqebo_request.specs.declared.request.RequestedTest.{RequestedTest}
+use Rattle.rinqebo_load.specs.declared.found_test.FoundTest.{FoundTest}
 use Rattle.rinqebo_load.specs.declared.session.Session.{Session}
+
+-- Something holds of the test that a request names, as a session finds it.
+pub record IsAboutTest (session : Session) (requested : RequestedTest) (Holds : FoundTest → Type 0)
+    : Type 0 where
+  pub found : FoundTest
+  pub is_found : IsFoundFor session requested found
+  pub holds : Holds found
 
 -- A report and a status answer a question of a session.
 abbrev pub AnswersQuestion : Question → Session → Report → ℕ → Type 0
 AnswersQuestion (questions.Explain profile test asked) session report status =
-    (status ≡ 0) × Explains session profile.now test asked report
+    (status ≡ 0) × IsAboutTest session test (λ found. Explains session profile.now found asked report)
 AnswersQuestion (questions.Why profile test setting) session report status =
-    (status ≡ 0) × TellsReasons session profile.now test setting report
+    (status ≡ 0) × IsAboutTest session test
+    (λ found. TellsReasons session profile.now found setting report)
 AnswersQuestion (questions.List profile mode list asked) session report status =
     (status ≡ 0) × TellsTests session profile.now mode asked report
 AnswersQuestion (questions.ShowConfig profile keys with_hidden) session report status =
@@ -31,13 +43,15 @@ AnswersQuestion (questions.Check deny_warnings) session report status =
     IsCheckStatus session status
 
 -- A report and a status answer a request over the files that were read: the report is one of a
--- session of the request, and answers the question of it.
+-- session of the request, and answers the question of it. Each filter that is evaluated for it was looked
+-- up.
 pub record IsAnswer (request : Request) (gathered : Gathered) (report : Report) (status : ℕ)
     : Type 0 where
   pub session : Session
   pub begun : IsSessionOf request gathered session
   pub about : IsReportOf session report
   pub answers : AnswersQuestion request.question session report status
+  pub looked_up : AreLookedUp session request.question
 
 -- A writer was given the page of an answer: known bytes grew by exactly the report, in the format
 -- and the colours that are asked for.

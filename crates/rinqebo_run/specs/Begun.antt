@@ -1,5 +1,5 @@
 -- What went out of a list whose end did not: its first tests.
-use Rattle.std.specs.Prelude.{◌≡◌, ℕ, Bool, List, Option, flat_map, string_bytes, take}
+use Rattle.std.specs.Prelude.{◌≡◌, ◌++◌, ℕ, Bool, List, Option, flat_map, string_bytes, take}
 use Rattle.std.specs.Io.KnownBytes.{Appends}
 use Rattle.nextest_elements.specs.declared.run_mode.NextestRunMode.{NextestRunMode}
 use Rattle.nextest_engines.specs.Engines.{Test}
@@ -16,10 +16,11 @@ use Rattle.rinqebo_files.specs.declared.files.Gathered.{Gathered}
 use Rattle.rinqebo_files.specs.declared.layers.Layer.{Layer}
 use Rattle.rinqebo_rules.specs.TestOrigins.{Basis}
 use Rattle.rinqebo_rules.specs.Rows.{AreTestsReported}
-use Rattle.rinqebo_report.specs.Pages.{listed_runs}
+use Rattle.rinqebo_report.specs.Pages.{list_head_runs, listed_runs}
 use Rattle.rinqebo_report.specs.Pieces.{page_text}
 use Rattle.rinqebo_report.specs.declared.format.Format.TheVariants as formats
 use Rattle.rinqebo_report.specs.declared.piece.Colour.{Colour}
+use Rattle.rinqebo_report.specs.declared.report.Asked.{Asked}
 use Rattle.rinqebo_report.specs.declared.report.Report.{Report}
 use Rattle.rinqebo_report.specs.declared.report.TestRows.{TestRows}
 use Rattle.rinqebo_request.specs.declared.request.RequestedSettings.{RequestedSettings}
@@ -27,11 +28,12 @@ use Rattle.rinqebo_request.specs.declared.request.Question.{Question}
 use Rattle.rinqebo_request.specs.declared.request.Question.TheVariants as questions
 use Rattle.rinqebo_request.specs.declared.request.Request.{Request}
 use Rattle.nextest_lists.specs.ListView.{list_view}
-use Rattle.nextest_lists.specs.Lists.{all_tests}
+use Rattle.nextest_lists.specs.Lists.{ListTest, list_tests}
 use Rattle.rinqebo_load.specs.Accepted.{AreAccepted}
 use Rattle.rinqebo_run.specs.Listed.{IsProfileOn}
 use Rattle.rinqebo_load.specs.SessionOf.{IsSessionOf}
 use Rattle.rinqebo_load.specs.Sessions.{files_view, readings}
+use Rattle.rinqebo_run.specs.Requested.{IsRequestedOf}
 use Rattle.rinqebo_run.specs.TellsReasons.{configured_by}
 use Rattle.rinqebo_load.specs.declared.session.Session.{Session}
 
@@ -44,27 +46,34 @@ tests_text head tint tests =
 -- grew by their lines on the page of a report, and by nothing else.
 pub record AreFirstWritten {M : Type 0} (basis : Basis) (matches : M → Test → M → Bool)
     (mode : NextestRunMode) (profile : EvaluatableModel M) (asked : RequestedSettings)
-    (list : List Test) (head : Report) (tint : Colour) (old new : Option (List ℕ)) : Type 0 where
+    (list : List ListTest) (head : Report) (tint : Colour) (old new : Option (List ℕ)) : Type 0 where
   pub count : ℕ
   pub tests : List TestRows
   pub are_reported : AreTestsReported basis matches mode profile asked (take count list) tests
   pub page : Appends old new (tests_text head tint tests)
 
--- The first tests of a list went out, as the profile of a name gives them settings on the platforms
--- of a build.
+-- What is asked went out in a line, of which something says whether it is what is asked with a chain
+-- of profiles, and then the first tests of a list, as the profile of a name gives them settings on
+-- the platforms of a build.
 pub record AreFirstOf {M K P : Type 0} (meets : K → P → Option Bool) (matches : M → Test → M → Bool)
     (platforms : BuildPlatforms P) (configured : Configured M K) (name : Name)
-    (mode : NextestRunMode) (asked : RequestedSettings) (layers : List Layer) (list : List Test)
-    (tint : Colour) (old new : Option (List ℕ)) : Type 0 where
+    (mode : NextestRunMode) (IsAsked : List Name → Asked → Type 0) (asked : RequestedSettings)
+    (layers : List Layer) (list : List ListTest) (tint : Colour) (old new : Option (List ℕ))
+    : Type 0 where
   pub head : Report
   pub profile : EvaluatableModel M
   pub is_profile : IsProfileOn meets platforms configured name profile
   pub chain : List Name
   pub is_chain : IsChainAndDefault (parents_in (config_parents configured.config)) name chain
-  pub first : AreFirstWritten (record { layers = layers; chain = chain }) matches mode profile asked
-      list head tint old new
+  pub header : Asked
+  pub is_asked : IsAsked chain header
+  pub count : ℕ
+  pub tests : List TestRows
+  pub are_reported : AreTestsReported (record { layers = layers; chain = chain }) matches mode
+      profile asked (take count list) tests
+  pub page : Appends old new (page_text tint (list_head_runs header) ++ tests_text head tint tests)
 
--- The page of a list was begun: its first tests went out, by what the files mean.
+-- The page of a list was begun: what is asked and its first tests went out, by what the files mean.
 pub record BeginsList (session : Session) (profile : Name) (mode : NextestRunMode)
     (asked : RequestedSettings) (tint : Colour) (old new : Option (List ℕ)) : Type 0 where
   -- Every written rule holds of the files.
@@ -76,8 +85,8 @@ pub record BeginsList (session : Session) (profile : Name) (mode : NextestRunMod
   pub known : IsIn (names_in (configured_by session scripts).config.profiles) profile
   pub first : AreFirstOf (readings session.engines.filters).meets
       (readings session.engines.filters).matches_test session.engines.platforms
-      (configured_by session scripts) profile mode asked session.layers.items
-      (all_tests (list_view session.tests)) tint old new
+      (configured_by session scripts) profile mode (IsRequestedOf session profile mode) asked
+      session.layers.items (list_tests (list_view session.tests)) tint old new
 
 -- the page that answers a question was begun: only a list goes out before its end is known
 abbrev pub BeginsPage : Question → Session → Colour → Option (List ℕ) → Option (List ℕ) → Type 0

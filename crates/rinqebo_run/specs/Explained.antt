@@ -1,5 +1,5 @@
 -- What is told of the settings of a test.
-use Rattle.std.specs.Prelude.{◌≡◌, Bool, List, Option}
+use Rattle.std.specs.Prelude.{Bool, List, Option}
 use Rattle.nextest_engines.specs.Engines.{Test}
 use Rattle.nextest_engines.specs.declared.queries.BuildPlatforms.{BuildPlatforms}
 use Rattle.nextest_inheritance.specs.Parents.{parents_in}
@@ -14,34 +14,33 @@ use Rattle.nextest_tables.specs.Written.{Name}
 use Rattle.rinqebo_files.specs.declared.layers.Layer.{Layer}
 use Rattle.rinqebo_rules.specs.Rows.{IsTestReported}
 use Rattle.rinqebo_load.specs.Accepted.{AreAccepted}
+use Rattle.rinqebo_load.specs.FoundTests.{found_view}
+use Rattle.rinqebo_load.specs.Meant.{config_meant}
 use Rattle.rinqebo_load.specs.Sessions.{files_view, readings}
+use Rattle.rinqebo_load.specs.declared.found_test.FoundTest.{FoundTest}
 use Rattle.rinqebo_load.specs.declared.session.Session.{Session}
 use Rattle.rinqebo_report.specs.declared.report.Content.{Content}
 use Rattle.rinqebo_report.specs.declared.report.Content.TheVariants as contents
 use Rattle.rinqebo_report.specs.declared.report.Report.{Report}
 use Rattle.rinqebo_report.specs.declared.report.TestRows.{TestRows}
 use Rattle.rinqebo_request.specs.declared.request.RequestedSettings.{RequestedSettings}
-use Rattle.rinqebo_request.specs.declared.request.TestName.{TestName}
 use Rattle.rinqebo_run.specs.Listed.{IsProfileOn}
+use Rattle.rinqebo_run.specs.Requested.{IsRequestedIn}
 use Rattle.rinqebo_run.specs.TellsReasons.{configured_by}
 
 -- A test is told as the profile of a name gives it settings on the platforms of a build, and as a test
 -- of a list is told: whether it runs, and the settings that are asked for, in order, each with its
 -- value, and with where that comes from in the layers of the files and in the chain of the profile.
 pub record IsTestOf {M K P : Type 0} (meets : K → P → Option Bool) (matches : M → Test → M → Bool)
-    (platforms : BuildPlatforms P) (configured : Configured M K) (name : Name) (test : TestName)
+    (platforms : BuildPlatforms P) (configured : Configured M K) (name : Name) (test : FoundTest)
     (rows : RequestedSettings) (layers : List Layer) (told : TestRows) : Type 0 where
-  -- The test, as filters see it, is the one that is named.
-  pub asked : Test
-  pub requested_name : asked.name ≡ test.name.now
-  pub requested_binary : asked.binary.binary_id ≡ test.binary.now
-  pub requested_platform : asked.binary.platform ≡ test.platform
   pub profile : EvaluatableModel M
   pub is_profile : IsProfileOn meets platforms configured name profile
   pub chain : List Name
   pub is_chain : IsChainAndDefault (parents_in (config_parents configured.config)) name chain
   pub reported : IsTestReported (record { layers = layers; chain = chain })
-      (query_in matches profile asked) test.mode profile rows asked told
+      (query_in matches profile (found_view test).test) test.mode profile rows (found_view test)
+      told
 
 -- a fact of the test that a report is about
 abbrev pub IfExplained : Content → (TestRows → Type 0) → Type 0
@@ -49,7 +48,7 @@ IfExplained (contents.Explain asked test) P = P test
 IfExplained _ P = ⊥
 
 -- A report tells what a profile says of a test, by what the files mean.
-pub record Explains (session : Session) (profile : Name) (test : TestName)
+pub record Explains (session : Session) (profile : Name) (test : FoundTest)
     (rows : RequestedSettings) (report : Report) : Type 0 where
   -- Every written rule holds of the files.
   pub acceptance : AreAccepted session
@@ -63,3 +62,6 @@ pub record Explains (session : Session) (profile : Name) (test : TestName)
   pub told : IfExplained report.content (IsTestOf (readings session.engines.filters).meets
       (readings session.engines.filters).matches_test session.engines.platforms
       (configured_by session scripts) profile test rows session.layers.items)
+  -- It says what was asked for.
+  pub requested : IsRequestedIn session (parents_in (config_parents (config_meant session))) profile
+      test.mode report.content

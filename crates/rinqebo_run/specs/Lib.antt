@@ -1,4 +1,5 @@
 pub mod Statuses
+pub mod Requested
 pub mod Explained
 pub mod Checked
 pub mod Answered
@@ -10,3 +11,4 @@ pub mod ListedBy
 pub mod ShownConfig
 pub mod Begun
 pub mod Written
+pub mod LookedUp

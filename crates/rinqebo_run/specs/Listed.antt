@@ -27,11 +27,13 @@ use Rattle.rinqebo_report.specs.declared.report.Report.{Report}
 use Rattle.rinqebo_report.specs.declared.report.TestRows.{TestRows}
 use Rattle.rinqebo_request.specs.declared.request.RequestedSettings.{RequestedSettings}
 use Rattle.nextest_lists.specs.ListView.{list_view}
-use Rattle.nextest_lists.specs.Lists.{all_binaries, all_tests, TestList}
+use Rattle.nextest_lists.specs.Lists.{all_binaries, all_tests, list_tests, TestList}
 use Rattle.rinqebo_load.specs.Accepted.{AreAccepted}
+use Rattle.rinqebo_load.specs.Meant.{config_meant}
 use Rattle.rinqebo_rules.specs.Origins.{IsOriginOf}
 use Rattle.rinqebo_rules.specs.RulePlaces.{Place, id_place, script_place}
 use Rattle.rinqebo_load.specs.Sessions.{files_view, readings}
+use Rattle.rinqebo_run.specs.Requested.{IsRequestedIn}
 use Rattle.rinqebo_run.specs.TellsReasons.{configured_by}
 use Rattle.rinqebo_load.specs.declared.session.Session.{Session}
 
@@ -69,7 +71,7 @@ pub record AreTestsOf {M K P : Type 0} (meets : K → P → Option Bool) (matche
   pub chain : List Name
   pub is_chain : IsChainAndDefault (parents_in (config_parents configured.config)) name chain
   pub tests_reported : AreTestsReported (record { layers = layers; chain = chain }) matches mode
-      profile asked (all_tests list) tests
+      profile asked (list_tests list) tests
   pub unused_reported : AreUnused layers (map (query_in matches profile) (all_tests list))
       profile unused
   pub scripts_reported : AreScriptsReported matches matches_binary profile (all_tests list)
@@ -99,3 +101,6 @@ pub record TellsTests (session : Session) (profile : Name) (mode : NextestRunMod
       (readings session.engines.filters).matches_binary session.engines.platforms
       (configured_by session scripts) profile mode asked session.layers.items
       (list_view session.tests))
+  -- It says what was asked for.
+  pub requested : IsRequestedIn session (parents_in (config_parents (config_meant session))) profile
+      mode report.content

@@ -14,7 +14,6 @@ use Rattle.rinqebo_report.specs.declared.origin.Origin.{Origin}
 use Rattle.rinqebo_report.specs.declared.report.ListScripts.{ListScripts}
 use Rattle.rinqebo_report.specs.declared.report.TestRows.{TestRows}
 use Rattle.rinqebo_request.specs.declared.request.RequestedSettings.{RequestedSettings}
-use Rattle.rinqebo_request.specs.declared.request.TestName.{TestName}
 use Rattle.platform_language.specs.Expressions.{spec_view}
 use Rattle.platform_language.specs.declared.expression.TargetSpec.{TargetSpec}
 use Rattle.nextest_lists.specs.ListView.{list_view}
@@ -24,6 +23,7 @@ use Rattle.rinqebo_rules.specs.TestOrigins.{Basis}
 use Rattle.rinqebo_rules.specs.declared.unused.UnusedRules.{UnusedRules}
 use Rattle.rinqebo_rules.specs.RulePlaces.{Place, id_place, script_place}
 use Rattle.rinqebo_load.specs.Sessions.{readings}
+use Rattle.rinqebo_load.specs.declared.found_test.FoundTest.{FoundTest}
 use Rattle.rinqebo_load.specs.declared.session.Session.{Session}
 
 -- a configuration that was loaded in a session
@@ -51,7 +51,7 @@ listed_by session loaded profile mode asked =
     asked session.layers.items (list_view session.tests)
 
 -- a test is told as the profile of a name gives it settings, by what was loaded
-abbrev pub explained_by : Session → Loaded (Filterset FieldMatcher) TargetSpec → Name → TestName
+abbrev pub explained_by : Session → Loaded (Filterset FieldMatcher) TargetSpec → Name → FoundTest
     → RequestedSettings → TestRows → Type 0
 explained_by session loaded profile test asked =
     IsTestOf (readings session.engines.filters).meets

@@ -1,12 +1,15 @@
 -- Why a run answers nothing.
 use Rattle.std.specs.Prelude.{◌≡◌, ◌⊎◌, ℕ, List, Option}
 use Rattle.std.specs.Io.KnownBytes.{Appends}
+use Rattle.nextest_tables.specs.Written.{Name}
 use Rattle.rinqebo_files.specs.declared.files.Gathered.{Gathered}
-use Rattle.rinqebo_findings.specs.Failures.{IsFailureAbout, LacksProfile}
+use Rattle.rinqebo_findings.specs.Failures.{IsFailureAbout, IsFailureToFind, LacksProfile}
 use Rattle.rinqebo_request.specs.declared.request.Question.{Question}
 use Rattle.rinqebo_request.specs.declared.request.Question.TheVariants as questions
 use Rattle.rinqebo_request.specs.declared.request.Request.{Request}
+use Rattle.rinqebo_request.specs.declared.request.RequestedTest.{RequestedTest}
 use Rattle.rinqebo_load.specs.Accepted.{AreAccepted}
+use Rattle.rinqebo_load.specs.FindTests.{LacksTest}
 use Rattle.rinqebo_load.specs.SessionOf.{IsSessionOf}
 use Rattle.rinqebo_load.specs.Beginning.{IsBeginningFailure}
 use Rattle.rinqebo_load.specs.declared.failure.Failure.{Failure}
@@ -14,17 +17,25 @@ use Rattle.rinqebo_load.specs.declared.failure.Failure.TheVariants as failures
 use Rattle.rinqebo_report.specs.Rendered.{rendered}
 use Rattle.rinqebo_report.specs.declared.format.Format.TheVariants as formats
 use Rattle.rinqebo_report.specs.declared.report.Report.{Report}
+use Rattle.rinqebo_run.specs.LookedUp.{IsFailureOn}
 use Rattle.rinqebo_run.specs.Statuses.{failure_status}
 use Rattle.rinqebo_load.specs.declared.session.Session.{Session}
 
--- A session does not answer a question. A check answers refused files, and asks for no profile.
+-- A session answers nothing about a profile and a test: it does not find the test, or it answers
+-- nothing for which it evaluates the filters of the profile.
+abbrev pub IsFailureAboutTest : Session → Name → RequestedTest → Failure → Type 0
+IsFailureAboutTest session profile test failure =
+    IsFailureToFind session test failure ⊎ IsFailureOn session profile failure
+
+-- A session does not answer a question. A check answers refused files, and asks for no profile and
+-- no test. For `show-config` and `check` no filter is evaluated.
 abbrev pub IsFailureIn : Session → Question → Failure → Type 0
 IsFailureIn session (questions.Explain profile test asked) failure =
-    IsFailureAbout session profile.now failure
+    IsFailureAboutTest session profile.now test failure
 IsFailureIn session (questions.Why profile test setting) failure =
-    IsFailureAbout session profile.now failure
+    IsFailureAboutTest session profile.now test failure
 IsFailureIn session (questions.List profile mode list asked) failure =
-    IsFailureAbout session profile.now failure
+    IsFailureOn session profile.now failure
 IsFailureIn session (questions.ShowConfig profile keys with_hidden) failure =
     IsFailureAbout session profile.now failure
 IsFailureIn session (questions.Check deny_warnings) failure = IsBeginningFailure failure
@@ -62,17 +73,34 @@ pub record LackProfileFor (request : Request) (gathered : Gathered) : Type 0 whe
   pub begun : IsSessionOf request gathered session
   pub lacks : LacksProfileOf session request.question
 
+-- a session lacks the test that a question names
+abbrev pub LacksTestOf : Session → Question → Type 0
+LacksTestOf session (questions.Explain profile test asked) = LacksTest session test
+LacksTestOf session (questions.Why profile test setting) = LacksTest session test
+LacksTestOf session (questions.List profile mode list asked) = ⊥
+LacksTestOf session (questions.ShowConfig profile keys with_hidden) = ⊥
+LacksTestOf session (questions.Check deny_warnings) = ⊥
+
+-- There is no test that a request names.
+pub record LackTestFor (request : Request) (gathered : Gathered) : Type 0 where
+  pub session : Session
+  pub begun : IsSessionOf request gathered session
+  pub lacks : LacksTestOf session request.question
+
 -- An exit status tells of files: 3 only where some written rule does not hold of them, and 4 only
--- where all do and the files lack the profile that is asked for.
+-- where all do and the files lack the profile that is asked for, or where there is no test that is
+-- asked for.
 pub record IsReportedBy (request : Request) (gathered : Gathered) (status : ℕ) : Type 0 where
   pub refused : status ≡ 3 → AreRefusedFor request gathered
-  pub lacking : status ≡ 4 → LackProfileFor request gathered
+  pub lacking : status ≡ 4 → LackProfileFor request gathered ⊎ LackTestFor request gathered
 
 -- a report says why a run answers nothing
 abbrev pub IsReportOfFailure : Failure → Report → Type 0
 IsReportOfFailure (failures.Engines fault) report = ⊥
 IsReportOfFailure (failures.Refused told) report = report ≡ told
 IsReportOfFailure (failures.NoProfile told) report = report ≡ told
+IsReportOfFailure (failures.NoTest told) report = report ≡ told
+IsReportOfFailure (failures.SeveralTests told) report = report ≡ told
 IsReportOfFailure failures.Memory report = ⊥
 
 -- no report says why a run answers nothing
@@ -80,6 +108,8 @@ abbrev pub HasNoReport : Failure → Type 0
 HasNoReport (failures.Engines fault) = Unit {0}
 HasNoReport (failures.Refused told) = ⊥
 HasNoReport (failures.NoProfile told) = ⊥
+HasNoReport (failures.NoTest told) = ⊥
+HasNoReport (failures.SeveralTests told) = ⊥
 HasNoReport failures.Memory = Unit {0}
 
 -- A writer was given the document of a failure, where JSON is asked for: known bytes grew by exactly the

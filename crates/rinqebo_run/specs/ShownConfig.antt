@@ -1,6 +1,7 @@
 -- What is told of the leaves of a configuration.
 use Rattle.std.specs.Prelude.{◌≡◌, ℕ, List, [], ◌∷◌, Bool, filter}
 use Rattle.std.specs.List.{AllZip}
+use Rattle.nextest_elements.specs.declared.run_mode.NextestRunMode.TheVariants as modes
 use Rattle.nextest_grounds.specs.Entries.{AreEntries, Leaf}
 use Rattle.nextest_inheritance.specs.Parents.{Parents, parents_in}
 use Rattle.nextest_load.specs.Config.{config_parents}
@@ -19,6 +20,7 @@ use Rattle.rinqebo_report.specs.declared.report.Report.{Report}
 use Rattle.rinqebo_load.specs.Accepted.{AreAccepted}
 use Rattle.rinqebo_load.specs.Meant.{config_meant}
 use Rattle.rinqebo_load.specs.declared.session.Session.{Session}
+use Rattle.rinqebo_run.specs.Requested.{IfRequested, IsRequestedOf}
 
 -- An entry tells a leaf, at a place in the file of the leaf's layer.
 pub record TellsLeaf (leaf : Leaf) (entry : Entry) : Type 0 where
@@ -60,6 +62,8 @@ pub record IsShownIn (session : Session) (parents : Parents) (profile : Name)
   pub chain : List Name
   pub is_chain : IsChainAndDefault parents profile chain
   pub shown : IfShown content (AreShown (trees_of session.layers.items) chain keys with_hidden)
+  -- It says what was asked for.
+  pub requested : IfRequested content (IsRequestedOf session profile modes.Test chain)
 
 -- A report shows the leaves of a profile below keys, by what the files write.
 pub record ShowsConfig (session : Session) (profile : Name) (keys : List (List ℕ))

@@ -15,6 +15,8 @@ abbrev pub failure_status : Failure → ℕ
 failure_status (failures.Engines fault) = 2
 failure_status (failures.Refused report) = 3
 failure_status (failures.NoProfile report) = 4
+failure_status (failures.NoTest report) = 4
+failure_status (failures.SeveralTests report) = 2
 failure_status failures.Memory = 5
 
 -- The exit status of an answer: 0, of leaves also 1 where there are none, and of a check also 1 for
@@ -28,8 +30,8 @@ IsAnswerStatus (questions.Check deny_warnings) n = (n ≡ 0) ⊎ (n ≡ 1) ⊎ (
 
 -- The exit status of a run that is asked a question: that of an answer, 0, or 1 for warnings that are
 -- denied and where no leaf is found; or 2 for a list of tests, platforms or metadata that are not
--- understood, 3 where files are refused, 4 where there is no such profile, 5 for want of memory, and
--- 6 where a write failed.
+-- understood, or several tests of the name, 3 where files are refused, 4 where there is no such
+-- profile or test, 5 for want of memory, and 6 where a write failed.
 abbrev pub IsStatus : Question → ℕ → Type 0
 IsStatus question n = IsAnswerStatus question n ⊎ ((2 ≤ n) × (n ≤ 6))
 

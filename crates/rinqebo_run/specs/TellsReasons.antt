@@ -3,7 +3,8 @@ use Rattle.std.specs.Prelude.{◌≡◌, ℕ, List, [], ◌∷◌, ◌++◌, Boo
 use Rattle.nextest_engines.specs.Engines.{Test}
 use Rattle.nextest_engines.specs.declared.queries.BuildPlatforms.{BuildPlatforms}
 use Rattle.filter_engine.specs.Engine.{Filter}
-use Rattle.nextest_load.specs.Config.{ScriptTables, config_of}
+use Rattle.nextest_inheritance.specs.Parents.{parents_in}
+use Rattle.nextest_load.specs.Config.{ScriptTables, config_of, config_parents}
 use Rattle.nextest_load.specs.Scripts.{AreScriptsOf}
 use Rattle.nextest_profiles.specs.Profiles.{IsProfileOf}
 use Rattle.nextest_settings.specs.Profile.{Configured, EarlyModel, profile_on}
@@ -21,30 +22,29 @@ use Rattle.rinqebo_report.specs.declared.report.Rule.{Rule}
 use Rattle.rinqebo_report.specs.declared.report.TestId.{TestId}
 use Rattle.rinqebo_report.specs.declared.report.Verdict.TheVariants as told
 use Rattle.rinqebo_request.specs.Keys.{key_text}
-use Rattle.rinqebo_request.specs.declared.request.TestName.{TestName}
 use Rattle.platform_language.specs.Expressions.{Spec}
 use Rattle.rinqebo_load.specs.Accepted.{AreAccepted}
+use Rattle.rinqebo_load.specs.FoundTests.{found_view}
+use Rattle.rinqebo_load.specs.Meant.{config_meant}
+use Rattle.rinqebo_run.specs.Requested.{IsRequestedIn}
 use Rattle.rinqebo_run.specs.Reasons.{AreRulesReported}
 use Rattle.rinqebo_load.specs.Sessions.{files_view, readings}
 use Rattle.rinqebo_rules.specs.SettingRules.{rules_for}
+use Rattle.rinqebo_load.specs.declared.found_test.FoundTest.{FoundTest}
 use Rattle.rinqebo_load.specs.declared.session.Session.{Session}
 use Rattle.rinqebo_rules.specs.Told.{reported_of, value_view}
 
--- The rules of a setting are told for a test of a name: each override of a profile, in order, or
+-- The rules of a setting are told for a test: each override of a profile, in order, or
 -- for a run wrapper each script rule, with what comes of it on the platforms of a build, and then
 -- what counts where none decides.
 pub record AreReasons {M K P : Type 0} (layers : List Layer) (meets : K → P → Option Bool)
-    (matches : M → Test → M → Bool) (platforms : BuildPlatforms P) (test : TestName) (s : Setting)
+    (matches : M → Test → M → Bool) (platforms : BuildPlatforms P) (test : FoundTest) (s : Setting)
     (profile : EarlyModel M K) (rules : List Rule) : Type 0 where
-  pub asked : Test
-  pub name : asked.name ≡ test.name.now
-  pub binary : asked.binary.binary_id ≡ test.binary.now
-  pub platform : asked.binary.platform ≡ test.platform
   pub before : List Rule
   pub fallback : Rule
   pub are : rules ≡ before ++ fallback ∷ []
   pub rules_reported : AreRulesReported layers meets platforms
-      (query_in matches (profile_on meets platforms profile) asked)
+      (query_in matches (profile_on meets platforms profile) (found_view test).test)
       (rules_for s test.mode profile.overrides profile.script_rules) before
   pub fallback_reported : fallback.verdict ≡ told.Fallback
   pub fallback_value : option_map value_view fallback.value
@@ -53,7 +53,7 @@ pub record AreReasons {M K P : Type 0} (layers : List Layer) (meets : K → P �
 -- The rules of a setting are told for a test in the profile of a name.
 pub record AreReasonsIn {M K P : Type 0} (layers : List Layer) (meets : K → P → Option Bool)
     (matches : M → Test → M → Bool) (platforms : BuildPlatforms P) (configured : Configured M K)
-    (name : Name) (test : TestName) (s : Setting) (rules : List Rule) : Type 0 where
+    (name : Name) (test : FoundTest) (s : Setting) (rules : List Rule) : Type 0 where
   pub profile : EarlyModel M K
   pub is_profile : IsProfileOf configured name profile
   pub reasons : AreReasons layers meets matches platforms test s profile rules
@@ -68,17 +68,17 @@ configured_by session scripts = record {
 }
 
 -- A report names a test.
-pub record IsTestNamed (test : TestName) (named : TestId) : Type 0 where
-  pub binary : string_bytes named.binary ≡ test.binary.now
-  pub name : string_bytes named.name ≡ test.name.now
+pub record IsTestNamed (test : FoundTest) (named : TestId) : Type 0 where
+  pub binary : string_bytes named.binary ≡ string_bytes test.binary
+  pub name : string_bytes named.name ≡ string_bytes test.name
 
 -- a fact of the test, the key and the rules that a report tells
 abbrev pub IfWhy : Content → (TestId → List ℕ → List Rule → Type 0) → Type 0
-IfWhy (contents.Why asked test key rules) P = P test (string_bytes key) rules.items
+IfWhy (contents.Why asked test key rules is_ignored) P = P test (string_bytes key) rules.items
 IfWhy _ P = ⊥
 
 -- A report tells the rules of a setting for a test in a profile, by what the files mean.
-pub record TellsReasons (session : Session) (profile : List ℕ) (test : TestName) (s : Setting)
+pub record TellsReasons (session : Session) (profile : List ℕ) (test : FoundTest) (s : Setting)
     (report : Report) : Type 0 where
   -- Every written rule holds of the files.
   pub acceptance : AreAccepted session
@@ -94,3 +94,6 @@ pub record TellsReasons (session : Session) (profile : List ℕ) (test : TestNam
       × AreReasonsIn session.layers.items (readings session.engines.filters).meets
       (readings session.engines.filters).matches_test session.engines.platforms
       (configured_by session scripts) profile test s rules)
+  -- It says what was asked for.
+  pub requested : IsRequestedIn session (parents_in (config_parents (config_meant session))) profile
+      test.mode report.content

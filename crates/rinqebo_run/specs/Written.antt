@@ -4,7 +4,6 @@ use Rattle.std.specs.Io.KnownBytes.{Appends}
 use Rattle.filter_language.specs.Filtersets.{marks_view}
 use Rattle.filter_language.specs.declared.filterset.Filterset.{Filterset}
 use Rattle.nextest_elements.specs.declared.run_mode.NextestRunMode.{NextestRunMode}
-use Rattle.nextest_engines.specs.Engines.{Test}
 use Rattle.filter_engine.specs.Compiling.{names_of}
 use Rattle.filter_engine.specs.declared.compiling.FieldMatcher.{FieldMatcher}
 use Rattle.nextest_load.specs.Load.{Loaded}
@@ -28,10 +27,12 @@ use Rattle.rinqebo_request.specs.declared.request.Question.TheVariants as questi
 use Rattle.platform_language.specs.Expressions.{spec_view}
 use Rattle.platform_language.specs.declared.expression.TargetSpec.{TargetSpec}
 use Rattle.nextest_lists.specs.ListView.{list_view}
-use Rattle.nextest_lists.specs.Lists.{all_tests}
+use Rattle.nextest_lists.specs.Lists.{ListTest, list_tests}
 use Rattle.rinqebo_run.specs.Begun.{AreFirstOf}
 use Rattle.rinqebo_run.specs.Listed.{TellsTests}
 use Rattle.rinqebo_run.specs.ListedBy.{read_by}
+use Rattle.rinqebo_run.specs.Requested.{IsRequestedOf}
+use Rattle.rinqebo_run.specs.LookedUp.{IsLookedUp}
 use Rattle.rinqebo_load.specs.Sessions.{readings}
 use Rattle.rinqebo_run.specs.Statuses.{failure_status}
 use Rattle.rinqebo_load.specs.declared.failure.Failure.{Failure}
@@ -48,7 +49,7 @@ AsksList _ asked = ⊥
 
 -- One more test is told, and these are its lines on the page of a report.
 pub record AddsTest {M : Type 0} (basis : Basis) (query : QueryContext M) (mode : NextestRunMode)
-    (profile : EvaluatableModel M) (asked : RequestedSettings) (test : Test) (head : Report)
+    (profile : EvaluatableModel M) (asked : RequestedSettings) (test : ListTest) (head : Report)
     (tint : Colour) (old new : List TestRows) (lines : List ℕ) : Type 0 where
   pub rows : TestRows
   pub are_reported : IsTestReported basis query mode profile asked test rows
@@ -56,21 +57,23 @@ pub record AddsTest {M : Type 0} (basis : Basis) (query : QueryContext M) (mode 
   pub shown : lines ≡ page_text tint
       (listed_runs (string_bytes head.root) head.sources.items rows)
 
--- the first tests of a list went out by a configuration that was loaded
+-- what is asked and the first tests of a list went out by a configuration that was loaded
 abbrev pub AreFirstBy : Session → Loaded (Filterset FieldMatcher) TargetSpec → Name
     → NextestRunMode → RequestedSettings → Colour → Option (List ℕ) → Option (List ℕ) → Type 0
 AreFirstBy session loaded profile mode asked =
     AreFirstOf (readings session.engines.filters).meets
     (readings session.engines.filters).matches_test session.engines.platforms
     (configured_meaning (marks_view names_of) spec_view (read_by session loaded)) profile mode
-    asked session.layers.items (all_tests (list_view session.tests))
+    (IsRequestedOf session profile mode) asked session.layers.items
+    (list_tests (list_view session.tests))
 
--- The page of a list went out whole.
+-- The page of a list went out whole. Each filter that is evaluated for it was looked up.
 pub record WritesList (session : Session) (profile : Name) (mode : NextestRunMode)
     (asked : RequestedSettings) (tint : Colour) (old new : Option (List ℕ)) : Type 0 where
   pub report : Report
   pub about : IsReportOf session report
   pub tells : TellsTests session profile mode asked report
+  pub looked_up : IsLookedUp session profile
   pub page : Appends old new (rendered report formats.Text tint)
 
 -- A list was not written whole: a run refuses for a reason, and nothing went out; or memory ran out,

@@ -6,10 +6,11 @@ ghost use Rattle.rinqebo_load.specs.Beginning.{IsBeginningFailure};
 ghost use Rattle.rinqebo_run.specs.Checked.{IsCheckStatus};
 
 use crate::answer::Answer;
+use crate::open_filters::open_filters_note;
 use crate::status::Status;
 use nextest_config::{ConfigParseError, DefaultConfigWarnings};
 use rinqebo_findings::{report_of, report_of_refusal, warning_findings};
-use rinqebo_load::{Failure, Session};
+use rinqebo_load::{Config, Failure, Session};
 use rinqebo_report::{Content, Finding};
 use std::alloc::{AllocError, Global};
 
@@ -24,10 +25,11 @@ fn status_of(findings: &[Finding], deny_warnings: bool) -> u8
     }
 }
 
-/// The answer of a check whose load accepts.
+/// The answer of a check whose load accepts, and returns a configuration.
 fn accepted(
     alloc: Global,
     session: &Session<'_>,
+    config: &Config,
     warnings: &DefaultConfigWarnings,
     deny_warnings: bool,
 ) -> Result<Answer, AllocError>
@@ -37,7 +39,11 @@ fn accepted(
     let findings = warning_findings(alloc, &session.layers, warnings)?;
     let status = status_of(&findings, deny_warnings);
     let report = report_of(alloc, session, findings, Vec::new(alloc), Content::Check)?;
-    Ok(Answer { report, status })
+    Ok(Answer {
+        report,
+        status,
+        note: open_filters_note(alloc, session, config)?,
+    })
 }
 
 /// The answer of a check whose load refuses.
@@ -58,6 +64,7 @@ fn refused(
     Ok(Answer {
         report,
         status: Status::Refused as u8,
+        note: None,
     })
 }
 
@@ -68,7 +75,7 @@ fn checked(alloc: Global, session: &Session<'_>, deny_warnings: bool) -> Result<
 {
     let mut warnings = DefaultConfigWarnings::new(alloc);
     match session.load(alloc, &mut warnings) {
-        Ok(_) => accepted(alloc, session, &warnings, deny_warnings),
+        Ok(config) => accepted(alloc, session, &config, &warnings, deny_warnings),
         Err(error) => refused(alloc, session, &warnings, &error),
     }
 }

@@ -1,21 +1,25 @@
 //! Whether a test runs, and its settings.
 ghost use Rattle.std.specs.Prelude.{IfErr, IfOk};
+ghost use Rattle.nextest_inheritance.specs.Parents.{parents_in};
+ghost use Rattle.nextest_load.specs.Config.{config_parents};
 ghost use Rattle.nextest_tables.specs.FileTexts.{names_in, IsIn};
-ghost use Rattle.rinqebo_findings.specs.Failures.{IsFailureAbout};
+ghost use Rattle.rinqebo_run.specs.LookedUp.{IsFailureOn, IsLookedUp};
 ghost use Rattle.rinqebo_findings.specs.Reports.{IsReportOf};
 ghost use Rattle.rinqebo_run.specs.Explained.{Explains, IfExplained};
 ghost use Rattle.rinqebo_run.specs.ListedBy.{explained_by};
+ghost use Rattle.rinqebo_run.specs.Requested.{IsRequestedIn};
 
 use crate::asked::requested_of;
 use crate::idle::findings_on;
 use crate::list::profile_on;
+use crate::looked_up::config_looked_up;
 use filter_engine::NextestTally;
 use nextest_config::DefaultConfigWarnings;
-use rinqebo_findings::{config_with, report_of};
-use rinqebo_load::{Config, Failure, Session, chain_of_profile};
+use rinqebo_findings::report_of;
+use rinqebo_load::{Config, Failure, FoundTest, Session, chain_of_profile};
 use rinqebo_report::{Content, Report};
-use rinqebo_request::{RequestedSettings, TestName};
-use rinqebo_rules::{Lister, Origins, query_of};
+use rinqebo_request::RequestedSettings;
+use rinqebo_rules::{Lister, Origins};
 use std::alloc::{AllocError, Global};
 
 /// Whether a test runs and its settings, by a configuration: the rows of a list of this one test.
@@ -24,26 +28,29 @@ fn explained<'c>(
     session: &'c Session<'_>,
     config: &'c Config,
     profile: &'c str,
-    test: &TestName<'_>,
+    test: &FoundTest,
     asked: &RequestedSettings,
 ) -> Result<Content, AllocError>
     requires { IsIn (names_in config.now.config.profiles) profile.now }
-    ensures { IfOk result (λ content. IfExplained content (explained_by session.now config.now
+    ensures told { IfOk result (λ content. IfExplained content (explained_by session.now config.now
         profile.now test.now asked.now)) }
+    ensures requested { IfOk result (IsRequestedIn session.now
+        (parents_in (config_parents config.now.config)) profile.now test.now.mode) }
 {
     let chain = chain_of_profile(alloc, config, profile)?;
+    let requested = requested_of(alloc, session, profile, &chain, test.mode)?;
     let on = profile_on(alloc, session, config, profile)?;
     let asking = Lister {
         profile: &on,
         mode: test.mode,
         asked,
     };
-    let query = query_of(test);
+    let listed = test.listed();
     let mut tally = NextestTally::new();
     let mut origins = Origins::new(alloc, &session.layers, &chain);
-    let rows = asking.rows_of(alloc, &query, &mut tally, &mut origins)?;
+    let rows = asking.rows_of(alloc, &listed, &mut tally, &mut origins)?;
     Ok(Content::Explain {
-        asked: requested_of(alloc, session, profile, &chain, test.mode)?,
+        asked: requested,
         test: rows,
     })
 }
@@ -53,15 +60,16 @@ pub fn explain(
     alloc: Global,
     session: &Session<'_>,
     profile: &str,
-    test: &TestName<'_>,
+    test: &FoundTest,
     asked: &RequestedSettings,
 ) -> Result<Report, Failure>
     ensures ok { IfOk result (Explains session.now profile.now test.now asked.now) }
     ensures about { IfOk result (IsReportOf session.now) }
-    ensures err { IfErr result (IsFailureAbout session.now profile.now) }
+    ensures looked_up { IfOk result (λ _. IsLookedUp session.now profile.now) }
+    ensures err { IfErr result (IsFailureOn session.now profile.now) }
 {
     let mut warnings = DefaultConfigWarnings::new(alloc);
-    let config = config_with(alloc, session, profile, &mut warnings)?;
+    let config = config_looked_up(alloc, session, profile, &mut warnings)?;
     let content = explained(alloc, &*session, &config, profile, test, asked)?;
     let findings = findings_on(alloc, session, &warnings, &content)?;
     let report = report_of(alloc, session, findings, Vec::new(alloc), content)?;

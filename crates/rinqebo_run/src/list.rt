@@ -3,27 +3,32 @@ ghost use Rattle.std.specs.Prelude.{IfErr, IfOk, map};
 ghost use Rattle.filter_language.specs.Filtersets.{marks_view};
 ghost use Rattle.filter_engine.specs.Compiling.{names_of};
 ghost use Rattle.filter_engine.specs.Engine.{filter_holds};
+ghost use Rattle.nextest_inheritance.specs.Parents.{parents_in};
 ghost use Rattle.nextest_inheritance.specs.View.{borrowed_view};
+ghost use Rattle.nextest_load.specs.Config.{config_parents};
 ghost use Rattle.nextest_profiles.specs.Meaning.{profile_meaning};
 ghost use Rattle.nextest_settings.specs.Queries.{query_in};
 ghost use Rattle.nextest_tables.specs.FileTexts.{names_in, IsIn};
 ghost use Rattle.nextest_lists.specs.ListView.{list_view};
-ghost use Rattle.nextest_lists.specs.Lists.{all_tests};
+ghost use Rattle.nextest_lists.specs.Lists.{all_tests, list_tests};
 ghost use Rattle.rinqebo_rules.specs.Rows.{AreTestsReported};
 ghost use Rattle.rinqebo_rules.specs.Unused.{AreUnusedIn};
 ghost use Rattle.rinqebo_rules.specs.Conditions.{is_met_by};
 ghost use Rattle.rinqebo_run.specs.Listed.{IfListed, IsProfileOn, TellsTests};
 ghost use Rattle.rinqebo_run.specs.ListedBy.{basis_of, read_by, listed_by};
-ghost use Rattle.rinqebo_findings.specs.Failures.{IsFailureAbout};
+ghost use Rattle.rinqebo_run.specs.Requested.{IsRequestedIn};
+ghost use Rattle.rinqebo_run.specs.LookedUp.{IsFailureOn, IsLookedUp};
 ghost use Rattle.rinqebo_findings.specs.Reports.{IsReportOf};
 
 use crate::asked::requested_of;
 use crate::list_origins::unused_origins;
 use crate::list_scripts::scripts_of_list;
+use crate::looked_up::config_looked_up;
+use crate::profile::early_profile;
 use filter_engine::{NextestFilters, NextestTally};
-use nextest_config::{DefaultConfigWarnings, EarlyProfile, EvaluatableProfile, NextestRunMode};
+use nextest_config::{DefaultConfigWarnings, EvaluatableProfile, NextestRunMode};
 use platform_language::TargetSpecs;
-use rinqebo_findings::{config_with, report_of, warning_findings};
+use rinqebo_findings::{report_of, warning_findings};
 use rinqebo_load::{Config, Failure, Session, chain_of_profile};
 use rinqebo_report::{Content, Report};
 use rinqebo_request::RequestedSettings;
@@ -44,8 +49,7 @@ pub fn profile_on<'c>(
     ensures { IfOk result (IsProfileOn is_met_by session.now.engines.platforms
         (read_by session.now config.now) profile.now) }
 {
-    let root = session.gathered.paths.workspace_root.as_str();
-    let early = EarlyProfile::new(alloc, root, config, profile)?;
+    let early = early_profile(alloc, session, config, profile)?;
     match early.apply_build_platforms(alloc, &session.engines.platforms) {
         Ok(profile) => Ok(profile),
         Err(_) => Err(AllocError),
@@ -65,7 +69,7 @@ fn listed_rows<'c, P: Progress>(
     ensures tests { IfOk result (λ rows. AreTestsReported
         (basis_of session.now (borrowed_view chain.now)) filter_holds mode
         (profile_meaning (marks_view names_of) profile.now) asked.now
-        (all_tests (list_view session.now.tests)) rows.tests.items) }
+        (list_tests (list_view session.now.tests)) rows.tests.items) }
     ensures unused { let profile = profile_meaning (marks_view names_of) profile.now in
         IfOk result (λ rows. AreUnusedIn
         (map (query_in filter_holds profile) (all_tests (list_view session.now.tests))) profile
@@ -76,10 +80,10 @@ fn listed_rows<'c, P: Progress>(
         mode,
         asked,
     };
-    let queries = session.tests.queries(alloc)?;
+    let tests = session.tests.tests(alloc)?;
     let mut origins = Origins::new(alloc, &session.layers, chain);
     let mut tally = NextestTally::new();
-    asking.list(alloc, &queries, &mut tally, &mut origins, progress)
+    asking.list(alloc, &tests, &mut tally, &mut origins, progress)
 }
 
 /// What is told of the tests and of the binaries of a session, by a configuration.
@@ -93,14 +97,17 @@ fn listed<'c, P: Progress>(
     progress: &mut P,
 ) -> Result<Content, AllocError>
     requires { IsIn (names_in config.now.config.profiles) profile.now }
-    ensures { IfOk result (λ content. IfListed content
+    ensures told { IfOk result (λ content. IfListed content
         (listed_by session.now config.now profile.now mode asked.now)) }
+    ensures requested { IfOk result (IsRequestedIn session.now
+        (parents_in (config_parents config.now.config)) profile.now mode) }
 {
     let chain = chain_of_profile(alloc, config, profile)?;
+    let requested = requested_of(alloc, session, profile, &chain, mode)?;
     let on = profile_on(alloc, session, config, profile)?;
     let rows = listed_rows(alloc, session, &chain, &on, mode, asked, progress)?;
     Ok(Content::List {
-        asked: requested_of(alloc, session, profile, &chain, mode)?,
+        asked: requested,
         unused: unused_origins(alloc, &session.layers, &rows.unused)?,
         scripts: scripts_of_list(alloc, session, &on)?,
         tests: rows.tests,
@@ -119,10 +126,11 @@ pub fn list<P: Progress>(
 ) -> Result<Report, Failure>
     ensures ok { IfOk result (TellsTests session.now profile.now mode asked.now) }
     ensures about { IfOk result (IsReportOf session.now) }
-    ensures err { IfErr result (IsFailureAbout session.now profile.now) }
+    ensures looked_up { IfOk result (λ _. IsLookedUp session.now profile.now) }
+    ensures err { IfErr result (IsFailureOn session.now profile.now) }
 {
     let mut warnings = DefaultConfigWarnings::new(alloc);
-    let config = config_with(alloc, session, profile, &mut warnings)?;
+    let config = config_looked_up(alloc, session, profile, &mut warnings)?;
     let content = listed(alloc, &*session, &config, profile, mode, asked, progress)?;
     let findings = warning_findings(alloc, &session.layers, &warnings)?;
     let report = report_of(alloc, session, findings, Vec::new(alloc), content)?;

@@ -1,23 +1,26 @@
 //! The page of a list, which is written test after test, as they are asked.
-ghost use Rattle.std.specs.Prelude.{◌≡◌, ◌++◌, [], IfErr, IfOk, OnErr, OnOk, flat_map, map, string_bytes};
+ghost use Rattle.std.specs.Prelude.{◌≡◌, [], IfErr, IfOk, OnErr, OnOk, map, string_bytes};
 ghost use Rattle.std.specs.Io.KnownBytes.{Appends};
 ghost use Rattle.std.specs.List.{AllZip};
 ghost use Rattle.filter_language.specs.Filtersets.{marks_view};
 ghost use Rattle.nextest_engines.specs.Engines.{test_view};
 ghost use Rattle.filter_engine.specs.Compiling.{names_of};
 ghost use Rattle.filter_engine.specs.Engine.{filter_holds};
+ghost use Rattle.nextest_inheritance.specs.Parents.{parents_in};
 ghost use Rattle.nextest_inheritance.specs.View.{borrowed_view};
+ghost use Rattle.nextest_load.specs.Config.{config_parents};
 ghost use Rattle.nextest_profiles.specs.Meaning.{profile_meaning};
 ghost use Rattle.nextest_settings.specs.Queries.{query_in};
 ghost use Rattle.nextest_tables.specs.FileTexts.{names_in, IsIn};
-ghost use Rattle.nextest_lists.specs.ListView.{list_view};
-ghost use Rattle.nextest_lists.specs.Lists.{all_tests};
+ghost use Rattle.nextest_lists.specs.ListView.{list_test_view, list_view};
+ghost use Rattle.nextest_lists.specs.Lists.{all_tests, list_tests};
 ghost use Rattle.rinqebo_rules.specs.Rows.{AreTestsReported};
 ghost use Rattle.rinqebo_rules.specs.Unused.{AreUnusedIn};
-ghost use Rattle.rinqebo_report.specs.Pages.{content_runs, count_runs, unused_runs};
+ghost use Rattle.rinqebo_report.specs.Pages.{content_runs, list_end_runs, list_head_runs};
 ghost use Rattle.rinqebo_report.specs.Pieces.{page_text};
 ghost use Rattle.rinqebo_run.specs.Listed.{IfListed};
 ghost use Rattle.rinqebo_run.specs.ListedBy.{basis_of, listed_by, places_of};
+ghost use Rattle.rinqebo_run.specs.Requested.{IsRequestedIn};
 ghost use Rattle.rinqebo_rules.specs.Origins.{IsOriginOf};
 ghost use Rattle.rinqebo_run.specs.Begun.{tests_text, AreFirstWritten};
 ghost use Rattle.rinqebo_run.specs.Written.{AddsTest, AreFirstBy, StopsList};
@@ -29,10 +32,14 @@ use crate::list_fault::ListFault;
 use crate::list_origins::unused_origins;
 use crate::list_scripts::scripts_of_list;
 use filter_engine::{NextestFilters, NextestTally};
-use nextest_config::{NextestRunMode, TestQuery};
+use nextest_config::NextestRunMode;
+use nextest_lists::{ListedTest, queries_of};
 use platform_language::TargetSpecs;
 use rinqebo_load::{Config, Session, chain_of_profile};
-use rinqebo_report::{Colour, Content, Origin, Report, TestRows, render_list_end, render_listed};
+use rinqebo_report::{
+    Asked, Colour, Content, Origin, Report, TestRows, render_list_end, render_list_head,
+    render_listed,
+};
 use rinqebo_request::RequestedSettings;
 use rinqebo_rules::{ListedRows, Lister, Origins, Progress, UnusedRules, unused_rules};
 use std::alloc::{AllocError, Global};
@@ -93,7 +100,7 @@ impl<'c> ListPage<'c, '_> {
         &self,
         alloc: Global,
         asking: &TestLister<'_, 'c>,
-        query: &TestQuery<'_>,
+        test: &ListedTest<'_>,
         tally: &mut NextestTally,
         origins: &mut Origins<'_, '_, 'c>,
         tests: &mut Vec<TestRows>,
@@ -102,12 +109,12 @@ impl<'c> ListPage<'c, '_> {
         ensures ok { let profile = profile_meaning (marks_view names_of)
             asking.now.profile.now in
             IfOk result (λ text. AddsTest origins.old
-            (query_in filter_holds profile (test_view query.now)) asking.now.mode profile
-            asking.now.asked.now (test_view query.now) self.now.head.now self.now.colour
+            (query_in filter_holds profile (test_view test.now.query)) asking.now.mode profile
+            asking.now.asked.now (list_test_view test.now) self.now.head.now self.now.colour
             tests.old.items tests.new.items (string_bytes text)) }
         ensures err { OnErr result (tests.new.items ≡ tests.old.items) }
     {
-        let rows = asking.rows_of(alloc, query, tally, origins)?;
+        let rows = asking.rows_of(alloc, test, tally, origins)?;
         let text = render_listed(alloc, self.head, self.colour, &rows)?;
         tests.push(rows)?;
         Ok(text)
@@ -119,7 +126,7 @@ impl<'c> ListPage<'c, '_> {
         &self,
         alloc: Global,
         asking: &TestLister<'_, 'c>,
-        queries: &[TestQuery<'_>],
+        listed: &[ListedTest<'_>],
         origins: &mut Origins<'_, '_, 'c>,
         progress: &mut P,
         out: &mut O,
@@ -127,27 +134,28 @@ impl<'c> ListPage<'c, '_> {
         ensures tests { let profile = profile_meaning (marks_view names_of)
             asking.now.profile.now in
             IfOk result (λ rows. AreTestsReported origins.old filter_holds asking.now.mode profile
-            asking.now.asked.now (map test_view queries.now) rows.tests.items) }
+            asking.now.asked.now (map list_test_view listed.now) rows.tests.items) }
         ensures unused { let profile = profile_meaning (marks_view names_of)
             asking.now.profile.now in
-            IfOk result (λ rows. AreUnusedIn
-            (map (query_in filter_holds profile) (map test_view queries.now)) profile rows.unused) }
+            IfOk result (λ rows. AreUnusedIn (map (query_in filter_holds profile)
+            (map (λ t. t.test) (map list_test_view listed.now))) profile rows.unused) }
         ensures page { IfOk result (λ rows. Appends (O.contents out.old) (O.contents out.new)
             (tests_text self.now.head.now self.now.colour rows.tests.items)) }
         ensures err { IfErr result (StopsList (λ _. ⊥) (AreFirstWritten origins.old filter_holds
             asking.now.mode (profile_meaning (marks_view names_of) asking.now.profile.now)
-            asking.now.asked.now (map test_view queries.now) self.now.head.now self.now.colour
+            asking.now.asked.now (map list_test_view listed.now) self.now.head.now self.now.colour
             (O.contents out.old) (O.contents out.new))
             (O.contents out.old) (O.contents out.new)) }
     {
         let mut tests = Vec::new(alloc);
         let mut tally = NextestTally::new();
-        for query in queries {
-            let text = self.take_test(alloc, asking, query, &mut tally, origins, &mut tests)?;
+        for test in listed {
+            let text = self.take_test(alloc, asking, test, &mut tally, origins, &mut tests)?;
             write_text(text.as_str(), out)?;
-            progress.asked(tests.len(), queries.len());
+            progress.asked(tests.len(), listed.len());
         }
-        let unused = unused_rules(alloc, asking.profile, queries, &mut tally)?;
+        let queries = queries_of(alloc, listed)?;
+        let unused = unused_rules(alloc, asking.profile, &queries, &mut tally)?;
         Ok(ListedRows { tests, unused })
     }
 
@@ -165,7 +173,7 @@ impl<'c> ListPage<'c, '_> {
             (basis_of self.now.session.now (borrowed_view chain.now)) filter_holds
             self.now.list.mode
             (profile_meaning (marks_view names_of) on.now) self.now.list.settings.now
-            (all_tests (list_view self.now.session.now.tests)) rows.tests.items) }
+            (list_tests (list_view self.now.session.now.tests)) rows.tests.items) }
         ensures unused { let profile = profile_meaning (marks_view names_of) on.now in
             IfOk result (λ rows. AreUnusedIn (map (query_in filter_holds profile)
             (all_tests (list_view self.now.session.now.tests))) profile rows.unused) }
@@ -175,7 +183,7 @@ impl<'c> ListPage<'c, '_> {
             (basis_of self.now.session.now (borrowed_view chain.now)) filter_holds
             self.now.list.mode (profile_meaning (marks_view names_of) on.now)
             self.now.list.settings.now
-            (all_tests (list_view self.now.session.now.tests)) self.now.head.now self.now.colour
+            (list_tests (list_view self.now.session.now.tests)) self.now.head.now self.now.colour
             (O.contents out.old) (O.contents out.new))
             (O.contents out.old) (O.contents out.new)) }
     {
@@ -184,9 +192,25 @@ impl<'c> ListPage<'c, '_> {
             mode: self.list.mode,
             asked: self.list.settings,
         };
-        let queries = self.session.tests.queries(alloc)?;
+        let tests = self.session.tests.tests(alloc)?;
         let mut origins = Origins::new(alloc, &self.session.layers, chain);
-        self.write_tests(alloc, &asking, &queries, &mut origins, progress, out)
+        self.write_tests(alloc, &asking, &tests, &mut origins, progress, out)
+    }
+
+    /// Writes what is asked, in a line.
+    fn write_head<O: Write>(
+        &self,
+        alloc: Global,
+        asked: &Asked,
+        out: &mut O,
+    ) -> Result<(), ListFault>
+        ensures ok { OnOk result (Appends (O.contents out.old) (O.contents out.new)
+            (page_text self.now.colour (list_head_runs asked.now))) }
+        ensures err { IfErr result (StopsList (λ _. ⊥) ⊥
+            (O.contents out.old) (O.contents out.new)) }
+    {
+        let text = render_list_head(alloc, asked, self.colour)?;
+        write_text(text.as_str(), out)
     }
 
     /// Writes what stands behind the tests: how many there are, and the rules that hold for none,
@@ -202,9 +226,8 @@ impl<'c> ListPage<'c, '_> {
             AllZip (λ place. IsOriginOf self.now.session.now.layers.items place [])
             (places_of unused.now) origins.items) }
         ensures page { IfOk result (λ origins. Appends (O.contents out.old) (O.contents out.new)
-            (page_text self.now.colour (count_runs count
-            ++ flat_map (unused_runs (string_bytes self.now.head.now.root)
-            self.now.head.now.sources.items) origins.items))) }
+            (page_text self.now.colour (list_end_runs (string_bytes self.now.head.now.root)
+            self.now.head.now.sources.items count origins.items))) }
         ensures err { IfErr result (StopsList (λ _. ⊥) ⊥
             (O.contents out.old) (O.contents out.new)) }
     {
@@ -225,6 +248,9 @@ impl<'c> ListPage<'c, '_> {
         ensures told { IfOk result (λ content. IfListed content (listed_by self.now.session.now
             self.now.config.now self.now.list.profile.now self.now.list.mode
             self.now.list.settings.now)) }
+        ensures requested { IfOk result (IsRequestedIn self.now.session.now
+            (parents_in (config_parents self.now.config.now.config)) self.now.list.profile.now
+            self.now.list.mode) }
         ensures page { IfOk result (λ content. Appends (O.contents out.old) (O.contents out.new)
             (page_text self.now.colour (content_runs self.now.head.now content))) }
         ensures err { IfErr result (StopsList (λ _. ⊥) (AreFirstBy self.now.session.now
@@ -242,6 +268,7 @@ impl<'c> ListPage<'c, '_> {
             self.list.mode,
         )?;
         let on = profile_on(alloc, self.session, self.config, self.list.profile)?;
+        self.write_head(alloc, &asked, out)?;
         let rows = self.write_rows(alloc, &chain, &on, progress, out)?;
         let scripts = scripts_of_list(alloc, self.session, &on)?;
         let unused = self.write_end(alloc, rows.tests.len() as u64, &rows.unused, out)?;

@@ -2,7 +2,7 @@
 ghost use Rattle.std.specs.Prelude.{◌≡◌, ◌⊎◌, IfErr, IfOk, OnOk};
 ghost use Rattle.rinqebo_run.specs.Answered.{Tells};
 ghost use Rattle.rinqebo_run.specs.Refused.{Fails};
-ghost use Rattle.rinqebo_findings.specs.Failures.{IsFailureAbout};
+ghost use Rattle.rinqebo_run.specs.LookedUp.{IsFailureOn};
 ghost use Rattle.rinqebo_run.specs.Begun.{BeginsList, IsBegun};
 ghost use Rattle.rinqebo_run.specs.Written.{AsksList, StopsList, WritesList};
 ghost use Rattle.rinqebo_run.specs.declared.list_fault.ListFault.TheVariants as faults;
@@ -11,10 +11,11 @@ ghost use Rattle.rinqebo_report.specs.declared.format.Format.TheVariants as form
 
 use crate::list_fault::ListFault;
 use crate::list_page::{ListPage, RequestedList, write_last};
+use crate::looked_up::config_looked_up;
 use crate::progress::ProgressLine;
 use nextest_config::DefaultConfigWarnings;
 use rinqebo_files::Gathered;
-use rinqebo_findings::{config_with, report_of, warning_findings};
+use rinqebo_findings::{report_of, warning_findings};
 use rinqebo_load::Session;
 use rinqebo_report::{Colour, Content, Report, render_findings};
 use rinqebo_request::Request;
@@ -52,13 +53,13 @@ fn write_in<O: Write, E: Write>(
 ) -> Result<(), ListFault>
     ensures ok { OnOk result (WritesList session.now list.now.profile.now list.now.mode
         list.now.settings.now colour (O.contents out.old) (O.contents out.new)) }
-    ensures err { IfErr result (StopsList (IsFailureAbout session.now list.now.profile.now)
+    ensures err { IfErr result (StopsList (IsFailureOn session.now list.now.profile.now)
         (BeginsList session.now list.now.profile.now list.now.mode list.now.settings.now
         colour (O.contents out.old) (O.contents out.new))
         (O.contents out.old) (O.contents out.new)) }
 {
     let mut warnings = DefaultConfigWarnings::new(alloc);
-    let config = config_with(alloc, session, list.profile, &mut warnings)?;
+    let config = config_looked_up(alloc, session, list.profile, &mut warnings)?;
     let head = begin(alloc, session, &warnings, colour, err)?;
     let page = ListPage {
         session,

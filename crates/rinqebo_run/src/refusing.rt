@@ -42,7 +42,13 @@ pub fn refuse<E: Write>(alloc: Global, failure: &Failure, request: &Request<'_>,
         }
         Failure::NoProfile(report) => {
             let message = profile_message(alloc, report, request);
-            refuse_message(message, Status::NoProfile as u8, err)
+            refuse_message(message, Status::Missing as u8, err)
+        }
+        Failure::NoTest(report) => {
+            refuse_with(alloc, report, request.colour, Status::Missing as u8, err)
+        }
+        Failure::SeveralTests(report) => {
+            refuse_with(alloc, report, request.colour, Status::Usage as u8, err)
         }
         Failure::Memory => refuse_for_memory(err),
     }
@@ -56,6 +62,8 @@ fn report_in(failure: &Failure) -> Option<&Report>
     match failure {
         Failure::Refused(report) => Some(report),
         Failure::NoProfile(report) => Some(report),
+        Failure::NoTest(report) => Some(report),
+        Failure::SeveralTests(report) => Some(report),
         Failure::Engines(_) => None,
         Failure::Memory => None,
     }
@@ -68,7 +76,8 @@ fn status_of_failure(failure: &Failure) -> u8
     match failure {
         Failure::Engines(_) => Status::Usage as u8,
         Failure::Refused(_) => Status::Refused as u8,
-        Failure::NoProfile(_) => Status::NoProfile as u8,
+        Failure::NoProfile(_) | Failure::NoTest(_) => Status::Missing as u8,
+        Failure::SeveralTests(_) => Status::Usage as u8,
         Failure::Memory => Status::Memory as u8,
     }
 }
@@ -95,7 +104,7 @@ fn refuse_page<O: Write, E: Write>(
 }
 
 /// Writes why a run answers nothing where JSON is asked for, and returns the exit status. What is wrong
-/// with the files, and that a profile is missing, goes to standard output as a document.
+/// with the files, and that a profile or a test is missing, goes to standard output as a document.
 fn refuse_json<O: Write, E: Write>(
     alloc: Global,
     failure: &Failure,

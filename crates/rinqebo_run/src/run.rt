@@ -7,9 +7,12 @@ ghost use Rattle.nextest_shape.specs.Page.{schema_data};
 ghost use Rattle.serde_json.specs.Written.{compact_text};
 ghost use Rattle.rinqebo_findings.specs.Reports.{IsReportOf};
 ghost use Rattle.rinqebo_report.specs.Rendered.{rendered};
-ghost use Rattle.rinqebo_run.specs.Answered.{AnswersQuestion, IsAnswer, Tells};
+ghost use Rattle.rinqebo_run.specs.Answered.{AnswersQuestion, IsAboutTest, IsAnswer, Tells};
 ghost use Rattle.rinqebo_run.specs.Begun.{IsBegun};
-ghost use Rattle.rinqebo_run.specs.Refused.{Fails, IsFailureIn, IsReportedBy, TellsRefusal};
+ghost use Rattle.rinqebo_run.specs.Explained.{Explains};
+ghost use Rattle.rinqebo_run.specs.LookedUp.{AreLookedUp, IsLookedUp};
+ghost use Rattle.rinqebo_run.specs.Refused.{Fails, IsFailureAboutTest, IsFailureIn, IsReportedBy, TellsRefusal};
+ghost use Rattle.rinqebo_run.specs.TellsReasons.{TellsReasons};
 ghost use Rattle.rinqebo_run.specs.Statuses.{IsStatus, IsAnswerStatus, IsGatherStatus, IsWordsStatus, TellsWords};
 ghost use Rattle.rinqebo_run.specs.Written.{AsksList, IsStopStatus};
 ghost use Rattle.rinqebo_report.specs.declared.format.Format.TheVariants as formats;
@@ -29,11 +32,13 @@ use crate::status::Status;
 use crate::telling::{refuse_for_memory, refuse_message, tell};
 use crate::unset::add_unset;
 use crate::why::why;
+use nextest_config::Setting;
 use nextest_shape::schema_page;
 use rinqebo_files::{GatherFault, Gathered};
+use rinqebo_findings::find_test;
 use rinqebo_load::{Failure, Session};
 use rinqebo_report::{Colour, Content, Format, Report, render, render_findings};
-use rinqebo_request::{ParseStop, Question, Request};
+use rinqebo_request::{ParseStop, Question, Request, RequestedSettings, RequestedTest};
 use rinqebo_rules::Progress;
 use std::alloc::{AllocError, Global};
 use std::io::Write;
@@ -48,6 +53,7 @@ fn answered(report: Result<Report, Failure>) -> Result<Answer, Failure>
         Ok(report) => Ok(Answer {
             report,
             status: Status::Success as u8,
+            note: None,
         }),
         Err(failure) => Err(failure),
     }
@@ -69,6 +75,44 @@ pub fn answer_of<P: Progress>(
     answer_in(alloc, request, &session, progress)
 }
 
+/// Whether the test that a request names runs, and its settings. Its metadata were read at a path.
+fn explain_test(
+    alloc: Global,
+    session: &Session<'_>,
+    profile: &str,
+    test: &RequestedTest<'_>,
+    path: Option<&str>,
+    asked: &RequestedSettings,
+) -> Result<Report, Failure>
+    ensures ok { IfOk result (λ report. IsAboutTest session.now test.now
+        (λ found. Explains session.now profile.now found asked.now report)) }
+    ensures about { IfOk result (IsReportOf session.now) }
+    ensures looked_up { IfOk result (λ _. IsLookedUp session.now profile.now) }
+    ensures err { IfErr result (IsFailureAboutTest session.now profile.now test.now) }
+{
+    let found = find_test(alloc, session, test, path)?;
+    explain(alloc, session, profile, &found, asked)
+}
+
+/// The rules of a setting of the test that a request names. Its metadata were read at a path.
+fn why_of_test(
+    alloc: Global,
+    session: &Session<'_>,
+    profile: &str,
+    test: &RequestedTest<'_>,
+    path: Option<&str>,
+    setting: Setting,
+) -> Result<Report, Failure>
+    ensures ok { IfOk result (λ report. IsAboutTest session.now test.now
+        (λ found. TellsReasons session.now profile.now found setting report)) }
+    ensures about { IfOk result (IsReportOf session.now) }
+    ensures looked_up { IfOk result (λ _. IsLookedUp session.now profile.now) }
+    ensures err { IfErr result (IsFailureAboutTest session.now profile.now test.now) }
+{
+    let found = find_test(alloc, session, test, path)?;
+    why(alloc, session, profile, &found, setting)
+}
+
 /// What a request is answered in a session.
 fn answer_in<P: Progress>(
     alloc: Global,
@@ -79,19 +123,21 @@ fn answer_in<P: Progress>(
     ensures ok { IfOk result (λ answer.
         AnswersQuestion request.now.question session.now answer.report answer.status) }
     ensures about { IfOk result (λ answer. IsReportOf session.now answer.report) }
+    ensures looked_up { IfOk result (λ _. AreLookedUp session.now request.now.question) }
     ensures err { IfErr result (IsFailureIn session.now request.now.question) }
 {
+    let path = request.engines.metadata;
     match &request.question {
         Question::Explain {
             profile,
             test,
             asked,
-        } => answered(explain(alloc, session, *profile, test, asked)),
+        } => answered(explain_test(alloc, session, *profile, test, path, asked)),
         Question::Why {
             profile,
             test,
             setting,
-        } => answered(why(alloc, session, *profile, test, *setting)),
+        } => answered(why_of_test(alloc, session, *profile, test, path, *setting)),
         Question::List {
             profile,
             mode,
@@ -120,6 +166,14 @@ fn notes_of(
     }
 }
 
+/// Adds the note of an answer. The forms for other programs have none.
+fn add_note(request: &Request<'_>, answer: &Answer, notes: &mut String) -> Result<(), AllocError> {
+    match &answer.note {
+        Some(note) if matches!(request.format, Format::Text) => notes.push_str(note.as_str()),
+        _ => Ok(()),
+    }
+}
+
 /// The notes on an answer, for standard error.
 fn notes_on(
     alloc: Global,
@@ -130,6 +184,7 @@ fn notes_on(
     let mut notes = notes_of(alloc, &answer.report, request.format, request.colour)?;
     add_unset(alloc, request, answer, &mut notes)?;
     add_read_files(alloc, request, gathered, answer, &mut notes)?;
+    add_note(request, answer, &mut notes)?;
     Ok(notes)
 }
 
@@ -252,10 +307,11 @@ fn answer_list<O: Write, E: Write>(
 }
 
 /// Answers a request over the files that it names, and answers the exit status: 0, or 1 for warnings
-/// that are denied and where no leaf is found, 2 for platforms and metadata that are not understood,
-/// 3 where the files are refused, 4 where there is no such profile, 5 for want of memory, 6 where a
-/// write fails. Nothing goes to standard output where a run refuses, but for the findings of a check,
-/// and where JSON is asked for a document of why the files are refused or a profile is missing.
+/// that are denied and where no leaf is found, 2 for platforms and metadata that are not understood
+/// and for several tests of the name, 3 where the files are refused, 4 where there is no such profile
+/// or test, 5 for want of memory, 6 where a write fails. Nothing goes to standard output where a run
+/// refuses, but for the findings of a check, and where JSON is asked for a document of why the files
+/// are refused, a profile or a test is missing, or several tests have the name.
 /// The text of a list goes out as its tests are asked: where memory runs out meanwhile, it has the
 /// first tests, each whole. Where a request says so, standard error is told how far a list is, on a
 /// line of its own that is gone in the end.

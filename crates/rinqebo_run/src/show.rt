@@ -121,5 +121,9 @@ pub fn show(
     let status = status_of(&content);
     let findings = findings_on(alloc, session, &warnings, &content)?;
     let report = report_of(alloc, session, findings, Vec::new(alloc), content)?;
-    Ok(Answer { report, status })
+    Ok(Answer {
+        report,
+        status,
+        note: None,
+    })
 }

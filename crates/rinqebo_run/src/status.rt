@@ -8,12 +8,13 @@ pub enum Status {
     /// A check accepts the files with warnings, which are denied; or nothing is set under the keys of
     /// `show-config`.
     Negative = 1,
-    /// The command line, the list of tests, the metadata or the platforms are not understood.
+    /// The command line, the list of tests, the metadata or the platforms are not understood, or
+    /// several tests have the name that is asked about.
     Usage = 2,
     /// The files are refused.
     Refused = 3,
-    /// There is no profile of the name.
-    NoProfile = 4,
+    /// There is no profile, no binary or no test of the name.
+    Missing = 4,
     /// Memory ran out.
     Memory = 5,
     /// A write failed.

@@ -1,42 +1,40 @@
 //! The rules of a setting, and what comes of each.
 ghost use Rattle.std.specs.Prelude.{◌≡◌, IfErr, IfOk, List, map, option_map};
-ghost use Rattle.filter_language.specs.declared.filterset.Filterset.{Filterset};
-ghost use Rattle.filter_engine.specs.declared.compiling.FieldMatcher.{FieldMatcher};
-ghost use Rattle.nextest_inheritance.specs.Parents.{with_default};
-ghost use Rattle.nextest_inheritance.specs.View.{borrowed_view};
-ghost use Rattle.nextest_settings.specs.Chains.{fields_of};
-ghost use Rattle.nextest_settings.specs.Profile.{Configured, profile_of};
+ghost use Rattle.nextest_inheritance.specs.Parents.{parents_in};
+ghost use Rattle.nextest_load.specs.Config.{config_parents};
 ghost use Rattle.nextest_settings.specs.Settings.{fallback_of};
 ghost use Rattle.nextest_tables.specs.FileTexts.{names_in, IsIn};
-ghost use Rattle.nextest_tables.specs.Written.{Name};
 ghost use Rattle.rinqebo_report.specs.declared.report.Verdict.TheVariants as told;
 ghost use Rattle.rinqebo_request.specs.Keys.{key_text};
 ghost use Rattle.rinqebo_rules.specs.Conditions.{is_met_by, filter_matches};
+ghost use Rattle.rinqebo_run.specs.ListedBy.{read_by};
 ghost use Rattle.rinqebo_run.specs.Reasons.{page_verdict, AreRulesReportedHere, AreReportedWith, IsRuleReported};
 ghost use Rattle.rinqebo_rules.specs.RuleAnswers.{judged_here};
-ghost use Rattle.rinqebo_findings.specs.Failures.{IsFailureAbout};
+ghost use Rattle.rinqebo_run.specs.LookedUp.{IsFailureOn, IsLookedUp};
 ghost use Rattle.rinqebo_findings.specs.Reports.{IsReportOf};
 ghost use Rattle.rinqebo_rules.specs.RuleViews.{setting_rule_view, Rule as ReadRule};
 ghost use Rattle.rinqebo_rules.specs.declared.conditions.Asking.{Asking};
+ghost use Rattle.rinqebo_run.specs.Requested.{IsRequestedIn};
 ghost use Rattle.rinqebo_run.specs.TellsReasons.{AreReasons, AreReasonsIn, IfWhy, IsTestNamed, TellsReasons};
 ghost use Rattle.rinqebo_rules.specs.Told.{reported_of, value_view};
-ghost use Rattle.platform_language.specs.declared.expression.TargetSpec.{TargetSpec};
 
 use crate::asked::requested_of;
 use crate::idle::findings_on;
+use crate::looked_up::config_looked_up;
+use crate::profile::{Early, early_profile};
 use filter_engine::NextestFilters;
 use nextest_config::{
     BuildPlatforms, DefaultConfigWarnings, Filters, NextestRunMode, Setting, TestQuery,
 };
 use platform_table::Platform;
 use rinqebo_files::{Layer, host_text, target_text, text_at};
-use rinqebo_findings::{config_with, report_of};
-use rinqebo_load::{Config, Failure, Session, chain_of_profile};
+use rinqebo_findings::report_of;
+use rinqebo_load::{Config, Failure, FoundTest, Session, chain_of_profile};
 use rinqebo_report::{Condition, ConditionAnswer, Content, Origin, Report, Rule, TestId, Verdict};
-use rinqebo_request::{SettingKey, TestName};
+use rinqebo_request::SettingKey;
 use rinqebo_rules::{
-    Asking, SettingRule, fallback_of_chain, profile_grounds, query_of, reported_if_set,
-    reported_platform, rules_for, rules_on, verdicts_of,
+    Asking, SettingRule, profile_grounds, reported_if_set, reported_platform, rules_for,
+    verdicts_of,
 };
 use std::alloc::{AllocError, Global};
 
@@ -134,22 +132,20 @@ fn first_and_others(
     Ok((first, others))
 }
 
-/// What counts where no rule decides.
+/// What counts where no rule of a profile decides.
 fn fallback_rule(
     alloc: Global,
     session: &Session<'_>,
-    config: &Config,
+    profile: &Early<'_>,
     chain: &[&str],
     setting: Setting,
     mode: NextestRunMode,
 ) -> Result<Rule, AllocError>
     ensures verdict { IfOk result (λ rule. rule.verdict ≡ told.Fallback) }
     ensures value { IfOk result (λ rule. option_map value_view rule.value
-        ≡ option_map (reported_of setting) (fallback_of
-        (fields_of config.now.config.profiles (borrowed_view chain.now)) mode setting)) }
+        ≡ option_map (reported_of setting) (fallback_of profile.now.facts.fields mode setting)) }
 {
     let key = SettingKey::of(setting, mode);
-    let value = fallback_of_chain(alloc, config, chain, setting, mode)?;
     let origins = profile_grounds(alloc, &session.layers, chain, key)?;
     let (origin, others) = first_and_others(alloc, origins)?;
     Ok(Rule {
@@ -159,11 +155,11 @@ fn fallback_rule(
         host: condition(alloc, None, ConditionAnswer::Absent)?,
         target: condition(alloc, None, ConditionAnswer::Absent)?,
         filter: condition(alloc, None, ConditionAnswer::Absent)?,
-        value: reported_if_set(alloc, value)?,
+        value: reported_if_set(alloc, profile.fallback(setting, mode))?,
     })
 }
 
-/// What the rules of a chain are held against.
+/// What the rules of a profile are held against.
 fn asking_of<'a, 't>(
     platforms: &'a BuildPlatforms<Platform>,
     query: &'a TestQuery<'t>,
@@ -180,40 +176,36 @@ fn asking_of<'a, 't>(
     }
 }
 
-/// All rules of a setting, and then what counts where none decides.
+/// All rules of a profile for a setting, and then what counts where none decides.
 fn rules_and_fallback<'c>(
     alloc: Global,
     session: &'c Session<'_>,
-    config: &'c Config,
-    chain: &[&'c str],
-    test: &'c TestName<'_>,
+    profile: &Early<'c>,
+    chain: &[&str],
+    test: &'c FoundTest,
     setting: Setting,
 ) -> Result<Vec<Rule>, AllocError>
-    ensures { (configured : Configured (Filterset FieldMatcher) TargetSpec) (name : Name)
-        (names : List Name) → configured.config ≡ config.now.config
-        → borrowed_view chain.now ≡ with_default names
-        → IfOk result (λ rules. AreReasons session.now.layers.items is_met_by filter_matches
-        session.now.engines.platforms test.now setting (profile_of configured name names)
-        rules.items) }
+    ensures { IfOk result (λ rules. AreReasons session.now.layers.items is_met_by filter_matches
+        session.now.engines.platforms test.now setting profile.now rules.items) }
 {
     let platforms = &session.engines.platforms;
-    let query = query_of(test);
-    let on = rules_on(alloc, config, chain, platforms)?;
-    let asking = asking_of(platforms, &query, on.default_filter.expr);
+    let listed = test.listed();
+    let on = profile.rules_on(alloc, platforms)?;
+    let asking = asking_of(platforms, &listed.query, on.default_filter.expr);
     let rules = rules_for(alloc, &on, setting, test.mode, &asking)?;
     let mut reported = reported_rules(alloc, &session.layers, &rules)?;
-    let fallback = fallback_rule(alloc, session, config, chain, setting, test.mode)?;
+    let fallback = fallback_rule(alloc, session, profile, chain, setting, test.mode)?;
     reported.push(fallback)?;
     Ok(reported)
 }
 
 /// The names of a test, as they are reported.
-fn named_test(alloc: Global, test: &TestName<'_>) -> Result<TestId, AllocError>
+fn named_test(alloc: Global, test: &FoundTest) -> Result<TestId, AllocError>
     ensures { IfOk result (IsTestNamed test.now) }
 {
     Ok(TestId {
-        binary: String::from_str(alloc, test.binary)?,
-        name: String::from_str(alloc, test.name)?,
+        binary: String::from_str(alloc, test.binary.as_str())?,
+        name: String::from_str(alloc, test.name.as_str())?,
         platform: reported_platform(test.platform),
     })
 }
@@ -224,27 +216,30 @@ fn reasons<'c>(
     session: &'c Session<'_>,
     config: &'c Config,
     profile: &'c str,
-    test: &'c TestName<'_>,
+    test: &'c FoundTest,
     setting: Setting,
 ) -> Result<Content, AllocError>
-    ensures { (configured : Configured (Filterset FieldMatcher) TargetSpec)
-        → configured.config ≡ config.now.config
-        → IsIn (names_in config.now.config.profiles) profile.now
-        → IfOk result (λ content. IfWhy content (λ named key rules. IsTestNamed test.now named
+    requires { IsIn (names_in config.now.config.profiles) profile.now }
+    ensures requested { IfOk result (IsRequestedIn session.now
+        (parents_in (config_parents config.now.config)) profile.now test.now.mode) }
+    ensures told { IfOk result (λ content. IfWhy content (λ named key rules. IsTestNamed test.now named
         × (key ≡ key_text setting test.now.mode)
         × AreReasonsIn session.now.layers.items is_met_by filter_matches
-        session.now.engines.platforms configured profile.now test.now setting rules)) }
+        session.now.engines.platforms (read_by session.now config.now) profile.now test.now setting
+        rules)) }
 {
     let chain = chain_of_profile(alloc, config, profile)?;
+    let early = early_profile(alloc, session, config, profile)?;
     let asked = requested_of(alloc, session, profile, &chain, test.mode)?;
     let named = named_test(alloc, test)?;
     let key = SettingKey::of(setting, test.mode).text(alloc)?;
-    let rules = rules_and_fallback(alloc, session, config, &chain, test, setting)?;
+    let rules = rules_and_fallback(alloc, session, &early, &chain, test, setting)?;
     Ok(Content::Why {
         asked,
         test: named,
         key,
         rules,
+        is_ignored: test.ignored,
     })
 }
 
@@ -253,15 +248,16 @@ pub fn why(
     alloc: Global,
     session: &Session<'_>,
     profile: &str,
-    test: &TestName<'_>,
+    test: &FoundTest,
     setting: Setting,
 ) -> Result<Report, Failure>
     ensures ok { IfOk result (TellsReasons session.now profile.now test.now setting) }
     ensures about { IfOk result (IsReportOf session.now) }
-    ensures err { IfErr result (IsFailureAbout session.now profile.now) }
+    ensures looked_up { IfOk result (λ _. IsLookedUp session.now profile.now) }
+    ensures err { IfErr result (IsFailureOn session.now profile.now) }
 {
     let mut warnings = DefaultConfigWarnings::new(alloc);
-    let config = config_with(alloc, session, profile, &mut warnings)?;
+    let config = config_looked_up(alloc, session, profile, &mut warnings)?;
     let content = reasons(alloc, &*session, &config, profile, test, setting)?;
     let findings = findings_on(alloc, session, &warnings, &content)?;
     let report = report_of(alloc, session, findings, Vec::new(alloc), content)?;

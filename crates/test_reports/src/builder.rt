@@ -107,6 +107,7 @@ impl Builder {
             }),
             Some(Command::Why(key)) => Ok(Content::Why {
                 asked,
+                is_ignored: self.is_ignored(),
                 test: self.take_test_id()?,
                 key,
                 rules: mem::replace(&mut self.rules, Vec::new(alloc)),
@@ -122,6 +123,14 @@ impl Builder {
                 entries: mem::replace(&mut self.entries, Vec::new(alloc)),
             }),
             None => Err(RowError::NoRow),
+        }
+    }
+
+    /// Whether a list says that the last test is ignored.
+    fn is_ignored(&self) -> bool {
+        match self.tests.last() {
+            Some(test) => test.is_ignored,
+            None => false,
         }
     }
 
@@ -141,9 +150,11 @@ impl Builder {
             "case" => self.begin(line),
             "source" => self.add_source(line),
             "asked" => self.set_requested(line),
+            "assumed" => self.assume_host(),
             "explain" | "why" | "list" | "show-config" => self.set_command(line),
             "test" => self.add_test(line),
             "runs" => self.show_runs(line),
+            "ignored" => self.ignore_test(),
             "setting" => self.add_setting(line),
             "rule" => self.add_rule(line),
             "entry" | "hidden" => self.add_entry(line),
@@ -213,8 +224,17 @@ impl Builder {
             chain,
             mode,
             host: line.text(self.alloc, 4)?,
+            assumes_host: false,
             target: line.optional_text(self.alloc, 5)?,
         });
+        Ok(())
+    }
+
+    fn assume_host(&mut self) -> Result<(), RowError> {
+        let Some(asked) = &mut self.asked else {
+            return Err(RowError::NoRow);
+        };
+        asked.assumes_host = true;
         Ok(())
     }
 
@@ -229,6 +249,7 @@ impl Builder {
             name: line.text(self.alloc, 2)?,
             platform,
             runs: runs_row(self.alloc)?,
+            is_ignored: false,
             shows_runs: false,
             settings: Vec::new(self.alloc),
         };
@@ -258,6 +279,14 @@ impl Builder {
         };
         test.runs.value = Some(Value::Scalar(Scalar::Boolean(runs)));
         test.shows_runs = true;
+        Ok(())
+    }
+
+    fn ignore_test(&mut self) -> Result<(), RowError> {
+        let Some(test) = self.tests.last_mut() else {
+            return Err(RowError::NoRow);
+        };
+        test.is_ignored = true;
         Ok(())
     }
 

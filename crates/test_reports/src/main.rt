@@ -9,9 +9,11 @@
 //! | `case NAME ROOT` | a report begins, of a workspace with this root |
 //! | `source KIND TOOL PATH` | a source: `default`, `tool`, `organisation`, `explicit` or `discovered` |
 //! | `asked PROFILE CHAIN MODE HOST TARGET` | what is asked for; the chain has spaces in it |
+//! | `assumed` | the triple of the host is only assumed |
 //! | `explain`, `why KEY`, `list` or `show-config` | the command; without one it is `check` |
 //! | `test BINARY NAME PLATFORM` | a test |
 //! | `runs true`, `runs false` | pages show whether the test runs; without it, it runs and they do not |
+//! | `ignored` | a list says that the test is ignored |
 //! | `setting KEY` | a setting of the test |
 //! | `entry KEY`, `hidden KEY` | a leaf of the configuration |
 //! | `rule VERDICT` | a rule |

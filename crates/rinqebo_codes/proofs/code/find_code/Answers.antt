@@ -14,6 +14,6 @@ loop-code-preserved c =
 pub returns : goal.returns
 returns c =
     λ code.
-    let here : place code < 32 = within code in
+    let here : place code < 34 = within code in
     let so_far : place code < c.loop-code.code-index = omega (arith, c.loop-code-test.false, here) in
     c.loop-code.invariant (place code) so_far code (at_place code)

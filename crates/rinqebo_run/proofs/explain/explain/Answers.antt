@@ -1,4 +1,4 @@
-use Rattle.rinqebo_run.proofs.Refused.{want_reported}
+use Rattle.rinqebo_run.proofs.Refused.{want_evaluated}
 use Rattle.rinqebo_run.proofs.Rows.{explains}
 use Rattle.rinqebo_run.proofs.explain.explain.Goals as goal
 
@@ -7,12 +7,12 @@ returns-clause-ok c =
     let config = c.in_ok-config.ensures in
     explains c.args.session.now c.args.profile.now c.args.test.now c.args.asked.now c.in_ok-report.report
     c.in_ok-content.content c.in_ok-config.config config.accepted config.means config.known c.in_ok-report.ensures.content
-    c.in_ok-content.ensures
+    c.in_ok-content.ensures.told c.in_ok-content.ensures.requested
 
 pub returns-in_err-content-clause-err : goal.returns-in_err-content-clause-err
 returns-in_err-content-clause-err c =
-    want_reported c.args.session.now c.args.profile.now _ c.from_residual-in_err-content.ensures.1
+    want_evaluated c.args.session.now c.args.profile.now _ c.from_residual-in_err-content.ensures.1
 
 pub returns-in_err-findings-clause-err : goal.returns-in_err-findings-clause-err
 returns-in_err-findings-clause-err c =
-    want_reported c.args.session.now c.args.profile.now _ c.from_residual-in_err-findings.ensures.1
+    want_evaluated c.args.session.now c.args.profile.now _ c.from_residual-in_err-findings.ensures.1

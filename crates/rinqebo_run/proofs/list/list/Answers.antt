@@ -1,13 +1,14 @@
 use Rattle.rinqebo_run.proofs.Listing.{tells_tests}
-use Rattle.rinqebo_run.proofs.Refused.{want_reported}
+use Rattle.rinqebo_run.proofs.Refused.{want_evaluated}
 use Rattle.rinqebo_run.proofs.list.list.Goals as goal
 
 pub returns-clause-ok : goal.returns-clause-ok
 returns-clause-ok g c =
     tells_tests c.args.session.now c.args.profile.now c.args.mode c.args.asked.now c.in_ok-report.report
     c.in_ok-content.content c.in_ok-config.config c.in_ok-config.ensures.accepted c.in_ok-config.ensures.means
-    c.in_ok-config.ensures.known c.in_ok-report.ensures.content c.in_ok-content.ensures
+    c.in_ok-config.ensures.known c.in_ok-report.ensures.content c.in_ok-content.ensures.told
+    c.in_ok-content.ensures.requested
 
 pub returns-in_err-findings-clause-err : goal.returns-in_err-findings-clause-err
 returns-in_err-findings-clause-err g c =
-    want_reported c.args.session.now c.args.profile.now _ c.from_residual-in_err-findings.ensures.1
+    want_evaluated c.args.session.now c.args.profile.now _ c.from_residual-in_err-findings.ensures.1

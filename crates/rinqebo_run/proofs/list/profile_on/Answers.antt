@@ -3,9 +3,12 @@ use Rattle.nextest_settings.specs.Profile.{profile_on}
 use Rattle.rinqebo_rules.specs.Conditions.{is_met_by}
 use Rattle.rinqebo_run.proofs.list.profile_on.Goals as goal
 
+pub early_profile-requires : goal.early_profile-requires
+early_profile-requires c = c.requires
+
 pub returns-in-Ok : goal.returns-in-Ok
 returns-in-Ok c =
-    let early = rw c.as_str-root.ensures.value at c.in_ok-early.ensures in
+    let early = c.in_ok-early.ensures in
     record {
       chain = early.chain;
       is_chain = early.is_chain;

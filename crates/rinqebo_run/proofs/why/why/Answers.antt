@@ -1,6 +1,5 @@
-use Rattle.std.proofs.Common.{refl}
 use Rattle.rinqebo_run.proofs.Gathering.{tells}
-use Rattle.rinqebo_run.proofs.Refused.{want_reported}
+use Rattle.rinqebo_run.proofs.Refused.{want_evaluated}
 use Rattle.rinqebo_run.proofs.why.why.Goals as goal
 
 pub returns-clause-ok : goal.returns-clause-ok
@@ -8,8 +7,8 @@ returns-clause-ok c =
     let config = c.in_ok-config.ensures in
     tells c.args.session.now c.args.profile.now c.args.test.now c.args.setting c.in_ok-report.report
     c.in_ok-content.content c.in_ok-config.config config.accepted config.means config.known c.in_ok-report.ensures.content
-    (c.in_ok-content.ensures _ refl config.known)
+    c.in_ok-content.ensures.told c.in_ok-content.ensures.requested
 
 pub returns-in_err-findings-clause-err : goal.returns-in_err-findings-clause-err
 returns-in_err-findings-clause-err c =
-    want_reported c.args.session.now c.args.profile.now _ c.from_residual-in_err-findings.ensures.1
+    want_evaluated c.args.session.now c.args.profile.now _ c.from_residual-in_err-findings.ensures.1

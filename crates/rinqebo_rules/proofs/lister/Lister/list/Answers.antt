@@ -1,7 +1,7 @@
 use Rattle.std.proofs.Common.{◌≡◌, ◌∙◌, refl, subst, take}
 use Rattle.std.proofs.lemmas.List.{take_all}
 use Rattle.std.specs.List.{AllZip}
-use Rattle.nextest_engines.specs.Engines.{test_view}
+use Rattle.nextest_lists.specs.ListView.{list_test_view}
 use Rattle.nextest_profiles.specs.Meaning.{profile_meaning}
 use Rattle.nextest_settings.specs.Queries.{query_in}
 use Rattle.rinqebo_rules.specs.Rows.{IsTestReported}
@@ -9,17 +9,17 @@ use Rattle.rinqebo_rules.proofs.Listing.{zip_mapped}
 use Rattle.rinqebo_rules.proofs.RowsMore.{zip_more_by}
 use Rattle.rinqebo_rules.proofs.lister.Lister.list.Goals as goal
 
-pub loop-query-preserved : goal.loop-query-preserved
-loop-query-preserved g c =
+pub loop-test-preserved : goal.loop-test-preserved
+loop-test-preserved g c =
     let F = g.F.Filters in
     let self = c.args.self.now in
     let profile = profile_meaning F.meaning self.profile.now in
-    let before = c.loop-query.invariant in
+    let before = c.loop-test.invariant in
     record {
       same = c.rows_of.ensures.same ∙ before.same;
-      told = zip_more_by (λ basis query. IsTestReported basis (query_in F.holds profile (test_view query)) self.mode profile
-          self.asked.now (test_view query)) c.args.origins.now c.loop-query.origins before.same c.args.queries.now
-          c.loop-query.query-index _ _ c.loop-query-test.true refl _ _ _ before.told c.in_ok-rows_of.ensures.told
+      told = zip_more_by (λ basis test. IsTestReported basis (query_in F.holds profile (list_test_view test).test) self.mode profile
+          self.asked.now (list_test_view test)) c.args.origins.now c.loop-test.origins before.same c.args.listed.now
+          c.loop-test.test-index _ _ c.loop-test-test.true refl _ _ _ before.told c.in_ok-rows_of.ensures.told
           c.in_ok-push.ensures.items;
     }
 
@@ -28,10 +28,10 @@ returns-clause-tests g c =
     let F = g.F.Filters in
     let self = c.args.self.now in
     let profile = profile_meaning F.meaning self.profile.now in
-    let queries = c.args.queries.now in
-    let all : take c.loop-query.query-index queries ≡ queries =
-    take_all c.loop-query.query-index queries c.loop-query-test.false in
-    zip_mapped test_view (λ test. IsTestReported c.args.origins.now (query_in F.holds profile test) self.mode profile
-    self.asked.now test) queries c.loop-query.tests.items
-    (subst (λ qs. AllZip (λ query. IsTestReported c.args.origins.now (query_in F.holds profile (test_view query)) self.mode
-    profile self.asked.now (test_view query)) qs c.loop-query.tests.items) all c.loop-query.invariant.told)
+    let listed = c.args.listed.now in
+    let all : take c.loop-test.test-index listed ≡ listed =
+    take_all c.loop-test.test-index listed c.loop-test-test.false in
+    zip_mapped list_test_view (λ t. IsTestReported c.args.origins.now (query_in F.holds profile t.test) self.mode profile
+    self.asked.now t) listed c.loop-test.tests.items
+    (subst (λ ts. AllZip (λ test. IsTestReported c.args.origins.now (query_in F.holds profile (list_test_view test).test)
+    self.mode profile self.asked.now (list_test_view test)) ts c.loop-test.tests.items) all c.loop-test.invariant.told)

@@ -5,13 +5,14 @@ use Rattle.filter_engine.specs.Engine.{filter_holds}
 use Rattle.nextest_inheritance.specs.View.{borrowed_view}
 use Rattle.nextest_profiles.specs.Meaning.{profile_meaning}
 use Rattle.rinqebo_run.proofs.Listing.{listed_here}
-use Rattle.rinqebo_run.proofs.Writing.{all_first, first_here, passed_stop, stops_at_end, stops_so, whole_page}
+use Rattle.rinqebo_run.proofs.Requests.{requested_on}
+use Rattle.rinqebo_run.proofs.Writing.{all_first, first_here, none_first, passed_stop, stops_behind, whole_page}
 use Rattle.rinqebo_run.specs.Begun.{AreFirstWritten}
 use Rattle.rinqebo_run.specs.ListedBy.{basis_of}
 use Rattle.rinqebo_run.specs.Written.{AreFirstBy}
 use Rattle.rinqebo_run.specs.declared.list_fault.ListFault.TheVariants as faults
 use Rattle.nextest_lists.specs.ListView.{list_view}
-use Rattle.nextest_lists.specs.Lists.{all_tests}
+use Rattle.nextest_lists.specs.Lists.{list_tests}
 use Rattle.rinqebo_run.proofs.list_page.ListPage.write.Goals as goal
 
 pub profile_on-requires : goal.profile_on-requires
@@ -26,29 +27,45 @@ returns-clause-told g c =
     (c.in_ok-chain.ensures c.requires) (ap borrowed_view c.deref-2.ensures.value) c.in_ok-rows.ensures.tests
     c.in_ok-rows.ensures.unused c.in_ok-unused.ensures.origins c.in_ok-scripts.ensures
 
+pub returns-clause-requested : goal.returns-clause-requested
+returns-clause-requested g c =
+    let self = c.args.self.now in
+    record {
+      chain = borrowed_view c.in_ok-chain.chain.items;
+      is_chain = c.in_ok-chain.ensures c.requires;
+      requested = requested_on self.session.now self.list.profile.now self.list.mode _ _ _
+          (ap borrowed_view c.deref.ensures.value) c.in_ok-asked.ensures;
+    }
+
 pub returns-clause-page : goal.returns-clause-page
 returns-clause-page g c =
     let self = c.args.self.now in
     let rows = c.in_ok-rows.rows in
     let all : c.len.result ≡ length rows.tests.items = omega (arith, rows.tests.ok.0) in
-    whole_page self.head.now self.colour c.in_ok-rows.rows.tests.items c.in_ok-unused.unused.items _ _ _ _
-    all c.in_ok-rows.ensures.page c.in_ok-unused.ensures.page
+    whole_page self.head.now self.colour c.in_ok-asked.asked c.in_ok-rows.rows.tests.items c.in_ok-unused.unused.items
+    _ _ _ _ _ all c.in_ok-write_head.ensures.ok c.in_ok-rows.ensures.page c.in_ok-unused.ensures.page
 
 pub returns-in_err-rows-clause-err : goal.returns-in_err-rows-clause-err
 returns-in_err-rows-clause-err g c =
     let self = c.args.self.now in
     let list = self.list in
     let old = g.O.Write.contents c.args.out.now in
+    let mid = g.O.Write.contents c.write_head.new.out in
     let new = g.O.Write.contents c.write_rows.new.out in
+    let profile = profile_meaning (marks_view names_of) c.in_ok-on.on in
+    let tests = list_tests (list_view self.session.now.tests) in
+    let basis = basis_of self.session.now (borrowed_view c.deref-2.result.now) in
+    let First = AreFirstWritten basis filter_holds list.mode profile list.settings.now tests self.head.now self.colour
+    mid new in
+    let here = first_here self.session.now self.config.now list.profile.now list.mode list.settings.now c.in_ok-on.on
+    (borrowed_view c.in_ok-chain.chain.items) (borrowed_view c.deref-2.result.now) _ c.in_ok-asked.asked self.head.now
+    self.colour old mid new c.in_ok-on.ensures (c.in_ok-chain.ensures c.requires) (ap borrowed_view c.deref-2.ensures.value)
+    (ap borrowed_view c.deref.ensures.value) c.in_ok-asked.ensures c.in_ok-write_head.ensures.ok in
     passed_stop _ c.from_residual-in_err-rows.result c.in_err-rows.field-0.0 c.from_residual-in_err-rows.ensures.1
-    (stops_so (λ _. ⊥) (λ _. ⊥) (AreFirstWritten (basis_of self.session.now (borrowed_view c.deref-2.result.now))
-    filter_holds list.mode (profile_meaning (marks_view names_of) c.in_ok-on.on) list.settings.now
-    (all_tests (list_view self.session.now.tests)) self.head.now self.colour old new)
+    (stops_behind First
     (AreFirstBy self.session.now self.config.now list.profile.now list.mode list.settings.now self.colour old new)
-    old new c.in_err-rows.field-0.0 (λ _ none. none)
-    (first_here self.session.now self.config.now list.profile.now list.mode list.settings.now c.in_ok-on.on
-    (borrowed_view c.in_ok-chain.chain.items) (borrowed_view c.deref-2.result.now) self.head.now self.colour old new
-    c.in_ok-on.ensures (c.in_ok-chain.ensures c.requires) (ap borrowed_view c.deref-2.ensures.value))
+    old mid new c.in_err-rows.field-0.0 here
+    (λ same. here (none_first basis list.mode profile list.settings.now self.head.now self.colour tests mid new same))
     c.in_err-rows.ensures.err)
 
 pub returns-in_err-scripts-clause-err : goal.returns-in_err-scripts-clause-err
@@ -56,33 +73,40 @@ returns-in_err-scripts-clause-err g c =
     let self = c.args.self.now in
     let list = self.list in
     let old = g.O.Write.contents c.args.out.now in
+    let mid = g.O.Write.contents c.write_head.new.out in
     let new = g.O.Write.contents c.write_rows.new.out in
+    let profile = profile_meaning (marks_view names_of) c.in_ok-on.on in
+    let tests = list_tests (list_view self.session.now.tests) in
+    let basis = basis_of self.session.now (borrowed_view c.deref-2.result.now) in
     passed_stop _ c.from_residual-in_err-scripts.result faults.Memory c.from_residual-in_err-scripts.ensures.1
     (inl (first_here self.session.now self.config.now list.profile.now list.mode list.settings.now c.in_ok-on.on
-    (borrowed_view c.in_ok-chain.chain.items) (borrowed_view c.deref-2.result.now) self.head.now self.colour old new
-    c.in_ok-on.ensures (c.in_ok-chain.ensures c.requires) (ap borrowed_view c.deref-2.ensures.value)
-    (all_first (basis_of self.session.now (borrowed_view c.deref-2.result.now)) list.mode (profile_meaning (marks_view names_of) c.in_ok-on.on) list.settings.now self.head.now
-    self.colour (all_tests (list_view self.session.now.tests)) c.in_ok-rows.rows.tests.items old new
-    c.in_ok-rows.ensures.tests c.in_ok-rows.ensures.page)))
+    (borrowed_view c.in_ok-chain.chain.items) (borrowed_view c.deref-2.result.now) _ c.in_ok-asked.asked self.head.now
+    self.colour old mid new c.in_ok-on.ensures (c.in_ok-chain.ensures c.requires) (ap borrowed_view c.deref-2.ensures.value)
+    (ap borrowed_view c.deref.ensures.value) c.in_ok-asked.ensures c.in_ok-write_head.ensures.ok
+    (all_first basis list.mode profile list.settings.now self.head.now self.colour tests
+    c.in_ok-rows.rows.tests.items mid new c.in_ok-rows.ensures.tests c.in_ok-rows.ensures.page)))
 
 pub returns-in_err-unused-clause-err : goal.returns-in_err-unused-clause-err
 returns-in_err-unused-clause-err g c =
     let self = c.args.self.now in
     let list = self.list in
     let old = g.O.Write.contents c.args.out.now in
-    let mid = g.O.Write.contents c.write_rows.new.out in
+    let mid = g.O.Write.contents c.write_head.new.out in
+    let last = g.O.Write.contents c.write_rows.new.out in
     let new = g.O.Write.contents c.write_end.new.out in
-    let tests = all_tests (list_view self.session.now.tests) in
+    let tests = list_tests (list_view self.session.now.tests) in
     let profile = profile_meaning (marks_view names_of) c.in_ok-on.on in
+    let basis = basis_of self.session.now (borrowed_view c.deref-2.result.now) in
     passed_stop _ c.from_residual-in_err-unused.result c.in_err-unused.field-0.0 c.from_residual-in_err-unused.ensures.1
-    (stops_at_end
+    (stops_behind ⊥
     (AreFirstBy self.session.now self.config.now list.profile.now list.mode list.settings.now self.colour old new)
-    old mid new c.in_err-unused.field-0.0
+    old last new c.in_err-unused.field-0.0 (λ none. absurd none)
     (λ same. subst
     (AreFirstBy self.session.now self.config.now list.profile.now list.mode list.settings.now self.colour old) same
     (first_here self.session.now self.config.now list.profile.now list.mode list.settings.now c.in_ok-on.on
-    (borrowed_view c.in_ok-chain.chain.items) (borrowed_view c.deref-2.result.now) self.head.now self.colour old mid
-    c.in_ok-on.ensures (c.in_ok-chain.ensures c.requires) (ap borrowed_view c.deref-2.ensures.value)
-    (all_first (basis_of self.session.now (borrowed_view c.deref-2.result.now)) list.mode profile list.settings.now self.head.now self.colour tests c.in_ok-rows.rows.tests.items old mid
-    c.in_ok-rows.ensures.tests c.in_ok-rows.ensures.page)))
+    (borrowed_view c.in_ok-chain.chain.items) (borrowed_view c.deref-2.result.now) _ c.in_ok-asked.asked self.head.now
+    self.colour old mid last c.in_ok-on.ensures (c.in_ok-chain.ensures c.requires) (ap borrowed_view c.deref-2.ensures.value)
+    (ap borrowed_view c.deref.ensures.value) c.in_ok-asked.ensures c.in_ok-write_head.ensures.ok
+    (all_first basis list.mode profile list.settings.now self.head.now self.colour tests
+    c.in_ok-rows.rows.tests.items mid last c.in_ok-rows.ensures.tests c.in_ok-rows.ensures.page)))
     c.in_err-unused.ensures.err)

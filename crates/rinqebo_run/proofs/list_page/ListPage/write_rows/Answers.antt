@@ -1,6 +1,5 @@
 use Rattle.std.proofs.Common.{◌≡◌, ◌∙◌, List, ap, map, subst, IfErr, IfOk}
 use Rattle.filter_language.specs.Filtersets.{marks_view}
-use Rattle.nextest_engines.specs.Engines.{Test, test_view}
 use Rattle.filter_engine.specs.Compiling.{names_of}
 use Rattle.filter_engine.specs.Engine.{filter_holds}
 use Rattle.nextest_inheritance.specs.View.{borrowed_view}
@@ -12,40 +11,40 @@ use Rattle.rinqebo_rules.specs.Unused.{AreUnusedIn}
 use Rattle.rinqebo_run.specs.Begun.{AreFirstWritten}
 use Rattle.rinqebo_run.specs.Written.{StopsList}
 use Rattle.rinqebo_run.proofs.Listing.{basis_here}
-use Rattle.nextest_lists.specs.ListView.{list_view}
-use Rattle.nextest_lists.specs.Lists.{all_tests}
+use Rattle.nextest_lists.specs.ListView.{list_test_view, list_view}
+use Rattle.nextest_lists.specs.Lists.{ListTest, list_tests}
 use Rattle.rinqebo_run.proofs.list_page.ListPage.write_rows.Goals as goal
 
 pub returns-clause-tests : goal.returns-clause-tests
 returns-clause-tests g c =
     let self = c.args.self.now in
     let list = self.list in
-    let Told : Basis → List Test → Type 0 = λ basis tests. IfOk c.write_tests.result
+    let Told : Basis → List ListTest → Type 0 = λ basis tests. IfOk c.write_tests.result
     (λ rows. AreTestsReported basis filter_holds list.mode (profile_meaning (marks_view names_of) c.args.on.now)
     list.settings.now tests rows.tests.items) in
-    subst (λ basis. Told basis (all_tests (list_view self.session.now.tests)))
+    subst (λ basis. Told basis (list_tests (list_view self.session.now.tests)))
     (basis_here self.session.now c.new-origins.result _ (borrowed_view c.args.chain.now) c.new-origins.ensures
     c.deref.ensures.value)
-    (subst (Told c.new-origins.result) (ap (map test_view) c.deref-2.ensures.value ∙ c.in_ok-queries.ensures)
+    (subst (Told c.new-origins.result) (ap (map list_test_view) c.deref-2.ensures.value ∙ c.in_ok-tests.ensures)
     c.write_tests.ensures.tests)
 
 pub returns-clause-unused : goal.returns-clause-unused
 returns-clause-unused g c =
     let profile = profile_meaning (marks_view names_of) c.args.on.now in
     subst (λ tests. IfOk c.write_tests.result
-    (λ rows. AreUnusedIn (map (query_in filter_holds profile) tests) profile rows.unused))
-    (ap (map test_view) c.deref-2.ensures.value ∙ c.in_ok-queries.ensures) c.write_tests.ensures.unused
+    (λ rows. AreUnusedIn (map (query_in filter_holds profile) (map (λ t. t.test) tests)) profile rows.unused))
+    (ap (map list_test_view) c.deref-2.ensures.value ∙ c.in_ok-tests.ensures) c.write_tests.ensures.unused
 
 pub returns-clause-err : goal.returns-clause-err
 returns-clause-err g c =
     let self = c.args.self.now in
     let old = g.O.Write.contents c.args.out.now in
     let new = g.O.Write.contents c.write_tests.new.out in
-    let Stops : Basis → List Test → Type 0 = λ basis tests. IfErr c.write_tests.result (StopsList (λ _. ⊥)
+    let Stops : Basis → List ListTest → Type 0 = λ basis tests. IfErr c.write_tests.result (StopsList (λ _. ⊥)
     (AreFirstWritten basis filter_holds self.list.mode (profile_meaning (marks_view names_of) c.args.on.now)
     self.list.settings.now tests self.head.now self.colour old new) old new) in
-    subst (λ basis. Stops basis (all_tests (list_view self.session.now.tests)))
+    subst (λ basis. Stops basis (list_tests (list_view self.session.now.tests)))
     (basis_here self.session.now c.new-origins.result _ (borrowed_view c.args.chain.now) c.new-origins.ensures
     c.deref.ensures.value)
-    (subst (Stops c.new-origins.result) (ap (map test_view) c.deref-2.ensures.value ∙ c.in_ok-queries.ensures)
+    (subst (Stops c.new-origins.result) (ap (map list_test_view) c.deref-2.ensures.value ∙ c.in_ok-tests.ensures)
     c.write_tests.ensures.err)

@@ -2,7 +2,7 @@ use Rattle.std.proofs.Common.{◌≡◌, take}
 use Rattle.std.specs.Io.KnownBytes.{Appends}
 use Rattle.std.specs.List.{AllZip}
 use Rattle.filter_language.specs.Filtersets.{marks_view}
-use Rattle.nextest_engines.specs.Engines.{test_view}
+use Rattle.nextest_lists.specs.ListView.{list_test_view}
 use Rattle.filter_engine.specs.Compiling.{names_of}
 use Rattle.filter_engine.specs.Engine.{filter_holds}
 use Rattle.nextest_profiles.specs.Meaning.{profile_meaning}
@@ -12,14 +12,15 @@ use Rattle.rinqebo_run.specs.Begun.{tests_text}
 use Rattle.rinqebo_run.proofs.list_page.ListPage.write_tests.Given as goal
 
 -- The tests so far are told and went out.
-abbrev pub invariant-loop-query : goal.invariant-loop-query
-invariant-loop-query g l =
+abbrev pub invariant-loop-test : goal.invariant-loop-test
+invariant-loop-test g l =
     let profile = profile_meaning (marks_view names_of) l.asking.profile.now in
-    let queries = take l.query-index l.queries in
+    let listed = take l.test-index l.listed in
     record {
       same : l.origins ≡ l.initial.origins;
-      told : AllZip (λ query. IsTestReported l.initial.origins (query_in filter_holds profile (test_view query))
-          l.asking.mode profile l.asking.asked.now (test_view query)) queries l.tests.items;
+      told : AllZip (λ test. IsTestReported l.initial.origins
+          (query_in filter_holds profile (list_test_view test).test) l.asking.mode profile l.asking.asked.now
+          (list_test_view test)) listed l.tests.items;
       page : Appends (g.O.Write.contents l.initial.out) (g.O.Write.contents l.out)
           (tests_text l.self.head.now l.self.colour l.tests.items);
     }

@@ -1,0 +1,129 @@
+//! Reads the words of the command that is about one test.
+use crate::environment::Environment;
+use crate::keys::RUNS;
+use crate::request::{ListFile, Question, Request, RequestedTest};
+use crate::rows::{explained_rows, one_setting};
+use crate::words::{
+    ParseStop, colour, engines, features, files, format, mode, named_file, profile, profile_source,
+    usage,
+};
+use clap::ArgMatches;
+use nextest_config::BuildPlatform;
+use std::alloc::Global;
+
+/// The words that name a test: its name, and before it the id of its binary.
+#[derive(Clone, Copy)]
+struct TestWords<'a> {
+    binary: Option<&'a str>,
+    name: &'a str,
+}
+
+/// The words that name a test. One word alone is its name.
+fn test_words<'a>(alloc: Global, matches: &ArgMatches<'a>) -> Result<TestWords<'a>, ParseStop> {
+    match (matches.get_str("BINARY"), matches.get_str("TEST")) {
+        (Some(name), None) => Ok(TestWords { binary: None, name }),
+        (binary, Some(name)) => Ok(TestWords { binary, name }),
+        (None, None) => Err(usage(alloc, "no TEST is named", None)?),
+    }
+}
+
+/// Whether a list of tests is named.
+fn has_list(matches: &ArgMatches<'_>) -> bool {
+    matches.get_str("list").is_some()
+}
+
+/// The platform of the binary, where neither a list nor metadata give it.
+fn named_platform(matches: &ArgMatches<'_>) -> BuildPlatform {
+    if matches.get_flag("host-binary") {
+        BuildPlatform::Host
+    } else {
+        BuildPlatform::Target
+    }
+}
+
+/// Why a test whose binary is not named is not looked for.
+fn no_list(alloc: Global, name: &str) -> Result<ParseStop, ParseStop> {
+    let message = format!(in alloc; "LIST is needed to find the binary of `{name}`")?;
+    let hint = "name LIST by `--list FILE`, or write BINARY before TEST";
+    let hint = String::from_str(alloc, hint)?;
+    Ok(usage(alloc, message.as_str(), Some(hint))?)
+}
+
+/// The test that is asked about.
+fn requested_test<'a>(
+    alloc: Global,
+    matches: &ArgMatches<'a>,
+) -> Result<RequestedTest<'a>, ParseStop> {
+    let TestWords { binary, name } = test_words(alloc, matches)?;
+    let list = matches.get_str("list").map(ListFile::at);
+    if binary.is_none() && list.is_none() {
+        return Err(no_list(alloc, name)?);
+    }
+    if list.is_some() && matches.get_flag("host-binary") {
+        let message = "`--host-binary` goes without `--list`: LIST has the platform of the binary";
+        return Err(usage(alloc, message, None)?);
+    }
+    Ok(RequestedTest {
+        binary,
+        name,
+        platform: named_platform(matches),
+        mode: mode(matches),
+        list,
+    })
+}
+
+/// What is asked about a test.
+fn explain_question<'a>(
+    alloc: Global,
+    matches: &ArgMatches<'a>,
+    environment: &'a Environment,
+) -> Result<Question<'a>, ParseStop> {
+    let test = requested_test(alloc, matches)?;
+    let profile = profile(matches, environment);
+    let Some(key) = matches.get_str("why") else {
+        return Ok(Question::Explain {
+            profile,
+            test,
+            asked: explained_rows(alloc, matches, test.mode)?,
+        });
+    };
+    if matches.contains_id("KEY") || matches.contains_id("key") {
+        return Err(usage(alloc, "`--why` stands in place of settings", None)?);
+    }
+    if key == RUNS {
+        return Err(usage(
+            alloc,
+            "`--why` lists rules of a setting, and `runs` is no setting",
+            None,
+        )?);
+    }
+    Ok(Question::Why {
+        profile,
+        test,
+        setting: one_setting(alloc, "--why", key, test.mode)?,
+    })
+}
+
+/// The request of the command `explain`.
+pub fn explain_request<'a>(
+    alloc: Global,
+    matches: &ArgMatches<'a>,
+    environment: &'a Environment,
+) -> Result<Request<'a>, ParseStop> {
+    let question = explain_question(alloc, matches, environment)?;
+    let engines = engines(matches, environment);
+    let has_target = engines.target.or(engines.build_target).is_some() || has_list(matches);
+    if engines.target_cfg.is_some() && !has_target {
+        return Err(usage(alloc, "`--target-cfg` goes with `--target`", None)?);
+    }
+    Ok(Request {
+        question,
+        profile_source: profile_source(matches, environment),
+        files: files(alloc, matches, named_file(matches))?,
+        engines,
+        features: features(alloc, matches, environment)?,
+        format: format(matches, environment),
+        colour: colour(matches, environment),
+        shows_progress: false,
+    })
+}

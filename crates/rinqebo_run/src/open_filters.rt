@@ -1,0 +1,92 @@
+//! The note of `check` about filters that were not looked up.
+use filter_engine::NextestFilters;
+use nextest_config::Filters;
+use nextest_rules::{CompiledOverride, CompiledProfile, CompiledProfileScripts};
+use platform_language::TargetSpecs;
+use rinqebo_load::{Config, Session};
+use std::alloc::{AllocError, Global};
+
+/// The note where one filter was not looked up.
+const ONE_FILTER: &str =
+    "note: 1 filter uses `deps()` or `rdeps()`, and was not looked up; give `--metadata FILE`\n";
+
+/// A filter that was read.
+type Filter = <NextestFilters as Filters>::Expr;
+
+/// Adds the filters of overrides, and their default filters.
+fn add_overrides<'c>(
+    rules: &'c [CompiledOverride<NextestFilters, TargetSpecs>],
+    filters: &mut Vec<&'c Filter>,
+) -> Result<(), AllocError> {
+    for rule in rules {
+        if let Some(filter) = rule.filter() {
+            filters.push(filter)?;
+        }
+        if let Some(filter) = rule.default_filter() {
+            filters.push(filter)?;
+        }
+    }
+    Ok(())
+}
+
+/// Adds the filters of script rules.
+fn add_script_rules<'c>(
+    rules: &'c [CompiledProfileScripts<NextestFilters, TargetSpecs>],
+    filters: &mut Vec<&'c Filter>,
+) -> Result<(), AllocError> {
+    for rule in rules {
+        if let Some(filter) = rule.filter() {
+            filters.push(filter)?;
+        }
+    }
+    Ok(())
+}
+
+/// Adds the filters that a file writes for a profile.
+fn add_profile<'c>(
+    profile: &'c CompiledProfile<NextestFilters, TargetSpecs>,
+    filters: &mut Vec<&'c Filter>,
+) -> Result<(), AllocError> {
+    if let Some(filter) = &profile.default_filter {
+        filters.push(filter)?;
+    }
+    add_overrides(&profile.overrides, filters)?;
+    add_script_rules(&profile.scripts, filters)
+}
+
+/// How many filters of the files of a session were not looked up.
+fn count_open_filters(
+    alloc: Global,
+    session: &Session<'_>,
+    config: &Config,
+) -> Result<usize, AllocError> {
+    let mut filters = Vec::new(alloc);
+    for layer in config.layers() {
+        for profile in layer.profiles.values() {
+            add_profile(profile, &mut filters)?;
+        }
+    }
+    let engine = &session.engines.filters;
+    Ok(
+        filters
+            .iter()
+            .filter(|filter| engine.leaves_open(*filter))
+            .count(),
+    )
+}
+
+/// The note of how many filters of the files were not looked up, if there are any.
+pub fn open_filters_note(
+    alloc: Global,
+    session: &Session<'_>,
+    config: &Config,
+) -> Result<Option<String>, AllocError> {
+    let count = count_open_filters(alloc, session, config)?;
+    match count {
+        0 => Ok(None),
+        1 => Ok(Some(String::from_str(alloc, ONE_FILTER)?)),
+        _ => Ok(Some(format!(in alloc;
+            "note: {count} filters use `deps()` or `rdeps()`, and were not looked up; give `--metadata FILE`\n"
+        )?)),
+    }
+}
