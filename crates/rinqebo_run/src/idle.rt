@@ -1,7 +1,7 @@
 //! Warnings of settings of the JUnit report that files write and that have no effect.
 use nextest_config::{DefaultConfigWarnings, NextestRunMode, Setting};
-use rinqebo_files::Layer;
 use rinqebo_codes::Code;
+use rinqebo_files::Layer;
 use rinqebo_findings::warning_findings;
 use rinqebo_load::Session;
 use rinqebo_report::{Asked, Content, Finding, Level, Origin, SettingRow, Written};

@@ -8,6 +8,7 @@
 mod answer;
 mod asked;
 mod check;
+mod codes;
 mod explain;
 mod idle;
 mod list;
@@ -30,6 +31,7 @@ mod unset;
 mod why;
 
 pub use answer::Answer;
+pub use codes::{print_code, print_codes};
 pub use run::{answer_of, perform, print_schema, refuse_gathering, refuse_words};
 pub use status::Status;
 pub use telling::refuse_for_memory;
