@@ -9,7 +9,7 @@ use crate::refused::Refused;
 use crate::refused_values::Fault;
 use crate::shapes::shape_at;
 use crate::spellings::spelling;
-use crate::tables::{called, keys_note, stray_key, unknown_key_text};
+use crate::tables::{called, keys_note, script_header, stray_key, unknown_key_text};
 use nextest_config::{ElementCause, ElementFault, Tree};
 use nextest_places::Step;
 use nextest_shape::file_shape;
@@ -180,6 +180,8 @@ fn add_missing(
     if stray.is_some() {
         found.help = Some(format!(in alloc; "did you mean `{key}`?")?);
         found.help_place = HelpPlace::Beside;
+    } else {
+        found.help = script_header(alloc, path, value_at(refused.source, path))?;
     }
     if let Some(note) = keys_note(alloc, path)? {
         found.notes.push(note)?;

@@ -109,6 +109,28 @@ pub fn stray_key<'t>(
     nearest_name(alloc, missing, &strays)
 }
 
+/// The header of the script that is meant by the first key of a table at `script.setup` or
+/// `script.wrapper`.
+pub fn script_header(
+    alloc: Global,
+    path: &[Step<'_>],
+    table: Option<&Tree>,
+) -> Result<Option<String>, AllocError> {
+    let (2, Some("script"), Some(kind)) = (path.len(), key_at(path, 0), key_at(path, 1)) else {
+        return Ok(None);
+    };
+    if kind != "setup" && kind != "wrapper" {
+        return Ok(None);
+    }
+    let Some(Tree::Table(members)) = table else {
+        return Ok(None);
+    };
+    for key in members.keys() {
+        return Ok(Some(format!(in alloc; "write `[scripts.{kind}.{key}]`")?));
+    }
+    Ok(None)
+}
+
 /// The path of the table of a kind that stands beside or around a table.
 fn beside<'p>(
     alloc: Global,
