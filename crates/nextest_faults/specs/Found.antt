@@ -18,6 +18,11 @@ cause_view causes.OutOfRange = Some out_of_range
 cause_view causes.UnknownField = Some unknown_field
 cause_view causes.Memory = None
 
+-- a cause is one of the definitions
+abbrev pub IsSeen : ElementCause → Type 0
+IsSeen causes.Memory = ⊥
+IsSeen _ = Unit {0}
+
 -- a cause is this one of the definitions
 pub record Sees (c : Option FaultCause) (spec : Option FaultCause) : Type 0 where
   pub cause : FaultCause

@@ -8,7 +8,7 @@ ghost use Rattle.nextest_elements.specs.RetryPolicy.{count_at};
 ghost use Rattle.nextest_elements.specs.Positive.{positive_at};
 ghost use Rattle.nextest_scripts.specs.CommandLine.{line_cause};
 ghost use Rattle.nextest_scripts.specs.EnvMap.{env_key_cause};
-ghost use Rattle.nextest_faults.specs.Found.{IsCause};
+ghost use Rattle.nextest_faults.specs.Found.{IsCause, IsSeen};
 ghost use Rattle.nextest_faults.specs.Values.{words_cause};
 
 use nextest_elements::Positive;
@@ -18,7 +18,8 @@ use std::alloc::{AllocError, Global};
 
 /// The cause of a refusal, unless it is want of memory.
 fn cause_in(fault: ElementFault) -> Result<ElementCause, AllocError>
-    ensures { IfOk result (λ cause. cause ≡ fault.cause) }
+    ensures same { IfOk result (λ cause. cause ≡ fault.cause) }
+    ensures seen { IfOk result IsSeen }
 {
     match fault.cause {
         ElementCause::Memory => Err(AllocError),

@@ -4,6 +4,7 @@
 
 mod above;
 mod checks;
+mod cycles;
 mod delays;
 mod elements;
 mod excerpts;

@@ -1,7 +1,7 @@
 //! Findings of parents that profiles may not have.
+use crate::cycles::{add_cycle, parent_path};
 use crate::refused::Refused;
 use nextest_config::InheritsError;
-use nextest_places::Step;
 use rinqebo_codes::Code;
 use rinqebo_files::Layer;
 use rinqebo_request::name_hint;
@@ -27,11 +27,6 @@ fn profile_names<'l>(alloc: Global, layers: &'l [Layer]) -> Result<Vec<&'l str>,
     Ok(names)
 }
 
-/// The first profile of the first of some cycles.
-fn first_of(cycles: &[Vec<String>]) -> Option<&String> {
-    cycles.first()?.first()
-}
-
 /// Adds what is wrong with the parent that a profile names.
 fn add_at_parent(
     refused: &mut Refused<'_, '_>,
@@ -40,12 +35,7 @@ fn add_at_parent(
     wrong: &str,
     help: Option<String>,
 ) -> Result<(), AllocError> {
-    let path = [
-        Step::Key("profile"),
-        Step::Key(profile),
-        Step::Key("inherits"),
-    ];
-    refused.add_at(code, &path, wrong, help)
+    refused.add_at(code, &parent_path(profile), wrong, help)
 }
 
 /// The code of what is wrong with a parent.
@@ -73,10 +63,12 @@ fn add_parent(refused: &mut Refused<'_, '_>, error: &InheritsError) -> Result<()
             let help = name_hint(alloc, parent.as_str(), &names)?;
             add_at_parent(refused, code, profile.as_str(), wrong.as_str(), help)
         }
-        InheritsError::InheritanceCycle(cycles) => match first_of(cycles) {
-            Some(profile) => add_at_parent(refused, code, profile.as_str(), wrong.as_str(), None),
-            None => refused.add_whole(code, wrong.as_str()),
-        },
+        InheritsError::InheritanceCycle(cycles) => {
+            for cycle in cycles {
+                add_cycle(refused, cycle)?;
+            }
+            Ok(())
+        }
     }
 }
 

@@ -1,0 +1,4 @@
+pub mod Reading
+pub mod Adding
+pub mod Words
+pub mod Paths
