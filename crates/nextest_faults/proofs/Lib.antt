@@ -2,3 +2,4 @@ pub mod Reading
 pub mod Adding
 pub mod Words
 pub mod Paths
+pub mod Listed

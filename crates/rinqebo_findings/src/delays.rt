@@ -1,23 +1,13 @@
 //! The finding of retries whose longest delay is shorter than the first one.
 use crate::excerpts::{Mark, lines_of};
 use crate::given::value_at;
+use crate::paths::path_with;
 use crate::refused::Refused;
 use nextest_places::Step;
 use rinqebo_codes::Code;
 use rinqebo_files::{SpanPart, part_place};
 use rinqebo_report::{FileLines, FilePlace, Finding, Range, Sign};
 use std::alloc::{AllocError, Global};
-
-/// The path of a key of a table.
-fn path_of<'p>(
-    alloc: Global,
-    table: &[Step<'p>],
-    key: &'p str,
-) -> Result<Vec<Step<'p>>, AllocError> {
-    let mut path = Vec::from_slice(alloc, table)?;
-    path.push(Step::Key(key))?;
-    Ok(path)
-}
 
 /// The range of a key and its value, in the source at a position.
 fn entry_range(refused: &Refused<'_, '_>, source: usize, path: &[Step<'_>]) -> Option<Range> {
@@ -126,8 +116,8 @@ fn elsewhere_note(
 pub fn add_delays(refused: &mut Refused<'_, '_>, path: &[Step<'_>]) -> Result<(), AllocError> {
     let alloc = refused.alloc;
     let code = Code::MaxDelayBelowDelay;
-    let longest = path_of(alloc, path, "max-delay")?;
-    let first = path_of(alloc, path, "delay")?;
+    let longest = path_with(alloc, path, "max-delay")?;
+    let first = path_with(alloc, path, "delay")?;
     let (Some(most), Some(least)) = (text_of(refused, &longest), text_of(refused, &first)) else {
         return refused.add_at(code, path, "`max-delay` is shorter than `delay`", None);
     };

@@ -4,7 +4,7 @@ use crate::expected::expected_at;
 use crate::findings::SourceAt;
 use crate::given::{kind_words, value_at};
 use crate::hints::word_hint;
-use crate::paths::{path_text, spelled_path};
+use crate::paths::{path_text, path_with, spelled_path};
 use crate::refused::Refused;
 use crate::refused_values::Fault;
 use crate::shapes::shape_at;
@@ -168,14 +168,14 @@ fn add_missing(
     let alloc = refused.alloc;
     let name = called(alloc, path)?;
     let wrong = format!(in alloc; "{name} needs `{key}`")?;
-    let mut at = Vec::from_slice(alloc, path)?;
     let stray = match value_at(refused.source, path) {
         Some(table) => stray_key(alloc, path, table, key)?,
         None => None,
     };
-    if let Some(stray) = stray {
-        at.push(Step::Key(stray))?;
-    }
+    let at = match stray {
+        Some(stray) => path_with(alloc, path, stray)?,
+        None => Vec::from_slice(alloc, path)?,
+    };
     let mut found = refused.part_at(Code::MissingKey, &at, SpanPart::Key, wrong.as_str())?;
     if stray.is_some() {
         found.help = Some(format!(in alloc; "did you mean `{key}`?")?);

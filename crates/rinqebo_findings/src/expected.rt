@@ -50,7 +50,12 @@ fn list_words(items: &Shape) -> &'static str {
     match items {
         Shape::Text(_) => "an array of strings",
         Shape::Table(_) => "an array of tables",
-        _ => "an array",
+        Shape::Anything
+        | Shape::Boolean
+        | Shape::Integer { .. }
+        | Shape::List { .. }
+        | Shape::Map { .. }
+        | Shape::Either(_) => "an array",
     }
 }
 

@@ -14,17 +14,27 @@ enum Wanted {
     Other,
 }
 
+/// The kind of array whose items are of a shape.
+fn wanted_items(items: &Shape) -> Wanted {
+    match items {
+        Shape::Text(_) => Wanted::Texts,
+        Shape::Table(_) => Wanted::Tables,
+        Shape::Anything
+        | Shape::Boolean
+        | Shape::Integer { .. }
+        | Shape::List { .. }
+        | Shape::Map { .. }
+        | Shape::Either(_) => Wanted::Other,
+    }
+}
+
 /// The kind of value that one shape takes.
 fn wanted_of(shape: &Shape) -> Wanted {
     match shape {
         Shape::Boolean => Wanted::Boolean,
         Shape::Integer { .. } => Wanted::Integer,
         Shape::Text(TextShape::Of(Pattern::Duration)) => Wanted::Duration,
-        Shape::List { items, .. } => match &**items {
-            Shape::Text(_) => Wanted::Texts,
-            Shape::Table(_) => Wanted::Tables,
-            _ => Wanted::Other,
-        },
+        Shape::List { items, .. } => wanted_items(items),
         Shape::Text(_) | Shape::Anything | Shape::Table(_) | Shape::Map { .. } | Shape::Either(_) =>
             Wanted::Other,
     }
