@@ -1,4 +1,4 @@
-//! The calls of the library, as `include/rinqebo.h` declares them. Nothing compares the two.
+//! The calls of the library, as `include/rinqebo.h` declares them: `scripts/compare-layouts` compares the two.
 
 #[repr(C)]
 #[derive(Clone, Copy)]
@@ -117,5 +117,13 @@ extern "C" {
         needed: *mut usize,
     ) -> u32;
     pub fn rinqebo_profile_ask(profile: *const u8, test: *const Test, settings: *mut Settings) -> u32;
+    pub fn rinqebo_profile_argument(
+        profile: *const u8,
+        test: *const Test,
+        index: usize,
+        out: *mut u8,
+        out_len: usize,
+        needed: *mut usize,
+    ) -> u32;
     pub fn rinqebo_profile_free(profile: *mut u8);
 }

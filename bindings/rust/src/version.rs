@@ -3,9 +3,9 @@
 use crate::{copied, ffi, Error};
 
 /// The version of the library that these types are for.
-pub const VERSION: &str = "0.1.0";
+pub const VERSION: &str = "0.2.0";
 /// The same as a number: 1,000,000 times the first of its numbers, 1,000 times the second, and the third.
-pub const VERSION_NUMBER: u32 = 1000;
+pub const VERSION_NUMBER: u32 = 2000;
 
 /// The version of the library that is linked.
 pub fn version() -> String {

@@ -254,6 +254,22 @@ impl<F: Filters, S: Specs> NextestConfig<F, S> {
         &self.warnings
     }
 
+    /// The root of the workspace.
+    pub fn workspace_root(&self) -> &str
+        ensures { result.now ≡ self.now.root }
+    {
+        self.workspace_root.as_str()
+    }
+
+    /// The names of its profiles, in the order of their bytes.
+    pub fn profile_names(&self, alloc: Global) -> Result<Vec<String>, AllocError>
+        ensures { IfOk result (λ names. map string_bytes names.items
+            ≡ names_in self.now.config.profiles) }
+    {
+        let names = names_of_profiles(alloc, self.loaded.profiles())?;
+        Ok(names)
+    }
+
     /// The profile of a name, by its chain.
     pub fn profile(&self, alloc: Global, name: &str) -> Result<EarlyProfile<'_, F, S>, ProfileError>
         ensures known { IfOk result (λ _. IsIn (names_in self.now.config.profiles) name.now) }

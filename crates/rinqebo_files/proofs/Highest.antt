@@ -5,9 +5,10 @@ use Rattle.std.proofs.lemmas.List.{length-append, length-map}
 use Rattle.std.proofs.lemmas.Option.{slice_get-get_or, slice_get-map}
 use Rattle.std.specs.Option.{option_and_then, option_map_or}
 use Rattle.std.specs.List.{slice_get}
-use Rattle.nextest_sources.specs.Sources.{explicit_file, discovered_file}
+use Rattle.nextest_sources.specs.Sources.{explicit_file, discovered_file, outcome_view}
 use Rattle.nextest_sources.specs.declared.sources.FileInput.{FileInput}
-use Rattle.rinqebo_files.specs.Features.{repository_file, tree_read}
+use Rattle.rinqebo_features.specs.Features.{tree_read}
+use Rattle.rinqebo_files.specs.Features.{repository_file}
 use Rattle.rinqebo_files.specs.Layers.{LayerRead, default_layer, file_layer, layer_tree, layer_view, layers_read, organisation_layers, repository_layer, tool_layer}
 use Rattle.rinqebo_files.specs.declared.files.Gathered.{Gathered}
 use Rattle.rinqebo_files.specs.declared.layers.Layer.{Layer}
@@ -30,14 +31,14 @@ tree_at (Some layer) read is = ap (option_and_then (λ r. r.tree)) is
 -- the tree of the repository's file, which a user named or which was looked for
 repository_tree : (explicit : Option FileInput) (shared : FileInput)
     → (option_map_or (file_layer (Some explicit_file)) explicit (file_layer (Some discovered_file) shared)).tree
-    ≡ tree_read (unwrap_or explicit shared).outcome
+    ≡ tree_read (outcome_view (unwrap_or explicit shared).outcome)
 repository_tree None shared = refl
 repository_tree (Some file) shared = refl
 
 -- the highest layer of a run has the tree of the repository's file
 pub repository_last : (layers : List Layer) (gathered : Gathered) → map layer_view layers ≡ layers_read gathered
     → option_and_then layer_tree (slice_get layers (length layers - 1))
-    ≡ tree_read (repository_file gathered).outcome
+    ≡ tree_read (outcome_view (repository_file gathered).outcome)
 repository_last layers gathered are =
     let lower : List LayerRead = default_layer ∷ (map tool_layer (reverse gathered.tools.items)
     ++ organisation_layers gathered.organisation_file) in

@@ -1,4 +1,3 @@
-mod Switching
 mod Layering
 mod Seeking
 mod Highest

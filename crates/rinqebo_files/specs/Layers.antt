@@ -2,7 +2,7 @@
 use Rattle.std.specs.Prelude.{ℕ, List, ◌∷◌, ◌++◌, [], Option, Some, None, map, option_map, reverse, string_bytes}
 use Rattle.std.specs.Option.{option_map_or}
 use Rattle.nextest_documents.specs.Text.{tree_of}
-use Rattle.nextest_sources.specs.Sources.{Source, SourceKind, path_view, tool_file, organisation_file, explicit_file, discovered_file}
+use Rattle.nextest_sources.specs.Sources.{Source, SourceKind, outcome_view, path_view, tool_file, organisation_file, explicit_file, discovered_file}
 use Rattle.nextest_sources.specs.declared.sources.FileInput.{FileInput}
 use Rattle.nextest_sources.specs.declared.sources.ReadOutcome.{ReadOutcome}
 use Rattle.nextest_sources.specs.declared.sources.ReadOutcome.TheVariants as outcomes
@@ -11,7 +11,7 @@ use Rattle.nextest_tables.specs.Defaults.{defaults}
 use Rattle.nextest_texts.specs.IdentifierText.{tool_name_text}
 use Rattle.nextest_tree.specs.Node.{Node}
 use Rattle.nextest_tree.specs.View.{tree_view}
-use Rattle.rinqebo_files.specs.Features.{tree_read}
+use Rattle.rinqebo_features.specs.Features.{tree_read}
 use Rattle.rinqebo_files.specs.Origins.{file_of, reported_file}
 use Rattle.rinqebo_files.specs.declared.files.Gathered.{Gathered}
 use Rattle.rinqebo_files.specs.declared.layers.Layer.{Layer}
@@ -56,7 +56,7 @@ abbrev pub file_layer : Option SourceKind → FileInput → LayerRead
 file_layer kind file = record {
   file = file_of kind (path_view file.path);
   text = text_read file.outcome;
-  tree = tree_read file.outcome;
+  tree = tree_read (outcome_view file.outcome);
 }
 
 -- the file of a tool

@@ -1,13 +1,10 @@
 //! The tree and the places of a file's text, or why the text is not a document.
-ghost use Rattle.std.specs.Prelude.{◌≡◌, IfOk, option_map};
+ghost use Rattle.std.specs.Prelude.{◌≡◌, IfOk};
 ghost use Rattle.toml.specs.View.{view};
 ghost use Rattle.nextest_spans.specs.Spans.{IsDocumentOf};
-ghost use Rattle.nextest_tree.specs.View.{tree_view};
-ghost use Rattle.rinqebo_files.specs.Features.{tree_read};
 ghost use Rattle.rinqebo_files.specs.Layers.{text_read};
 
 use nextest_config::{ReadOutcome, Tree};
-use nextest_documents::{TextFault, tree_from_text};
 use nextest_places::Places;
 use nextest_spans::{ColumnUnit, PathSpans, TextPosition, position_at};
 use std::alloc::{AllocError, Global};
@@ -94,19 +91,5 @@ pub fn read_places<'t>(
         ReadOutcome::NotFound | ReadOutcome::NotADirectory | ReadOutcome::Failed(_) => {
             Ok((None, None))
         }
-    }
-}
-
-/// Returns the tree of what was read, if it is a document.
-pub fn tree_of(alloc: Global, outcome: &ReadOutcome) -> Result<Option<Tree>, AllocError>
-    ensures { IfOk result (λ tree. option_map tree_view tree ≡ tree_read outcome.now) }
-{
-    match outcome {
-        ReadOutcome::Text(text) => match tree_from_text(alloc, text.as_str()) {
-            Ok(tree) => Ok(Some(tree)),
-            Err(TextFault::NotDocument(_)) => Ok(None),
-            Err(TextFault::Memory) => Err(AllocError),
-        },
-        ReadOutcome::NotFound | ReadOutcome::NotADirectory | ReadOutcome::Failed(_) => Ok(None),
     }
 }

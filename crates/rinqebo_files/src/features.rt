@@ -1,58 +1,16 @@
 //! The experimental features of a run.
-ghost use Rattle.std.specs.List.{list_any};
 ghost use Rattle.std.specs.Option.{option_and_then};
-ghost use Rattle.std.specs.Prelude.{◌≡◌, ◌↔◌, ◌-◌, [], ◌∷◌, false, IfOk, IsTrue, OnOk, Some, length, map, option_map, slice_get, unwrap_or};
-ghost use Rattle.nextest_elements.specs.Experimental.{experimental_text};
-ghost use Rattle.nextest_tree.specs.Node.{as_bool};
+ghost use Rattle.std.specs.Prelude.{◌≡◌, ◌-◌, IfOk, length, map, option_map, slice_get};
 ghost use Rattle.nextest_tree.specs.View.{tree_view};
-ghost use Rattle.rinqebo_files.specs.Features.{experimental_in, is_this_text, SwitchesOn, AreWith, AreAdded, AreFeaturesOf};
+ghost use Rattle.rinqebo_files.specs.Features.{AreFeaturesOf};
 ghost use Rattle.rinqebo_files.specs.Layers.{layer_tree, layer_view, layers_read};
 ghost use Rattle.rinqebo_files.specs.declared.files.Gathered.{Gathered};
 
 use crate::layers::Layer;
 use nextest_config::{ConfigExperimental, Tree};
-use rinqebo_request::{FEATURES, feature_name};
+use rinqebo_features::features_by;
 use std::alloc::AllocError;
 use std::collections::BTreeSet;
-
-/// Whether a tree is a text.
-fn is_text(tree: &Tree, text: &str) -> bool
-    ensures { result ≡ is_this_text text.now (tree_view tree.now) }
-{
-    match tree.as_str() {
-        Some(found) => found == text,
-        None => false,
-    }
-}
-
-/// Whether an item of a list is a text.
-fn has_text(items: &[Tree], text: &str) -> bool
-    ensures { result ≡ list_any (λ item. is_this_text text.now (tree_view item)) items.now }
-{
-    items.iter().any(|item| is_text(item, text))
-}
-
-/// Whether true stands there.
-fn is_true(written: Option<&Tree>) -> bool
-    ensures { let node = option_map (λ tree. tree_view tree.now) written.entry in
-        result ≡ unwrap_or (option_and_then as_bool node) false }
-{
-    match written {
-        Some(tree) => tree.as_bool().unwrap_or(false),
-        None => false,
-    }
-}
-
-/// Whether what stands behind `experimental` switches a name on: a list that names it, or a table
-/// in which it stands for true.
-fn switches_on(written: &Tree, name: &str) -> bool
-    ensures { IsTrue result ↔ SwitchesOn (tree_view written.now) name.now }
-{
-    match written.as_array() {
-        Some(items) => has_text(items, name),
-        None => is_true(written.get(name)),
-    }
-}
 
 /// Returns the tree of the highest layer, if it is a document.
 fn highest_tree<'l>(layers: &'l [Layer]) -> Option<&'l Tree>
@@ -65,63 +23,6 @@ fn highest_tree<'l>(layers: &'l [Layer]) -> Option<&'l Tree>
     }
 }
 
-/// Adds a feature, where what stands behind `experimental` switches it on.
-fn add_feature(
-    features: &mut BTreeSet<ConfigExperimental>,
-    written: &Tree,
-    feature: ConfigExperimental,
-) -> Result<(), AllocError>
-    ensures { OnOk result (AreAdded (λ f. SwitchesOn (tree_view written.now) (experimental_text f))
-        (feature ∷ []) features.old features.new) }
-{
-    if switches_on(written, feature_name(feature)) {
-        features.insert(feature)?;
-        return Ok(());
-    }
-    Ok(())
-}
-
-/// Adds the features that what stands behind `experimental` switches on.
-fn add_features(
-    features: &mut BTreeSet<ConfigExperimental>,
-    written: &Tree,
-) -> Result<(), AllocError>
-    ensures { OnOk result (AreWith (Some (tree_view written.now)) features.old features.new) }
-{
-    for feature in FEATURES.iter() {
-        add_feature(features, written, *feature)?;
-    }
-    Ok(())
-}
-
-/// Adds the features that what stands behind `experimental` switches on, if something does.
-fn add_written(
-    features: &mut BTreeSet<ConfigExperimental>,
-    written: Option<&Tree>,
-) -> Result<(), AllocError>
-    ensures { let node = option_map (λ tree. tree_view tree.now) written.entry in
-        OnOk result (AreWith node features.old features.new) }
-{
-    match written {
-        Some(written) => add_features(features, written),
-        None => Ok(()),
-    }
-}
-
-/// Adds the features that a document switches on.
-fn add_switched(
-    features: &mut BTreeSet<ConfigExperimental>,
-    document: Option<&Tree>,
-) -> Result<(), AllocError>
-    ensures { let node = option_map (λ tree. tree_view tree.now) document.entry in
-        OnOk result (AreWith (experimental_in node) features.old features.new) }
-{
-    match document {
-        Some(tree) => add_written(features, tree.get("experimental")),
-        None => Ok(()),
-    }
-}
-
 /// Returns the features of a run: those that words switch on, and those of the repository's file,
 /// which is the highest of the layers.
 pub fn features_of(
@@ -131,7 +32,5 @@ pub fn features_of(
     ensures { (gathered : Gathered) → map layer_view layers.now ≡ layers_read gathered
         → IfOk result (AreFeaturesOf named.now gathered) }
 {
-    let mut features = named.clone()?;
-    add_switched(&mut features, highest_tree(layers))?;
-    Ok(features)
+    features_by(named, highest_tree(layers))
 }

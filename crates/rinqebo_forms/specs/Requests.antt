@@ -5,7 +5,7 @@ use Rattle.serde_json.specs.Data.{Data}
 use Rattle.serde_json.specs.Read.{read}
 use Rattle.nextest_sources.specs.Sources.{Outcome, text, not_found, not_a_directory, failed, InputFile, file_view, ToolFile, tool_file_view}
 use Rattle.nextest_texts.specs.Identifier.{is_part}
-use Rattle.serde_json.specs.Find.{as_bool, as_null, as_str}
+use Rattle.serde_json.specs.Find.{as_bool, as_null, as_str, get}
 use Rattle.json_fields.specs.Parts.{a_list, an_object, optional_object, optional_text, under}
 use Rattle.rinqebo_forms.specs.declared.outcome.OutcomeKind.{OutcomeKind}
 use Rattle.rinqebo_forms.specs.declared.outcome.OutcomeKind.TheVariants as outcomes
@@ -29,6 +29,7 @@ pub record RequestText : Type 0 where
   pub metadata : Option (List ℕ)
   pub host : MachineText
   pub target : Option MachineText
+  pub target_directory : Option (List ℕ)
 
 -- what contracts see of a machine
 abbrev pub machine_view : Machine → MachineText
@@ -46,6 +47,7 @@ request_view r = record {
   metadata = option_map string_bytes r.metadata;
   host = machine_view r.host;
   target = option_map machine_view r.target;
+  target_directory = option_map string_bytes r.target_directory;
 }
 
 -- ---- parts of a request
@@ -135,6 +137,15 @@ machine_if (Some value) = option_map Some (machine_in value)
 abbrev pub target_in : Data → Option (Option MachineText)
 target_in value = option_and_then machine_if (under optional_object (codes "target") value)
 
+-- the text or null of a value, or none where there is no value
+abbrev pub text_if : Option Data → Option (Option (List ℕ))
+text_if None = Some None
+text_if (Some value) = optional_text value
+
+-- the target directory: the string at `target-directory`, or none where that is `null` or is not there
+abbrev pub target_directory_in : Data → Option (Option (List ℕ))
+target_directory_in value = text_if (get (codes "target-directory") value)
+
 -- the features that an object switches on
 abbrev pub switches_in : Data → Option Switches
 switches_in value =
@@ -147,7 +158,7 @@ switches_in value =
 -- ---- the request
 
 -- the request in `root`, `file`, `config-file`, `organisation-config-file`, `tools`, `features`,
--- `metadata`, `host` and `target` of a value
+-- `metadata`, `host`, `target` and `target-directory` of a value
 unfoldable pub request_in : Data → Option RequestText
 request_in value =
     option_and_then (λ root.
@@ -158,7 +169,8 @@ request_in value =
     option_and_then (λ features.
     option_and_then (λ metadata.
     option_and_then (λ host.
-    option_map (λ target. record {
+    option_and_then (λ target.
+    option_map (λ target_directory. record {
       root = root;
       shared = shared;
       config_file = config_file;
@@ -168,7 +180,8 @@ request_in value =
       metadata = metadata;
       host = host;
       target = target;
-    }) (target_in value))
+      target_directory = target_directory;
+    }) (target_directory_in value)) (target_in value))
     (option_and_then machine_in (under an_object (codes "host") value)))
     (under optional_text (codes "metadata") value))
     (option_and_then switches_in (under an_object (codes "features") value)))

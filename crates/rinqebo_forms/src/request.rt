@@ -3,7 +3,7 @@ ghost use Rattle.std.specs.Prelude.{◌≡◌, IfOk, MatchResult, map, option_ma
 ghost use Rattle.serde_json.specs.View.{view};
 ghost use Rattle.nextest_sources.specs.Sources.{file_view, tool_file_view};
 ghost use Rattle.rinqebo_forms.specs.Reading.{Reads};
-ghost use Rattle.rinqebo_forms.specs.Requests.{config_file_in, file_in, tool_in, tools_in, machine_in, machine_view, switches_in, target_in, request_in, request_view, request_of, organisation_file_in, tool_name_in};
+ghost use Rattle.rinqebo_forms.specs.Requests.{config_file_in, file_in, tool_in, tools_in, machine_in, machine_view, switches_in, target_in, target_directory_in, request_in, request_view, request_of, organisation_file_in, tool_name_in};
 ghost use Rattle.nextest_texts.specs.IdentifierText.{tool_name_text};
 
 use crate::fault::{ExpectedValue, Holder, Place, RequestFault};
@@ -51,6 +51,8 @@ pub struct LoadRequest {
     pub host: Machine,
     /// The target, if it isn't the host.
     pub target: Option<Machine>,
+    /// The target directory, to which programs of scripts may be relative, if it is given.
+    pub target_directory: Option<String>,
 }
 
 /// Reads the file that an object describes.
@@ -150,6 +152,17 @@ fn target_in(alloc: Global, value: &Value) -> Result<Option<Machine>, RequestFau
     }
 }
 
+/// Reads the target directory, which may be `null`, or not be there.
+fn target_directory_in(alloc: Global, value: &Value) -> Result<Option<String>, RequestFault>
+    ensures { Reads (λ directory. option_map string_bytes directory) result
+        (target_directory_in (view value.now)) }
+{
+    match value.get("target-directory") {
+        Some(_) => optional_string_at(alloc, value, at("target-directory")),
+        None => Ok(None),
+    }
+}
+
 /// Reads the features that an object switches on.
 fn switches_in(value: &Value) -> Result<Switches, RequestFault>
     ensures { Reads (λ switches. switches) result (switches_in (view value.now)) }
@@ -191,6 +204,7 @@ impl LoadRequest {
         let metadata = optional_string_at(alloc, value, at("metadata"))?;
         let host = machine_in(alloc, at("host").of(value).object()?, Holder::Host)?;
         let target = target_in(alloc, value)?;
+        let target_directory = target_directory_in(alloc, value)?;
         let paths = ConfigPaths {
             workspace_root,
             shared,
@@ -204,6 +218,7 @@ impl LoadRequest {
             metadata,
             host,
             target,
+            target_directory,
         })
     }
 

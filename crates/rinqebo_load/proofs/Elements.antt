@@ -1,19 +1,18 @@
 -- Lists that are read element by element.
-use Rattle.std.proofs.Common.{◌≡◌, ℕ, ◌+◌, ◌<◌, ◌≤◌, suc, Bool, List, [], ◌∷◌, ◌++◌, Option, None, Some, ap, sym, ◌∙◌, refl, drop, arith, filter_map, get_or, length, map, take, slice_get}
-use Rattle.std.specs.List.{filter}
+use Rattle.std.proofs.Common.{◌≡◌, ℕ, ◌+◌, ◌<◌, ◌≤◌, suc, List, [], ◌∷◌, ◌++◌, Option, None, Some, ap, sym, ◌∙◌, refl, drop, arith, filter_map, get_or, length, map, take, slice_get}
 use Rattle.std.proofs.Math.Seq.{drop-cons}
-use Rattle.std.proofs.lemmas.List.{map-append, take_all, take_more, take-append-drop}
-use Rattle.std.proofs.lemmas.List.Elements.{filter-append, filter_map-append}
+use Rattle.std.proofs.lemmas.List.{get_or-map, map-append, take_all, take_more, take-append-drop}
+use Rattle.std.proofs.lemmas.List.Elements.{filter_map-append}
 
--- what passes a test is what passed so far, and the next element if it passes
-pub passed_more : {V X : Type 0} (view : V → X) (p : X → Bool) (values : List V) (i : ℕ) (v d : V)
-    → i < length values → v ≡ get_or values i d
-    → filter p (map view (take (i + 1) values)) ≡ filter p (map view (take i values)) ++ filter p (view v ∷ [])
-passed_more view p values i v d below at =
-    ap (λ vs. filter p (map view vs)) (take_more values i d below)
-    ∙ ap (filter p) (map-append view (take i values) (get_or values i d ∷ []))
-    ∙ filter-append p (map view (take i values)) (view (get_or values i d) ∷ [])
-    ∙ ap (λ w. filter p (map view (take i values)) ++ filter p (view w ∷ [])) (sym at)
+-- an element, seen in another way
+pub seen_at : {V X : Type 0} (view : V → X) (values : List V) (i : ℕ) (v : V) → i < length values
+    → v ≡ get_or values i v → view v ≡ get_or (map view values) i (view v)
+seen_at view values i v below at = ap view at ∙ sym (get_or-map view values i v (view v) below)
+
+-- the element at a place, seen in another way
+pub seen_get : {V X : Type 0} (view : V → X) (values : List V) (i : ℕ) (d : V) → i < length values
+    → view (get_or values i d) ≡ get_or (map view values) i (view d)
+seen_get view values i d below = sym (get_or-map view values i d (view d) below)
 
 -- nothing is read from one element more
 pub none_more : {V X Y : Type 0} (view : V → X) (h : X → Option Y) (values : List V) (i : ℕ) (v d : V)
@@ -51,15 +50,3 @@ pub none_at_all : {V X Y : Type 0} (view : V → X) (h : X → Option Y) (values
 none_at_all view h values i passed before =
     ap (λ ys. slice_get ys 0)
     (ap (λ vs. filter_map h (map view vs)) (sym (take_all i values passed)) ∙ before)
-
--- ---- lists of known lengths
-
-pub no_items : {V X : Type 0} (view : V → X) (values : List V) → length values ≡ 0 → map view values ≡ []
-no_items view [] none = refl
-no_items view (v ∷ values) none = absurd (omega arith)
-
-pub one_item : {V X : Type 0} (view : V → X) (values : List V) (v d : V) → length values ≡ 1 → v ≡ get_or values 0 d
-    → map view values ≡ view v ∷ []
-one_item view [] v d one at = absurd (omega arith)
-one_item view (w ∷ []) v d one at = ap (λ x. view x ∷ []) (sym at)
-one_item view (w ∷ x ∷ values) v d one at = absurd (omega arith)

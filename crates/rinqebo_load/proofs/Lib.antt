@@ -1,2 +1,3 @@
 pub mod Failing
 pub mod Elements
+pub mod Ids

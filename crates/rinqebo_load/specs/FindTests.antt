@@ -21,7 +21,7 @@ use Rattle.rinqebo_load.specs.declared.session.Session.{Session}
 -- else the id of the binary; without an id it is a list
 abbrev pub source_of : Session → RequestedTest → TestSource
 source_of session requested =
-    if is_some session.gathered.now.list || is_none requested.binary then sources.List
+    if is_none requested.binary || is_some session.gathered.now.list then sources.List
     else (if is_some session.gathered.now.metadata then sources.Metadata else sources.Id)
 
 -- the tests of a session's list that a request names

@@ -1,6 +1,6 @@
 -- Tests that a request names, and what is known of them.
-use Rattle.std.specs.Prelude.{◌≡◌, ◌≢◌, ◌++◌, ◌&&◌, ◌||◌, ℕ, Bool, false, eqb, List, [], Option, None, Some, codes, if◌then◌else◌, string_bytes}
-use Rattle.std.specs.List.{ends_with, filter}
+use Rattle.std.specs.Prelude.{◌≡◌, ◌≢◌, ◌++◌, ◌&&◌, ◌||◌, ◌<◌, ℕ, Bool, false, eqb, length, List, [], Option, None, Some, codes, if◌then◌else◌, string_bytes}
+use Rattle.std.specs.List.{after_first, before_first, ends_with, filter, position_or_len}
 use Rattle.std.specs.Str.{bytes_eq}
 use Rattle.filter_language.specs.Values.{package_name}
 use Rattle.filter_packages.specs.Targets.{TargetText, binary_id}
@@ -72,9 +72,17 @@ test_of_target target requested = record {
 abbrev pub IsOnePart : List ℕ → Type 0
 IsOnePart id = (front back : List ℕ) → id ≢ front ++ (codes "::" ++ back)
 
+-- whether a byte is a slash
+abbrev pub is_slash : ℕ → Bool
+is_slash byte = eqb byte 47
+
 -- no slash stands in a text
 abbrev pub HasNoSlash : List ℕ → Type 0
-HasNoSlash text = (front back : List ℕ) → text ≢ front ++ (codes "/" ++ back)
+HasNoSlash text = position_or_len is_slash text ≡ length text
+
+-- a slash stands in a text
+abbrev pub HasSlash : List ℕ → Type 0
+HasSlash text = position_or_len is_slash text < length text
 
 -- What the id of a binary says of its target: `p` is the library of the package `p`, `p::x` its
 -- integration test `x`, and `p::kind/x` the target `x` of this kind.
@@ -82,8 +90,8 @@ pub data IsReadAs (id : List ℕ) : (kind name : List ℕ) → Type 0 where
   a_library : IsOnePart id → IsReadAs id (codes "lib") id
   a_test : (name : List ℕ) → id ≡ package_name id ++ (codes "::" ++ name) → HasNoSlash name
       → IsReadAs id (codes "test") name
-  another : (kind name : List ℕ) → id ≡ package_name id ++ (codes "::" ++ (kind ++ (codes "/" ++ name)))
-      → HasNoSlash kind → IsReadAs id kind name
+  another : (target : List ℕ) → id ≡ package_name id ++ (codes "::" ++ target) → HasSlash target
+      → IsReadAs id (before_first is_slash target) (after_first is_slash target)
 
 -- A test is one of the binary of an id, of which no more is known: its target is what the id says.
 pub record IsTestOfId (requested : RequestedTest) (binary : List ℕ) (found : ListTest) : Type 0

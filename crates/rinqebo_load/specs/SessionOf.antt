@@ -21,7 +21,8 @@ pub record IsSessionOf (request : Request) (gathered : Gathered) (session : Sess
   pub layers : map layer_view session.layers.items ≡ layers_read gathered
   pub features : AreFeaturesOf request.features gathered session.features
   pub tests : IsListFor gathered.list session.tests
-  pub filters : AreOpenFiltersFor (option_map string_bytes gathered.metadata) session.engines.filters
+  pub filters : AreOpenFiltersFor (option_map string_bytes gathered.metadata)
+      session.engines.filters
   pub host : string_bytes session.triples.host
       ≡ host_for request.engines (printed_host gathered.rustc_version) (list_view session.tests)
   pub target : option_map string_bytes session.triples.target

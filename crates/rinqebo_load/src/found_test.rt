@@ -1,9 +1,10 @@
 //! Tests that a request names, and what is known of them.
 ghost use Rattle.std.specs.Prelude.{◌≡◌, ◌++◌, IfOk, MatchOption, codes};
+ghost use Rattle.std.specs.List.{after_first, before_first};
 ghost use Rattle.filter_language.specs.Values.{package_name};
 ghost use Rattle.filter_packages.specs.TargetView.{target_view};
 ghost use Rattle.nextest_lists.specs.ListView.{list_test_view};
-ghost use Rattle.rinqebo_load.specs.FoundTests.{HasNoSlash, IsOnePart, IsReadAs, IsTestOfId, found_view, platform_for, test_of_target};
+ghost use Rattle.rinqebo_load.specs.FoundTests.{HasNoSlash, HasSlash, IsOnePart, IsReadAs, IsTestOfId, found_view, is_slash, platform_for, test_of_target};
 ghost use Rattle.rinqebo_load.specs.declared.found_test.TestSource.TheVariants as sources;
 
 use filter_packages::PackageTarget;
@@ -125,7 +126,7 @@ impl FoundTest {
         ensures mode { IfOk result (λ found. found.mode ≡ requested.now.mode) }
         ensures source { IfOk result (λ found. found.source ≡ sources.Id) }
     {
-        let target = target_of(binary);
+        let target = read_id(binary);
         Ok(FoundTest {
             package_id: String::new(alloc),
             binary: String::from_str(alloc, binary)?,
@@ -170,15 +171,15 @@ fn parts_of(id: &str) -> Option<(&str, &str)>
 /// The kind and the name of a target that has a slash between them.
 fn kind_and_name(target: &str) -> Option<(&str, &str)>
     ensures { MatchOption result (HasNoSlash target.now)
-        (λ parts. HasNoSlash parts.0.now
-        × (target.now ≡ parts.0.now ++ (codes "/" ++ parts.1.now))) }
+        (λ parts. HasSlash target.now × (parts.0.now ≡ before_first is_slash target.now)
+        × (parts.1.now ≡ after_first is_slash target.now)) }
 {
     target.split_once('/')
 }
 
 /// What the id of a binary says of its target: `p` is the library of a package, `p::x` an integration
 /// test, and `p::bin/x` a target of the kind before the slash.
-fn target_of(id: &str) -> Target<'_>
+fn read_id(id: &str) -> Target<'_>
     ensures { IsReadAs id.now result.kind.now result.name.now }
 {
     let Some((_, target)) = parts_of(id) else {

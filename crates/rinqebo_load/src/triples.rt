@@ -57,7 +57,7 @@ fn host_for<'a>(
     printed: Option<&'a str>,
     tests: &'a ListedTests,
 ) -> &'a str
-    ensures { result.now ≡ host_for options.now (option_map (λ host. host.now) printed)
+    ensures { result.now ≡ host_for options.now (option_map (λ host. host.now) printed.entry)
         (list_view tests.now) }
 {
     if let Some(host) = options.host {
@@ -78,7 +78,7 @@ fn host_source(
     printed: Option<&str>,
     tests: &ListedTests,
 ) -> TripleSource
-    ensures { result ≡ host_source options.now (option_map (λ host. host.now) printed)
+    ensures { result ≡ host_source options.now (option_map (λ host. host.now) printed.entry)
         (list_view tests.now) }
 {
     if options.host.is_some() {
@@ -152,11 +152,11 @@ pub fn triples_for(
     tests: &ListedTests,
 ) -> Result<Triples, AllocError>
     ensures host { IfOk result (λ triples. string_bytes triples.host
-        ≡ host_for options.now (option_map (λ host. host.now) printed) (list_view tests.now)) }
+        ≡ host_for options.now (option_map (λ host. host.now) printed.entry) (list_view tests.now)) }
     ensures target { IfOk result (λ triples.
         option_map string_bytes triples.target ≡ target_for options.now (list_view tests.now)) }
     ensures host_source { IfOk result (λ triples. triples.host_source
-        ≡ host_source options.now (option_map (λ host. host.now) printed) (list_view tests.now)) }
+        ≡ host_source options.now (option_map (λ host. host.now) printed.entry) (list_view tests.now)) }
     ensures target_source { IfOk result (λ triples.
         triples.target_source ≡ target_source options.now (list_view tests.now)) }
 {

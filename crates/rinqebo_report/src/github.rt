@@ -132,7 +132,7 @@ fn add_path(
 }
 
 /// Writes the properties of a place.
-fn add_file(
+pub fn add_file(
     out: &mut String,
     workspace: &str,
     sources: &[Source],

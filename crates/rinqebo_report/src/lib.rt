@@ -33,7 +33,7 @@ pub use finding::{
     CharSpan, Finding, HelpPlace, Level, LinePart, RefusedExpression, Sign, SourceLine,
 };
 pub use format::{Format, render, render_findings};
-pub use github::{add_message, add_property};
+pub use github::{add_file, add_message, add_property};
 pub use hint::nearest_name;
 pub use json_document::{document, render_json};
 pub use json_parts::{

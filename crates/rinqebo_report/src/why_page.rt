@@ -1,11 +1,12 @@
 //! The page of a key: what comes of each rule, and what counts where none decides.
-ghost use Rattle.std.specs.Prelude.{◌≡◌, ◌++◌, ◌+◌, ◌^◌, ◌<◌, option_map, OnOk, string_bytes};
+ghost use Rattle.std.specs.Prelude.{◌≡◌, ◌++◌, [], ◌∷◌, ◌+◌, ◌^◌, ◌<◌, option_map, OnOk, string_bytes};
 ghost use Rattle.serde_json.specs.View.{members_view};
 ghost use Rattle.rinqebo_report.specs.Document.{with_ignored, with_why};
 ghost use Rattle.rinqebo_report.specs.Pages.{verdict_text, verdict_style, number_run, reported_answer, condition_runs, shows_value, value_runs, written_runs, verdict_runs, conditions_runs, rule_runs, rules_runs, ignored_runs, why_runs};
-ghost use Rattle.rinqebo_report.specs.Pieces.{page_text};
+ghost use Rattle.rinqebo_report.specs.Pieces.{ending, page_text, styled};
 ghost use Rattle.rinqebo_report.specs.PieceView.{piece_view};
 ghost use Rattle.rinqebo_report.specs.TomlText.{value_text};
+ghost use Rattle.rinqebo_report.specs.declared.piece.Style.TheVariants as styles;
 
 use crate::explain_page::width;
 use crate::json_parts::{rules_json, test_id_json};
@@ -233,22 +234,24 @@ fn add_rules(
     Ok(())
 }
 
+/// Writes a remark, in a line.
+fn add_remark<'x>(out: &mut String, colour: Colour, text: &'x str) -> Result<(), AllocError>
+    ensures { OnOk result (string_bytes out.new ≡ string_bytes out.old
+        ++ page_text colour (styled styles.Remark text.now ∷ ending ∷ [])) }
+{
+    add_pieces(out, colour, &[Piece::Text(Style::Remark, text), Piece::End])
+}
+
 /// Writes that a test does not run, where a list says that it is ignored.
 fn add_ignored(out: &mut String, colour: Colour, is_ignored: bool) -> Result<(), AllocError>
     ensures { OnOk result (string_bytes out.new ≡ string_bytes out.old
         ++ page_text colour (ignored_runs is_ignored)) }
 {
-    if !is_ignored {
-        return Ok(());
+    if is_ignored {
+        add_remark(out, colour, "# runs = false: ignored in LIST")
+    } else {
+        Ok(())
     }
-    add_pieces(
-        out,
-        colour,
-        &[
-            Piece::Text(Style::Remark, "# runs = false: ignored in LIST"),
-            Piece::End,
-        ],
-    )
 }
 
 /// Writes the page of a key.

@@ -7,13 +7,13 @@ mod hints;
 mod keys;
 mod named;
 mod notes;
-mod options;
+pub mod options;
 mod request;
-mod rows;
+pub mod rows;
 mod test_words;
-mod words;
+pub mod words;
 
-pub use environment::{Environment, RunVariables};
+pub use environment::{Environment, RunVariables, set};
 pub use features::{FEATURES, feature_name, feature_of, law_all_features};
 pub use hints::{name_hint, text_hint};
 pub use keys::{RUNS, SettingKey, all_keys, setting_of, settings_of};

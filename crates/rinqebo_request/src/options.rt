@@ -3,7 +3,7 @@ use clap::{Arg, ArgAction, Command};
 use std::alloc::{AllocError, Global};
 
 /// The version of the program.
-const VERSION: &str = "0.1.0";
+const VERSION: &str = "0.2.0";
 
 /// The formats of answers.
 const ANSWER_FORMATS: &[&str] = &["text", "json"];
@@ -21,7 +21,7 @@ const CHECK_FORMATS_HELP: &str = "Format: text, json, short or github\n[default:
 const COLOURS: &[&str] = &["auto", "always", "never"];
 
 /// The run modes.
-const MODES: &[&str] = &["test", "benchmark"];
+pub const MODES: &[&str] = &["test", "benchmark"];
 
 /// What stands below the help of the program.
 const PROGRAM_NOTES: &str = "\
@@ -105,7 +105,7 @@ Exit status:
   6  the output could not be written";
 
 /// An option with a value.
-fn option<'a>(alloc: Global, name: &'a str, value: &'a str, help: &'a str) -> Arg<'a> {
+pub fn option<'a>(alloc: Global, name: &'a str, value: &'a str, help: &'a str) -> Arg<'a> {
     Arg::new(alloc, name)
         .long(name)
         .value_name(value)
@@ -127,7 +127,7 @@ fn choice<'a>(
 }
 
 /// A flag.
-fn flag<'a>(alloc: Global, name: &'a str, help: &'a str) -> Arg<'a> {
+pub fn flag<'a>(alloc: Global, name: &'a str, help: &'a str) -> Arg<'a> {
     Arg::new(alloc, name)
         .long(name)
         .action(ArgAction::SetTrue)
@@ -135,7 +135,7 @@ fn flag<'a>(alloc: Global, name: &'a str, help: &'a str) -> Arg<'a> {
 }
 
 /// A word without an option.
-fn word<'a>(alloc: Global, name: &'a str, help: &'a str) -> Arg<'a> {
+pub fn word<'a>(alloc: Global, name: &'a str, help: &'a str) -> Arg<'a> {
     Arg::new(alloc, name)
         .value_name(name)
         .action(ArgAction::Set)
@@ -143,7 +143,7 @@ fn word<'a>(alloc: Global, name: &'a str, help: &'a str) -> Arg<'a> {
 }
 
 /// The options that say which files are read.
-fn with_files<'a>(alloc: Global, command: Command<'a>) -> Result<Command<'a>, AllocError> {
+pub fn with_files<'a>(alloc: Global, command: Command<'a>) -> Result<Command<'a>, AllocError> {
     let tools = option(
         alloc,
         "tool-config-file",
@@ -186,7 +186,7 @@ fn with_files<'a>(alloc: Global, command: Command<'a>) -> Result<Command<'a>, Al
 }
 
 /// The options that say how an answer is written.
-fn with_output<'a>(
+pub fn with_output<'a>(
     alloc: Global,
     command: Command<'a>,
     formats: &'a [&'a str],
@@ -205,7 +205,7 @@ fn with_output<'a>(
 }
 
 /// The options that say on what tests run.
-fn with_platforms<'a>(alloc: Global, command: Command<'a>) -> Result<Command<'a>, AllocError> {
+pub fn with_platforms<'a>(alloc: Global, command: Command<'a>) -> Result<Command<'a>, AllocError> {
     let host = option(
         alloc,
         "host",
@@ -241,7 +241,7 @@ fn with_platforms<'a>(alloc: Global, command: Command<'a>) -> Result<Command<'a>
 }
 
 /// The settings that are named, and what counts without one.
-fn keys<'a>(alloc: Global, help: &'a str) -> Arg<'a> {
+pub fn keys<'a>(alloc: Global, help: &'a str) -> Arg<'a> {
     Arg::new(alloc, "KEY")
         .value_name("KEY")
         .num_args(0..)
@@ -261,7 +261,7 @@ fn profile<'a>(alloc: Global) -> Arg<'a> {
 }
 
 /// The options that say which profile counts, and for what tests run.
-fn with_profile<'a>(alloc: Global, command: Command<'a>) -> Result<Command<'a>, AllocError> {
+pub fn with_profile<'a>(alloc: Global, command: Command<'a>) -> Result<Command<'a>, AllocError> {
     let help = "Run mode: test or benchmark\n[default: test]";
     let mode = choice(alloc, "mode", "MODE", MODES, help);
     command

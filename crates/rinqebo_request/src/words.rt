@@ -43,7 +43,7 @@ pub fn usage(alloc: Global, message: &str, hint: Option<String>) -> Result<Parse
 }
 
 /// Why the command line was not read.
-fn stop_of(alloc: Global, error: &clap::Error) -> Result<ParseStop, AllocError> {
+pub fn stop_of(alloc: Global, error: &clap::Error) -> Result<ParseStop, AllocError> {
     match error.kind() {
         ErrorKind::OutOfMemory => Ok(ParseStop::Memory),
         ErrorKind::DisplayHelp | ErrorKind::DisplayVersion => {
@@ -79,10 +79,10 @@ fn tool_file<'a>(alloc: Global, value: &'a str) -> Result<ToolFile<'a>, ParseSto
     }
 }
 
-/// The files of tools.
-fn tool_files<'a>(alloc: Global, matches: &ArgMatches<'a>) -> Result<Vec<ToolFile<'a>>, ParseStop> {
+/// The files of tools, from the values of their option.
+pub fn tool_files<'a>(alloc: Global, values: &[&'a str]) -> Result<Vec<ToolFile<'a>>, ParseStop> {
     let mut tools = Vec::new(alloc);
-    for value in matches.get_strs("tool-config-file").unwrap_or(&[]) {
+    for value in values {
         tools
             .push(tool_file(alloc, *value)?)
             .map_err(AllocError::from)?;
@@ -123,7 +123,7 @@ pub fn files<'a>(
         root: matches.get_str("root"),
         config_file,
         organisation_config_file: matches.get_str("organisation-config-file"),
-        tools: tool_files(alloc, matches)?,
+        tools: tool_files(alloc, matches.get_strs("tool-config-file").unwrap_or(&[]))?,
     })
 }
 
@@ -209,12 +209,17 @@ pub fn colour(matches: &ArgMatches<'_>, environment: &Environment) -> Colour {
     }
 }
 
-/// The mode that is asked for.
-pub fn mode(matches: &ArgMatches<'_>) -> NextestRunMode {
-    match matches.get_str("mode") {
-        Some("benchmark") => NextestRunMode::Benchmark,
+/// The mode of a word.
+pub fn mode_of(word: &str) -> NextestRunMode {
+    match word {
+        "benchmark" => NextestRunMode::Benchmark,
         _ => NextestRunMode::Test,
     }
+}
+
+/// The mode that is asked for.
+pub fn mode(matches: &ArgMatches<'_>) -> NextestRunMode {
+    mode_of(matches.get_str("mode").unwrap_or("test"))
 }
 
 /// The profile that is asked for.
@@ -373,16 +378,12 @@ fn check_request<'a>(
     })
 }
 
-/// Reads the words, with the program's name, and what the environment says in their place.
-pub fn parse<'a>(
+/// The command that words ask for, which were matched.
+pub fn command_of<'a>(
     alloc: Global,
-    words: &'a [String],
+    matches: &ArgMatches<'a>,
     environment: &'a Environment,
 ) -> Result<Command<'a>, ParseStop> {
-    let matches = match program(alloc)?.try_get_matches_from(words) {
-        Ok(matches) => matches,
-        Err(error) => return Err(stop_of(alloc, &error)?),
-    };
     let request = match matches.subcommand() {
         Some(("explain", matches)) => explain_request(alloc, matches, environment)?,
         Some(("list", matches)) => list_request(alloc, matches, environment)?,
@@ -392,4 +393,16 @@ pub fn parse<'a>(
         None => return Err(usage(alloc, "no command", None)?),
     };
     Ok(Command::Answer(request))
+}
+
+/// Reads the words, with the program's name, and what the environment says in their place.
+pub fn parse<'a>(
+    alloc: Global,
+    words: &'a [String],
+    environment: &'a Environment,
+) -> Result<Command<'a>, ParseStop> {
+    match program(alloc)?.try_get_matches_from(words) {
+        Ok(matches) => command_of(alloc, &matches, environment),
+        Err(error) => Err(stop_of(alloc, &error)?),
+    }
 }

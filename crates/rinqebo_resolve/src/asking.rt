@@ -141,6 +141,7 @@ pub fn parted(run: RunRequest) -> (Asked, Gathered)
         metadata,
         host,
         target,
+        target_directory: _target_directory,
     } = load;
     let Machine { triple, cfg } = host;
     let (target, target_cfg) = target_parts(target);

@@ -109,8 +109,8 @@ fn with_asking<'c>(
     filter: Option<&'c Filter>,
     fields: &[Field],
 ) -> Result<Vec<PlacedFilter<'c>>, AllocError>
-    ensures { IfOk result (λ all. map placed_view all.items ≡ map placed_view found.items
-        ++ which_has (asks_any fields.now) (site_view place)
+    ensures { IfOk result (λ all. map placed_view all.items ≡ map placed_view found.entry.items
+        ++ which_has (asks_any fields.now) (site_view place.entry)
         (option_map (λ filter. marks_view names_of filter.now) filter.entry)) }
 {
     let mut found = found;
@@ -128,7 +128,7 @@ fn with_override<'c>(
     rule: &Override<'c>,
     fields: &[Field],
 ) -> Result<Vec<PlacedFilter<'c>>, AllocError>
-    ensures { IfOk result (λ all. map placed_view all.items ≡ map placed_view found.items
+    ensures { IfOk result (λ all. map placed_view all.items ≡ map placed_view found.entry.items
         ++ evaluated_of (asks_any fields.now) (λ w. id_place w.id)
         (meant_override (marks_view names_of) rule.now)) }
 {
@@ -145,7 +145,7 @@ fn with_script_rule<'c>(
     rule: &ScriptRule<'c>,
     fields: &[Field],
 ) -> Result<Vec<PlacedFilter<'c>>, AllocError>
-    ensures { IfOk result (λ all. map placed_view all.items ≡ map placed_view found.items
+    ensures { IfOk result (λ all. map placed_view all.items ≡ map placed_view found.entry.items
         ++ evaluated_of (asks_any fields.now) (λ w. script_place w.id)
         (meant_script_rule (marks_view names_of) rule.now)) }
 {
@@ -162,7 +162,7 @@ fn with_overrides<'c>(
     rules: &[Override<'c>],
     fields: &[Field],
 ) -> Result<Vec<PlacedFilter<'c>>, AllocError>
-    ensures { IfOk result (λ all. map placed_view all.items ≡ map placed_view found.items
+    ensures { IfOk result (λ all. map placed_view all.items ≡ map placed_view found.entry.items
         ++ flat_map (evaluated_of (asks_any fields.now) (λ w. id_place w.id))
         (map (meant_override (marks_view names_of)) rules.now)) }
 {
@@ -179,7 +179,7 @@ fn with_script_rules<'c>(
     rules: &[ScriptRule<'c>],
     fields: &[Field],
 ) -> Result<Vec<PlacedFilter<'c>>, AllocError>
-    ensures { IfOk result (λ all. map placed_view all.items ≡ map placed_view found.items
+    ensures { IfOk result (λ all. map placed_view all.items ≡ map placed_view found.entry.items
         ++ flat_map (evaluated_of (asks_any fields.now) (λ w. script_place w.id))
         (map (meant_script_rule (marks_view names_of)) rules.now)) }
 {
@@ -222,7 +222,6 @@ pub fn filters_asking<'c>(
 }
 
 /// The filters of a profile that are evaluated and have sets of packages that were not looked up.
-#[tactic(auto, using(crate::proofs::OpenFilters::all_open, crate::proofs::OpenFilters::none_open))]
 pub fn filters_left_open<'c>(
     alloc: Global,
     filters: &NextestFilters,

@@ -15,6 +15,7 @@ use Rattle.nextest_settings.specs.Profile.{EvaluatableModel}
 use Rattle.nextest_tables.specs.Written.{Name}
 use Rattle.platform_language.specs.Expressions.{spec_view}
 use Rattle.platform_language.specs.declared.expression.TargetSpec.{TargetSpec}
+use Rattle.rinqebo_findings.specs.Failures.{IsFailureAbout}
 use Rattle.rinqebo_load.specs.Sessions.{files_view, readings, IsLoadedFrom}
 use Rattle.rinqebo_load.specs.declared.session.Session.{Session}
 use Rattle.rinqebo_rules.specs.Conditions.{is_met_by}
@@ -25,7 +26,10 @@ use Rattle.rinqebo_rules.specs.declared.evaluated_filters.PlacedFilter.{PlacedFi
 use Rattle.rinqebo_run.proofs.Listing.{given_means}
 use Rattle.rinqebo_run.specs.Listed.{IsProfileOn}
 use Rattle.rinqebo_run.specs.ListedBy.{read_by}
-use Rattle.rinqebo_run.specs.LookedUp.{IsLookedUp, LeavesOpen}
+use Rattle.rinqebo_load.specs.declared.failure.Failure.{Failure}
+use Rattle.rinqebo_load.specs.declared.failure.Failure.TheVariants as failures
+use Rattle.rinqebo_load.specs.declared.fault.InputFault.TheVariants as faults
+use Rattle.rinqebo_run.specs.LookedUp.{IsFailureFor, IsFailureOn, LeavesOpen}
 
 -- each filter has something
 abbrev AllHave : {M : Type 0} → (M → Bool) → List (Site × M) → Type 0
@@ -63,11 +67,12 @@ module _ {M : Type 0} (P : M → Bool) where
   have_evaluated profile =
       let overrides = flat_map (evaluated_of P (λ w. id_place w.id)) profile.overrides in
       let script_rules = flat_map (evaluated_of P (λ w. script_place w.id)) profile.script_rules in
-      have_more (which_has P (default_site (filtering_place profile)) (Some profile.default_filter.filter))
-      (overrides ++ script_rules)
+      let default = which_has P (default_site (filtering_place profile)) (Some profile.default_filter.filter) in
+      have_more (default ++ overrides) script_rules
+      (have_more default overrides
       (have_which (default_site (filtering_place profile)) (Some profile.default_filter.filter))
-      (have_more overrides script_rules (have_rules (λ w. id_place w.id) profile.overrides)
-      (have_rules (λ w. script_place w.id) profile.script_rules))
+      (have_rules (λ w. id_place w.id) profile.overrides))
+      (have_rules (λ w. script_place w.id) profile.script_rules)
 
 second : (a b : Bool) → (a && b) ≡ true → b ≡ true
 second true b is = is
@@ -105,3 +110,21 @@ open_here session loaded name on found left from is are same =
           (read_by session loaded) name on is);
       are_open = sym are ∙ same;
     }
+
+-- The failure for the first filter that was not looked up.
+pub fails_for : (session : Session) (name : Name) (failure : Failure) (first : Site × Filter)
+    (others : List (Site × Filter)) → LeavesOpen session name (first ∷ others) → IsFailureFor failure first.1
+    → IsFailureOn session name failure
+fails_for session name (failures.Engines (faults.NoMetadata told)) first others are is =
+    record { first = first; others = others; are_open = are; set = is }
+fails_for session name _ first others are is = absurd is
+
+-- What is a failure about a profile is one where its filters are evaluated.
+pub on_about : (session : Session) (name : Name) (failure : Failure) → IsFailureAbout session name failure
+    → IsFailureOn session name failure
+on_about session name (failures.Engines fault) is = absurd is
+on_about session name (failures.Refused report) is = is
+on_about session name (failures.NoProfile report) is = is
+on_about session name (failures.NoTest report) is = is
+on_about session name (failures.SeveralTests report) is = is
+on_about session name failures.Memory is = is

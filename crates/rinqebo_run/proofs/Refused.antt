@@ -16,18 +16,21 @@ use Rattle.rinqebo_findings.specs.Failures.{IsFailureAbout}
 use Rattle.rinqebo_load.specs.FindTests.{IsFoundFor}
 use Rattle.rinqebo_load.specs.SessionOf.{IsSessionOf}
 use Rattle.rinqebo_run.specs.Statuses.{failure_status}
+use Rattle.rinqebo_run.specs.declared.answer.Answer.{Answer}
 use Rattle.rinqebo_load.specs.declared.failure.Failure.{Failure}
 use Rattle.rinqebo_load.specs.declared.failure.Failure.TheVariants as failures
 use Rattle.rinqebo_request.specs.declared.request.RequestedTest.{RequestedTest}
 use Rattle.rinqebo_load.specs.declared.found_test.FoundTest.{FoundTest}
 use Rattle.rinqebo_load.specs.declared.session.Session.{Session}
 
--- what holds of a found test is about the test that is named
+-- what an answer says of a found test is about the test that is named
 pub is_about : (session : Session) (test : RequestedTest) (found : FoundTest)
-    (Holds : FoundTest → Report → Type 0) (r : Result Report Failure) → IsFoundFor session test found
-    → IfOk r (Holds found) → IfOk r (λ report. IsAboutTest session test (λ found. Holds found report))
-is_about session test found Holds (Ok report) is holds = record { found = found; is_found = is; holds = holds }
-is_about session test found Holds (Err failure) is holds = tt
+    (Holds : FoundTest → Report → Type 0) (r : Result Answer Failure) → IsFoundFor session test found
+    → IfOk r (λ answer. answer.status ≡ 0) → IfOk r (λ answer. Holds found answer.report)
+    → IfOk r (λ answer. (answer.status ≡ 0) × IsAboutTest session test (λ found. Holds found answer.report))
+is_about session test found Holds (Ok answer) is zero holds =
+    (zero, record { found = found; is_found = is; holds = holds })
+is_about session test found Holds (Err failure) is zero holds = tt
 
 -- want of memory is a failure about any profile
 pub want_reported : {A : Type 0} (session : Session) (profile : Name) (r : Result A Failure)

@@ -94,8 +94,8 @@ BeginsPage (questions.List profile mode list asked) session tint old new =
     BeginsList session profile.now mode asked tint old new
 BeginsPage _ session tint old new = ⊥
 
--- The text of a list was begun over the files that were read: a writer was given the lines of its
--- first tests, each whole.
+-- The text of a list was begun over the files that were read: a writer was given the line of what is
+-- asked and the lines of its first tests, each whole.
 pub record IsBegun (request : Request) (gathered : Gathered) (old new : Option (List ℕ)) : Type 0
   where
     pub session : Session

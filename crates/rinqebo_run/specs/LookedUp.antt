@@ -1,4 +1,5 @@
--- Whether the filters that a run evaluates were looked up: whether the packages are known that they ask for.
+-- Whether the filters that a run evaluates were looked up: whether the packages are known that they
+-- ask for.
 use Rattle.std.specs.Prelude.{◌≡◌, [], ◌∷◌, true, List, map, None, codes, string_bytes}
 use Rattle.filter_engine.specs.Engine.{Filter}
 use Rattle.filter_language.specs.Asks.{asks}
@@ -44,6 +45,11 @@ pub record IsFirstOpen (session : Session) (name : Name) (told : OpenFilter) : T
   pub others : List (Site × Filter)
   pub are_open : LeavesOpen session name (first ∷ others)
   pub set : asks told.set first.1 ≡ true
+
+-- a failure tells that metadata are needed for a filter, and a set that it asks for
+abbrev pub IsFailureFor : Failure → Filter → Type 0
+IsFailureFor (failures.Engines (faults.NoMetadata told)) filter = asks told.set filter ≡ true
+IsFailureFor _ filter = ⊥
 
 -- a fault tells that metadata are needed
 abbrev pub NeedsMetadata : Session → Name → InputFault → Type 0

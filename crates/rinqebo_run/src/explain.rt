@@ -1,5 +1,5 @@
 //! Whether a test runs, and its settings.
-ghost use Rattle.std.specs.Prelude.{IfErr, IfOk};
+ghost use Rattle.std.specs.Prelude.{◌≡◌, IfErr, IfOk};
 ghost use Rattle.nextest_inheritance.specs.Parents.{parents_in};
 ghost use Rattle.nextest_load.specs.Config.{config_parents};
 ghost use Rattle.nextest_tables.specs.FileTexts.{names_in, IsIn};
@@ -9,15 +9,18 @@ ghost use Rattle.rinqebo_run.specs.Explained.{Explains, IfExplained};
 ghost use Rattle.rinqebo_run.specs.ListedBy.{explained_by};
 ghost use Rattle.rinqebo_run.specs.Requested.{IsRequestedIn};
 
+use crate::answer::Answer;
 use crate::asked::requested_of;
+use crate::id_note::id_note;
 use crate::idle::findings_on;
 use crate::list::profile_on;
 use crate::looked_up::config_looked_up;
+use crate::status::Status;
 use filter_engine::NextestTally;
 use nextest_config::DefaultConfigWarnings;
 use rinqebo_findings::report_of;
 use rinqebo_load::{Config, Failure, FoundTest, Session, chain_of_profile};
-use rinqebo_report::{Content, Report};
+use rinqebo_report::Content;
 use rinqebo_request::RequestedSettings;
 use rinqebo_rules::{Lister, Origins};
 use std::alloc::{AllocError, Global};
@@ -62,9 +65,11 @@ pub fn explain(
     profile: &str,
     test: &FoundTest,
     asked: &RequestedSettings,
-) -> Result<Report, Failure>
-    ensures ok { IfOk result (Explains session.now profile.now test.now asked.now) }
-    ensures about { IfOk result (IsReportOf session.now) }
+) -> Result<Answer, Failure>
+    ensures status { IfOk result (λ answer. answer.status ≡ 0) }
+    ensures ok { IfOk result (λ answer.
+        Explains session.now profile.now test.now asked.now answer.report) }
+    ensures about { IfOk result (λ answer. IsReportOf session.now answer.report) }
     ensures looked_up { IfOk result (λ _. IsLookedUp session.now profile.now) }
     ensures err { IfErr result (IsFailureOn session.now profile.now) }
 {
@@ -72,6 +77,11 @@ pub fn explain(
     let config = config_looked_up(alloc, session, profile, &mut warnings)?;
     let content = explained(alloc, &*session, &config, profile, test, asked)?;
     let findings = findings_on(alloc, session, &warnings, &content)?;
+    let note = id_note(alloc, session, &config, profile, test)?;
     let report = report_of(alloc, session, findings, Vec::new(alloc), content)?;
-    Ok(report)
+    Ok(Answer {
+        report,
+        status: Status::Success as u8,
+        note,
+    })
 }

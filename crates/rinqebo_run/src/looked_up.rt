@@ -9,9 +9,9 @@ ghost use Rattle.nextest_tables.specs.FileTexts.{names_in, IsIn};
 ghost use Rattle.rinqebo_load.specs.Accepted.{AreAccepted};
 ghost use Rattle.rinqebo_load.specs.Sessions.{files_view, readings, IsLoadedFrom};
 ghost use Rattle.rinqebo_rules.specs.declared.evaluated_filters.PlacedFilter.{PlacedFilter};
-ghost use Rattle.rinqebo_run.specs.LookedUp.{IsFailureOn, IsLookedUp};
+ghost use Rattle.rinqebo_run.specs.LookedUp.{IsFailureFor, IsFailureOn, IsLookedUp};
 
-use crate::list::{Profile, profile_on};
+use crate::list::profile_on;
 use filter_engine::{Field, NextestFilters};
 use nextest_config::{DefaultConfigWarnings, Filters};
 use rinqebo_files::sources_of;
@@ -25,7 +25,7 @@ use std::alloc::{AllocError, Global};
 type Filter = <NextestFilters as Filters>::Expr;
 
 /// Where a filter is written, as messages show it.
-fn place_text(
+pub fn place_text(
     alloc: Global,
     session: &Session<'_>,
     chain: &[&str],
@@ -41,8 +41,8 @@ fn place_text(
 
 /// The first kind of set of packages that a filter asks for.
 fn set_of(filter: &Filter) -> Field
-    ensures { asks_for_packages (marks_view names_of filter.now) ≡ true
-        → asks result (marks_view names_of filter.now) ≡ true }
+    requires { asks_for_packages (marks_view names_of filter.now) ≡ true }
+    ensures { asks result (marks_view names_of filter.now) ≡ true }
 {
     if filter.asks::<NextestFilters>(Field::Deps) {
         Field::Deps
@@ -51,20 +51,23 @@ fn set_of(filter: &Filter) -> Field
     }
 }
 
-/// A filter that was not looked up, as messages show it.
-fn open_filter(
+/// Why a run answers nothing that evaluates a filter which was not looked up, the first of a profile.
+fn failure_of(
     alloc: Global,
     session: &Session<'_>,
-    chain: &[&str],
+    config: &Config,
+    profile: &str,
     placed: PlacedFilter<'_>,
-) -> Result<OpenFilter, AllocError>
-    ensures { asks_for_packages (marks_view names_of placed.filter.now) ≡ true
-        → IfOk result (λ told. asks told.set (marks_view names_of placed.filter.now) ≡ true) }
+) -> Result<Failure, AllocError>
+    requires asks { asks_for_packages (marks_view names_of placed.filter.now) ≡ true }
+    ensures { IfOk result
+        (λ failure. IsFailureFor failure (marks_view names_of placed.entry.filter.now)) }
 {
-    Ok(OpenFilter {
-        place: place_text(alloc, session, chain, placed.place)?,
+    let chain = chain_of_profile(alloc, config, profile)?;
+    Ok(Failure::Engines(InputFault::NoMetadata(OpenFilter {
+        place: place_text(alloc, session, &chain, placed.place)?,
         set: set_of(placed.filter),
-    })
+    })))
 }
 
 /// The first of some filters, if there are any.
@@ -93,12 +96,10 @@ fn require_looked_up(
 {
     let on = profile_on(alloc, session, config, profile)?;
     let found = filters_left_open(alloc, &session.engines.filters, &on)?;
-    let Some(first) = first_of(&found) else {
-        return Ok(());
-    };
-    let chain = chain_of_profile(alloc, config, profile)?;
-    let told = open_filter(alloc, session, &chain, first)?;
-    Err(Failure::Engines(InputFault::NoMetadata(told)))
+    match first_of(&found) {
+        None => Ok(()),
+        Some(first) => Err(failure_of(alloc, session, config, profile, first)?),
+    }
 }
 
 /// The configuration of a session, which has a profile of a name. Each filter was looked up that the

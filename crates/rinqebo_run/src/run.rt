@@ -83,10 +83,10 @@ fn explain_test(
     test: &RequestedTest<'_>,
     path: Option<&str>,
     asked: &RequestedSettings,
-) -> Result<Report, Failure>
-    ensures ok { IfOk result (λ report. IsAboutTest session.now test.now
-        (λ found. Explains session.now profile.now found asked.now report)) }
-    ensures about { IfOk result (IsReportOf session.now) }
+) -> Result<Answer, Failure>
+    ensures ok { IfOk result (λ answer. (answer.status ≡ 0) × IsAboutTest session.now test.now
+        (λ found. Explains session.now profile.now found asked.now answer.report)) }
+    ensures about { IfOk result (λ answer. IsReportOf session.now answer.report) }
     ensures looked_up { IfOk result (λ _. IsLookedUp session.now profile.now) }
     ensures err { IfErr result (IsFailureAboutTest session.now profile.now test.now) }
 {
@@ -102,10 +102,10 @@ fn why_of_test(
     test: &RequestedTest<'_>,
     path: Option<&str>,
     setting: Setting,
-) -> Result<Report, Failure>
-    ensures ok { IfOk result (λ report. IsAboutTest session.now test.now
-        (λ found. TellsReasons session.now profile.now found setting report)) }
-    ensures about { IfOk result (IsReportOf session.now) }
+) -> Result<Answer, Failure>
+    ensures ok { IfOk result (λ answer. (answer.status ≡ 0) × IsAboutTest session.now test.now
+        (λ found. TellsReasons session.now profile.now found setting answer.report)) }
+    ensures about { IfOk result (λ answer. IsReportOf session.now answer.report) }
     ensures looked_up { IfOk result (λ _. IsLookedUp session.now profile.now) }
     ensures err { IfErr result (IsFailureAboutTest session.now profile.now test.now) }
 {
@@ -132,12 +132,12 @@ fn answer_in<P: Progress>(
             profile,
             test,
             asked,
-        } => answered(explain_test(alloc, session, *profile, test, path, asked)),
+        } => explain_test(alloc, session, *profile, test, path, asked),
         Question::Why {
             profile,
             test,
             setting,
-        } => answered(why_of_test(alloc, session, *profile, test, path, *setting)),
+        } => why_of_test(alloc, session, *profile, test, path, *setting),
         Question::List {
             profile,
             mode,

@@ -58,7 +58,7 @@ fn reported_leaves(
 }
 
 /// The leaves of a chain of profiles below keys, as they are reported.
-fn entries_in(
+pub fn entries_in(
     alloc: Global,
     layers: &[Layer],
     chain: &[&str],

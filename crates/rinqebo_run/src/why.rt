@@ -18,10 +18,13 @@ ghost use Rattle.rinqebo_run.specs.Requested.{IsRequestedIn};
 ghost use Rattle.rinqebo_run.specs.TellsReasons.{AreReasons, AreReasonsIn, IfWhy, IsTestNamed, TellsReasons};
 ghost use Rattle.rinqebo_rules.specs.Told.{reported_of, value_view};
 
+use crate::answer::Answer;
 use crate::asked::requested_of;
+use crate::id_note::id_note;
 use crate::idle::findings_on;
 use crate::looked_up::config_looked_up;
 use crate::profile::{Early, early_profile};
+use crate::status::Status;
 use filter_engine::NextestFilters;
 use nextest_config::{
     BuildPlatforms, DefaultConfigWarnings, Filters, NextestRunMode, Setting, TestQuery,
@@ -30,7 +33,7 @@ use platform_table::Platform;
 use rinqebo_files::{Layer, host_text, target_text, text_at};
 use rinqebo_findings::report_of;
 use rinqebo_load::{Config, Failure, FoundTest, Session, chain_of_profile};
-use rinqebo_report::{Condition, ConditionAnswer, Content, Origin, Report, Rule, TestId, Verdict};
+use rinqebo_report::{Condition, ConditionAnswer, Content, Origin, Rule, TestId, Verdict};
 use rinqebo_request::SettingKey;
 use rinqebo_rules::{
     Asking, SettingRule, profile_grounds, reported_if_set, reported_platform, rules_for,
@@ -250,9 +253,11 @@ pub fn why(
     profile: &str,
     test: &FoundTest,
     setting: Setting,
-) -> Result<Report, Failure>
-    ensures ok { IfOk result (TellsReasons session.now profile.now test.now setting) }
-    ensures about { IfOk result (IsReportOf session.now) }
+) -> Result<Answer, Failure>
+    ensures status { IfOk result (λ answer. answer.status ≡ 0) }
+    ensures ok { IfOk result (λ answer.
+        TellsReasons session.now profile.now test.now setting answer.report) }
+    ensures about { IfOk result (λ answer. IsReportOf session.now answer.report) }
     ensures looked_up { IfOk result (λ _. IsLookedUp session.now profile.now) }
     ensures err { IfErr result (IsFailureOn session.now profile.now) }
 {
@@ -260,6 +265,11 @@ pub fn why(
     let config = config_looked_up(alloc, session, profile, &mut warnings)?;
     let content = reasons(alloc, &*session, &config, profile, test, setting)?;
     let findings = findings_on(alloc, session, &warnings, &content)?;
+    let note = id_note(alloc, session, &config, profile, test)?;
     let report = report_of(alloc, session, findings, Vec::new(alloc), content)?;
-    Ok(report)
+    Ok(Answer {
+        report,
+        status: Status::Success as u8,
+        note,
+    })
 }

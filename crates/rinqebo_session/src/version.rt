@@ -6,11 +6,11 @@ ghost use Rattle.rinqebo_session.specs.Versions.{version_text, version_number};
 use crate::copies::copy_out;
 
 /// The version, as the program prints it.
-pub const VERSION: &str = "0.1.0";
+pub const VERSION: &str = "0.2.0";
 /// The first of its numbers.
 pub const MAJOR: u32 = 0;
 /// The second.
-pub const MINOR: u32 = 1;
+pub const MINOR: u32 = 2;
 /// The third.
 pub const PATCH: u32 = 0;
 

@@ -1,5 +1,4 @@
-use Rattle.std.proofs.Common.{◌≡◌, map, take}
-use Rattle.std.specs.List.{filter}
+use Rattle.std.proofs.Common.{◌≡◌, filter, map, take}
 use Rattle.nextest_lists.specs.ListView.{list_test_view}
 use Rattle.rinqebo_load.specs.FoundTests.{is_named}
 use Rattle.rinqebo_load.proofs.find_test.named_tests.Given as goal
@@ -8,4 +7,4 @@ use Rattle.rinqebo_load.proofs.find_test.named_tests.Given as goal
 abbrev pub invariant-loop-test : goal.invariant-loop-test
 invariant-loop-test l =
     map list_test_view l.named.items
-    ≡ filter (is_named l.requested.binary l.requested.name.now) (map list_test_view (take l.test-index l.tests))
+    ≡ filter (is_named l.requested.binary l.requested.name.now) (take l.test-index (map list_test_view l.tests))

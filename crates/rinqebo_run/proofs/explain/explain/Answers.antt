@@ -13,6 +13,10 @@ pub returns-in_err-content-clause-err : goal.returns-in_err-content-clause-err
 returns-in_err-content-clause-err c =
     want_evaluated c.args.session.now c.args.profile.now _ c.from_residual-in_err-content.ensures.1
 
+pub returns-in_err-note-clause-err : goal.returns-in_err-note-clause-err
+returns-in_err-note-clause-err c =
+    want_evaluated c.args.session.now c.args.profile.now _ c.from_residual-in_err-note.ensures.1
+
 pub returns-in_err-findings-clause-err : goal.returns-in_err-findings-clause-err
 returns-in_err-findings-clause-err c =
     want_evaluated c.args.session.now c.args.profile.now _ c.from_residual-in_err-findings.ensures.1

@@ -6,7 +6,9 @@ use Rattle.rinqebo_run.specs.Refused.{IsFailureAboutTest}
 use Rattle.rinqebo_run.proofs.run.why_of_test.Goals as goal
 
 pub returns-clause-ok : goal.returns-clause-ok
-returns-clause-ok c = is_about c.args.session.now c.args.test.now _ _ c.why.result c.in_ok-found.ensures.found c.why.ensures.ok
+returns-clause-ok c =
+    is_about c.args.session.now c.args.test.now _ _ c.why.result c.in_ok-found.ensures.found c.why.ensures.status
+    c.why.ensures.ok
 
 pub returns-clause-err : goal.returns-clause-err
 returns-clause-err c =

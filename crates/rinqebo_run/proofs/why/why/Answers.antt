@@ -9,6 +9,10 @@ returns-clause-ok c =
     c.in_ok-content.content c.in_ok-config.config config.accepted config.means config.known c.in_ok-report.ensures.content
     c.in_ok-content.ensures.told c.in_ok-content.ensures.requested
 
+pub returns-in_err-note-clause-err : goal.returns-in_err-note-clause-err
+returns-in_err-note-clause-err c =
+    want_evaluated c.args.session.now c.args.profile.now _ c.from_residual-in_err-note.ensures.1
+
 pub returns-in_err-findings-clause-err : goal.returns-in_err-findings-clause-err
 returns-in_err-findings-clause-err c =
     want_evaluated c.args.session.now c.args.profile.now _ c.from_residual-in_err-findings.ensures.1

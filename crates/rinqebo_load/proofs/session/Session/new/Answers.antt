@@ -1,6 +1,8 @@
 use Rattle.std.proofs.Common.{◌∙◌, ap, inl, inr, map, refl}
 use Rattle.rinqebo_files.specs.Layers.{layer_view}
 use Rattle.std.proofs.lemmas.Result.{err_from_is_err_and}
+use Rattle.nextest_lists.specs.ListView.{list_view}
+use Rattle.rinqebo_load.specs.Triples.{host_for}
 use Rattle.rinqebo_load.proofs.Failing.{begins, unusable}
 use Rattle.rinqebo_load.proofs.session.Session.new.Goals as goal
 
@@ -25,11 +27,12 @@ returns-in_err-engines-clause-cause c =
     let p = err_from_is_err_and c.from_residual-in_err-engines.result c.from_residual-in_err-engines.ensures.1 in
     rw p.1
     (unusable c.args.request.now c.args.gathered.now c.in_err-engines.field-0.0 p.0
-    (inr (record {
+    (inr (inr (record {
       tests = c.in_ok-tests.tests;
       are_tests = c.in_ok-tests.ensures.ok;
-      cause = rw (c.in_ok-triples.ensures.host, c.in_ok-triples.ensures.target) at c.in_err-engines.ensures.err;
-    })) p.2)
+      cause = rw (c.in_ok-triples.ensures.host, c.in_ok-host.ensures.ok, c.in_ok-triples.ensures.target)
+          at c.in_err-engines.ensures.err;
+    }))) p.2)
 
 pub returns-clause-begun : goal.returns-clause-begun
 returns-clause-begun c = record {
@@ -39,8 +42,10 @@ returns-clause-begun c = record {
       (ap (map layer_view) c.deref.ensures.value ∙ c.in_ok-layers.ensures);
   tests = c.in_ok-tests.ensures.ok;
   filters = c.in_ok-engines.ensures.filters;
-  host = c.in_ok-triples.ensures.host;
+  host = c.in_ok-triples.ensures.host
+      ∙ ap (λ printed. host_for c.args.request.now.engines printed (list_view c.in_ok-tests.tests)) c.in_ok-host.ensures.ok;
   target = c.in_ok-triples.ensures.target;
-  platforms = rw (c.in_ok-triples.ensures.host, c.in_ok-triples.ensures.target) at c.in_ok-engines.ensures.platforms;
+  platforms = rw (c.in_ok-triples.ensures.host, c.in_ok-host.ensures.ok, c.in_ok-triples.ensures.target)
+      at c.in_ok-engines.ensures.platforms;
   profile_source = refl;
 }

@@ -1,10 +1,12 @@
-use Rattle.std.proofs.Common.{◌≡◌, ◌∙◌, refl, subst, take}
+use Rattle.std.proofs.Common.{◌≡◌, ◌∙◌, ap, map, refl, subst, take}
 use Rattle.std.proofs.lemmas.List.{take_all}
 use Rattle.std.specs.List.{AllZip}
+use Rattle.nextest_engines.specs.Engines.{test_view}
 use Rattle.nextest_lists.specs.ListView.{list_test_view}
 use Rattle.nextest_profiles.specs.Meaning.{profile_meaning}
 use Rattle.nextest_settings.specs.Queries.{query_in}
 use Rattle.rinqebo_rules.specs.Rows.{IsTestReported}
+use Rattle.rinqebo_rules.specs.Unused.{AreUnusedIn}
 use Rattle.rinqebo_rules.proofs.Listing.{zip_mapped}
 use Rattle.rinqebo_rules.proofs.RowsMore.{zip_more_by}
 use Rattle.rinqebo_rules.proofs.lister.Lister.list.Goals as goal
@@ -35,3 +37,10 @@ returns-clause-tests g c =
     self.asked.now t) listed c.loop-test.tests.items
     (subst (λ ts. AllZip (λ test. IsTestReported c.args.origins.now (query_in F.holds profile (list_test_view test).test)
     self.mode profile self.asked.now (list_test_view test)) ts c.loop-test.tests.items) all c.loop-test.invariant.told)
+
+pub returns-clause-unused : goal.returns-clause-unused
+returns-clause-unused g c =
+    let F = g.F.Filters in
+    let profile = profile_meaning F.meaning c.args.self.now.profile.now in
+    subst (λ tests. AreUnusedIn (map (query_in F.holds profile) tests) profile c.in_ok-unused.unused)
+    (ap (map test_view) c.deref.ensures.value ∙ c.in_ok-queries.ensures) c.in_ok-unused.ensures

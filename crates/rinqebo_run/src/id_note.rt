@@ -1,0 +1,60 @@
+//! The note of `explain` about filters that ask for what only the id of a binary says.
+ghost use Rattle.nextest_tables.specs.FileTexts.{names_in, IsIn};
+
+use crate::list::profile_on;
+use crate::looked_up::place_text;
+use filter_engine::Field;
+use rinqebo_load::{Config, FoundTest, Session, TestSource, chain_of_profile};
+use rinqebo_rules::filters_asking;
+use std::alloc::{AllocError, Global};
+
+/// What filters ask of a binary that a list or metadata say, and its id need not.
+const FIELDS: [Field; 3] = [Field::Kind, Field::BinaryName, Field::Package];
+
+/// Where the filters are written which a profile evaluates and which ask for the kind, the name or the
+/// package of a binary, with commas between them.
+fn asking_places(
+    alloc: Global,
+    session: &Session<'_>,
+    config: &Config,
+    profile: &str,
+) -> Result<String, AllocError>
+    requires { IsIn (names_in config.now.config.profiles) profile.now }
+{
+    let on = profile_on(alloc, session, config, profile)?;
+    let chain = chain_of_profile(alloc, config, profile)?;
+    let mut places = String::new(alloc);
+    for asking in &filters_asking(alloc, &on, &FIELDS)? {
+        if !places.is_empty() {
+            places.push_str(", ")?;
+        }
+        let place = place_text(alloc, session, &chain, asking.place)?;
+        places.push_str(place.as_str())?;
+    }
+    Ok(places)
+}
+
+/// The note on a test of whose binary only the id is known: which filters ask for more. There is none
+/// where no filter does, or where a list or metadata say more.
+pub fn id_note(
+    alloc: Global,
+    session: &Session<'_>,
+    config: &Config,
+    profile: &str,
+    test: &FoundTest,
+) -> Result<Option<String>, AllocError>
+    requires { IsIn (names_in config.now.config.profiles) profile.now }
+{
+    match test.source {
+        TestSource::List | TestSource::Metadata => return Ok(None),
+        TestSource::Id => {}
+    }
+    let places = asking_places(alloc, session, config, profile)?;
+    if places.is_empty() {
+        return Ok(None);
+    }
+    let binary = test.binary.as_str();
+    Ok(Some(format!(in alloc;
+        "note: kind, name and package of `{binary}` are read from its id, and these filters ask for them: {places}; `--list FILE` or `--metadata FILE` says them\n"
+    )?))
+}
