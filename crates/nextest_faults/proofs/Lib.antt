@@ -1,5 +1,0 @@
-pub mod Reading
-pub mod Adding
-pub mod Words
-pub mod Paths
-pub mod Listed
