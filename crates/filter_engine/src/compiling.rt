@@ -14,7 +14,7 @@ use filter_packages::{MemberSet, PackageGraph};
 use nextest_engines::NameMatcher as NameTest;
 use std::alloc::{AllocError, Global};
 
-/// What a predicate asks of the name that a field has.
+/// What a predicate requires of the name that a field has.
 #[derive(Drop)]
 pub enum FieldMatcher {
     /// That a pattern matches it.

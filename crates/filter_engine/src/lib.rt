@@ -1,4 +1,4 @@
-//! The engine of nextest's filter language: what it asks of names, and of the packages of a workspace.
+//! The engine of nextest's filter language: how it matches names, and the packages of a workspace.
 //!
 //! A [`Filterset`] is read from a text for a kind, and says of a test or of a binary whether it
 //! matches. [`NextestFilters`] is the engine that a configuration reads its filters with. With a

@@ -10,7 +10,7 @@ use filter_matchers::{GlobFault, PatternMatcher, RegexFault};
 use nextest_engines::NameMatcher as NameTest;
 use std::alloc::{AllocError, Global};
 
-/// What a predicate asks of a name.
+/// What a predicate requires of a name.
 #[derive(Drop)]
 pub struct NamePattern {
     matcher: PatternMatcher,
@@ -61,7 +61,7 @@ fn regex(alloc: Global, text: &str) -> Result<Result<NamePattern, PatternFault>,
 }
 
 impl NamePattern {
-    /// What a text asks behind a sign, or why that is not answered.
+    /// Compiles the text behind a sign, or returns why it is not compiled.
     pub fn compile(
         alloc: Global,
         sign: Sign,

@@ -6,7 +6,7 @@ use std::alloc::AllocError;
 use std::fmt;
 use thiserror::Error;
 
-/// A set that may not stand where it does.
+/// A set that is not allowed where it appears.
 #[derive(Clone, Copy, Debug, PartialEq, Eq)]
 pub enum Ban {
     /// `default()` in a default filter.
@@ -20,7 +20,7 @@ pub enum Ban {
 /// What is wrong with a text.
 #[derive(Clone, Copy, Debug, PartialEq, Eq)]
 pub enum FaultKind {
-    /// No operand stands where one is due.
+    /// No operand where one is due.
     ExpectedExpr,
     /// A `not` or a parenthesis within 128 of them.
     TooDeeplyNested,
@@ -52,7 +52,7 @@ pub enum FaultKind {
     InvalidAndOperator,
     /// More than a filter.
     ExpectedEndOfExpression,
-    /// A set that may not stand in such a filter.
+    /// A set that is not allowed in such a filter.
     BannedPredicate(Ban),
     /// `group(..)` where no test has a group.
     NoTestGroups,

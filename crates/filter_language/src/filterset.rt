@@ -173,7 +173,7 @@ impl<M: Drop> Filterset<M> {
         }
     }
 
-    /// Whether it matches a test. A `default()` asks the default filter.
+    /// Whether it matches a test. A `default()` matches where the default filter does.
     pub fn matches_test<E: Matchers<Matcher = M>>(
         &self,
         query: &TestQuery<'_>,

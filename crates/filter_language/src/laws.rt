@@ -20,7 +20,7 @@ pub fn law_grammar<E: Matchers>()
 {}
 
 /// A text is read to marks exactly where it writes them, they write a filter that nests within the
-/// bound, and each may stand in a filter of the kind.
+/// bound, and each is allowed in a filter of the kind.
 pub fn law_texts<E: Matchers>()
     ensures { (compiler : Compiler E.Meaning) (knows_packages : Bool) (kind : FiltersetKind)
         (text : List ℕ) (marks : List (Mark E.Meaning))
@@ -54,7 +54,7 @@ pub fn law_binaries<E: Matchers>()
     ensures { BinariesSpeakForTests E.accepts }
 {}
 
-/// A filter that asks neither for a test nor for the default filter has an answer for each binary.
+/// A filter that needs neither a test nor the default filter has a value for each binary.
 pub fn law_decided<E: Matchers>()
     ensures { OnlyTestsAreUnknown E.accepts }
 {}

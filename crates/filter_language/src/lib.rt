@@ -9,11 +9,11 @@
 //! # The seam
 //!
 //! What names a pattern matches is no matter of this crate: an engine implements [`Matchers`]. The
-//! reader asks [`Matchers::compile`] once for each argument, at its end: with the field that is
-//! asked, the sign that stands before the text or that the field has by default, and the text with
+//! reader calls [`Matchers::compile`] once for each argument, at its end: with the predicate's
+//! field, the sign that is before the text or that the field has by default, and the text with
 //! its escapes resolved (of a regex `\/` alone). A fault says that the pattern is malformed or too
 //! large, and the reader reports `InvalidGlob`, `InvalidRegex` or `TooLarge` with the argument's span.
-//! [`Matchers::has_package_graph`] says whether `deps` and `rdeps` are answered; where it is false,
+//! [`Matchers::has_package_graph`] says whether `deps` and `rdeps` are resolved; where it is false,
 //! a text with one is refused by `NoPackageGraph` after it was read whole, so `compile` is called for
 //! their patterns too.
 //!

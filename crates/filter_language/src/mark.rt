@@ -34,7 +34,7 @@ pub enum Question<M> {
 /// A mark.
 #[derive(Drop)]
 pub enum Mark<M> {
-    /// A predicate, with all that stands between its parentheses.
+    /// A predicate, with all that is between its parentheses.
     Predicate(Question<M>),
     /// `not` or `!`
     Not,

@@ -1,4 +1,4 @@
-//! What the language asks of an engine of patterns.
+//! What the language requires of an engine of patterns.
 ghost use Rattle.std.specs.Prelude.{◌≡◌, List, ℕ, Bool, Result, IfOk};
 ghost use Rattle.std.specs.Result.{result_map_both};
 
@@ -32,7 +32,7 @@ pub trait Matchers {
     /// Whether a name is among those that match.
     ghost accepts: { Meaning → List ℕ → Bool };
 
-    /// What a text means behind a sign where a field is asked, or why it has no meaning.
+    /// What a text means behind a sign in a predicate about a field, or why it has no meaning.
     ghost compiled: { Self → Field → Sign → List ℕ → Result Meaning PatternFault };
 
     /// Whether the package graph is known.

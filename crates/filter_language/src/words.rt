@@ -2,7 +2,7 @@
 ghost use Rattle.std.specs.Prelude.{◌≡◌};
 ghost use Rattle.filter_language.specs.Predicates.{default_sign};
 
-/// What a predicate with a pattern asks about.
+/// What a predicate with a pattern is about.
 #[derive(Clone, Copy, Debug, PartialEq, Eq)]
 pub enum Field {
     /// The name of the test.

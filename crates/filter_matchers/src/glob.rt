@@ -26,7 +26,7 @@ use thiserror::Error;
 /// Why a text gives no glob.
 #[derive(Clone, Copy, Debug, PartialEq, Eq, Error)]
 pub enum GlobFault {
-    /// A backslash stands at the end, a bracket or brace is not closed or closes nothing, the end
+    /// A backslash is at the end, a bracket or brace is not closed or closes nothing, the end
     /// of a range comes before its start, a class has a byte beyond ASCII, or groups nest more than
     /// 250 deep.
     #[error("invalid glob")]

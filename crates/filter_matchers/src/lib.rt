@@ -1,5 +1,5 @@
-//! What a filter asks of a name: to equal a text, to have it as a part, to match a glob or a regular
-//! expression.
+//! What a filter requires of a name: to equal a text, to have it as a part, to match a glob or a
+//! regular expression.
 //!
 //! A pattern is compiled once. A name is matched with no memory but the stack's.
 #![tactic(auto)]

@@ -1,4 +1,4 @@
-//! What is asked of a name, by equality, as a part or by a pattern.
+//! Matches names by equality, by a part or by a pattern.
 ghost use Rattle.std.specs.Prelude.{◌≡◌, ◌<◌, ◌≤◌, ◌↔◌, List, ℕ, IfOk, OnOk, IsTrue, Err};
 ghost use Rattle.filter_matchers.specs.Globs.{IsGlob, IsPlain};
 ghost use Rattle.filter_matchers.specs.GlobDecisions.{glob_takes, writes_glob};
@@ -13,7 +13,7 @@ use crate::part_matcher::PartMatcher;
 use crate::regex_matcher::{RegexFault, RegexMatcher};
 use std::alloc::{AllocError, Global};
 
-/// What a filter asks of a name.
+/// What a filter requires of a name.
 #[derive(Drop)]
 pub enum PatternMatcher {
     /// The name is this text.
@@ -76,7 +76,7 @@ impl PatternMatcher {
         Ok(PatternMatcher::Regex(RegexMatcher::parse(alloc, text)?))
     }
 
-    /// Whether a name has what is asked.
+    /// Whether a name matches.
     pub fn is_match(&self, name: &str) -> bool
         ensures { IsTrue result ↔ Matches (question_of self.now) name.now }
     {

@@ -81,7 +81,7 @@ fn has_part(name: &[u8], text: &[u8], index: usize) -> bool
     false
 }
 
-// Whether a text stands in a name from this place on.
+// Whether a text is in a name from this place on.
 fn stands_at(name: &[u8], text: &[u8], start: usize) -> bool
     requires { start + length text.now ≤ length name.now }
     ensures { IsTrue result ↔ OccursAt name.now text.now start }

@@ -25,9 +25,9 @@ pub struct Laid {
 /// What a tree displaced in another one, upon which it was laid.
 #[derive(Drop)]
 pub enum Displaced {
-    /// All that stood there.
+    /// All that was there.
     Replaced(Tree),
-    /// Nothing, as nothing stood there.
+    /// Nothing, as nothing was there.
     Added,
     /// What each key of a table displaced in another table, in the order of the keys.
     Within(Vec<(String, Displaced)>),

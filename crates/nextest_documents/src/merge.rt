@@ -10,7 +10,7 @@ use nextest_tree::Tree;
 use std::alloc::{AllocError, Global};
 use std::collections::BTreeMap;
 
-/// Lays `above` over `below`: two tables unite, and anything else replaces what stands below.
+/// Lays `above` over `below`: two tables unite, and anything else replaces what is below.
 ///
 /// An array is replaced as a whole.
 pub fn lay_over(alloc: Global, above: &Tree, below: Tree) -> Result<Tree, AllocError>

@@ -1,4 +1,4 @@
-//! What a configuration asks of the languages that its texts are written in: of filters, of
+//! What a configuration needs from the languages that its texts are written in: of filters, of
 //! platforms and of names.
 //!
 //! An engine implements [`Filters`] or [`Specs`] and depends on this crate alone.

@@ -3,8 +3,8 @@
 /// The engines that read the texts of a configuration.
 #[derive_where(Clone, Copy)]
 pub struct ParseContext<'e, F, S> {
-    /// Reads what stands behind `filter` and `default-filter`.
+    /// Reads the values of `filter` and `default-filter`.
     pub filters: &'e F,
-    /// Reads what stands behind `platform`.
+    /// Reads the values of `platform`.
     pub specs: &'e S,
 }

@@ -9,7 +9,7 @@ use thiserror::Error;
 /// Why a platform spec was not read.
 #[derive(Debug, Drop, Error)]
 pub enum SpecFault {
-    /// The text is no platform spec.
+    /// The text is not a platform spec.
     #[error("{0}")]
     Refused(Refusal),
     /// A growth of memory was refused.

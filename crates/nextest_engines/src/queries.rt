@@ -49,7 +49,7 @@ pub struct BinaryQuery<'a> {
 /// A test, as filters see it.
 #[derive(Clone, Copy, Debug)]
 pub struct TestQuery<'a> {
-    /// The binary that it stands in.
+    /// The binary that it is part of.
     pub binary_query: BinaryQuery<'a>,
     /// Its name in the binary: its path of modules, as `net::tests::slow`.
     pub test_name: &'a str,

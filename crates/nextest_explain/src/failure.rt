@@ -1,4 +1,4 @@
-//! Why the program ends without the lines of a test, and what it tells of it.
+//! Why the program ends without the lines of a test, and what it prints of it.
 ghost use Rattle.nextest_explain.specs.Statuses.{IsRefusalStatus};
 
 use crate::command::{CommandError, USAGE};
@@ -10,13 +10,13 @@ use std::alloc::{AllocError, Global};
 pub enum Failure {
     /// The words are no command.
     Usage,
-    /// The run answers no row.
+    /// The run returns no row.
     Refused(ResolveFault),
     /// Want of memory.
     Memory,
 }
 
-/// What standard error is told of want of memory.
+/// What standard error shows for want of memory.
 pub const OUT_OF_MEMORY: &str = "error: out of memory\n";
 
 impl From<AllocError> for Failure {
@@ -53,7 +53,7 @@ impl Failure {
         }
     }
 
-    /// What standard error is told of it: one line, and where a configuration is refused details
+    /// What standard error shows of it: one line, and where a configuration is refused details
     /// behind it, on lines that begin with two spaces.
     pub fn render(&self, alloc: Global) -> Result<String, AllocError> {
         match self {

@@ -10,7 +10,7 @@ use nextest_config::{BuildPlatform, ConfigExperimental, ToolName};
 use std::alloc::{AllocError, Global};
 use std::collections::BTreeSet;
 
-/// How lines tell where a value comes from.
+/// How lines show where a value comes from.
 #[derive(Clone, Copy, Debug, PartialEq, Eq)]
 pub enum Places {
     /// In one word.
@@ -36,7 +36,7 @@ pub struct Options<'a> {
     pub target: Option<&'a str>,
     /// What the test's binary is built for.
     pub platform: BuildPlatform,
-    /// How lines tell where a value comes from.
+    /// How lines show where a value comes from.
     pub places: Places,
 }
 
@@ -127,7 +127,7 @@ impl<'a> Options<'a> {
         }
     }
 
-    /// Says that lines tell the whole place of each value.
+    /// Sets that lines show the whole place of each value.
     pub fn set_whole_places(&mut self) -> Result<(), CommandError>
         ensures { OnOk result (TakesOption (codes "--all" ∷ []) self.old self.new) }
     {

@@ -61,7 +61,7 @@ pub fn explain<R: FileReader, O: Write, E: Write>(
     }
 }
 
-/// Tells of want of memory, without any, and answers the exit status as `explain` does.
+/// Reports want of memory, without any, and returns the exit status as `explain` does.
 pub fn refuse_for_memory<E: Write>(err: &mut E) -> u8
     ensures status { (result ≡ 5) ⊎ (result ≡ 6) }
     ensures message { (result ≡ 6)

@@ -107,7 +107,7 @@ fn flush<W: Write>(out: &mut W) -> Result<(), ExplainFault>
     }
 }
 
-/// Writes the lines of rows, with places as they are asked for, and flushes behind whole places.
+/// Writes the lines of rows, with places as they are requested, and flushes behind whole places.
 pub fn write_rows<W: Write>(
     alloc: Global,
     rows: &[TestRow],

@@ -28,9 +28,9 @@ pub struct LayerLeaf<'t> {
     /// The keys that lead to it, from the table of its profile on, or of a table beside the
     /// profiles from the root on.
     pub path: Vec<&'t str>,
-    /// What stands there: no table.
+    /// The value there, which is not a table.
     pub value: &'t Tree,
-    /// The section of the layer in which it stands.
+    /// The section of the layer that it is in.
     pub section: Section<'t>,
     /// The position of the layer, counted from the lowest on.
     pub layer: usize,

@@ -117,7 +117,7 @@ fn layers_of_profile<'t>(
 /// From where the value at a key of profiles comes: the nearest profile of a chain that writes
 /// something there, in whatever layer, and the layers that show leaves of it.
 ///
-/// The nearest profile of the chain stands first. There are no grounds where no profile writes the
+/// The nearest profile of the chain comes first. There are no grounds where no profile writes the
 /// key: such a value is built in.
 pub fn grounds_of<'t>(
     alloc: Global,

@@ -1,4 +1,4 @@
-//! Names of profiles that stand apart.
+//! The names of profiles with a meaning of their own.
 ghost use Rattle.std.specs.Prelude.{◌≡◌};
 ghost use Rattle.nextest_inheritance.specs.Names as names;
 

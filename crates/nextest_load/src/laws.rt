@@ -31,7 +31,7 @@ pub fn law_cycles()
 {}
 
 /// In each table of a source's tree over the defaults, and of the merged tree, the keys ascend by
-/// their bytes: profiles, groups and scripts stand by name.
+/// their bytes: profiles, groups and scripts are sorted by name.
 pub fn law_keys_ascend()
     ensures own { (s : SourceText) → IsSorted (own_tree s) }
     ensures merged { (ss : List SourceText) → IsSorted (merged_tree ss) }

@@ -44,11 +44,11 @@ use std::alloc::{AllocError, Global};
 use std::collections::BTreeSet;
 
 impl<F: Filters, S: Specs> LoadedConfig<F, S> {
-    /// Loads the defaults, the files of tools and what stands above them, in this order, each above
+    /// Loads the defaults, the files of tools and what lies above them, in this order, each above
     /// those before it.
     ///
-    /// Of tools' files the first is the highest. Warnings are told as they are met, also before a
-    /// refusal.
+    /// Of tools' files the first is the highest. Warnings are reported as they are met, also before
+    /// a refusal.
     pub fn load<W: ConfigWarnings>(
         alloc: Global,
         inputs: &ConfigInputs<'_>,

@@ -19,8 +19,8 @@ pub struct MergedProfile {
 }
 
 /// The scripts of a configuration, by id and in the order in which its files define them: those of
-/// the lowest file first, and in a file as they stand there. Setup scripts under the old key
-/// `script` stand behind all others.
+/// the lowest file first, and in a file as they appear there. Setup scripts under the old key
+/// `script` come after all others.
 #[derive(Drop)]
 pub struct ScriptConfig {
     /// Setup scripts, in the order in which they run.

@@ -136,7 +136,7 @@ impl<'cfg, F: Filters, S: Specs> EvaluatableProfile<'cfg, F, S> {
         &self.rules
     }
 
-    /// The default filter that counts, and where it stands.
+    /// The default filter that counts, and where it is.
     pub fn default_filter(&self) -> &CompiledDefaultFilter<'cfg, F>
         ensures { filter_view result.now ≡ self.now.default_filter }
     {

@@ -22,7 +22,7 @@ pub fn law_accepted_definitions()
         ↔ AreAcceptedDefinitions features source file }
 {}
 
-/// The rules of a source, whose profiles stand by name, have no fault over lower files exactly
+/// The rules of a source, whose profiles are sorted by name, have no fault over lower files exactly
 /// where they are accepted.
 pub fn law_accepted_rules<F: Filters, S: Specs>(_pcx: &ParseContext<'_, F, S>)
     ensures { let engines = readings_view F.Filters S.Specs _pcx.now in

@@ -12,7 +12,7 @@ use std::collections::BTreeMap;
 pub struct OverrideId {
     /// The source whose file has it.
     pub config_source: ConfigSource,
-    /// The profile under which it stands.
+    /// The profile under which it appears.
     pub profile_name: String,
     /// Its position among the overrides of that profile in that file, from 0.
     pub index: usize,
@@ -83,7 +83,7 @@ impl<F: Filters, S: Specs> CompiledOverride<F, S> {
     ghost use Rattle.nextest_rules.specs.View.{override_rule_view, id_view};
     ghost use Rattle.nextest_tables.specs.View.{settings_view};
 
-    /// Where the rule stands.
+    /// Where the rule is.
     pub fn id(&self) -> &OverrideId
         ensures { id_view result.now ≡ (override_rule_view self.now).writes.id }
     {

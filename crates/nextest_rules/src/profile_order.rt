@@ -1,4 +1,4 @@
-//! Profiles in the order of their faults: those of `default` stand before those of all others.
+//! Profiles in the order of their faults: those of `default` come before those of all others.
 ghost use Rattle.std.specs.Prelude.{◌≡◌, ◌++◌, ◌∷◌, [], OnOk, IfOk, if◌then◌else◌};
 ghost use Rattle.nextest_inheritance.specs.Names.{default_first, is_default};
 ghost use Rattle.nextest_rules.specs.View.{order_view, profiles_view};

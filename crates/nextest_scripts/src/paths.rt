@@ -4,7 +4,7 @@ ghost use Rattle.nextest_scripts.specs.Paths.{is_absolute, is_open_path, joined_
 
 use std::alloc::{AllocError, Global};
 
-/// Joins two paths: a second one that begins with `/` replaces the first. Else a `/` stands between
+/// Joins two paths: a second one that begins with `/` replaces the first. Else a `/` is put between
 /// them, unless the first is empty or ends with one. Nothing is normalized.
 pub fn join_paths(alloc: Global, first: &str, second: &str) -> Result<String, AllocError>
     ensures { IfOk result (λ path. string_bytes path ≡ joined_path first.now second.now) }

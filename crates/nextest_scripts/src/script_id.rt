@@ -53,8 +53,8 @@ impl ScriptId {
         &self.0
     }
 
-    /// The id of the script within a run, as `6f30..:db@stress-3`: the stress index stands where
-    /// one is given.
+    /// The id of the script within a run, as `6f30..:db@stress-3`: the stress index is part of it
+    /// where one is given.
     pub fn unique_id(
         &self,
         alloc: Global,

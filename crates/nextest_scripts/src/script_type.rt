@@ -4,7 +4,7 @@ ghost use Rattle.std.specs.Prelude.{Some};
 
 use std::fmt;
 
-/// What a script is: setup scripts stand before wrappers.
+/// What a script is: setup scripts come before wrappers.
 #[derive(Clone, Copy, Debug, PartialEq, Eq, PartialOrd, Ord, Hash)]
 pub enum ScriptType {
     /// Runs once, before the tests that want it.

@@ -13,7 +13,7 @@ use nextest_engines::{Filters, Specs};
 use nextest_rules::LayerRules;
 use std::alloc::{AllocError, Global};
 
-/// Where a default filter stands.
+/// Where a default filter is.
 #[derive(Clone, Copy, Debug, PartialEq, Eq)]
 pub enum CompiledDefaultFilterSection {
     /// At a profile.
@@ -22,14 +22,14 @@ pub enum CompiledDefaultFilterSection {
     Override(usize),
 }
 
-/// A default filter, and where it stands.
+/// A default filter, and where it is.
 #[derive_where(Clone, Copy)]
 pub struct CompiledDefaultFilter<'cfg, F: Filters> {
     /// The filter.
     pub expr: &'cfg F::Expr,
-    /// The profile under which it stands.
+    /// The profile under which it appears.
     pub profile: &'cfg str,
-    /// Where it stands there.
+    /// Where it is in that profile.
     pub section: CompiledDefaultFilterSection,
 }
 

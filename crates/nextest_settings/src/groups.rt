@@ -35,7 +35,7 @@ pub trait GroupLookup {
             test.now.binary_query.binary_id.now test.now.test_name.now)) };
 }
 
-/// The groups of tests, found out once: a test of which nothing stands here is in the global group.
+/// The groups of tests, found out once: a test that has no entry here is in the global group.
 #[derive(Drop)]
 pub struct PrecomputedGroupMembership {
     /// By the ids of binaries, and then by the names of tests.

@@ -1,5 +1,5 @@
 //! Index lists: for each platform and mode the rules that write something there, each once, with the
-//! lists that it stands in.
+//! lists that it appears in.
 ghost use Rattle.std.specs.Prelude.{◌≡◌, ◌+◌, ◌<◌, ◌^◌, length, IfOk};
 ghost use Rattle.nextest_rules.specs.View.{script_rule_view};
 ghost use Rattle.nextest_settings.specs.Index.{IsIndex, IsPlatformIndex, is_listed, names_wrapper, override_tests, script_tests, rows_in, wrapper_rows_in, platform_rows};

@@ -15,7 +15,7 @@ ghost use Rattle.nextest_tables.specs.Written.{Name};
 use crate::setting::Setting;
 use nextest_engines::{Filters, Specs};
 
-/// All settings stand in the order of rows, and each stands there once.
+/// All settings are listed in the order of rows, and each appears there once.
 pub fn law_all_settings()
     ensures order { Setting.ALL ≡ settings }
     ensures once { (s : Setting) → StandsOnce settings s }
@@ -71,7 +71,7 @@ pub fn law_first_script_rule<F: Filters>()
         → slice_get rules n ≡ Some r → decides query wants r ≡ false }
 {}
 
-/// The rules of a chain stand in the order of their places, each once: by profile, then by source
+/// The rules of a chain are in the order of their places, each once: by profile, then by source
 /// from the highest, and then by position in its file.
 pub fn law_rule_order<F: Filters, S: Specs>()
     ensures overrides { (layers : List (Layer F.Meaning S.SpecMeaning)) (names : List Name)

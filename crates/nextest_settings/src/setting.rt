@@ -18,7 +18,7 @@ pub enum Setting {
     RunExtraArgs,
     /// How often it is tried again.
     Retries,
-    /// What comes of it where it passes at a later try.
+    /// What its result is where it passes at a later try.
     FlakyResult,
     /// When it counts as slow, and when it is ended.
     SlowTimeout,

@@ -45,7 +45,7 @@ struct Winners<'p, F: Filters, S: Specs> {
     slots: [Option<EvaluatedOverride<'p, F, S>>; SETTING_COUNT],
 }
 
-/// The settings of a test. With a `Source`, what decides each of them can be asked for.
+/// The settings of a test. With a `Source`, what decides each of them can be looked up.
 #[derive(Drop)]
 pub struct TestSettings<'p, F: Filters, S: Specs, Source = ()> {
     values: ProfileValues<'p>,

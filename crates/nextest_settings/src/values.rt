@@ -82,7 +82,7 @@ pub struct BenchValues {
     pub global_timeout: GlobalTimeout,
 }
 
-/// The values of a chain of profiles, which stand behind the rules.
+/// The values of a chain of profiles, which come after the rules.
 #[derive(Clone, Copy)]
 pub struct ProfileValues<'cfg> {
     /// What holds for each test.

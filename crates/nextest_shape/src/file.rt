@@ -28,7 +28,7 @@ fn store(alloc: Global) -> Result<Shape, AllocError>
 }
 
 /// The shape of a configuration file, over the table of defaults: nothing that this writes has to
-/// stand in a file.
+/// appear in a file.
 #[tactic(auto, unfolding(crate::specs::FileForm::file_form))]
 pub fn file_shape(alloc: Global) -> Result<Shape, AllocError>
     ensures { IfOk result (λ shape. shape_view shape ≡ file_form) }

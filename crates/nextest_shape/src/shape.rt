@@ -27,7 +27,7 @@ pub enum TextShape {
     Of(Pattern),
 }
 
-/// A key of a table, and the shape of what may stand there.
+/// A key of a table, and the shape of what is allowed there.
 #[derive(Debug, Drop)]
 pub struct Field<S> {
     /// The key.
@@ -43,9 +43,9 @@ pub struct Field<S> {
 pub enum Shape {
     /// Anything at all.
     Anything,
-    /// A truth value.
+    /// A boolean.
     Boolean,
-    /// A whole number from the least to the greatest one, where there is one.
+    /// An integer from the least to the greatest one, where there is one.
     Integer {
         /// The least number, if there is one.
         least: Option<i64>,

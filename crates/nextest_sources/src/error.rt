@@ -27,7 +27,7 @@ use std::fmt;
 /// What is wrong with a source.
 #[derive(Debug, Drop)]
 pub enum ConfigParseErrorKind {
-    /// A tool provides a second file. The fault stands at the second.
+    /// A tool provides a second file. The fault is at the second.
     DuplicateToolConfigFile {
         /// The tool.
         tool: ToolName,
@@ -38,7 +38,7 @@ pub enum ConfigParseErrorKind {
     ReadError(ReadOutcome),
     /// The text is no TOML document. The message is for people.
     BuildError(String),
-    /// A value is not what may stand there.
+    /// A value is not one that is allowed there.
     DeserializeError(ElementFault),
     /// The repository's file defines groups that are a tool's or the organisation's.
     InvalidTestGroupsDefined(BTreeSet<CustomTestGroup>),

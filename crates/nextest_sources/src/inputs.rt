@@ -93,7 +93,7 @@ fn add_selected<'a>(
 }
 
 /// All inputs, the lowest first: the files of tools from the last argument to the first, and then
-/// what stands above them.
+/// what lies above them.
 pub fn collect_inputs<'a>(
     alloc: Global,
     files: &ConfigInputs<'a>,

@@ -10,10 +10,10 @@ use std::alloc::{AllocError, Global};
 use std::collections::BTreeSet;
 use std::fmt;
 
-/// A receiver of a load's warnings. Its meaning is the list of them: a call that answers Ok
-/// appends exactly one, and one that answers Err leaves the list as it was.
+/// A receiver of a load's warnings. Its meaning is the list of them: a call that returns Ok
+/// appends exactly one, and one that returns Err leaves the list as it was.
 pub trait ConfigWarnings {
-    /// The warnings that were told, the latest last.
+    /// The warnings that were reported, the latest last.
     ghost warnings: { Self → List Warning };
 
     /// Keys that no schema knows, by their paths. They have no effect.
@@ -61,7 +61,7 @@ pub trait ConfigWarnings {
         ensures err { OnErr result (warnings self.new ≡ warnings self.old) };
 }
 
-/// A warning that was told.
+/// A warning that was reported.
 #[derive(Debug, Drop)]
 pub enum ConfigWarning {
     /// Keys that no schema knows, by their paths.
@@ -112,7 +112,7 @@ impl DefaultConfigWarnings {
         }
     }
 
-    /// The warnings that were told, the latest last.
+    /// The warnings that were reported, the latest last.
     pub fn warnings(&self) -> &[ConfigWarning]
         ensures { map warning_view result.now ≡ warnings_view self.now }
     {

@@ -69,7 +69,7 @@ pub struct Item {
     pub parent: Option<usize>,
     /// What it is.
     pub role: Role,
-    /// Where it stands. Of a list or a table that is not closed it is the opening bracket.
+    /// Where it is. Of a list or a table that is not closed it is the opening bracket.
     pub span: Span,
     /// The kind of the value that its bytes read as, if it is a value and they read as one.
     pub kind: Option<ValueKind>,

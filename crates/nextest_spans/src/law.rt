@@ -10,7 +10,7 @@ pub fn law_positions_rise()
     ensures { PositionsRise }
 {}
 
-/// The byte at the position of a byte is that byte, unless it stands within a character or within
+/// The byte at the position of a byte is that byte, unless it is within a character or within
 /// a line's end.
 pub fn law_positions(text: &str, byte: usize, unit: ColumnUnit) -> usize
     requires { IsPlace text.now byte }

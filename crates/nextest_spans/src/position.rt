@@ -43,7 +43,7 @@ impl TextPosition {
     /// The start of a text.
     pub const START: TextPosition = TextPosition { line: 0, column: 0 };
 
-    /// Whether the position stands on an earlier line than the other one, or earlier on its line.
+    /// Whether the position is on an earlier line than the other one, or earlier on its line.
     pub fn is_before(self, other: TextPosition) -> bool
         ensures { IsTrue result ↔ IsBefore self other }
     {
@@ -107,7 +107,7 @@ pub(crate) fn end_from(
     at
 }
 
-/// The byte at a position: the last place in the text that does not stand behind it. So it is at
+/// The byte at a position: the last place in the text that is not behind it. So it is at
 /// most the end of the position's line, before the line feed and a carriage return right before
 /// that, and at most the text's end. Within a character's units it is the byte before that
 /// character.

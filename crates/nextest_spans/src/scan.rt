@@ -11,7 +11,7 @@ use crate::token::{Span, Token, TokenKind, name_of};
 use std::alloc::{AllocError, Global};
 use toml_parser::starts_string;
 
-/// The tokens of a text in order. Between them stand white space, comments and separators alone.
+/// The tokens of a text in order. Between them are only white space, comments and separators.
 /// The text need not be a document.
 ///
 /// # Errors

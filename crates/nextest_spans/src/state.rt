@@ -1,4 +1,4 @@
-//! What may stand next in a text.
+//! What may come next in a text.
 ghost use Rattle.std.specs.Prelude.{◌≡◌, List, [], OnOk, Some};
 ghost use Rattle.std.specs.Bool.{OnTrue};
 ghost use Rattle.nextest_spans.specs.Nesting.{IsCloseIn, NestsAs, last_of};

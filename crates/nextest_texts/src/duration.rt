@@ -183,7 +183,7 @@ fn read_items(text: &[u8]) -> Result<Option<u128>, DurationError>
 /// The duration of a text in nanoseconds.
 ///
 /// The text is `0`, or one or more items, each of decimal digits and a unit, as `1h 30m`. Spaces
-/// may stand before, between and after the items and between digits and unit. The value is the sum.
+/// may be before, between and after the items and between digits and unit. The value is the sum.
 ///
 /// # Errors
 ///

@@ -16,7 +16,7 @@ use name_text::NameText;
 pub use owner::IdentifierOwner;
 pub use tool_name::ToolName;
 
-/// Why a text is no identifier, or no name of a tool.
+/// Why a text is not an identifier, or not the name of a tool.
 #[derive(Clone, Copy, Debug, PartialEq, Eq, Error)]
 pub enum InvalidIdentifier {
     /// The text is empty.
@@ -27,7 +27,7 @@ pub enum InvalidIdentifier {
     #[error("an identifier begins with a letter")]
     BadStart,
 
-    /// A character after the first cannot stand in an identifier.
+    /// A character after the first cannot be part of an identifier.
     #[error("an identifier consists of letters, digits, `_` and `-`")]
     BadCharacter,
 

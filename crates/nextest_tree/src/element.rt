@@ -3,7 +3,7 @@
 //! The contract of every reader is one equation,
 //! `Gives result walk.new (reading schema node walk)`. Its answer is Ok exactly where the tree has
 //! no fault (want of memory aside), and then the walk has noted exactly the tree's unknown paths
-//! and stands where it stood. Any other refusal but want of memory is the tree's first fault.
+//! and is where it was. Any other refusal but want of memory is the tree's first fault.
 ghost use Rattle.std.specs.Prelude.{◌≡◌, IfOk, IfErr, OnOk, List, Option, ℕ, None};
 ghost use Rattle.std.specs.Ordering.{nat_cmp};
 ghost use Rattle.std.specs.Cmp.Lexicographic.{slice_cmp};
@@ -21,7 +21,7 @@ use std::collections::BTreeMap;
 
 /// A value of the configuration.
 pub trait Element: Sized + Drop {
-    /// What may stand in its tree.
+    /// What its tree may contain.
     ghost schema: { Schema };
 
     /// Holds of a node and the value that it spells.

@@ -2,9 +2,9 @@
 use std::alloc::Global;
 use thiserror::Error;
 
-/// Why a tree is no value of its schema, and where.
+/// Why a tree is not a value of its schema, and where.
 ///
-/// A reader answers the first fault of its tree, in the order of places.
+/// A reader returns the first fault of its tree, in the order of places.
 #[derive(Debug, Drop, Error)]
 #[error("`{path}`: {cause}")]
 pub struct ElementFault {

@@ -4,10 +4,10 @@ ghost use Rattle.nextest_tree.specs.Place.{HasOrderedFaults};
 use crate::element::Element;
 
 /// The faults of a tree strictly ascend in the order of places, so that the first fault, which a
-/// reader answers, is the least one and not merely the first of a list.
+/// reader returns, is the least one and not merely the first of a list.
 ///
-/// The order is stated by itself in `specs/Place.antt`. It asks that the keys of each table ascend,
-/// which `Tree::from_toml` ensures of every tree that it makes.
+/// The order is stated by itself in `specs/Place.antt`. It requires that the keys of each table
+/// ascend, which `Tree::from_toml` ensures of every tree that it makes.
 pub fn law_fault_order<T: Element>()
     ensures { HasOrderedFaults T.schema }
 {}

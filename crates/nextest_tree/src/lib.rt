@@ -1,6 +1,6 @@
 //! Trees of documents, and the form of every reader of a tree.
 //!
-//! A reader answers the value that a tree spells, or the tree's first fault, and notes the keys
+//! A reader returns the value that a tree spells, or the tree's first fault, and notes the keys
 //! that no schema knows.
 #![tactic(auto)]
 

@@ -1,4 +1,4 @@
-//! Where a reader stands, and what it has noted.
+//! Where a reader is, and what it has noted.
 ghost use Rattle.std.specs.Prelude.{◌≡◌, IfOk, IfErr, OnOk, string_bytes, Some, None, Err, ◌∷◌, [], length, take};
 ghost use Rattle.std.specs.String.Boundary.{IsSplitPoint};
 ghost use Rattle.nextest_tree.specs.Schema.{Fault, below, bad_value, missing};
@@ -9,7 +9,7 @@ use std::collections::BTreeSet;
 
 /// The walk of a reader over a tree: the path that it is at, and the unknown paths that it met.
 ///
-/// Where a reader answers a value, `path` is as it was. After a refusal nothing is promised of a
+/// Where a reader returns a value, `path` is as it was. After a refusal nothing is promised of a
 /// walk.
 #[derive(Debug, Drop)]
 pub struct Walk {

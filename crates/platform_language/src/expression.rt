@@ -13,7 +13,7 @@ pub enum Function {
     Not,
 }
 
-/// What an expression asks of a platform.
+/// A question about a platform, in an expression.
 #[derive(Debug, Drop)]
 pub enum Leaf {
     /// Whether the platform has this line.

@@ -7,15 +7,15 @@ use std::alloc::AllocError;
 /// Why a text is no spec, by name.
 #[derive(Clone, Copy, Debug, PartialEq, Eq)]
 pub enum FaultKind {
-    /// There is no text.
+    /// The text is empty.
     EmptyText,
-    /// A byte stands in no triple.
+    /// A byte is not allowed in a triple.
     BadTripleCharacter,
     /// A character begins no mark.
     ForeignCharacter,
     /// A `"` has no second one.
     UnclosedQuotes,
-    /// A mark, or the end, may not stand there.
+    /// A mark, or the end, is not allowed there.
     Unexpected,
     /// A `)` ends nothing.
     UnopenedParens,
@@ -27,7 +27,7 @@ pub enum FaultKind {
     Empty,
     /// There are several expressions, and nothing joins them.
     SeveralRoots,
-    /// Functions stand too deep in one another.
+    /// Functions are nested too deep.
     TooDeep,
     /// A key needs a value.
     ValueWanted,
@@ -39,13 +39,13 @@ pub enum FaultKind {
     EmptyFeature,
     /// An endianness is neither `big` nor `little`.
     BadEndian,
-    /// A width is no number to 255.
+    /// A width is not a number up to 255.
     BadWidth,
     /// An atomic is neither `ptr` nor a number to 65535.
     BadAtomic,
 }
 
-/// What may stand where something else stands.
+/// What is allowed where something else is.
 #[derive(Clone, Copy, Debug, PartialEq, Eq)]
 pub enum Expected {
     /// An expression.
@@ -71,9 +71,9 @@ pub enum Expected {
 /// A part of a text, by bytes.
 #[derive(Clone, Copy, Debug, PartialEq, Eq)]
 pub struct Span {
-    /// How many bytes stand before it.
+    /// How many bytes are before it.
     pub start: usize,
-    /// How many bytes stand before its end.
+    /// How many bytes are before its end.
     pub end: usize,
 }
 
@@ -84,11 +84,11 @@ pub struct TargetSpecFault {
     pub kind: FaultKind,
     /// The part of the text that is at fault.
     pub span: Span,
-    /// What may stand there, where something else stands.
+    /// What is allowed there, where something else is.
     pub expected: Option<Expected>,
 }
 
-/// Where something stands in a body: how many bytes are left where it begins and where it ends.
+/// Where something is in a body: how many bytes are left where it begins and where it ends.
 #[derive(Clone, Copy, Debug)]
 pub struct Place {
     pub from: usize,
@@ -148,7 +148,7 @@ pub fn fault(kind: FaultKind, place: Place) -> Stop
     })
 }
 
-/// A fault at a place where something else may stand.
+/// A fault at a place where something else is allowed.
 pub fn expecting(kind: FaultKind, place: Place, expected: Expected) -> Stop
     ensures { result ≡ Stop.Fault (expecting_at kind place expected) }
 {

@@ -2,7 +2,7 @@
 ghost use Rattle.std.specs.Prelude.{◌≡◌};
 ghost use Rattle.platform_language.specs.Keys.{is_family as family_test, is_never as never_test, is_free as free_test, is_free_system as free_system_test, other_key as other_key_of};
 
-/// What a key asks.
+/// The kind of a key.
 #[derive(Clone, Copy, Debug, PartialEq, Eq)]
 pub enum KeyKind {
     /// `unix` or `windows`, a family of platforms.
@@ -83,7 +83,7 @@ fn other_key(name: &str) -> KeyKind
 impl KeyKind {
     ghost use Rattle.platform_language.specs.Keys.{key_kind};
 
-    /// What a name asks.
+    /// The kind of the key with this name.
     pub fn of(name: &str) -> KeyKind
         ensures { result ≡ key_kind name.now }
     {

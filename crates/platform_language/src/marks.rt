@@ -20,7 +20,7 @@ pub enum Mark<'t> {
     Function(Function),
     /// Any other word.
     Name(&'t str),
-    /// What stands between two `"`.
+    /// What is between two `"`.
     Value(&'t str),
 }
 

@@ -6,7 +6,7 @@ use crate::fault::{Expected, FaultKind, TargetSpecFault};
 use std::fmt::{Display, Error, Formatter, Write};
 
 impl Expected {
-    /// What may stand there, with blanks between.
+    /// What is allowed there, with blanks between.
     pub fn words(self) -> &'static str
         ensures { result.now ≡ words_of self }
     {

@@ -1,4 +1,4 @@
-//! Reads bodies of expressions, mark by mark, with what stands open on a stack of its own: no call
+//! Reads bodies of expressions, mark by mark, with what is open on a stack of its own: no call
 //! nests as deep as the text.
 ghost use Rattle.std.specs.Prelude.{◌≡◌, ◌++◌, ◌∷◌, [], Ok, Err, IfOk, IfErr, map, option_map};
 ghost use Rattle.platform_language.specs.Expressions.{expression_view};

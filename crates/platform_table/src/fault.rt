@@ -3,7 +3,7 @@
 use std::alloc::AllocError;
 use thiserror::Error;
 
-/// Why there is no platform.
+/// Why no platform could be built.
 #[derive(Clone, Copy, Debug, PartialEq, Eq, Error)]
 pub enum PlatformFault {
     /// The table has no such triple.

@@ -32,9 +32,9 @@ pub struct Platform {
 /// A line that the compiler prints: a key alone, or a key with a value.
 #[derive(Debug, Drop)]
 pub struct CfgLine {
-    /// What stands alone, or before `=`.
+    /// The whole line, or the part before `=`.
     pub key: String,
-    /// What stands between quotes behind `=`.
+    /// The text between quotes after `=`.
     pub value: Option<String>,
 }
 

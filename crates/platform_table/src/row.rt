@@ -10,7 +10,7 @@ use std::alloc::{AllocError, Global};
 
 /// A row of a table of platforms: what the compiler prints for a triple, but `debug_assertions`.
 ///
-/// Where there may be several values or names, commas stand between them.
+/// Several values or names are separated by commas.
 #[derive(Clone, Copy, Debug, Drop)]
 pub struct TargetRow<'a> {
     /// The name of the platform.

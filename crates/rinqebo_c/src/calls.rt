@@ -29,9 +29,9 @@ use rinqebo_session::{Profile, RequestedTest, Session, SettingNumbers};
 use std::alloc::Global;
 use std::mem::size_of;
 
-/// Answers a request in JSON for a whole run: writes the document of the answer, or why there is none,
-/// at the start of a buffer, and answers a number for which it is. Where the buffer is too small it
-/// stays as it was, and `needed` says what it takes.
+/// Resolves a request in JSON for a whole run: writes the document of the result, or why there is
+/// none, at the start of a buffer, and returns a number for which it is. Where the buffer is too
+/// small it stays as it was, and `needed` says what it takes.
 #[unsafe(no_mangle)]
 pub extern "C" fn rinqebo_resolve(
     alloc: Global,

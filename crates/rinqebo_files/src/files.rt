@@ -32,7 +32,7 @@ pub struct Gathered {
     pub target_cfg: Option<String>,
     /// What `cargo metadata` prints, if it is given.
     pub metadata: Option<String>,
-    /// What `cargo nextest list` prints, if it is asked about.
+    /// What `cargo nextest list` prints, if the request has a list.
     pub list: Option<String>,
 }
 
@@ -227,7 +227,7 @@ fn list_text<R: FileReader>(
     }
 }
 
-/// Reads the files that a request names. Where it reads standard input, that is what came of it.
+/// Reads the files that a request names. Where it reads standard input, `input` is its outcome.
 pub fn gather<R: FileReader>(
     alloc: Global,
     request: &Request<'_>,

@@ -18,7 +18,7 @@ use std::alloc::{AllocError, Global};
 /// A source.
 #[derive(Drop)]
 pub struct Layer<'t> {
-    /// What brings it, and the path of its file, as reports tell them.
+    /// What brings it, and the path of its file, as reports show them.
     pub source: Source,
     /// Where the values at its paths are written in the text of its file, if there is one. The
     /// defaults have none.

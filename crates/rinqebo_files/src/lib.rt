@@ -1,5 +1,5 @@
 //! The files that a request names: which are read, the sources that they are, with their trees, the
-//! lines that bring what stands there, and the experimental features that they switch on.
+//! lines that bring what is there, and the experimental features that they switch on.
 #![tactic(auto)]
 
 mod document;

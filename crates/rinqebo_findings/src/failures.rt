@@ -1,4 +1,4 @@
-//! Why a run answers nothing.
+//! Why a run returns nothing.
 ghost use Rattle.std.specs.Prelude.{IfErr, IfOk};
 ghost use Rattle.rinqebo_load.specs.FindTests.{IsFoundFor};
 ghost use Rattle.rinqebo_findings.specs.Failures.{IsFailureToFind, IsLoadFailure, IsProfileFailure, IsTestFailure};
@@ -13,7 +13,7 @@ use rinqebo_report::{Content, Finding, Level, Report};
 use rinqebo_request::{RequestedTest, text_hint};
 use std::alloc::{AllocError, Global};
 
-/// Why a run answers nothing whose load refuses.
+/// Why a run returns nothing whose load refuses.
 pub fn failure_of_load(
     alloc: Global,
     session: &Session<'_>,
@@ -54,7 +54,7 @@ fn no_profile(alloc: Global, missing: &ProfileNotFound) -> Result<Finding, Alloc
     Ok(found)
 }
 
-/// Why a run answers nothing whose profile is missing.
+/// Why a run returns nothing whose profile is missing.
 pub fn failure_of_profile(
     alloc: Global,
     session: &Session<'_>,
@@ -119,8 +119,8 @@ fn failure_of_test(
     }
 }
 
-/// The test that a request names, or why a run answers nothing about it. The metadata were read at a
-/// path.
+/// The test that a request names, or why a run returns nothing about it. The metadata were read at
+/// a path.
 pub fn find_test(
     alloc: Global,
     session: &Session<'_>,

@@ -1,4 +1,4 @@
-//! What stands at a path of a file, in words.
+//! What is at a path of a file, in words.
 use crate::findings::SourceAt;
 use nextest_config::Tree;
 use nextest_places::Step;
@@ -32,8 +32,8 @@ fn kind_words(tree: &Tree) -> &'static str {
     }
 }
 
-/// The kind of what stands at a path in a source, in words. A source that does not write the path is
-/// refused for what stands below it: the highest one counts that does.
+/// The kind of what is at a path in a source, in words. A source that does not write the path is
+/// refused for what is below it: the highest one counts that does.
 pub fn given_at(source: SourceAt<'_, '_>, path: &[Step<'_>]) -> Option<&'static str> {
     if let Some(found) = tree_at(source.tree()?, path) {
         return Some(kind_words(found));

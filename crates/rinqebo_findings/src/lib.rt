@@ -1,5 +1,5 @@
 //! What is wrong with the files of a session: the findings of warnings and of refusals, the reports
-//! that have them, and why a run answers nothing.
+//! that have them, and why a run returns nothing.
 #![tactic(auto)]
 
 mod above;

@@ -1,4 +1,4 @@
-//! The configuration that a profile is asked of.
+//! The configuration whose profile is requested.
 ghost use Rattle.std.specs.Prelude.{IfErr, IfOk};
 ghost use Rattle.nextest_tables.specs.FileTexts.{names_in, IsIn};
 ghost use Rattle.rinqebo_load.specs.Accepted.{AreAccepted};
@@ -10,7 +10,8 @@ use nextest_config::DefaultConfigWarnings;
 use rinqebo_load::{Config, Failure, Session, has_profile, missing_profile};
 use std::alloc::Global;
 
-/// The configuration of a session, which has a profile of a name. Warnings are told as they are met.
+/// The configuration of a session, which has a profile of a name. Warnings are reported as they are
+/// met.
 pub fn config_with(
     alloc: Global,
     session: &Session<'_>,

@@ -32,8 +32,8 @@ pub fn report_of(
     })
 }
 
-/// The report of a refused load: its warnings, all that the refusal tells, and what is wrong with the
-/// files above by themselves.
+/// The report of a refused load: its warnings, all that the refusal says, and what is wrong with
+/// the files above by themselves.
 pub fn report_of_refusal(
     alloc: Global,
     session: &Session<'_>,

@@ -10,7 +10,7 @@ use std::collections::BTreeMap;
 pub struct Way<'t> {
     /// Its steps.
     pub steps: Vec<Step<'t>>,
-    /// What stands at its end.
+    /// What is at its end.
     pub tree: &'t Tree,
     /// The part of the text that is left.
     rest: &'t str,

@@ -1,9 +1,9 @@
-//! Why a run answers nothing.
+//! Why a run returns nothing.
 use crate::fault::InputFault;
 use rinqebo_report::Report;
 use std::alloc::AllocError;
 
-/// Why a run answers nothing.
+/// Why a run returns nothing.
 #[derive(Drop)]
 pub enum Failure {
     /// The list of tests, the metadata or the platforms are not understood.

@@ -81,7 +81,7 @@ pub enum InputFault {
     /// The list of tests has no text.
     #[error("{0} is empty: expected the output of `cargo nextest list --message-format json`")]
     EmptyList(NamedFile),
-    /// What was read at a path is no list of tests, which would say the platforms of the build.
+    /// What was read at a path isn't a list of tests, which would say the platforms of the build.
     #[error("no list of tests in `{0}`: {1}")]
     List(String, ListFault),
     /// What the compiler prints of itself is given, and has no line with the triple of the host.

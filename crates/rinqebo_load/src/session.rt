@@ -34,9 +34,9 @@ pub type Config = LoadedConfig<NextestFilters, TargetSpecs>;
 pub struct Session<'g> {
     /// The files that the request names, as they were read.
     pub gathered: &'g Gathered,
-    /// What names the profile that is asked for, which messages may name.
+    /// What names the requested profile, which messages may name.
     pub profile_source: ProfileSource,
-    /// The tests of the list that is asked about. Without a list there are none.
+    /// The tests of the requested list. Without a list there are none.
     pub tests: ListedTests,
     /// The triples of the build.
     pub triples: Triples,
@@ -173,7 +173,7 @@ impl<'g> Session<'g> {
     }
 
     /// Why the file at a place among the layers is refused without the other files, if it is.
-    /// Warnings are told as they are met.
+    /// Warnings are reported as they are met.
     pub fn refusal_alone(
         &self,
         alloc: Global,

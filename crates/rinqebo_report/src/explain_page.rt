@@ -134,7 +134,7 @@ pub(crate) fn add_profiles(out: &mut String, asked: &Asked) -> Result<(), AllocE
     out.push_str(asked.mode.word())
 }
 
-/// What is asked about, in one line.
+/// The request, in one line.
 fn header_text(alloc: Global, asked: &Asked, test: &TestRows) -> Result<String, AllocError>
     ensures { IfOk result (λ text. string_bytes text ≡ header_text asked.now test.now) }
 {

@@ -41,7 +41,7 @@ pub struct Finding {
     pub column: Option<u64>,
     /// The keys that lead to it, with dots between them.
     pub path: Option<String>,
-    /// What is told, on one line.
+    /// The message, on one line.
     pub message: String,
     /// The expression that is refused, if one is.
     pub expression: Option<RefusedExpression>,

@@ -20,9 +20,9 @@ use std::alloc::{AllocError, Global};
 /// How a report is written.
 #[derive(Clone, Copy)]
 pub enum Format<'a> {
-    /// The page of what a command answers.
+    /// The page of a command's result.
     Text,
-    /// The same with the tests of a list in groups: below what is told of them.
+    /// The same with the tests of a list in groups, each below what is reported of it.
     Grouped,
     /// One document of JSON, on a line.
     Json,
@@ -33,7 +33,7 @@ pub enum Format<'a> {
     Github(&'a str),
 }
 
-/// Writes the page of what a command answers.
+/// Writes the page of a command's result.
 fn add_content(
     alloc: Global,
     out: &mut String,
@@ -71,7 +71,7 @@ fn add_content(
     }
 }
 
-/// The page of what a command answers.
+/// The page of a command's result.
 fn content_text(alloc: Global, report: &Report, colour: Colour) -> Result<String, AllocError>
     ensures { IfOk result (λ text. string_bytes text
         ≡ page_text colour (content_runs report.now report.now.content)) }
@@ -81,7 +81,7 @@ fn content_text(alloc: Global, report: &Report, colour: Colour) -> Result<String
     Ok(text)
 }
 
-/// Writes the page of what a command answers, with the tests of a list in groups.
+/// Writes the page of a command's result, with the tests of a list in groups.
 fn add_grouped_content(
     alloc: Global,
     out: &mut String,
@@ -109,7 +109,7 @@ fn add_grouped_content(
     }
 }
 
-/// The page of what a command answers, with the tests of a list in groups.
+/// The page of a command's result, with the tests of a list in groups.
 fn grouped_text(alloc: Global, report: &Report, colour: Colour) -> Result<String, AllocError>
     ensures { IfOk result (λ text. string_bytes text
         ≡ page_text colour (grouped_content_runs report.now report.now.content)) }

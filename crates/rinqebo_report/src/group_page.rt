@@ -1,4 +1,4 @@
-//! The page of groups: tests, put together where the same is told of them.
+//! The page of groups: tests, put together where the same is reported of them.
 ghost use Rattle.std.specs.Prelude.{◌≡◌, ◌++◌, Some, IfOk, OnOk, filter, flat_map, map, string_bytes};
 ghost use Rattle.std.specs.List.{list_any};
 ghost use Rattle.rinqebo_report.specs.Groups.{reported_line_runs, reported_row_runs, reported_runs, reported_text, has_reported, firsts, grouped_test_runs, group_runs, groups_runs, grouped_runs};
@@ -35,7 +35,7 @@ fn add_reported_value<'x>(
     )
 }
 
-/// Writes what is told of a setting.
+/// Writes what is reported of a setting.
 fn add_reported_row(
     alloc: Global,
     out: &mut String,
@@ -72,7 +72,7 @@ fn add_reported_runs(
     }
 }
 
-/// Writes what is told of a test.
+/// Writes what is reported of a test.
 fn add_reported(
     alloc: Global,
     out: &mut String,
@@ -89,7 +89,7 @@ fn add_reported(
     Ok(())
 }
 
-/// What is told of a test, as a text.
+/// What is reported of a test, as a text.
 fn reported_text(alloc: Global, test: &TestRows) -> Result<String, AllocError>
     ensures { IfOk result (λ text. string_bytes text ≡ reported_text test.now) }
 {
@@ -98,7 +98,7 @@ fn reported_text(alloc: Global, test: &TestRows) -> Result<String, AllocError>
     Ok(text)
 }
 
-/// Whether a text is told of a test.
+/// Whether a text is reported of a test.
 fn has_reported(alloc: Global, test: &TestRows, text: &str) -> Result<bool, AllocError>
     ensures { IfOk result (λ has. has ≡ has_reported text.now test.now) }
 {
@@ -106,7 +106,7 @@ fn has_reported(alloc: Global, test: &TestRows, text: &str) -> Result<bool, Allo
     Ok(told.as_str() == text)
 }
 
-/// Whether a text is told of one of some tests.
+/// Whether a text is reported of one of some tests.
 fn is_told(alloc: Global, tests: &[&TestRows], text: &str) -> Result<bool, AllocError>
     ensures { IfOk result (λ is. is
         ≡ list_any (has_reported text.now) (map (λ test. test.now) tests.now)) }
@@ -119,7 +119,7 @@ fn is_told(alloc: Global, tests: &[&TestRows], text: &str) -> Result<bool, Alloc
     Ok(false)
 }
 
-/// Of tests those that are the first of which something is told.
+/// Of tests those that are the first of which something is reported.
 fn firsts<'t>(alloc: Global, tests: &'t [TestRows]) -> Result<Vec<&'t TestRows>, AllocError>
     ensures { IfOk result (λ found. map (λ test. test.now) found.items ≡ firsts tests.now) }
 {
@@ -142,7 +142,7 @@ fn add_grouped_test(out: &mut String, colour: Colour, test: &TestRows) -> Result
     add_test_line(out, colour, test.binary.as_str(), test.name.as_str())
 }
 
-/// Writes the tests of which a text is told.
+/// Writes the tests of which a text is reported.
 fn add_grouped_tests(
     alloc: Global,
     out: &mut String,

@@ -62,7 +62,7 @@ fn common_members(alloc: Global, report: &Report) -> Result<Map<String, Value>, 
 }
 
 impl Content {
-    /// Puts among members those of the page of what a command answers.
+    /// Puts among members those of the page of a command's result.
     fn put_members(&self, members: &mut Map<String, Value>, alloc: Global) -> Result<(), AllocError>
         ensures { OnOk result (members_view members.new.entries
             ≡ with_content self.now (members_view members.old.entries)) }

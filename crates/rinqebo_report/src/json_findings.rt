@@ -92,7 +92,7 @@ fn put_fault(
     put(members, alloc, "message", message)
 }
 
-/// Puts where it stands among members.
+/// Puts where it is among members.
 fn put_site(
     members: &mut Map<String, Value>,
     alloc: Global,

@@ -1,4 +1,4 @@
-//! What was asked for, as members of a document.
+//! What was requested, as members of a document.
 ghost use Rattle.std.specs.Prelude.{◌≡◌, OnOk};
 ghost use Rattle.serde_json.specs.Data.{put as with_member, string};
 ghost use Rattle.serde_json.specs.View.{members_view};
@@ -23,7 +23,7 @@ pub fn put_text(
     put(members, alloc, key, value)
 }
 
-/// Puts among members a command, and what was asked for.
+/// Puts among members a command, and what was requested.
 pub(crate) fn put_requested(
     members: &mut Map<String, Value>,
     alloc: Global,

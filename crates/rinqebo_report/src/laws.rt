@@ -5,7 +5,7 @@ ghost use Rattle.rinqebo_report.specs.Pieces.{Run, page_text};
 ghost use Rattle.rinqebo_report.specs.Uncoloured.{uncoloured};
 ghost use Rattle.rinqebo_report.specs.declared.piece.Colour.{Colour};
 
-/// Without its escapes a page in colour is the plain page, whatever texts stand on it.
+/// Without its escapes a page in colour is the plain page, whatever texts are on it.
 pub fn law_colours()
     ensures { (runs : List Run)
         → uncoloured (page_text Colour.Coloured runs) ≡ page_text Colour.Plain runs }

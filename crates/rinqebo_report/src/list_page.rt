@@ -1,4 +1,4 @@
-//! The page of a list: what is asked, each test and what is set for it, and the rules that hold for
+//! The page of a list: the request, each test and what is set for it, and the rules that hold for
 //! none.
 ghost use Rattle.std.specs.Prelude.{◌≡◌, ◌++◌, ◌∷◌, IfOk, OnOk, codes, flat_map, option_map, string_bytes};
 ghost use Rattle.serde_json.specs.View.{members_view};
@@ -32,7 +32,7 @@ fn add_build(out: &mut String, asked: &Asked) -> Result<(), AllocError>
     }
 }
 
-/// What is asked of a list: the profiles, the mode, and what the tests run on.
+/// The request of a list: the profiles, the mode, and what the tests run on.
 fn list_header_text(alloc: Global, asked: &Asked) -> Result<String, AllocError>
     ensures { IfOk result (λ text. string_bytes text ≡ list_header_text asked.now) }
 {
@@ -43,7 +43,7 @@ fn list_header_text(alloc: Global, asked: &Asked) -> Result<String, AllocError>
     Ok(text)
 }
 
-/// Writes what is asked of a list, in a line.
+/// Writes the request of a list, in a line.
 pub(crate) fn add_list_head(
     alloc: Global,
     out: &mut String,
@@ -248,7 +248,7 @@ pub(crate) fn add_list(
     add_list_end(alloc, out, colour, root, sources, count, unused)
 }
 
-/// What the page of a list shows before its tests: what is asked, in a line.
+/// What the page of a list shows before its tests: the request, in a line.
 pub fn render_list_head(alloc: Global, asked: &Asked, colour: Colour) -> Result<String, AllocError>
     ensures { IfOk result (λ text. string_bytes text
         ≡ page_text colour (list_head_runs asked.now)) }

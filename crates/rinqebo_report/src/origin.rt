@@ -90,9 +90,9 @@ pub enum Part {
 /// What is written in a file.
 #[derive(Drop)]
 pub struct Written {
-    /// Where it stands.
+    /// Where it is.
     pub place: FilePlace,
-    /// The profile under which it stands.
+    /// The profile under which it is.
     pub profile: String,
     /// What of the profile it is.
     pub part: Part,

@@ -21,7 +21,7 @@ pub enum BuiltFor {
     Target,
 }
 
-/// What was asked for.
+/// What was requested.
 #[derive(Drop)]
 pub struct Asked {
     /// The profile.
@@ -64,7 +64,7 @@ pub struct TestRows {
     pub is_ignored: bool,
     /// Whether pages show whether it runs. A document of JSON always has it.
     pub shows_runs: bool,
-    /// What is told of it. The keys are apart from each other.
+    /// Its settings that are reported. The keys are apart from each other.
     pub settings: Vec<SettingRow>,
 }
 
@@ -92,7 +92,7 @@ pub struct Entry {
     pub is_hidden: bool,
 }
 
-/// What comes of a rule for a test and a setting.
+/// The result of a rule for a test and a setting.
 #[derive(Clone, Copy)]
 pub enum Verdict {
     /// Its platforms do not hold.
@@ -118,9 +118,9 @@ pub enum ConditionAnswer {
     Yes,
     /// It does not hold.
     No,
-    /// It cannot be told, which counts as met.
+    /// It cannot be decided, which counts as met.
     Unknown,
-    /// It was not asked.
+    /// It was not evaluated.
     Unrequested,
 }
 
@@ -133,20 +133,20 @@ pub struct Condition {
     pub answer: ConditionAnswer,
 }
 
-/// A rule, and what comes of it.
+/// A rule, and its result.
 #[derive(Drop)]
 pub struct Rule {
-    /// What comes of it.
+    /// Its result.
     pub verdict: Verdict,
-    /// Where it stands, or where the value comes from that counts where no rule decides.
+    /// Where it is, or where the value comes from that counts where no rule decides.
     pub origin: Origin,
     /// The other origins of a value that several files write parts of.
     pub others: Vec<Origin>,
-    /// What it asks of the host.
+    /// Its condition on the host.
     pub host: Condition,
-    /// What it asks of the target.
+    /// Its condition on the target.
     pub target: Condition,
-    /// What it asks of the test.
+    /// Its condition on the test.
     pub filter: Condition,
     /// What it writes for the setting, where it decides or would.
     pub value: Option<Value>,
@@ -179,7 +179,7 @@ pub struct Unreached {
     pub checks: Vec<String>,
 }
 
-/// What a command answers beside its findings.
+/// What a command reports beside its findings.
 #[derive(Drop)]
 pub enum Content {
     /// The settings of a test.
@@ -228,6 +228,6 @@ pub struct Report {
     pub findings: Vec<Finding>,
     /// The checks that one of them kept from others.
     pub unreached: Vec<Unreached>,
-    /// What the command answers.
+    /// What the command reports.
     pub content: Content,
 }

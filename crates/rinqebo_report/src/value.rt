@@ -5,7 +5,7 @@
 pub enum Scalar {
     /// `true` or `false`.
     Boolean(bool),
-    /// A whole number.
+    /// An integer.
     Integer(i64),
     /// A text, as it is: pages put it in quotes.
     Text(String),
@@ -16,7 +16,7 @@ pub enum Scalar {
 /// A member of a table.
 #[derive(Drop)]
 pub struct TableMember {
-    /// Its key, which stands on pages as it is.
+    /// Its key, which is on pages as it is.
     pub key: String,
     /// Its value.
     pub value: Scalar,

@@ -1,4 +1,4 @@
-//! The page of a key: what comes of each rule, and what counts where none decides.
+//! The page of a key: the result of each rule, and what counts where none decides.
 ghost use Rattle.std.specs.Prelude.{◌≡◌, ◌++◌, [], ◌∷◌, ◌+◌, ◌^◌, ◌<◌, option_map, OnOk, string_bytes};
 ghost use Rattle.serde_json.specs.View.{members_view};
 ghost use Rattle.rinqebo_report.specs.Document.{with_ignored, with_why};
@@ -71,7 +71,7 @@ impl Verdict {
 }
 
 impl ConditionAnswer {
-    /// What is told of it: that it does not hold, or that it can't be told.
+    /// What is shown of it: that it does not hold, or that it can't be decided.
     fn told(self) -> Option<&'static str>
         ensures { option_map (λ told. told.now) result ≡ reported_answer self }
     {
@@ -83,7 +83,7 @@ impl ConditionAnswer {
     }
 }
 
-/// Writes a condition, where it does not hold or can't be told.
+/// Writes a condition, where it does not hold or can't be decided.
 fn add_condition<'x>(
     out: &mut String,
     colour: Colour,

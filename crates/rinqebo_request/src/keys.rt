@@ -8,7 +8,7 @@ ghost use Rattle.rinqebo_request.specs.Keys.{key_table, key_name, is_named_by, i
 use nextest_config::{NextestRunMode, Setting};
 use std::alloc::{AllocError, Global};
 
-/// The key of whether a test runs, which stands in no file.
+/// The key of whether a test runs, which is in no file.
 pub const RUNS: &str = "runs";
 
 /// The keys of a profile whose values are those of the whole run.
@@ -27,7 +27,7 @@ const RUN_KEYS: [&str; 9] = [
 /// Where a profile or a rule writes a setting: the table within it, if there is one, and the key.
 #[derive(Clone, Copy, PartialEq, Eq)]
 pub struct SettingKey {
-    /// The table, as `junit`. Without it, the key stands in the profile or the rule itself.
+    /// The table, as `junit`. Without it, the key is in the profile or the rule itself.
     pub table: Option<&'static str>,
     /// The key in that table.
     pub key: &'static str,
@@ -66,7 +66,7 @@ impl SettingKey {
         }
     }
 
-    /// Whether it stands in the report's table.
+    /// Whether it is in the report's table.
     pub fn is_of_report(self) -> bool
         ensures { result ≡ is_report (option_map (λ table. table.now) self.table) }
     {
@@ -76,7 +76,7 @@ impl SettingKey {
         }
     }
 
-    /// Whether it stands in a table of a name.
+    /// Whether it is in a table of a name.
     fn is_in(self, table: &str) -> bool
         ensures { result ≡ is_table (option_map (λ table. table.now) self.table) table.now }
     {

@@ -1,4 +1,4 @@
-//! What is asked of the program `rinqebo`: its commands and options, and the request that words are.
+//! The requests of the program `rinqebo`: its commands and options, and the request that words are.
 #![tactic(auto)]
 
 mod environment;

@@ -1,15 +1,15 @@
-//! Notes on variables that stand above all files.
+//! Notes on variables that override all files.
 use crate::environment::{Environment, set};
 use crate::request::{Question, Request};
 use nextest_config::Setting;
 use std::alloc::{AllocError, Global};
 
-/// Whether the leaves below keys have the value of a setting. Without a key all leaves are told.
+/// Whether the leaves below keys have the value of a setting. Without a key all leaves are listed.
 fn has_leaf(keys: &[&str], setting: Setting) -> bool {
     keys.is_empty() || keys.iter().any(|key| *key == setting.name())
 }
 
-/// Whether a question asks for a setting of a test.
+/// Whether a question requests a setting of a test.
 fn asks_for(question: &Question<'_>, setting: Setting) -> bool {
     match question {
         Question::Explain { asked, .. } | Question::List { asked, .. } => asked.may_tell(setting),
@@ -20,7 +20,7 @@ fn asks_for(question: &Question<'_>, setting: Setting) -> bool {
 }
 
 /// Notes on the variables which a run of nextest puts above all files: a line for each that is set,
-/// where the request asks for its setting.
+/// where the request includes its setting.
 pub fn notes_of(
     alloc: Global,
     request: &Request<'_>,

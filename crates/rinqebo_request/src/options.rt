@@ -5,7 +5,7 @@ use std::alloc::{AllocError, Global};
 /// The version of the program.
 const VERSION: &str = "0.2.0";
 
-/// The formats of answers.
+/// The formats of output.
 const ANSWER_FORMATS: &[&str] = &["text", "json"];
 
 /// The help of the option that chooses among them.
@@ -23,7 +23,7 @@ const COLOURS: &[&str] = &["auto", "always", "never"];
 /// The run modes.
 pub const MODES: &[&str] = &["test", "benchmark"];
 
-/// What stands below the help of the program.
+/// What is below the help of the program.
 const PROGRAM_NOTES: &str = "\
 Examples:
   rinqebo explain api::smoke smoke::whole -P ci
@@ -31,7 +31,7 @@ Examples:
 
 `rinqebo <COMMAND> --help` has the examples and exit statuses of a command.";
 
-/// What stands below the help of `explain`.
+/// What is below the help of `explain`.
 const EXPLAIN_NOTES: &str = "\
 Examples:
   rinqebo explain api::smoke smoke::whole
@@ -47,7 +47,7 @@ Exit status:
   5  out of memory
   6  the output could not be written";
 
-/// What stands below the help of `list`.
+/// What is below the help of `list`.
 const LIST_NOTES: &str = "\
 Examples:
   cargo nextest list --message-format json | rinqebo list -P ci -
@@ -63,7 +63,7 @@ Exit status:
   5  out of memory
   6  the output could not be written";
 
-/// What stands below the help of `show-config`.
+/// What is below the help of `show-config`.
 const SHOW_NOTES: &str = "\
 Examples:
   rinqebo show-config -P ci
@@ -78,7 +78,7 @@ Exit status:
   5  out of memory
   6  the output could not be written";
 
-/// What stands below the help of `schema`.
+/// What is below the help of `schema`.
 const SCHEMA_NOTES: &str = "\
 Examples:
   rinqebo schema > nextest.schema.json
@@ -88,7 +88,7 @@ Exit status:
   5  out of memory
   6  the output could not be written";
 
-/// What stands below the help of `check`.
+/// What is below the help of `check`.
 const CHECK_NOTES: &str = "\
 Examples:
   rinqebo check
@@ -184,7 +184,7 @@ pub fn with_files<'a>(alloc: Global, command: Command<'a>) -> Result<Command<'a>
         ))
 }
 
-/// The options that say how an answer is written.
+/// The options that say how the output is written.
 pub fn with_output<'a>(
     alloc: Global,
     command: Command<'a>,

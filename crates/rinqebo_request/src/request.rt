@@ -1,4 +1,4 @@
-//! What is asked for.
+//! The request of a user.
 use crate::named::ProfileSource;
 use nextest_config::{BuildPlatform, ConfigExperimental, NextestRunMode, Setting, ToolName};
 use rinqebo_report::{Colour, Format};
@@ -46,7 +46,7 @@ pub struct RequestedTest<'a> {
     pub list: Option<ListFile<'a>>,
 }
 
-/// What is told of a test.
+/// Which settings of a test are reported.
 #[derive(Drop)]
 pub enum RequestedSettings {
     /// The settings that rules decide, in the order of all settings; before them, where the test does
@@ -62,7 +62,7 @@ pub enum RequestedSettings {
 }
 
 impl RequestedSettings {
-    /// Whether a setting is told, if rules decide it.
+    /// Whether a setting is reported, if rules decide it.
     pub fn may_tell(&self, setting: Setting) -> bool {
         match self {
             RequestedSettings::Decided => true,
@@ -71,25 +71,25 @@ impl RequestedSettings {
     }
 }
 
-/// What a command asks.
+/// What a command reports.
 #[derive(Drop)]
 pub enum Question<'a> {
     /// The settings of a test.
     Explain {
         /// The name of the profile.
         profile: &'a str,
-        /// The test that is asked about.
+        /// The test.
         test: RequestedTest<'a>,
-        /// What is told of it.
+        /// Which of its settings are reported.
         asked: RequestedSettings,
     },
     /// The rules of a setting of a test.
     Why {
         /// The name of the profile.
         profile: &'a str,
-        /// The test that is asked about.
+        /// The test.
         test: RequestedTest<'a>,
-        /// The setting whose rules are told.
+        /// The setting whose rules are reported.
         setting: Setting,
     },
     /// The settings of each test of a list.
@@ -100,16 +100,16 @@ pub enum Question<'a> {
         mode: NextestRunMode,
         /// Where the list is read.
         list: ListFile<'a>,
-        /// What is told of each test.
+        /// Which settings of each test are reported.
         asked: RequestedSettings,
     },
     /// The leaves of the configuration.
     ShowConfig {
         /// The name of the profile.
         profile: &'a str,
-        /// The keys below which leaves are told. Without one, all leaves are.
+        /// The keys below which leaves are listed. Without one, all leaves are.
         keys: Vec<&'a str>,
-        /// Whether leaves are told that others hide.
+        /// Whether leaves are listed that others hide.
         with_hidden: bool,
     },
     /// What is wrong with the files.
@@ -176,10 +176,10 @@ pub struct EngineOptions<'a> {
     pub metadata: Option<&'a str>,
 }
 
-/// What is asked for.
+/// The request of a user.
 #[derive(Drop)]
 pub struct Request<'a> {
-    /// What is asked.
+    /// What the command reports.
     pub question: Question<'a>,
     /// What names the profile, where the question has one.
     pub profile_source: ProfileSource,
@@ -189,11 +189,11 @@ pub struct Request<'a> {
     pub engines: EngineOptions<'a>,
     /// The experimental features that are switched on beside those of the repository's file.
     pub features: BTreeSet<ConfigExperimental>,
-    /// How the answer is written.
+    /// How the output is written.
     pub format: Format<'a>,
-    /// Whether the answer has colours.
+    /// Whether the output has colours.
     pub colour: Colour,
-    /// Whether standard error is told how far a list is: where it is a terminal, and standard output
+    /// Whether standard error shows how far a list is: where it is a terminal, and standard output
     /// is none.
     pub shows_progress: bool,
 }
@@ -220,6 +220,6 @@ impl<'a> Request<'a> {
 pub enum Command<'a> {
     /// The JSON schema of a file. Nothing is read for it.
     Schema,
-    /// What a request is answered.
+    /// A request for a report.
     Answer(Request<'a>),
 }

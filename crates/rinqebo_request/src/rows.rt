@@ -92,7 +92,7 @@ impl NamedRows {
         Ok(())
     }
 
-    /// The same, as it is asked for.
+    /// The same, as it is requested.
     fn requested(self) -> RequestedSettings {
         let NamedRows { runs, settings } = self;
         RequestedSettings::These { runs, settings }
@@ -129,7 +129,7 @@ fn all_rows(alloc: Global) -> Result<RequestedSettings, AllocError> {
     })
 }
 
-/// What is asked for of a test: all, where nothing is named.
+/// The requested settings of a test: all, where nothing is named.
 pub fn explained_rows(
     alloc: Global,
     matches: &ArgMatches<'_>,
@@ -142,7 +142,7 @@ pub fn explained_rows(
     Ok(named.requested())
 }
 
-/// What is asked for of each test: without a word, the settings that rules decide.
+/// The requested settings of each test: without a word, the settings that rules decide.
 pub fn listed_rows(
     alloc: Global,
     matches: &ArgMatches<'_>,

@@ -49,7 +49,7 @@ fn no_list(alloc: Global, name: &str) -> Result<ParseStop, ParseStop> {
     Ok(usage(alloc, message.as_str(), Some(hint))?)
 }
 
-/// The test that is asked about.
+/// The requested test.
 fn requested_test<'a>(
     alloc: Global,
     matches: &ArgMatches<'a>,
@@ -72,7 +72,7 @@ fn requested_test<'a>(
     })
 }
 
-/// What is asked about a test.
+/// The question about a test.
 fn explain_question<'a>(
     alloc: Global,
     matches: &ArgMatches<'a>,

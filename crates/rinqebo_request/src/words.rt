@@ -153,8 +153,8 @@ fn checked_file<'a>(alloc: Global, matches: &ArgMatches<'a>) -> Result<ConfigFil
     }
 }
 
-/// What the languages of filters and platforms know. For a list of tests that may say the target it
-/// is told later whether there is one.
+/// What the languages of filters and platforms know. For a list of tests that may say the target,
+/// whether there is one is decided later.
 pub fn engines<'a>(matches: &ArgMatches<'a>, environment: &'a Environment) -> EngineOptions<'a> {
     EngineOptions {
         host: matches.get_str("host"),
@@ -180,7 +180,7 @@ fn file_engines<'a>(matches: &ArgMatches<'a>) -> EngineOptions<'a> {
     }
 }
 
-/// How an answer is written.
+/// How the output is written.
 pub fn format<'a>(matches: &ArgMatches<'a>, environment: &'a Environment) -> Format<'a> {
     match matches.get_str("format") {
         Some("json") => Format::Json,
@@ -190,7 +190,7 @@ pub fn format<'a>(matches: &ArgMatches<'a>, environment: &'a Environment) -> For
     }
 }
 
-/// Whether an answer has colours.
+/// Whether the output has colours.
 pub fn colour(matches: &ArgMatches<'_>, environment: &Environment) -> Colour {
     let when = matches
         .get_str("color")
@@ -216,12 +216,12 @@ pub fn mode_of(word: &str) -> NextestRunMode {
     }
 }
 
-/// The mode that is asked for.
+/// The requested mode.
 pub fn mode(matches: &ArgMatches<'_>) -> NextestRunMode {
     mode_of(matches.get_str("mode").unwrap_or("test"))
 }
 
-/// The profile that is asked for.
+/// The requested profile.
 pub fn profile<'a>(matches: &ArgMatches<'a>, environment: &'a Environment) -> &'a str {
     matches
         .get_str("profile")
@@ -229,7 +229,7 @@ pub fn profile<'a>(matches: &ArgMatches<'a>, environment: &'a Environment) -> &'
         .unwrap_or("default")
 }
 
-/// What names the profile that is asked for.
+/// What names the requested profile.
 pub fn profile_source(matches: &ArgMatches<'_>, environment: &Environment) -> ProfileSource {
     if matches.get_str("profile").is_some() {
         ProfileSource::CommandLine
@@ -240,7 +240,7 @@ pub fn profile_source(matches: &ArgMatches<'_>, environment: &Environment) -> Pr
     }
 }
 
-/// What is asked about a list of tests.
+/// The question about a list of tests.
 fn list_question<'a>(
     alloc: Global,
     matches: &ArgMatches<'a>,
@@ -284,7 +284,7 @@ fn list_request<'a>(
     })
 }
 
-/// The keys below which leaves are told.
+/// The keys below which leaves are listed.
 fn leaf_keys<'a>(alloc: Global, matches: &ArgMatches<'a>) -> Result<Vec<&'a str>, AllocError> {
     Vec::from_slice(alloc, matches.get_strs("KEY").unwrap_or(&[]))
 }

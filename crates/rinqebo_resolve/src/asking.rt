@@ -1,4 +1,4 @@
-//! A run as the program is asked for it: a request, and the files as they were read.
+//! A run as it is requested of the program: a request, and the files as they were read.
 ghost use Rattle.std.specs.Prelude.{◌≡◌, IfOk, option_and_then, option_map, string_bytes};
 ghost use Rattle.nextest_settings.specs.Settings.{settings};
 ghost use Rattle.rinqebo_forms.specs.Requests.{machine_view};
@@ -19,7 +19,7 @@ use std::alloc::{AllocError, Global};
 /// What messages call the list of tests: the member of a request that has it.
 pub const LIST: &str = "list";
 
-/// What is asked of files.
+/// The request of a run, without its files.
 #[derive(Drop)]
 pub struct Asked {
     /// The name of the profile.
@@ -121,7 +121,7 @@ fn target_parts(target: Option<Machine>) -> (Option<String>, Option<String>)
     }
 }
 
-/// Parts what a run is asked from the files that it has.
+/// Parts the request of a run from the files that it has.
 pub fn parted(run: RunRequest) -> (Asked, Gathered)
     ensures asked { requested_view result.0 ≡ requested_of (run_view run) }
     ensures files { AreFilesOf (run_view run) result.1 }

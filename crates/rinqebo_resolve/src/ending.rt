@@ -10,7 +10,7 @@ use rinqebo_session::status::{
 /// How a run ends.
 #[derive(Drop)]
 pub enum Ending {
-    /// It is answered: the document of the answer.
+    /// The run succeeds: the document of its result.
     Answered(String),
     /// The files are refused: the document that says why.
     Refused(String),
@@ -20,7 +20,7 @@ pub enum Ending {
     NoEngines(String),
     /// The request is not understood: the reason.
     NotUnderstood(String),
-    /// The request is no UTF-8.
+    /// The request is not UTF-8.
     NotText,
     /// Memory was refused.
     Memory,
@@ -42,7 +42,7 @@ impl Ending {
         }
     }
 
-    /// What it tells. Where the request is no UTF-8, and for want of memory, that is nothing.
+    /// Its text. Where the request is not UTF-8, and for want of memory, that is empty.
     pub fn text(&self) -> &str
         ensures { result.now ≡ ending_text self.now }
     {
@@ -56,7 +56,7 @@ impl Ending {
         }
     }
 
-    /// Writes what it tells at the start of a buffer, and answers its number; or answers that the
+    /// Writes its text at the start of a buffer, and returns its number; or returns that the
     /// buffer is too small.
     pub fn tell(&self, out: &mut [u8], needed: &mut usize) -> u32
         ensures { IsReported self.now out.old out.new needed.new result }

@@ -1,5 +1,5 @@
-//! One call for a whole run: a request in JSON is answered with the document that the program writes
-//! for `list --all --format json`.
+//! One call for a whole run: it takes a request in JSON, and writes the document that the program
+//! writes for `list --all --format json`.
 #![tactic(auto)]
 
 mod asking;

@@ -1,4 +1,4 @@
-//! A request for a whole run, answered.
+//! A request for a whole run, resolved.
 ghost use Rattle.std.specs.Prelude.{◌≡◌, IfOk, string_bytes, take};
 ghost use Rattle.rinqebo_forms.specs.Runs.{run_view};
 ghost use Rattle.rinqebo_report.specs.Rendered.{rendered};
@@ -110,9 +110,9 @@ pub fn ending_for(alloc: Global, request: &[u8]) -> Ending
     }
 }
 
-/// Answers a request in JSON for a whole run: writes the document of the answer at the start of a
-/// buffer, or why there is none, and answers a number for which it is. Where the buffer is too small
-/// it stays as it was. Either way `needed` is the length of what is told.
+/// Resolves a request in JSON for a whole run: writes the document of the result at the start of a
+/// buffer, or why there is none, and returns a number for which it is. Where the buffer is too
+/// small it stays as it was. Either way `needed` is the length of what there is to write.
 pub fn resolve(alloc: Global, request: &[u8], answer: &mut [u8], needed: &mut usize) -> u32
     ensures resolved { IsResolved request.now answer.old answer.new needed.new result }
     ensures done { result ≡ DONE → IsAnswerTo request.now (take needed.new answer.new) }

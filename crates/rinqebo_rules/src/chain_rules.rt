@@ -32,7 +32,7 @@ type ScriptRule<'c> = EvaluatedScriptRule<'c, NextestFilters, TargetSpecs>;
 /// A rule that may write a setting, what it writes for it, and what it says of a test.
 #[derive(Clone, Copy)]
 pub struct SettingRule<'c> {
-    /// Where it stands.
+    /// Where it is.
     pub place: RulePlace<'c>,
     /// What it writes for the setting, if it does.
     pub value: Option<SettingValue<'c>>,

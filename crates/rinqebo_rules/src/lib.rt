@@ -1,5 +1,6 @@
-//! The rules of a chain of profiles, as the program `rinqebo` tells them: where they stand, what they
-//! write for a setting, and what their conditions say of a test; and what counts where none decides.
+//! The rules of a chain of profiles, as the program `rinqebo` reports them: where they are, what
+//! they write for a setting, and what their conditions say of a test; and what counts where none
+//! decides.
 #![tactic(auto)]
 
 mod chain_rules;

@@ -1,12 +1,12 @@
 //! How far a list is.
 
-/// Is told how far a list is.
+/// Receives how far a list is.
 pub trait Progress {
-    /// So many tests of all have been asked.
+    /// So many tests of all are done.
     fn asked(&mut self, done: usize, all: usize);
 }
 
-/// Tells nobody.
+/// Ignores how far a list is.
 #[derive(Drop)]
 pub struct NoProgress;
 

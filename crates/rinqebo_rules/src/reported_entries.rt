@@ -66,8 +66,8 @@ fn origin_of(alloc: Global, entry: &LayerLeaf<'_>, place: FilePlace) -> Result<O
     }
 }
 
-/// A leaf, as it is reported, with the place at which it stands in its file. There is none where its
-/// value can't be told.
+/// A leaf, as it is reported, with the place at which it is in its file. There is none where its
+/// value can't be reported.
 pub fn reported_entry(
     alloc: Global,
     entry: &LayerLeaf<'_>,

@@ -1,4 +1,4 @@
-//! Where rules stand.
+//! Where rules are.
 ghost use Rattle.std.specs.Prelude.{◌≡◌, ◌++◌, [], ◌∷◌, List, IfOk, map, option_map};
 ghost use Rattle.std.specs.List.{AllZip};
 ghost use Rattle.nextest_rules.specs.View.{id_view, script_rule_id_view};
@@ -43,12 +43,12 @@ impl RuleKind {
     }
 }
 
-/// Where a rule stands.
+/// Where a rule is.
 #[derive(Clone, Copy)]
 pub struct RulePlace<'c> {
     /// The source whose file has it.
     pub source: &'c ConfigSource,
-    /// The profile under which it stands.
+    /// The profile under which it is.
     pub profile: &'c str,
     /// Its kind.
     pub kind: RuleKind,
@@ -74,7 +74,7 @@ pub(crate) fn setting_path<'s>(
 }
 
 impl<'c> RulePlace<'c> {
-    /// Where an override stands.
+    /// Where an override is.
     pub fn of_override(id: &'c OverrideId) -> RulePlace<'c>
         ensures { place_view result ≡ id_place (id_view id.now) }
     {
@@ -86,7 +86,7 @@ impl<'c> RulePlace<'c> {
         }
     }
 
-    /// Where a script rule stands.
+    /// Where a script rule is.
     pub fn of_script(id: &'c ScriptRuleId) -> RulePlace<'c>
         ensures { place_view result ≡ script_place (script_rule_id_view id.now) }
     {

@@ -1,4 +1,4 @@
-//! What is asked about, as it is reported.
+//! What was requested, as it is reported.
 ghost use Rattle.std.specs.Prelude.{◌≡◌, IfOk, map, option_map, string_bytes};
 ghost use Rattle.nextest_inheritance.specs.View.{borrowed_view};
 ghost use Rattle.rinqebo_run.specs.Requested.{IsRequestedOf, is_assumed, mode_reported};
@@ -47,7 +47,7 @@ fn is_assumed(source: TripleSource) -> bool
     matches!(source, TripleSource::Fallback)
 }
 
-/// What is asked about.
+/// What was requested.
 pub fn requested_of(
     alloc: Global,
     session: &Session<'_>,

@@ -1,8 +1,8 @@
 //! What the program `rinqebo` does, over words, files and writers of a caller's choosing.
 //!
-//! [`perform`] answers a request over the files that it names: with the settings of a test or of each
-//! test of a list, the rules of a setting, the leaves of the configuration, or what is wrong with the
-//! files. [`answer_of`] gives the answer as a value.
+//! [`perform`] runs a request over the files that it names, and writes its result: the settings of
+//! a test or of each test of a list, the rules of a setting, the leaves of the configuration, or
+//! what is wrong with the files. [`answer_of`] returns the result as a value.
 #![tactic(auto)]
 
 mod answer;

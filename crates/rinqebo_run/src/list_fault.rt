@@ -5,7 +5,7 @@ use std::alloc::AllocError;
 /// Why the text of a list was not written whole.
 #[derive(Drop)]
 pub enum ListFault {
-    /// A run answers nothing. Nothing was written.
+    /// A run returns nothing. Nothing was written.
     Refused(Failure),
     /// Want of memory. What was written ends with a whole test.
     Memory,

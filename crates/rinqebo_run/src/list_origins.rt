@@ -1,4 +1,4 @@
-//! Where the rules stand that hold for none of the tests of a list.
+//! Where the rules are that hold for none of the tests of a list.
 ghost use Rattle.std.specs.Prelude.{◌≡◌, [], IfOk, map};
 ghost use Rattle.std.specs.List.{AllZip};
 ghost use Rattle.rinqebo_rules.specs.Origins.{IsOriginOf};

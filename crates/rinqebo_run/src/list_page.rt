@@ -1,4 +1,4 @@
-//! The page of a list, which is written test after test, as they are asked.
+//! The page of a list, which is written test after test, as they are resolved.
 ghost use Rattle.std.specs.Prelude.{◌≡◌, [], IfErr, IfOk, OnErr, OnOk, map, string_bytes};
 ghost use Rattle.std.specs.Io.KnownBytes.{Appends};
 ghost use Rattle.std.specs.List.{AllZip};
@@ -48,14 +48,14 @@ use std::io::Write;
 /// How the tests of a list are asked.
 type TestLister<'l, 'c> = Lister<'l, 'c, NextestFilters, TargetSpecs>;
 
-/// What is asked of a list.
+/// The request of a list.
 #[derive(Clone, Copy)]
 pub struct RequestedList<'q> {
     /// The name of the profile.
     pub profile: &'q str,
     /// For what the tests are run.
     pub mode: NextestRunMode,
-    /// Which settings are told.
+    /// Which settings are reported.
     pub settings: &'q RequestedSettings,
 }
 
@@ -238,7 +238,7 @@ impl<'c> ListPage<'c, '_> {
         Ok(origins)
     }
 
-    /// Writes the page, and answers what it tells.
+    /// Writes the page, and returns what it reports.
     pub fn write<O: Write, P: Progress>(
         &self,
         alloc: Global,

@@ -1,4 +1,4 @@
-//! Answers a list as a text, which goes out as its tests are asked.
+//! Writes a list as a text, which goes out as its tests are resolved.
 ghost use Rattle.std.specs.Prelude.{◌≡◌, ◌⊎◌, IfErr, IfOk, OnOk};
 ghost use Rattle.rinqebo_run.specs.Answered.{Tells};
 ghost use Rattle.rinqebo_run.specs.Refused.{Fails};

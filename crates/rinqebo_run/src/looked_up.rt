@@ -103,7 +103,7 @@ fn require_looked_up(
 }
 
 /// The configuration of a session, which has a profile of a name. Each filter was looked up that the
-/// profile evaluates on the platforms of the build. Warnings are told as they are met.
+/// profile evaluates on the platforms of the build. Warnings are reported as they are met.
 pub fn config_looked_up(
     alloc: Global,
     session: &Session<'_>,

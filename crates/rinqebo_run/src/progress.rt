@@ -25,7 +25,7 @@ impl<'w, W: Write> ProgressLine<'w, W> {
         }
     }
 
-    /// Takes the line away, if it stands.
+    /// Takes the line away, if it is shown.
     pub fn clear(&mut self) {
         if self.stands {
             let _ = self.out.write_all(b"\r\x1b[K");

@@ -1,4 +1,4 @@
-//! Writes why a run answers nothing, and returns the exit status.
+//! Writes why a run returns nothing, and returns the exit status.
 ghost use Rattle.std.specs.Prelude.{◌≡◌, ◌⊎◌, MatchOption};
 ghost use Rattle.std.specs.Io.KnownBytes.{Appends};
 ghost use Rattle.rinqebo_report.specs.Rendered.{rendered};
@@ -28,7 +28,7 @@ fn profile_message(
     Ok(message)
 }
 
-/// Writes why a run answers nothing to standard error, and returns the exit status.
+/// Writes why a run returns nothing to standard error, and returns the exit status.
 pub fn refuse<E: Write>(alloc: Global, failure: &Failure, request: &Request<'_>, err: &mut E) -> u8
     ensures { (result ≡ failure_status failure.now) ⊎ (result ≡ 5) ⊎ (result ≡ 6) }
 {
@@ -128,8 +128,8 @@ fn refuse_json<O: Write, E: Write>(
     }
 }
 
-/// Writes why a run answers nothing, and returns the exit status: as a document of JSON to standard
-/// output where that is asked for, and else as a message to standard error.
+/// Writes why a run returns nothing, and returns the exit status: as a document of JSON to standard
+/// output where the request is for JSON, and else as a message to standard error.
 pub fn refuse_in<O: Write, E: Write>(
     alloc: Global,
     failure: &Failure,

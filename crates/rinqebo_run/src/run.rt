@@ -1,4 +1,4 @@
-//! Answers a request, and writes what it answers.
+//! Runs a request, and writes its result.
 ghost use Rattle.std.specs.Prelude.{◌≡◌, ◌⊎◌, ◌++◌, [], ◌∷◌, IfOk, IfErr, IfSome};
 ghost use Rattle.std.specs.Io.KnownBytes.{Appends};
 ghost use Rattle.std.specs.Result.{result_map_both};
@@ -59,8 +59,8 @@ fn answered(report: Result<Report, Failure>) -> Result<Answer, Failure>
     }
 }
 
-/// What a request is answered, over the files that it names: a report with an exit status, or why
-/// there is none. Nothing is written. Of a list it is told how far it is.
+/// The result of a request over the files that it names: a report with an exit status, or why
+/// there is none. Nothing is written. `progress` receives how far a list is.
 pub fn answer_of<P: Progress>(
     alloc: Global,
     request: &Request<'_>,
@@ -306,15 +306,15 @@ fn answer_list<O: Write, E: Write>(
     }
 }
 
-/// Answers a request over the files that it names, and answers the exit status: 0, or 1 for warnings
+/// Runs a request over the files that it names, and returns the exit status: 0, or 1 for warnings
 /// that are denied and where no leaf is found, 2 for platforms and metadata that are not understood
 /// and for several tests of the name, 3 where the files are refused, 4 where there is no such profile
 /// or test, 5 for want of memory, 6 where a write fails. Nothing goes to standard output where a run
-/// refuses, but for the findings of a check, and where JSON is asked for a document of why the files
-/// are refused, a profile or a test is missing, or several tests have the name.
-/// The text of a list goes out as its tests are asked: where memory runs out meanwhile, it has the
-/// first tests, each whole. Where a request says so, standard error is told how far a list is, on a
-/// line of its own that is gone in the end.
+/// refuses, but for the findings of a check, and where the output is JSON for a document of why the
+/// files are refused, a profile or a test is missing, or several tests have the name.
+/// The text of a list goes out as its tests are resolved: where memory runs out meanwhile, it has
+/// the first tests, each whole. Where a request says so, standard error shows how far a list is, on
+/// a line of its own that is gone in the end.
 pub fn perform<O: Write, E: Write>(
     alloc: Global,
     request: &Request<'_>,
@@ -340,7 +340,7 @@ pub fn perform<O: Write, E: Write>(
     }
 }
 
-/// Writes the JSON schema of a file, and answers the exit status. Nothing is read for it.
+/// Writes the JSON schema of a file, and returns the exit status. Nothing is read for it.
 pub fn print_schema<O: Write, E: Write>(alloc: Global, out: &mut O, err: &mut E) -> u8
     ensures status { (result ≡ 0) ⊎ (result ≡ 5) ⊎ (result ≡ 6) }
     ensures page { result ≡ 0 → Appends (O.contents out.old) (O.contents out.new)
@@ -353,7 +353,7 @@ pub fn print_schema<O: Write, E: Write>(alloc: Global, out: &mut O, err: &mut E)
     }
 }
 
-/// Tells why words are no request, and answers the exit status. Help goes to standard output.
+/// Reports why words are not a request, and returns the exit status. Help goes to standard output.
 pub fn refuse_words<O: Write, E: Write>(stop: &ParseStop, out: &mut O, err: &mut E) -> u8
     ensures status { IsWordsStatus stop.now result }
     ensures told { (result ≡ 6) ⊎ TellsWords stop.now (O.contents out.old) (O.contents out.new)
@@ -366,7 +366,7 @@ pub fn refuse_words<O: Write, E: Write>(stop: &ParseStop, out: &mut O, err: &mut
     }
 }
 
-/// Tells why the files of a request were not read, and answers the exit status.
+/// Reports why the files of a request were not read, and returns the exit status.
 pub fn refuse_gathering<E: Write>(alloc: Global, fault: &GatherFault, err: &mut E) -> u8
     ensures { IsGatherStatus fault.now result }
 {

@@ -3,13 +3,13 @@
 /// How a run ends. Its number, as `status as u8`, is the exit status.
 #[derive(Clone, Copy, Debug, PartialEq, Eq)]
 pub enum Status {
-    /// The request is answered. A check accepts the files.
+    /// The request succeeds. A check accepts the files.
     Success = 0,
     /// A check accepts the files with warnings, which are denied; or nothing is set under the keys of
     /// `show-config`.
     Negative = 1,
     /// The command line, the list of tests, the metadata or the platforms are not understood, or
-    /// several tests have the name that is asked about.
+    /// several tests have the requested name.
     Usage = 2,
     /// The files are refused.
     Refused = 3,

@@ -18,7 +18,7 @@ fn status_of_write(written: io::Result<()>, status: u8) -> u8
     }
 }
 
-/// Writes a text, and answers a status, or 6 where a write fails.
+/// Writes a text, and returns a status, or 6 where a write fails.
 pub fn tell<W: Write>(text: &str, status: u8, out: &mut W) -> u8
     ensures status { (result ≡ status) ⊎ (result ≡ 6) }
     ensures written { (result ≡ 6) ⊎ Appends (W.contents out.old) (W.contents out.new) text.now }
@@ -42,7 +42,7 @@ pub fn refuse_for_memory<E: Write>(err: &mut E) -> u8
     tell(OUT_OF_MEMORY, Status::Memory as u8, err)
 }
 
-/// Tells the findings for which a run answers nothing.
+/// Reports the findings for which a run returns nothing.
 pub fn refuse_with<E: Write>(
     alloc: Global,
     report: &Report,
@@ -58,7 +58,7 @@ pub fn refuse_with<E: Write>(
     }
 }
 
-/// Tells a message, and answers a status.
+/// Reports a message, and returns a status.
 pub fn refuse_message<E: Write>(message: Result<String, AllocError>, status: u8, err: &mut E) -> u8
     ensures { (result ≡ status) ⊎ (result ≡ 5) ⊎ (result ≡ 6) }
 {

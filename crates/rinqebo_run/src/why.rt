@@ -1,4 +1,4 @@
-//! The rules of a setting, and what comes of each.
+//! The rules of a setting, and the result of each.
 ghost use Rattle.std.specs.Prelude.{◌≡◌, IfErr, IfOk, List, map, option_map};
 ghost use Rattle.nextest_inheritance.specs.Parents.{parents_in};
 ghost use Rattle.nextest_load.specs.Config.{config_parents};
@@ -246,7 +246,7 @@ fn reasons<'c>(
     })
 }
 
-/// The rules of a setting, and what comes of each.
+/// The rules of a setting, and the result of each.
 pub fn why(
     alloc: Global,
     session: &Session<'_>,

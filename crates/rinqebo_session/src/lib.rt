@@ -1,6 +1,6 @@
-//! A configuration that is loaded once and asked often: the session of a runner.
+//! A configuration that is loaded once and queried often: the session of a runner.
 //!
-//! A [`Session`] holds what a request's files denote. A [`Profile`] is made of it, and answers the
+//! A [`Session`] holds what a request's files denote. A [`Profile`] is made of it, and returns the
 //! settings of each test as numbers, with no memory of its own.
 #![tactic(auto)]
 

@@ -186,8 +186,8 @@ impl Opened<'_> {
 }
 
 impl<'a> Profile<'a> {
-    /// The profile of a name in a session. It is always answered: where it is not open, its status
-    /// says why, and its reason tells it.
+    /// The profile of a name in a session. It is always returned: where it is not open, its status
+    /// says why, and its reason is the message.
     pub fn open(alloc: Global, session: &'a Session, name: &[u8]) -> Profile<'a>
         ensures { IsProfileIn session.now name.now result }
     {

@@ -14,7 +14,7 @@ use std::alloc::Global;
 pub struct Session {
     /// What was loaded.
     pub outcome: Result<Loaded, Failure>,
-    /// Why there is no configuration; empty where there is one.
+    /// Why it has no configuration; empty where it has one.
     pub reason: String,
 }
 
@@ -35,8 +35,8 @@ fn refused(alloc: Global, failure: Failure) -> Session
 }
 
 impl Session {
-    /// The session of a request in JSON. It is always answered: where there is no configuration, its
-    /// status says why, and its reason tells it.
+    /// The session of a request in JSON. It is always returned: where it has no configuration, its
+    /// status says why, and its reason is the message.
     pub fn load(alloc: Global, request: &[u8]) -> Session
         ensures { IsSessionOf request.now result }
     {
@@ -59,7 +59,7 @@ impl Session {
         }
     }
 
-    /// Copies out why there is no configuration. It is empty where there is one.
+    /// Copies out why it has no configuration. The text is empty where it has one.
     pub fn copy_reason(&self, out: &mut [u8], needed: &mut usize) -> u32
         ensures { IsCopiedOut (string_bytes self.now.reason) out.old out.new needed.new result }
     {

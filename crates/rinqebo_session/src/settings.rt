@@ -33,7 +33,7 @@ pub struct SettingNumbers {
     pub priority: i32,
     /// 1 where the profile's default filter matches the test, else 0.
     pub in_default_filter: u32,
-    /// What comes of the test where it passes at a later try: 0 where it passes, 1 where it fails.
+    /// The result of the test where it passes at a later try: 0 where it passes, 1 where it fails.
     pub flaky_result: u32,
     /// When its output is shown where it passes: 0 as soon as it ends, 1 then and at the end, 2 at
     /// the end, 3 never.

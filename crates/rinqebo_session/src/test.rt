@@ -1,4 +1,4 @@
-//! Tests, as a caller in C asks of them.
+//! Tests, as a caller in C names them.
 ghost use Rattle.std.specs.Prelude.{◌≡◌, IfOk, IfErr, MatchOption};
 ghost use Rattle.nextest_engines.specs.Engines.{binary_view, test_view};
 ghost use Rattle.rinqebo_session.specs.Asking.{IsTestOf, IsTestFault, IsBytesFault, IsNoText, platform_numbered, mode_numbered, fault_status, binary_of};

@@ -1,32 +1,32 @@
-//! Several rising lists of rules in one table: each rule once, with the lists that it stands in.
+//! Several rising lists of rules in one table: each rule once, with the lists that it is in.
 ghost use Rattle.std.specs.Prelude.{◌≡◌, ◌+◌, ◌<◌, ◌^◌, Bool, ℕ, map, length, slice_get, Some, IfOk};
 ghost use Rattle.rule_lists.specs.Lists.{IsListOf};
 ghost use Rattle.rule_lists.specs.Rows.{list_at, lists_of, rows_of};
 
 use std::alloc::{AllocError, Global};
 
-/// A rule that stands in lists. There are those of each place, `P`, and a `K` names one of them.
+/// A rule that is in lists. There are those of each place, `P`, and a `K` names one of them.
 pub trait Listed<P, K> {
-    /// Whether a rule stands in a list of a place.
+    /// Whether a rule is in a list of a place.
     ghost listed: { P → K → Self → Bool };
 
-    /// Whether the rule stands in a list of a place.
+    /// Whether the rule is in a list of a place.
     fn is_listed(&self, place: &P, list: &K) -> bool
         ensures { result ≡ listed place.now list.now self.now };
 }
 
-/// A rule that stands in some list.
+/// A rule that is in some list.
 #[derive(Clone, Copy)]
 pub struct Row {
     /// The rule's number.
     pub number: usize,
-    /// The lists that it stands in, a bit for each.
+    /// The lists that it is in, a bit for each.
     pub lists: u32,
-    /// The lists that it or a rule after it stands in.
+    /// The lists that it or a rule after it is in.
     pub later: u32,
 }
 
-/// The lists that a rule stands in, a bit for each.
+/// The lists that a rule is in, a bit for each.
 fn lists_with<P, K, R: Listed<P, K>>(rule: &R, place: &P, lists: &[K]) -> u32
     requires { length lists.now < 32 }
     ensures { result ≡ lists_of (map (λ list. R.listed place.now list) lists.now) rule.now }
@@ -38,7 +38,7 @@ fn lists_with<P, K, R: Listed<P, K>>(rule: &R, place: &P, lists: &[K]) -> u32
     bits
 }
 
-/// The rules that stand in some of fewer than 32 lists of a place, in order, numbered on from the
+/// The rules that are in some of fewer than 32 lists of a place, in order, numbered on from the
 /// first number. So each list is there, whole and rising: that of place k is what bit k marks.
 pub fn build_rows<P, K, R: Listed<P, K>>(
     alloc: Global,

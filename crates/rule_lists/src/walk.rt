@@ -5,7 +5,7 @@ ghost use Rattle.rule_lists.specs.Rows.{rows_of, settled};
 
 use crate::rows::Row;
 
-/// A query, as it is put to rules.
+/// A query over rules.
 pub trait Query<R> {
     /// What notes the rules that are evaluated.
     type Tally;
@@ -13,7 +13,7 @@ pub trait Query<R> {
     /// The numbers of the rules that were evaluated, in order.
     ghost numbers: { Self.Tally → List ℕ };
 
-    /// Which rules stand in the lists that the query reads.
+    /// Which rules are in the lists that the query reads.
     ghost tests: { Self → List (R → Bool) };
 
     /// Whether a rule has a filter.
@@ -46,7 +46,7 @@ fn settle<R: Copy>(found: &mut [Option<R>], mut lists: u32, rule: R)
 }
 
 /// Finds for each of fewer than 32 lists the first of its rules that is met, and takes no memory.
-/// Of the rules that stand in a list in which none was found yet the least is the next one: its
+/// Of the rules that are in a list in which none was found yet the least is the next one: its
 /// filter is evaluated once. Where no such list has a rule that is left, the walk ends.
 pub fn walk_rows<R: Copy, Q: Query<R>>(
     found: &mut [Option<R>],

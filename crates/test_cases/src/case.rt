@@ -14,7 +14,7 @@ pub struct Case<'a> {
     pub lines: Vec<&'a str>,
 }
 
-/// Why a text is no list of cases.
+/// Why a text is not a list of cases.
 #[derive(Debug, Drop, Error)]
 pub enum CaseError<'a> {
     /// A line says nothing that a case may say.
@@ -56,7 +56,7 @@ impl<'a> Case<'a> {
 ///
 /// # Errors
 ///
-/// [`CaseError::Line`] if a line stands before all cases, or adds to the text of a file that has
+/// [`CaseError::Line`] if a line is before all cases, or adds to the text of a file that has
 /// none. [`CaseError::Memory`] if memory runs out.
 pub fn read_cases(alloc: Global, text: &str) -> Result<Vec<Case<'_>>, CaseError<'_>> {
     let mut cases: Vec<Case<'_>> = Vec::new(alloc);

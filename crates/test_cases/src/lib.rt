@@ -1,7 +1,7 @@
 //! Cases of test programs: files in memory, and lines that say what a program does over them.
 //!
 //! Empty lines and lines that begin with `#` say nothing. A line `case NAME` begins a case. Below it
-//! stand lines about its files, and lines that the program itself reads:
+//! are lines about its files, and lines that the program itself reads:
 //!
 //! | Line | What it says |
 //! |---|---|

@@ -13,7 +13,7 @@ pub struct Run<'a> {
 /// The runs over the files of a case, and what is printed of each run.
 #[derive(Drop)]
 pub struct Setup<'a> {
-    /// The words of which one stands in each line of standard output that is printed. Without them
+    /// The words of which one is in each line of standard output that is printed. Without them
     /// all lines are.
     pub shown: Option<&'a str>,
     /// Whether no line of standard error is printed that begins with two spaces.

@@ -86,7 +86,7 @@ impl<'a> Lines<'a> {
         }
     }
 
-    /// Adds a line: a name, what is asked of, and a value.
+    /// Adds a line: a name, what the value is of, and a value.
     pub fn add_of<V: Debug>(&mut self, name: &str, of: &str, value: &V) {
         if self.shows(name) && write!(self.text, "  {name} {of}: {value:?}\n").is_err() {
             self.want_memory();
@@ -120,7 +120,7 @@ impl<'a> Lines<'a> {
     }
 }
 
-/// An override, by the profile and the file in which it stands at a position.
+/// An override, by the profile and the file in which it is at a position.
 pub fn override_text(
     alloc: Global,
     source: &ConfigSource,

@@ -13,7 +13,7 @@ use nextest_config::{
 use std::alloc::AllocError;
 use std::fmt::Debug;
 
-/// The names of a case and of a profile, and what is asked of it.
+/// The names of a case and of a profile, and what the profile returns.
 pub fn report_of(run: &Run<'_>) -> Result<String, AllocError> {
     let case = run.case;
     let mut lines = Lines::new(run.alloc, case.name, run.profile, case.shown);

@@ -1,4 +1,4 @@
-//! One run: a case, and the profile that is asked.
+//! One run: a case, and the profile of a name.
 use crate::setup::Setup;
 use nextest_config::{
     BuildPlatforms, ConfigExperimental, ConfigFileSelection, EarlyProfile, EvaluatableProfile,
@@ -15,13 +15,13 @@ pub type Early<'cfg> = EarlyProfile<'cfg, ToyFilters, ToySpecs>;
 
 pub type Profile<'cfg> = EvaluatableProfile<'cfg, ToyFilters, ToySpecs>;
 
-/// The engines that a load asks.
+/// The engines that a load uses.
 pub const ENGINES: ParseContext<'static, ToyFilters, ToySpecs> = ParseContext {
     filters: &ToyFilters,
     specs: &ToySpecs,
 };
 
-/// What is asked: the files and queries of a case, a profile by name, and the platforms of a build.
+/// The request: the files and queries of a case, a profile by name, and the platforms of a build.
 #[derive(Drop)]
 pub struct Run<'a> {
     pub alloc: Global,

@@ -8,7 +8,7 @@
 //! |---|---|
 //! | `case NAME ROOT` | a report begins, of a workspace with this root |
 //! | `source KIND TOOL PATH` | a source: `default`, `tool`, `organisation`, `explicit` or `discovered` |
-//! | `asked PROFILE CHAIN MODE HOST TARGET` | what is asked for; the chain has spaces in it |
+//! | `asked PROFILE CHAIN MODE HOST TARGET` | what was requested; the chain has spaces in it |
 //! | `assumed` | the triple of the host is only assumed |
 //! | `explain`, `why KEY`, `list` or `show-config` | the command; without one it is `check` |
 //! | `test BINARY NAME PLATFORM` | a test |
@@ -23,7 +23,7 @@
 //! | `field KEY KIND TEXT` | a member of the table |
 //! | `built-in`, `default-table` | where the setting, rule or leaf comes from, or what says that the test runs |
 //! | `profile`, `override` or `script`, then `PROFILE INDEX SOURCE FIRST LAST` and perhaps a range | the same, with the place of the source from 0, and lines |
-//! | `file SOURCE FIRST LAST` and perhaps a range | the same, of what stands beside all profiles |
+//! | `file SOURCE FIRST LAST` and perhaps a range | the same, of what is beside all profiles |
 //! | `unused`, and such a rule behind it | a rule that holds for no test |
 //! | `setup ID ..` | the setup scripts that the tests of a list enable |
 //! | `list-wrapper BINARY ID` | the list wrapper of a binary |
@@ -38,7 +38,7 @@
 //!
 //! A range is the line and the column of its start, and then those of its end.
 //!
-//! A line of another form is told on standard error, and the status is 2.
+//! A line of another form is reported on standard error, and the status is 2.
 #![tactic(auto)]
 
 mod builder;

@@ -31,7 +31,7 @@ pub fn answer_of(word: &str) -> Option<ConditionAnswer> {
     }
 }
 
-/// The scalar whose kind stands at a place, and whose text behind it.
+/// The scalar whose kind is at a place, and whose text behind it.
 pub fn scalar_of(alloc: Global, line: &Line, place: usize) -> Result<Scalar, RowError> {
     let text = line.word(place.saturating_add(1))?;
     match line.word(place)? {
@@ -95,7 +95,7 @@ pub fn origin_of(alloc: Global, line: &Line) -> Result<Origin, RowError> {
     }
 }
 
-/// What is written in a file, whose kind stands at a place of the line.
+/// What is written in a file, whose kind is at a place of the line.
 pub fn written_of(alloc: Global, line: &Line, place: usize) -> Result<Origin, RowError> {
     let index = line.optional_number(place.saturating_add(2))?;
     let part = match (line.word(place)?, index) {

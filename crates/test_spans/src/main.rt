@@ -1,4 +1,4 @@
-//! Prints where the keys and values of texts stand, one text a line.
+//! Prints where the keys and values of texts are, one text a line.
 //!
 //! A line of standard input is a word, a tab and a text, in which `\n`, `\r`, `\t` and `\\` are
 //! written for a newline, a carriage return, a tab and a backslash. Empty lines, and lines with `#`

@@ -132,7 +132,7 @@ fn value_word(kind: Option<ValueKind>) -> &'static str {
     }
 }
 
-/// The tokens of a text, each as its kind, where it stands and, of a part of a key, its name.
+/// The tokens of a text, each as its kind, where it is and, of a part of a key, its name.
 pub fn shown_tokens(alloc: Global, text: &str) -> Result<String, AllocError> {
     let mut line = String::new(alloc);
     for token in &tokens_of(alloc, text)? {

@@ -9,7 +9,7 @@
 //!
 //! Each other row is printed with a tab behind it, and then, with tabs between,
 //!
-//! | What comes of it | Printed |
+//! | Result | Printed |
 //! |---|---|
 //! | the text is refused | `refused`, the name of the fault, where it starts and how long it is, in bytes |
 //! | a filter | `ok`, whether it matches the test, whether it matches the binary, the reading, and the parts that only a test can answer |

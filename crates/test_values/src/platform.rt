@@ -8,7 +8,7 @@
 //!
 //! Each other row is printed with ` -> ` behind it, and then
 //!
-//! | What comes of it | Printed |
+//! | Result | Printed |
 //! |---|---|
 //! | the value on the platform | `true`, `false` or `unknown` |
 //! | the reading alone | `spec` and the expression, with `\n`, `\t`, `\r` and `\\` for characters |

@@ -28,7 +28,7 @@ use std::alloc::Global;
 use std::fmt::Display;
 use texts::{document_answer, merged, text_answer};
 
-/// The row, and what comes of reading its value by the reader that it names.
+/// The row, and the result of reading its value by the reader that it names.
 pub fn answer_to(alloc: Global, row: &str) -> Result<String, RowError> {
     let (reader, value) = row.split_once(' ').ok_or(RowError::NoRow)?;
     let document = format!(in alloc; "value = {value}")?;

@@ -4,7 +4,7 @@ ghost use Rattle.toy_engines.specs.FilterValues.{atom_of, term_of, filter_of, su
 
 use crate::texts::contains;
 
-/// What a filter asks of a test or a binary.
+/// What a filter matches in a test or a binary.
 #[derive(Debug, Drop)]
 pub enum Leaf {
     /// `all()`, which holds.

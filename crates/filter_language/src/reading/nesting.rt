@@ -1,4 +1,4 @@
-//! What stands open around a place.
+//! What is open around a place.
 ghost use Rattle.std.specs.Prelude.{◌≡◌, ◌+◌, ◌∷◌, ℕ, List, true, false, nat_lt, not, None, Some, [], IfOk, if◌then◌else◌};
 ghost use Rattle.filter_language.specs.Nesting.{shape_view, start_shape, negated_shape, opened_shape, complete_shape, joined_shape, closed_shape};
 
@@ -7,7 +7,7 @@ use std::alloc::{AllocError, Global};
 /// The most `not`s and parentheses around one place.
 pub const MAX_NESTING: usize = 128;
 
-/// What stands open around a place.
+/// What is open around a place.
 #[derive(Drop)]
 pub struct Nesting {
     /// The `not`s and parentheses around each level further out, the outermost first.
@@ -21,7 +21,7 @@ pub struct Nesting {
 }
 
 impl Nesting {
-    /// Nothing stands open.
+    /// Nothing is open.
     pub fn new(alloc: Global) -> Nesting
         ensures { shape_view result ≡ start_shape }
     {
@@ -41,7 +41,7 @@ impl Nesting {
         self.around.saturating_add(self.nots) < MAX_NESTING
     }
 
-    /// Whether a parenthesis stands open.
+    /// Whether a parenthesis is open.
     pub fn is_inside(&self) -> bool
         ensures out { result ≡ false → (shape_view self.now).outer ≡ [] }
         ensures inside { result ≡ true → (a : ℕ) × (more : List ℕ)
@@ -50,7 +50,7 @@ impl Nesting {
         !self.outer.is_empty()
     }
 
-    /// A `not`. Answers whether it is within the bound.
+    /// A `not`. Returns whether it is within the bound.
     pub fn negate(&mut self) -> bool
         ensures { (if result then Some (shape_view self.new) else None)
             ≡ negated_shape (shape_view self.old) }
@@ -62,7 +62,7 @@ impl Nesting {
         true
     }
 
-    /// A `(`. Answers whether it is within the bound.
+    /// A `(`. Returns whether it is within the bound.
     pub fn open(&mut self) -> Result<bool, AllocError>
         ensures { IfOk result (λ is_open. (if is_open then Some (shape_view self.new) else None)
             ≡ opened_shape (shape_view self.old)) }
@@ -91,7 +91,7 @@ impl Nesting {
         self.wants_operand = true;
     }
 
-    /// A `)`. Answers whether it ends a level.
+    /// A `)`. Returns whether it ends a level.
     pub fn close(&mut self) -> bool
         ensures value { (if result then Some (shape_view self.new) else None)
             ≡ closed_shape (shape_view self.old).outer }

@@ -27,7 +27,7 @@ use std::alloc::Global;
 #[derive(Drop)]
 pub struct Next<'a, M> {
     pub mark: Mark<M>,
-    /// Why it may not stand in a filter of its kind.
+    /// Why it is not allowed in a filter of its kind.
     pub objection: Option<Misread<'a>>,
     pub rest: &'a str,
 }

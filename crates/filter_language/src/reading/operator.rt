@@ -59,7 +59,8 @@ fn own_operator(text: &str) -> Option<(Operator, &str)>
     Some((Operator::Close, rest))
 }
 
-/// The same, unless a mark stands there that other languages write.
+/// The operator or `)` that a text without blanks in front begins with, and what follows it, or a
+/// fault where it begins with a mark that other languages write.
 pub fn operator_at(text: &str) -> Result<Option<(Operator, &str)>, Stop<'_>>
     ensures ok { IfOk result (λ found. operator_in text.now
         ≡ Ok (option_map (λ pair. (pair.0, pair.1.now)) found)) }

@@ -10,7 +10,7 @@ use regex_class::Class;
 use regex_hir::Hir;
 use std::alloc::{AllocError, Global};
 
-/// What stands behind the first byte of a class.
+/// What follows the first byte of a class.
 #[derive(Clone, Copy)]
 pub enum ClassItem {
     /// A byte of its own.
@@ -24,7 +24,7 @@ pub enum ClassItem {
 ///
 /// # Errors
 ///
-/// [`RowFault::Malformed`] where no class stands there, and [`RowFault::Memory`] where memory
+/// [`RowFault::Malformed`] where there is no class, and [`RowFault::Memory`] where memory
 /// ran out.
 pub fn read_class(alloc: Global, text: &[u8]) -> Result<(Hir, usize), RowFault>
     ensures class { IfOk result (λ read. (class : classes.GlobClass)
@@ -39,7 +39,7 @@ pub fn read_class(alloc: Global, text: &[u8]) -> Result<(Hir, usize), RowFault>
     Ok((pattern, sign + len))
 }
 
-// Whether the sign of a negated class stands at the front of a text, and how many bytes write it.
+// Whether the sign of a negated class is at the front of a text, and how many bytes write it.
 fn read_sign(text: &[u8]) -> (bool, usize)
     ensures sign { WritesNegation result.0 text.now (drop result.1 text.now) }
     ensures len { result.1 ≤ length text.now }

@@ -6,7 +6,7 @@ use std::alloc::AllocError;
 /// Why no row, part or class is read.
 #[derive(Clone, Copy)]
 pub enum RowFault {
-    /// None stands there.
+    /// There is none.
     Malformed,
     /// Memory ran out.
     Memory,

@@ -55,7 +55,7 @@ pub fn ends_row(inside: bool, text: &[u8]) -> bool
 ///
 /// # Errors
 ///
-/// [`RowFault::Malformed`] where no part stands there: a backslash at the end, and the bytes of
+/// [`RowFault::Malformed`] where there is no part: a backslash at the end, and the bytes of
 /// classes and groups.
 pub fn read_part(text: &[u8], inside: bool, place: Place) -> Result<(GlobPart, usize), RowFault>
     requires { 0 < length text.now }
@@ -93,7 +93,7 @@ fn read_star(text: &[u8], inside: bool, place: Place) -> (GlobPart, usize)
     (GlobPart::AnyBytes, 1)
 }
 
-// Whether folders stand at the front of a text, where they may.
+// Whether folders are at the front of a text, where they may be.
 fn begins_folders(text: &[u8], place: Place) -> bool
     ensures { IsTrue result ↔ BeginsFolders place text.now }
 {
@@ -111,7 +111,7 @@ fn folders_part(inside: bool, place: Place, rest: &[u8]) -> GlobPart
     }
 }
 
-// Whether the last stars of a branch of folders stand at the front of a text.
+// Whether the last stars of a branch of folders are at the front of a text.
 fn begins_last(text: &[u8], inside: bool, place: Place) -> bool
     ensures { IsTrue result ↔ BeginsLast inside place text.now }
 {

@@ -1,10 +1,10 @@
-//! Where a part of a glob stands.
+//! Where a part of a glob is.
 ghost use Rattle.std.specs.Prelude.{◌≡◌};
 ghost use Rattle.filter_matchers.specs.Globs as globs;
 
 use crate::glob::part::GlobPart;
 
-/// Where a part stands in a row, as a glob is and each branch of a group.
+/// Where a part is in a row. A glob is a row, and so is each branch of a group.
 #[derive(Clone, Copy)]
 pub enum Place {
     /// At the start.
@@ -18,14 +18,14 @@ pub enum Place {
 }
 
 impl Place {
-    /// Whether folders may stand here.
+    /// Whether folders are allowed here.
     pub fn opens(self) -> bool
         ensures { result ≡ globs.opens self }
     {
         !matches!(self, Place::Elsewhere)
     }
 
-    /// Whether nothing but folders stands in front.
+    /// Whether there is nothing but folders in front.
     pub fn leads(self) -> bool
         ensures { result ≡ globs.leads self }
     {

@@ -26,7 +26,7 @@ struct Piece {
 ///
 /// # Errors
 ///
-/// [`RowFault::Malformed`] where no row stands there, and [`RowFault::Memory`] where memory ran
+/// [`RowFault::Malformed`] where there is no row, and [`RowFault::Memory`] where memory ran
 /// out.
 #[cycle(rows)]
 pub fn read_row(

@@ -1,4 +1,4 @@
-//! Bytes that an automaton does not tell apart.
+//! Bytes that an automaton does not distinguish.
 ghost use Rattle.std.specs.Prelude.{◌≡◌, ◌+◌, ◌<◌, ◌≤◌, ◌∷◌, ◌++◌, [], IfOk, OnOk, true, if◌then◌else◌, length, vec_len};
 ghost use Rattle.regex_nfa.specs.declared.state.Transition.{Transition};
 ghost use Rattle.filter_matchers.specs.Classes.{AreClasses, IsCut, KeepsCuts, SeparatesBytes, flag};
@@ -16,7 +16,7 @@ pub struct Classes {
 }
 
 impl Classes {
-    /// The classes of bytes that an automaton does not tell apart.
+    /// The classes of bytes that an automaton does not distinguish.
     pub fn new(alloc: Global, nfa: &Nfa) -> Result<Classes, AllocError>
         ensures classes { IfOk result
             (λ classes. AreClasses nfa.now classes.of classes.bytes.items) }
@@ -54,7 +54,7 @@ fn last_class(bytes: &Vec<u8>) -> u8
     (bytes.len() - 1) as u8
 }
 
-// For each byte, whether the automaton may tell it from the byte below it.
+// For each byte, whether the automaton may distinguish it from the byte below it.
 fn cuts_of(nfa: &Nfa) -> [bool; 257]
     ensures first { flag result 0 ≡ true }
     ensures others { SeparatesBytes nfa.now result }

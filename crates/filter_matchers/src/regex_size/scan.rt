@@ -11,7 +11,7 @@ use std::alloc::{AllocError, Global};
 pub struct Scan {
     pub mode: Mode,
     pub reading: Reading,
-    /// The items so far, within all groups that stand open.
+    /// The items so far, within all groups that are open.
     pub inner: Level,
     /// The items around each of these groups, the outermost first.
     pub outer: Vec<Level>,
@@ -40,7 +40,7 @@ impl Scan {
         Ok(())
     }
 
-    // Closes a group, or makes one item of all where none stands open.
+    // Closes a group, or makes one item of all where none is open.
     fn close(&mut self)
         ensures { sizes.scan_view self.new ≡ sizes.closed self.old.mode self.old.reading
             self.old.inner (sizes.scan_view self.old).outer }
@@ -78,7 +78,7 @@ impl Scan {
         self.act(turn.act)
     }
 
-    /// How many states there are, where groups that stand open end with the text.
+    /// How many states there are, where groups that are open end with the text.
     pub fn whole(mut self) -> u32
         ensures { result ≡ sizes.whole_of (sizes.scan_view self) }
     {

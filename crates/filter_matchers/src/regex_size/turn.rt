@@ -4,7 +4,7 @@ ghost use Rattle.filter_matchers.specs.RegexSizes as sizes;
 
 use crate::regex_size::size::Size;
 
-/// Where a byte stands.
+/// Where a byte is.
 #[derive(Clone, Copy)]
 pub enum Mode {
     Pattern,
@@ -19,11 +19,11 @@ pub enum Mode {
 pub enum Reading {
     /// An item, or what repeats it.
     Item,
-    /// What stands behind a `(`.
+    /// What follows a `(`.
     Opened,
-    /// What stands behind `(?`.
+    /// What follows `(?`.
     Flags,
-    /// What stands behind a `\`.
+    /// What follows a `\`.
     Escaped,
     /// So many bytes of an escape, or braces in their place.
     Named(u8),
@@ -31,7 +31,7 @@ pub enum Reading {
     Braced,
     /// The braces of a repetition: the number that is read, and the greatest before it.
     Counted { number: u16, most: u16 },
-    /// What stands behind the `[` of a class, or its `^`.
+    /// What follows the `[` of a class, or its `^`.
     First,
 }
 
@@ -51,7 +51,7 @@ pub enum Act {
     Closes,
 }
 
-/// What a byte does, where the next one stands, and what is read there.
+/// What a byte does, where the next one is, and what is read there.
 #[derive(Clone, Copy)]
 pub struct Turn {
     pub act: Act,

@@ -1,4 +1,4 @@
-//! The rows that a configuration answers for tests.
+//! The rows that a configuration gives for tests.
 ghost use Rattle.std.specs.Prelude.{◌≡◌, ◌++◌, List, ℕ, IfOk, map};
 ghost use Rattle.nextest_engines.specs.Engines.{test_view};
 ghost use Rattle.nextest_profiles.specs.Meaning.{configured_meaning, profile_meaning};

@@ -1,4 +1,4 @@
-//! Why a run answers no rows.
+//! Why a run returns no rows.
 ghost use Rattle.nextest_sources.specs.Endings.{error_view};
 ghost use Rattle.nextest_config.specs.RunView.{refusal_view, TellsEnding};
 
@@ -7,10 +7,10 @@ use nextest_sources::ConfigParseError;
 use std::alloc::AllocError;
 use thiserror::Error;
 
-/// Why a run answers no rows.
+/// Why a run returns no rows.
 #[derive(Debug, Drop, Error)]
 pub enum ResolveFault {
-    /// The configuration is refused. Want of memory is not told so.
+    /// The configuration is refused. Running out of memory is not reported this way.
     #[error("{0}")]
     Config(ConfigParseError),
     /// The configuration has no profile of the name.

@@ -44,7 +44,7 @@ pub enum ConfigCompileSection {
 pub struct ConfigCompileError {
     /// The profile.
     pub profile_name: String,
-    /// Where in the profile it stands.
+    /// Where it is in the profile.
     pub section: ConfigCompileSection,
     /// What is wrong with it.
     pub kind: ConfigCompileErrorKind,

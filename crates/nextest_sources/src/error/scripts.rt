@@ -28,7 +28,7 @@ pub struct ProfileWrongConfigScriptTypeError {
     pub actual: ScriptType,
 }
 
-/// A rule with a list wrapper has a filter that can only be answered for a test.
+/// A rule with a list wrapper has a filter that can only be decided for a test.
 #[derive(Debug, Drop)]
 pub struct ProfileListScriptUsesRunFiltersError {
     /// The profile of the rule.
@@ -59,7 +59,7 @@ impl std::error::Error for ProfileListScriptUsesRunFiltersError {}
 
 /// All that is wrong with the scripts that the rules of a source name.
 ///
-/// Each list stands in the order of the profiles, `default` first and the others by name, then of
+/// Each list is in the order of the profiles, `default` first and the others by name, then of
 /// the rules, and in each rule of setup scripts, list wrapper and run wrapper.
 #[derive(Debug, Drop)]
 pub struct ProfileScriptErrors {
