@@ -67,7 +67,8 @@ static int has_text(const struct rinqebo_profile *profile, uint32_t kind, size_t
 static const char *REQUEST =
     "{\"root\": \"/w\", \"file\": {\"path\": \"/w/.config/nextest.toml\", \"outcome\": \"text\", \"text\":"
     " \"[profile.ci]\\nretries = 1\\n[test-groups.db]\\nmax-threads = 2\\n[[profile.ci.overrides]]\\n"
-    "filter = 'test(/^db::/)'\\ntest-group = 'db'\\nthreads-required = 4\\nslow-timeout = '20s'\\npriority = 50\\n\"},"
+    "filter = 'test(/^db::/)'\\ntest-group = 'db'\\nthreads-required = 4\\nslow-timeout = '20s'\\npriority = 50\\n"
+    "run-extra-args = ['-q', '']\\n\"},"
     " \"config-file\": null, \"organisation-config-file\": null, \"tools\": [],"
     " \"features\": {\"setup-scripts\": false, \"wrapper-scripts\": false}, \"metadata\": null,"
     " \"host\": {\"triple\": \"x86_64-unknown-linux-gnu\", \"cfg\": null}, \"target\": null}";
@@ -80,7 +81,7 @@ static int check_settings(const struct rinqebo_profile *profile) {
     if (settings.retries.backoff != 0 || settings.retries.count != 1) return 12;
     if (settings.slow_timeout.period.low != UINT64_C(20000000000) || settings.slow_timeout.period.high != 0) return 13;
     if (settings.test_group != 0 || settings.group_threads.kind != 0 || settings.group_threads.count != 2) return 14;
-    if (settings.run_wrapper != RINQEBO_NO_NAME || settings.run_extra_args != 0) return 15;
+    if (settings.run_wrapper != RINQEBO_NO_NAME || settings.run_extra_args != 2) return 15;
     if (settings.in_default_filter != 1) return 16;
     if (!has_text(profile, RINQEBO_GROUP, settings.test_group, "db")) return 17;
     if (!has_text(profile, RINQEBO_REASON, 0, "")) return 18;
@@ -88,7 +89,7 @@ static int check_settings(const struct rinqebo_profile *profile) {
     if (settings.test_group != RINQEBO_NO_NAME || settings.group_threads.kind != 2 || settings.priority != 0) return 19;
     if (ask(profile, test_of("api", "\xff"), &settings) != RINQEBO_NOT_TEXT) return 20;
     struct rinqebo_test test = test_of("", "");
-    if (ask(profile, test, &settings) != RINQEBO_DONE) return 21;
+    if (ask(profile, test, &settings) != RINQEBO_NOT_KNOWN) return 21;
     test.mode = 2;
     if (ask(profile, test, &settings) != RINQEBO_UNKNOWN_NUMBER) return 22;
     return 0;
@@ -131,8 +132,35 @@ static int check_buffer(const struct rinqebo_profile *profile) {
     if (rinqebo_profile_text(profile, RINQEBO_GROUP, 0, out, 0, &needed) != RINQEBO_SMALL || needed != 2) return 32;
     if (rinqebo_profile_text(profile, RINQEBO_GROUP, 0, out, needed, &needed) != RINQEBO_DONE || out[0] != 'd') return 33;
     if (rinqebo_profile_text(profile, RINQEBO_GROUP, 1, out, 2, &needed) != RINQEBO_UNKNOWN_NUMBER) return 34;
-    if (rinqebo_profile_text(profile, 3, 0, out, 2, &needed) != RINQEBO_UNKNOWN_NUMBER || needed != 0) return 35;
+    if (rinqebo_profile_text(profile, 4, 0, out, 2, &needed) != RINQEBO_UNKNOWN_NUMBER || needed != 0) return 35;
     return 0;
+}
+
+// Whether an argument of a test ends so, with this text.
+static int argument_is(const struct rinqebo_profile *profile, struct rinqebo_test test, size_t index, uint32_t wanted,
+                       const char *text) {
+    uint8_t out[8];
+    size_t needed = 7;
+    uint32_t status = rinqebo_profile_argument(profile, &test, index, out, sizeof out, &needed);
+    return status == wanted && needed == strlen(text) && memcmp(out, text, needed) == 0;
+}
+
+// The arguments of tests, and the objects of the profile. 0, or the number of the first check that fails.
+static int check_objects(const struct rinqebo_profile *profile) {
+    struct rinqebo_test test = test_of("api", "db::reads"), quick = test_of("api", "quick");
+    if (!argument_is(profile, test, 0, RINQEBO_DONE, "-q") || !argument_is(profile, test, 1, RINQEBO_DONE, "")) return 36;
+    if (!argument_is(profile, test, 2, RINQEBO_UNKNOWN_NUMBER, "")) return 37;
+    if (!argument_is(profile, quick, 0, RINQEBO_UNKNOWN_NUMBER, "")) return 37;
+    if (!argument_is(profile, test_of("", ""), 0, RINQEBO_NOT_KNOWN, "")) return 38;
+    test.size -= 1;
+    if (!argument_is(profile, test, 0, RINQEBO_BAD_SIZE, "")) return 38;
+    static const char *groups = "\"groups\":[{\"max-threads\":2,\"name\":\"db\"}],\"run\":{";
+    uint8_t out[4096];
+    size_t needed = 0, length = strlen(groups);
+    if (rinqebo_profile_text(profile, RINQEBO_OBJECTS, 0, out, sizeof out, &needed) != RINQEBO_DONE) return 39;
+    static const char *findings = "{\"findings\":[],";
+    if (needed <= strlen(findings) + length || memcmp(out, findings, strlen(findings)) != 0) return 39;
+    return memcmp(out + strlen(findings), groups, length) == 0 && out[needed - 1] == '}' ? 0 : 39;
 }
 
 // A request that is refused, and what may still be asked. 0, or the number of the check that fails.
@@ -272,6 +300,7 @@ static int check(void) {
     failed = check_settings(profile);
     if (failed == 0) failed = check_sizes(profile, RINQEBO_DONE);
     if (failed == 0) failed = check_buffer(profile);
+    if (failed == 0) failed = check_objects(profile);
     end_profile(profile);
     if (failed != 0) return failed;
     profile = open_profile(session, "cj");

@@ -127,6 +127,9 @@ pub struct Finding {
     pub message: String,
     /// The keys that lead to it, with dots between them.
     pub path: Option<String>,
+    /// The path of the file, where a configuration that is loaded tells it.
+    #[serde(default, skip_serializing_if = "Option::is_none")]
+    pub file: Option<String>,
     /// The place of the source among those of the document, from 0.
     pub source: Option<usize>,
     /// The first and the last line.

@@ -26,6 +26,8 @@ pub struct Sources {
     pub host: Machine,
     /// The machine that is built for, where it is another one.
     pub target: Option<Machine>,
+    /// The target directory, to which programs of scripts may be relative.
+    pub target_directory: Option<String>,
 }
 
 /// A file: its path, and what came of reading it.
@@ -138,6 +140,7 @@ impl Sources {
                 cfg: None,
             },
             target: None,
+            target_directory: None,
         }
     }
 }

@@ -210,8 +210,7 @@ impl<'c> ListPage<'c, '_> {
             (O.contents out.old) (O.contents out.new)) }
     {
         let text = render_list_head(alloc, asked, self.colour)?;
-        write_text(text.as_str(), out)?;
-        Ok(())
+        write_text(text.as_str(), out)
     }
 
     /// Writes what stands behind the tests: how many there are, and the rules that hold for none,

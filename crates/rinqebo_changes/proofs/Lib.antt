@@ -1,0 +1,7 @@
+mod Deciding
+mod SameValues
+mod SameOrigins
+mod ClassLists
+mod Reflexive
+mod Exactly
+mod Fair

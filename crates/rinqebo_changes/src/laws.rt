@@ -1,0 +1,46 @@
+//! Laws of what changes, as contracts.
+ghost use Rattle.std.specs.Prelude.{◌≡◌, List, option_map, map};
+ghost use Rattle.std.specs.Bool.{Decides};
+ghost use Rattle.std.specs.Option.{option_eq};
+ghost use Rattle.rinqebo_report.specs.declared.report.SettingRow.{SettingRow as Row};
+ghost use Rattle.rinqebo_changes.specs.declared.classes.Item.{Item as Change};
+ghost use Rattle.rinqebo_changes.specs.Changes.{is_change};
+ghost use Rattle.rinqebo_changes.specs.Classes.{same_item, AreClasses};
+ghost use Rattle.rinqebo_changes.specs.Laws.{AreExactly, AreFair, AreWhole};
+ghost use Rattle.rinqebo_changes.specs.OriginViews.{origin_view};
+ghost use Rattle.rinqebo_changes.specs.Same.{same_value};
+ghost use Rattle.rinqebo_changes.specs.SameOrigin.{same_origins};
+ghost use Rattle.rinqebo_changes.specs.ValueViews.{value_view};
+
+use crate::change::Comparison;
+use crate::classes::ClassRule;
+use rinqebo_report::{Origin, Value};
+
+/// The values of a setting are the same exactly where they are equal: as values, not as they are kept.
+pub fn law_values(a: &Option<Value>, b: &Option<Value>)
+    ensures { Decides (option_eq same_value a.now b.now)
+        (option_map value_view a.now ≡ option_map value_view b.now) }
+{}
+
+/// The origins of a value of one side are the same exactly where they are equal.
+pub fn law_origins(a: &[Origin], b: &[Origin])
+    ensures { Decides (same_origins a.now b.now) (map origin_view a.now ≡ map origin_view b.now) }
+{}
+
+/// The rows that change are exactly those between which something changes, each once.
+pub fn law_exactly(compare: &Comparison<'_>)
+    ensures { (from to : List Row) → AreExactly (is_change compare.now.sources.from.now
+        compare.now.sources.to.now compare.now.with_origins) from to }
+{}
+
+/// Nothing changes between equal rows, and swapped sides swap what changes.
+pub fn law_swapped(compare: &Comparison<'_>)
+    ensures { AreFair compare.now.sources.from.now compare.now.sources.to.now
+        compare.now.with_origins }
+{}
+
+/// Classes have all changes and no others, each once, and those of a class stand together.
+pub fn law_classes(rule: ClassRule)
+    ensures { (items : List Change) (classes : List (List Change))
+        → AreClasses (same_item rule) items classes → AreWhole rule items classes }
+{}

@@ -1,0 +1,5 @@
+pub mod Matched
+pub mod Compared
+pub mod Loaded
+pub mod Written
+pub mod Differences
