@@ -1,5 +1,5 @@
 -- Tests that decide whether what is seen of two values is equal.
-use Rattle.std.proofs.Common.{◌≡◌, ◌≢◌, ◌&&◌, Bool, true, false, List, [], ◌∷◌, map, refl, sym, ap, absurd, tt}
+use Rattle.std.proofs.Common.{◌≡◌, ◌≢◌, ◌&&◌, Bool, true, false, List, [], ◌∷◌, map, refl, sym, ap}
 use Rattle.std.specs.Bool.{Decides}
 use Rattle.std.specs.Cmp.Lexicographic.{pointwise}
 use Rattle.std.proofs.lemmas.Bool.Decides.{Decides-and, Decides-like}
@@ -14,7 +14,7 @@ always p = (λ e. p, λ q. refl)
 
 -- two heads and two tails make two lists
 cons_both : {V : Type 0} (v w : V) (vs ws : List V) → (v ≡ w) × (vs ≡ ws) → v ∷ vs ≡ w ∷ ws
-cons_both v w vs ws p = let e : v ≡ w = p.0 in let f : vs ≡ ws = p.1 in cc
+cons_both v w vs ws p = λ i. p.0 i ∷ p.1 i
 
 -- equal lists have equal heads and tails
 both_of_cons : {V : Type 0} (v w : V) (vs ws : List V) → v ∷ vs ≡ w ∷ ws → (v ≡ w) × (vs ≡ ws)
@@ -33,8 +33,8 @@ mapped_decides E seen each (x ∷ xs) (y ∷ ys) =
     (Decides-and (E x y) (pointwise E xs ys) (each x y) (mapped_decides E seen each xs ys))
 
 -- two parts make a pair
-pub pair_both : {A B : Type 0} (a c : A) (b d : B) → (a ≡ c) × (b ≡ d) → (a, b) ≡ (c, d)
-pair_both a c b d p = let e : a ≡ c = p.0 in let f : b ≡ d = p.1 in cc
+pub pair_both : {A B : Type 0} (a c : A) (b d : B) → (a ≡ c) × (b ≡ d) → ◌≡◌ {A = A × B} (a, b) (c, d)
+pair_both a c b d p = λ i. (p.0 i, p.1 i)
 
 -- equal pairs have equal parts
 pub both_of_pair : {A B : Type 0} (p q : A × B) → p ≡ q → (p.0 ≡ q.0) × (p.1 ≡ q.1)

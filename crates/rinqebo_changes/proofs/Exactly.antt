@@ -1,5 +1,5 @@
 -- The rows that change are exactly those between which something changes, each once.
-use Rattle.std.proofs.Common.{◌≡◌, ℕ, ◌<◌, ◌≤◌, ◌+◌, ◌∙◌, Bool, true, false, cond, List, [], ◌∷◌, Option, None, Some, map, filter, refl, sym, ap, subst, absurd, tt, arith}
+use Rattle.std.proofs.Common.{◌≡◌, ℕ, ◌<◌, ◌≤◌, ◌+◌, ◌∙◌, Bool, true, false, cond, List, [], ◌∷◌, Option, None, Some, map, filter, zero, suc, refl, sym, ap, subst, arith}
 use Rattle.std.specs.List.{AllByRecursion, enumerate_from, zip}
 use Rattle.std.specs.Prelude.{slice_get}
 use Rattle.rinqebo_report.specs.declared.report.SettingRow.{SettingRow}
@@ -10,7 +10,7 @@ use Rattle.rinqebo_changes.specs.Laws.{IsOneOf, IsChangeAt, AreRising, AreExactl
 -- the rows that change, with places from n on
 abbrev changed_from : (SettingRow → SettingRow → Bool) → ℕ → List SettingRow → List SettingRow → List RowChange
 changed_from test n from to =
-    map change_of (filter (λ p. test p.1.0 p.1.1) (enumerate_from n (zip from to)))
+    filter (λ c. test c.from c.to) (map change_of (enumerate_from n (zip from to)))
 
 -- a change is of two rows at a place from n on
 record Found (test : SettingRow → SettingRow → Bool) (n : ℕ) (from to : List SettingRow) (c : RowChange) : Type 0 where
@@ -34,9 +34,8 @@ found_behind test n a b from to c f = record {
 sound_step : (test : SettingRow → SettingRow → Bool) (n : ℕ) (a b : SettingRow) (from to : List SettingRow)
     (c : RowChange) (q : Bool) → test a b ≡ q
     → ((i : ℕ) → slice_get (changed_from test (n + 1) from to) i ≡ Some c → Found test (n + 1) from to c)
-    → (i : ℕ) → slice_get (map change_of (cond q ((n, (a, b)) ∷ filter (λ p. test p.1.0 p.1.1)
-    (enumerate_from (n + 1) (zip from to))) (filter (λ p. test p.1.0 p.1.1) (enumerate_from (n + 1) (zip from to))))) i
-    ≡ Some c → Found test n (a ∷ from) (b ∷ to) c
+    → (i : ℕ) → slice_get (cond q (change_of (n, (a, b)) ∷ changed_from test (n + 1) from to)
+    (changed_from test (n + 1) from to)) i ≡ Some c → Found test n (a ∷ from) (b ∷ to) c
 sound_step test n a b from to c false is behind i here = found_behind test n a b from to c (behind i here)
 sound_step test n a b from to c true is behind zero here =
     let same : change_of (n, (a, b)) ≡ c = cc in record {
@@ -61,6 +60,17 @@ one_behind : (q : Bool) (x : RowChange) (xs : List RowChange) (c : RowChange) �
 one_behind true x xs c one = record { index = suc one.index; here = one.here }
 one_behind false x xs c one = one
 
+-- the first one is one of them, if it passes
+first_one : (q : Bool) (x : RowChange) (xs : List RowChange) (c : RowChange) → q ≡ true → x ≡ c
+    → IsOneOf (cond q (x ∷ xs) xs) c
+first_one true x xs c passes is = record { index = 0; here = ap Some is }
+first_one false x xs c passes is = absurd (cc)
+
+-- changes of equal parts
+alike : (m k : ℕ) (a f b t : SettingRow) → m ≡ k → a ≡ f → b ≡ t
+    → ◌≡◌ {A = RowChange} (change_of (m, (a, b))) (record { place = k; from = f; to = t })
+alike m k a f b t p e g = λ i. record { place = p i; from = e i; to = g i }
+
 whole_from : (test : SettingRow → SettingRow → Bool) (n : ℕ) (from to : List SettingRow) (k : ℕ) (f t : SettingRow)
     → slice_get from k ≡ Some f → slice_get to k ≡ Some t → test f t ≡ true
     → IsOneOf (changed_from test n from to) (record { place = n + k; from = f; to = t })
@@ -70,36 +80,14 @@ whole_from test n (a ∷ from) (b ∷ to) zero f t left right changes =
     let e : a ≡ f = cc in
     let g : b ≡ t = cc in
     let is : test a b ≡ true = ap (λ r. test r b) e ∙ ap (λ r. test f r) g ∙ changes in
-    let here : change_of (n, (a, b)) ≡ record { place = n + 0; from = f; to = t } =
-    change_alike n (n + 0) a f b t (omega arith) e g in
-    first_is test n a b from to is _ here
-  where
-    change_alike : (m k : ℕ) (a f b t : SettingRow) → m ≡ k → a ≡ f → b ≡ t
-        → change_of (m, (a, b)) ≡ record { place = k; from = f; to = t }
-    change_alike m k a f b t p e g = λ i. record { place = p i; from = e i; to = g i }
-
-    first_is : (test : SettingRow → SettingRow → Bool) (n : ℕ) (a b : SettingRow) (from to : List SettingRow)
-        → test a b ≡ true → (c : RowChange) → change_of (n, (a, b)) ≡ c
-        → IsOneOf (changed_from test n (a ∷ from) (b ∷ to)) c
-    first_is test n a b from to is c here =
-        let rest = filter (λ p. test p.1.0 p.1.1) (enumerate_from (n + 1) (zip from to)) in
-        subst (λ q. IsOneOf (map change_of (cond q ((n, (a, b)) ∷ rest) rest)) c) (sym is)
-        (record { index = 0; here = ap Some here })
+    first_one (test a b) (change_of (n, (a, b))) (changed_from test (n + 1) from to)
+    (record { place = n + 0; from = f; to = t }) is (alike n (n + 0) a f b t (omega arith) e g)
 whole_from test n (a ∷ from) (b ∷ to) (suc k) f t left right changes =
     let behind = whole_from test (n + 1) from to k f t left right changes in
     let same : (n + 1) + k ≡ n + suc k = omega arith in
-    at_place test n a b from to _ (subst (λ m. IsOneOf (changed_from test (n + 1) from to) (record { place = m; from = f; to = t })) same behind)
-  where
-    at_place : (test : SettingRow → SettingRow → Bool) (n : ℕ) (a b : SettingRow) (from to : List SettingRow)
-        (c : RowChange) → IsOneOf (changed_from test (n + 1) from to) c
-        → IsOneOf (changed_from test n (a ∷ from) (b ∷ to)) c
-    at_place test n a b from to c one =
-        moved (test a b) (n, (a, b)) (filter (λ p. test p.1.0 p.1.1) (enumerate_from (n + 1) (zip from to))) c one
-      where
-        moved : (q : Bool) (p : ℕ × (SettingRow × SettingRow)) (ps : List (ℕ × (SettingRow × SettingRow))) (c : RowChange)
-            → IsOneOf (map change_of ps) c → IsOneOf (map change_of (cond q (p ∷ ps) ps)) c
-        moved true p ps c one = record { index = suc one.index; here = one.here }
-        moved false p ps c one = one
+    let Here : ℕ → Type 0 = λ m. IsOneOf (changed_from test (n + 1) from to) (record { place = m; from = f; to = t }) in
+    one_behind (test a b) (change_of (n, (a, b))) (changed_from test (n + 1) from to)
+    (record { place = n + suc k; from = f; to = t }) (subst Here same behind)
 
 -- places from n on are n at least, and rise
 record Rises (n : ℕ) (ns : List ℕ) : Type 0 where
@@ -114,14 +102,14 @@ stronger : (n : ℕ) → (ns : List ℕ) → AllByRecursion (λ k. n + 1 ≤ k) 
 stronger n [] all = tt
 stronger n (k ∷ ks) all = (let h : n + 1 ≤ k = all.0 in omega arith, stronger n ks all.1)
 
-rises_step : (q : Bool) (n : ℕ) (a b : SettingRow) (ps : List (ℕ × (SettingRow × SettingRow)))
-    → Rises (n + 1) (map (λ c. c.place) (map change_of ps))
-    → Rises n (map (λ c. c.place) (map change_of (cond q ((n, (a, b)) ∷ ps) ps)))
-rises_step false n a b ps r =
-    record { above = weaker n (n + 1) (omega arith) _ r.above; rising = r.rising }
-rises_step true n a b ps r = record {
-  above = (omega arith, weaker n (n + 1) (omega arith) _ r.above);
-  rising = (stronger n _ r.above, r.rising);
+rises_step : (q : Bool) (n : ℕ) (a b : SettingRow) (cs : List RowChange)
+    → Rises (n + 1) (map (λ c. c.place) cs)
+    → Rises n (map (λ c. c.place) (cond q (change_of (n, (a, b)) ∷ cs) cs))
+rises_step false n a b cs r =
+    record { above = weaker n (n + 1) (omega arith) (map (λ c. c.place) cs) r.above; rising = r.rising }
+rises_step true n a b cs r = record {
+  above = (omega arith, weaker n (n + 1) (omega arith) (map (λ c. c.place) cs) r.above);
+  rising = (stronger n (map (λ c. c.place) cs) r.above, r.rising);
 }
 
 rises_from : (test : SettingRow → SettingRow → Bool) (n : ℕ) (from to : List SettingRow)
@@ -129,8 +117,7 @@ rises_from : (test : SettingRow → SettingRow → Bool) (n : ℕ) (from to : Li
 rises_from test n [] to = record { above = tt; rising = tt }
 rises_from test n (a ∷ from) [] = record { above = tt; rising = tt }
 rises_from test n (a ∷ from) (b ∷ to) =
-    rises_step (test a b) n a b (filter (λ p. test p.1.0 p.1.1) (enumerate_from (n + 1) (zip from to)))
-    (rises_from test (n + 1) from to)
+    rises_step (test a b) n a b (changed_from test (n + 1) from to) (rises_from test (n + 1) from to)
 
 pub exactly : (test : SettingRow → SettingRow → Bool) (from to : List SettingRow) → AreExactly test from to
 exactly test from to = record {

@@ -148,34 +148,35 @@ change_swap : (s t : List Source) (w : Bool) (a b : SettingRow) → is_change t 
 change_swap s t w a b =
     λ i. not (settings_swap a.value b.value i) || (w && not (origins_swap s t a.origins.items b.origins.items i))
 
+-- the rows that change, with places from n on
+abbrev changed_from : (SettingRow → SettingRow → Bool) → ℕ → List SettingRow → List SettingRow → List RowChange
+changed_from test n from to =
+    filter (λ c. test c.from c.to) (map change_of (enumerate_from n (zip from to)))
+
 -- rows that do not change
 none_from : (test : SettingRow → SettingRow → Bool) → ((r : SettingRow) → test r r ≡ false)
-    → (n : ℕ) (rows : List SettingRow)
-    → map change_of (filter (λ p. test p.1.0 p.1.1) (enumerate_from n (zip rows rows))) ≡ []
+    → (n : ℕ) (rows : List SettingRow) → changed_from test n rows rows ≡ []
 none_from test same n [] = refl
 none_from test same n (r ∷ rows) =
-    ap (λ q. map change_of (cond q ((n, (r, r)) ∷ filter (λ p. test p.1.0 p.1.1) (enumerate_from (n + 1) (zip rows rows)))
-    (filter (λ p. test p.1.0 p.1.1) (enumerate_from (n + 1) (zip rows rows))))) (same r)
-    ∙ none_from test same (n + 1) rows
+    let rest = changed_from test (n + 1) rows rows in
+    ap (λ q. cond q (change_of (n, (r, r)) ∷ rest) rest) (same r) ∙ none_from test same (n + 1) rows
 
-swap_step : (q : Bool) (n : ℕ) (a b : SettingRow) (xs ys : List (ℕ × (SettingRow × SettingRow)))
-    → map change_of ys ≡ map swapped (map change_of xs)
-    → map change_of (cond q ((n, (b, a)) ∷ ys) ys) ≡ map swapped (map change_of (cond q ((n, (a, b)) ∷ xs) xs))
+swap_step : (q : Bool) (n : ℕ) (a b : SettingRow) (xs ys : List RowChange) → ys ≡ map swapped xs
+    → cond q (change_of (n, (b, a)) ∷ ys) ys ≡ map swapped (cond q (change_of (n, (a, b)) ∷ xs) xs)
 swap_step true n a b xs ys h = ap (λ t. change_of (n, (b, a)) ∷ t) h
 swap_step false n a b xs ys h = h
 
 swap_from : (test other : SettingRow → SettingRow → Bool) → ((a b : SettingRow) → other b a ≡ test a b)
     → (n : ℕ) (left right : List SettingRow)
-    → map change_of (filter (λ p. other p.1.0 p.1.1) (enumerate_from n (zip right left)))
-    ≡ map swapped (map change_of (filter (λ p. test p.1.0 p.1.1) (enumerate_from n (zip left right))))
+    → changed_from other n right left ≡ map swapped (changed_from test n left right)
 swap_from test other same n [] [] = refl
 swap_from test other same n [] (b ∷ ys) = refl
 swap_from test other same n (a ∷ xs) [] = refl
 swap_from test other same n (a ∷ xs) (b ∷ ys) =
-    let ps = filter (λ p. test p.1.0 p.1.1) (enumerate_from (n + 1) (zip xs ys)) in
-    let qs = filter (λ p. other p.1.0 p.1.1) (enumerate_from (n + 1) (zip ys xs)) in
-    ap (λ q. map change_of (cond q ((n, (b, a)) ∷ qs) qs)) (same a b)
-    ∙ swap_step (test a b) n a b ps qs (swap_from test other same (n + 1) xs ys)
+    let left = changed_from test (n + 1) xs ys in
+    let right = changed_from other (n + 1) ys xs in
+    ap (λ q. cond q (change_of (n, (b, a)) ∷ right) right) (same a b)
+    ∙ swap_step (test a b) n a b left right (swap_from test other same (n + 1) xs ys)
 
 pub fair : (s t : List Source) (w : Bool) → AreFair s t w
 fair s t w = record {

@@ -26,11 +26,14 @@ rows_in test = test.runs ∷ test.settings.items
 abbrev pub change_of : ℕ × (SettingRow × SettingRow) → RowChange
 change_of p = record { place = p.0; from = p.1.0; to = p.1.1 }
 
+-- the rows of the two sides beside each other, each with its position, in order
+abbrev pub rows_beside : List SettingRow → List SettingRow → List RowChange
+rows_beside from to = map change_of (enumerate_from 0 (zip from to))
+
 -- the rows that change, each with its position, in order
 abbrev pub changed_rows : (SettingRow → SettingRow → Bool) → List SettingRow → List SettingRow
     → List RowChange
-changed_rows changes from to =
-    map change_of (filter (λ p. changes p.1.0 p.1.1) (enumerate_from 0 (zip from to)))
+changed_rows changes from to = filter (λ c. changes c.from c.to) (rows_beside from to)
 
 -- What changes for a test: the test is named as the right side has it, and the rows are those that
 -- change, each once, in order.

@@ -8,6 +8,7 @@ use Rattle.rinqebo_changes.specs.declared.change.RowChange.{RowChange}
 use Rattle.rinqebo_changes.specs.declared.change.TestChanges.{TestChanges}
 use Rattle.rinqebo_changes.specs.declared.classes.ClassRule.{ClassRule}
 use Rattle.rinqebo_changes.specs.declared.classes.ClassRule.TheVariants.{Row, Binary}
+use Rattle.rinqebo_changes.specs.declared.classes.Class.{Class}
 use Rattle.rinqebo_changes.specs.declared.classes.Item.{Item}
 use Rattle.rinqebo_changes.specs.Same.{same_value}
 use Rattle.rinqebo_changes.specs.SameOrigin.{same_origins}
@@ -31,6 +32,14 @@ item_view item = (item.test.now, item.row.now)
 -- the settings that change, of all tests, in the order of the tests and of their settings
 abbrev pub items_of : List TestChanges → List (TestId × RowChange)
 items_of tests = flat_map (λ test. map (λ row. (test.test, row)) test.rows.items) tests
+
+-- the changes of a class
+abbrev pub class_items : Class → List Item
+class_items class = class.items.items
+
+-- The head of a class is one of its changes.
+pub record HasHead (class : Class) : Type 0 where
+  pub here : Contains class.items.items class.head
 
 -- One of some changes is the first whose setting no other's comes before.
 pub record IsFirstLeast (items : List Item) (head : Item) : Type 0 where

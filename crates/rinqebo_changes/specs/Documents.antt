@@ -33,7 +33,7 @@ item_data item = test_id_data item.test.now
 -- the tests of a group
 abbrev pub group_tests_data : Group → Data
 group_tests_data group =
-    array (items_of (flat_map (λ binary. map item_data binary.items) group.binaries.items))
+    array (items_of (flat_map (λ binary. map item_data binary.items.items) group.binaries.items))
 
 -- a change and its tests
 abbrev pub group_data : Group → Data

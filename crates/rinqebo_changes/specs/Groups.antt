@@ -1,18 +1,17 @@
 -- The groups of a page.
-use Rattle.std.specs.Prelude.{◌≡◌, List, [], ◌∷◌, length, map}
-use Rattle.std.specs.List.{AllZip}
+use Rattle.std.specs.Prelude.{◌≡◌, List, length, map}
+use Rattle.std.specs.List.{AllZip, Contains}
 use Rattle.rinqebo_changes.specs.declared.change.TestChanges.{TestChanges}
 use Rattle.rinqebo_changes.specs.declared.classes.ClassRule.TheVariants.{Row, Binary}
 use Rattle.rinqebo_changes.specs.declared.classes.Item.{Item}
 use Rattle.rinqebo_changes.specs.declared.groups.Group.{Group}
-use Rattle.rinqebo_changes.specs.Classes.{item_view, items_of, same_item, AreClasses}
+use Rattle.rinqebo_changes.specs.Classes.{item_view, items_of, class_items, same_item, AreClasses}
 
--- A group is of the changes of a class: its head is the first of them, and by binaries it has them all.
+-- A group is of the changes of a class: its head is one of them, and by binaries it has them all.
 pub record IsGroup (class : List Item) (group : Group) : Type 0 where
-  pub others : List Item
-  pub head : class ≡ group.head ∷ others
+  pub head : Contains class group.head
   pub count : group.count ≡ length class
-  pub binaries : AreClasses (same_item Binary) class (map (λ binary. binary.items) group.binaries.items)
+  pub binaries : AreClasses (same_item Binary) class (map class_items group.binaries.items)
 
 -- Groups are those of the changes of tests: each is of a class of changes of the same setting with the
 -- same values and origins.

@@ -7,8 +7,8 @@ use Rattle.rinqebo_changes.specs.declared.change.RowChange.{RowChange}
 use Rattle.rinqebo_changes.specs.Changes.{changed_rows, is_change}
 
 -- A row says that a side has no value for a key.
-pub record IsAbsent (key : List ℕ) (row : SettingRow) : Type 0 where
-  pub key : string_bytes row.key ≡ key
+pub record IsAbsent (name : List ℕ) (row : SettingRow) : Type 0 where
+  pub key : string_bytes row.key ≡ name
   pub value : row.value ≡ None
 
 -- A row says that a side has no value.

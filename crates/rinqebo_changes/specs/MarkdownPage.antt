@@ -81,7 +81,7 @@ cells_text diff row =
 abbrev pub group_line : Diff → Bool → Group → List ℕ
 group_line diff lists_all group =
     cells_text diff group.head.row.now
-    ++ (flat_map (λ binary. binary_cell diff.binaries.items lists_all binary.items)
+    ++ (flat_map (λ binary. binary_cell diff.binaries.items lists_all binary.items.items)
     group.binaries.items ++ (codes " |" ++ 10 ∷ []))
 
 -- a line of the table: a change of the whole run

@@ -1,7 +1,6 @@
 -- The page of a diff.
-use Rattle.std.specs.Prelude.{◌≡◌, ℕ, ◌==◌, ◌-◌, ◌&&◌, Bool, true, false, List, [], ◌∷◌, ◌++◌, Option, None, Some, length, slice_get, flat_map, not, codes, bytes_eq, String, string_bytes, if◌then◌else◌}
+use Rattle.std.specs.Prelude.{◌≡◌, ℕ, ◌==◌, nat_lt, ◌-◌, ◌&&◌, Bool, true, false, List, [], ◌∷◌, ◌++◌, Option, None, Some, length, slice_get, flat_map, not, codes, bytes_eq, String, string_bytes, if◌then◌else◌}
 use Rattle.std.specs.declared.alloc.Global.{Global}
-use lib.Dec.{ltb}
 use Rattle.rinqebo_report.specs.declared.origin.Origin.{Origin}
 use Rattle.rinqebo_report.specs.declared.origin.Source.{Source}
 use Rattle.rinqebo_report.specs.declared.piece.Colour.{Colour}
@@ -41,12 +40,17 @@ other_key row =
     if bytes_eq (string_bytes row.from.key) (string_bytes row.to.key) then []
     else string_bytes row.to.key ++ codes ": "
 
+-- a line with a setting, and its two values
+abbrev pub value_runs : List ℕ → List ℕ → List ℕ → List ℕ → List Run
+value_runs key from other to =
+    styled styles.Key key ∷ plain (codes ": ") ∷ plain from ∷ plain (codes " -> ")
+    ∷ styled styles.Key other ∷ plain to ∷ ending ∷ []
+
 -- a setting, and its two values
 abbrev pub heading_runs : RowChange → List Run
 heading_runs row =
-    styled styles.Key (string_bytes row.from.key) ∷ plain (codes ": ")
-    ∷ plain (setting_text row.from.value) ∷ plain (codes " -> ")
-    ∷ styled styles.Key (other_key row) ∷ plain (setting_text row.to.value) ∷ ending ∷ []
+    value_runs (string_bytes row.from.key) (setting_text row.from.value) (other_key row)
+    (setting_text row.to.value)
 
 -- two origins
 abbrev pub two_site_runs : List ℕ → List ℕ → List Run
@@ -65,11 +69,14 @@ site_runs diff row =
 abbrev pub change_runs : Diff → RowChange → List Run
 change_runs diff row = heading_runs row ++ site_runs diff row
 
+-- the names of a test
+abbrev pub names_runs : List ℕ → List ℕ → List Run
+names_runs binary name =
+    plain (codes "    ") ∷ plain binary ∷ plain (codes " ") ∷ plain name ∷ ending ∷ []
+
 -- a test
 abbrev pub test_runs : TestId → List Run
-test_runs test =
-    plain (codes "    ") ∷ plain (string_bytes test.binary) ∷ plain (codes " ")
-    ∷ plain (string_bytes test.name) ∷ ending ∷ []
+test_runs test = names_runs (string_bytes test.binary) (string_bytes test.name)
 
 -- that all tests of a binary change
 abbrev pub whole_runs : List ℕ → ℕ → List Run
@@ -88,7 +95,7 @@ total_of (b ∷ bs) binary =
 abbrev pub whole_at : List BinaryTests → ℕ → Option Item → Bool
 whole_at binaries n None = false
 whole_at binaries n (Some item) =
-    ltb 1 n && (n == total_of binaries (string_bytes item.test.now.binary))
+    nat_lt 1 n && (n == total_of binaries (string_bytes item.test.now.binary))
 
 -- whether changes of a binary's tests are those of all its tests, of which there are several
 abbrev pub is_whole : List BinaryTests → List Item → Bool
@@ -116,7 +123,7 @@ binary_runs binaries lists_all items =
 abbrev pub group_runs : Diff → Bool → Group → List Run
 group_runs diff lists_all group =
     change_runs diff group.head.row.now
-    ++ flat_map (λ binary. binary_runs diff.binaries.items lists_all binary.items)
+    ++ flat_map (λ binary. binary_runs diff.binaries.items lists_all binary.items.items)
     group.binaries.items
 
 -- the target, if there is one

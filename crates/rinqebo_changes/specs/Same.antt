@@ -3,7 +3,7 @@ use Rattle.std.specs.Prelude.{◌==◌, ◌&&◌, Bool, true, false, List, bytes
 use Rattle.std.specs.Cmp.Lexicographic.{pointwise}
 use Rattle.std.specs.Ordering.{int_eq}
 use Rattle.std.specs.String.{string_eq}
-use Rattle.std.proofs.Math.Bool.{beq}
+use Rattle.std.specs.Bool.{beq}
 use Rattle.std.specs.Prelude.{String}
 use Rattle.std.specs.declared.alloc.Global.{Global}
 use Rattle.rinqebo_report.specs.declared.value.TableMember.{TableMember}

@@ -1,7 +1,6 @@
 //! What changes for a test: the settings that the two sides give it differently.
-ghost use Rattle.std.specs.Prelude.{◌≡◌, ◌∷◌, [], IfOk, MatchOption, filter, map};
-ghost use Rattle.std.specs.List.{enumerate_from, zip};
-ghost use Rattle.rinqebo_changes.specs.Changes.{is_change, changed_rows, rows_in, change_of, IsChangedTest};
+ghost use Rattle.std.specs.Prelude.{◌≡◌, ◌∷◌, [], IfOk, MatchOption};
+ghost use Rattle.rinqebo_changes.specs.Changes.{is_change, rows_beside, changed_rows, rows_in, IsChangedTest};
 
 use crate::same::is_same_setting;
 use crate::same_origin::TwoSources;
@@ -58,6 +57,21 @@ fn rows_of(runs: SettingRow, settings: Vec<SettingRow>) -> Result<Vec<SettingRow
     Ok(rows)
 }
 
+/// The rows of the two sides beside each other.
+fn rows_beside(
+    alloc: Global,
+    from: Vec<SettingRow>,
+    to: Vec<SettingRow>,
+) -> Result<Vec<RowChange>, AllocError>
+    ensures { IfOk result (λ rows. rows.items ≡ rows_beside from.items to.items) }
+{
+    from.into_iter()
+        .zip(to)
+        .enumerate()
+        .map(|(place, (from, to))| RowChange { place, from, to })
+        .collect(alloc)
+}
+
 /// The rows that change, of two lists of as many rows.
 pub fn changed_rows(
     alloc: Global,
@@ -69,11 +83,9 @@ pub fn changed_rows(
         (is_change compare.now.sources.from.now compare.now.sources.to.now compare.now.with_origins)
         from.items to.items) }
 {
-    from.into_iter()
-        .zip(to)
-        .enumerate()
-        .filter(|(_, (from, to))| compare.is_change(from, to))
-        .map(|(place, (from, to))| RowChange { place, from, to })
+    let rows = rows_beside(alloc, from, to)?;
+    rows.into_iter()
+        .filter(|row| compare.is_change(&row.from, &row.to))
         .collect(alloc)
 }
 

@@ -1,7 +1,7 @@
 //! Changes that are the same for several tests, put together.
-ghost use Rattle.std.specs.Prelude.{◌≡◌, ℕ, Bool, List, IfOk, MatchOption, [], ◌&&◌, filter, flat_map, map, not};
-ghost use Rattle.std.specs.List.Sorted.{IsPermutation};
-ghost use Rattle.rinqebo_changes.specs.Classes.{same_item, same_row, item_view, items_of, AreClasses, IsFirstLeast};
+ghost use Rattle.std.specs.Prelude.{◌≡◌, IfOk, MatchOption, [], filter, map, not};
+ghost use Rattle.std.specs.List.{All};
+ghost use Rattle.rinqebo_changes.specs.Classes.{same_item, same_row, item_view, items_of, class_items, AreClasses, HasHead, IsFirstLeast};
 
 use crate::change::{RowChange, TestChanges};
 use crate::same::is_same_setting;
@@ -16,6 +16,15 @@ pub struct Item<'c> {
     pub test: &'c TestId,
     /// The setting.
     pub row: &'c RowChange,
+}
+
+/// Changes that stand together.
+#[derive(Drop)]
+pub struct Class<'c> {
+    /// One of them, with which all stand together.
+    pub head: Item<'c>,
+    /// All of them, in their order.
+    pub items: Vec<Item<'c>>,
 }
 
 /// When changes stand together.
@@ -117,15 +126,17 @@ pub fn classes_of<'c>(
     alloc: Global,
     rule: ClassRule,
     items: &[Item<'c>],
-) -> Result<Vec<Vec<Item<'c>>>, AllocError>
-    ensures { IfOk result (λ classes. AreClasses (same_item rule) items.now
-        (map (λ class. class.items) classes.items)) }
+) -> Result<Vec<Class<'c>>, AllocError>
+    ensures classes { IfOk result (λ classes. AreClasses (same_item rule) items.now
+        (map class_items classes.items)) }
+    ensures heads { IfOk result (λ classes. All HasHead classes.items) }
 {
     let mut classes = Vec::new(alloc);
     let mut rest: Vec<Item<'c>> = Vec::from_slice(alloc, items)?;
     while let Some(head) = first_of(&rest) {
         let others = apart_from(alloc, rule, &head, &rest)?;
-        classes.push(together_with(alloc, rule, &head, &rest)?)?;
+        let items = together_with(alloc, rule, &head, &rest)?;
+        classes.push(Class { head, items })?;
         rest = others;
     }
     Ok(classes)

@@ -41,7 +41,7 @@ fn group_tests_json(alloc: Global, group: &Group<'_>) -> Result<Value, AllocErro
 {
     let mut list = Vec::new(alloc);
     for binary in &group.binaries {
-        add_items(alloc, &mut list, binary)?;
+        add_items(alloc, &mut list, &binary.items)?;
     }
     Ok(Value::Array(list))
 }

@@ -148,7 +148,7 @@ fn add_group(
 {
     add_cells(alloc, out, diff, group.head.row)?;
     for binary in &group.binaries {
-        add_binary(alloc, out, diff, lists_all, binary)?;
+        add_binary(alloc, out, diff, lists_all, &binary.items)?;
     }
     out.push_str(" |\n")
 }

@@ -2,7 +2,7 @@
 ghost use Rattle.std.specs.Prelude.{◌≡◌, ◌++◌, OnOk, IfOk, codes, flat_map, string_bytes};
 ghost use Rattle.rinqebo_report.specs.Joined.{joined};
 ghost use Rattle.rinqebo_report.specs.Pieces.{page_text};
-ghost use Rattle.rinqebo_changes.specs.Pages.{setting_text, origins_text, other_key, heading_runs, site_runs, change_runs, test_runs, whole_runs, total_of, is_whole, item_runs, binary_runs, group_runs, target_text, asked_text, file_text, remark_runs, both_runs, head_runs, listed_runs, run_runs, count_runs, IsDiffText};
+ghost use Rattle.rinqebo_changes.specs.Pages.{setting_text, origins_text, other_key, value_runs, heading_runs, two_site_runs, site_runs, change_runs, names_runs, test_runs, whole_runs, total_of, is_whole, item_runs, binary_runs, group_runs, target_text, asked_text, file_text, remark_runs, both_runs, head_runs, listed_runs, run_runs, count_runs, IsDiffText};
 
 use crate::change::RowChange;
 use crate::classes::Item;
@@ -50,6 +50,33 @@ pub fn other_key(alloc: Global, row: &RowChange) -> Result<String, AllocError>
     Ok(text)
 }
 
+/// Writes a line with a setting, and its two values.
+fn add_values<'x>(
+    out: &mut String,
+    colour: Colour,
+    key: &'x str,
+    from: &'x str,
+    other: &'x str,
+    to: &'x str,
+) -> Result<(), AllocError>
+    ensures { OnOk result (string_bytes out.new ≡ string_bytes out.old
+        ++ page_text colour (value_runs key.now from.now other.now to.now)) }
+{
+    add_pieces(
+        out,
+        colour,
+        &[
+            Piece::Text(Style::Key, key),
+            Piece::Text(Style::Plain, ": "),
+            Piece::Text(Style::Plain, from),
+            Piece::Text(Style::Plain, " -> "),
+            Piece::Text(Style::Key, other),
+            Piece::Text(Style::Plain, to),
+            Piece::End,
+        ],
+    )
+}
+
 /// Writes a setting, and its two values.
 fn add_heading(
     alloc: Global,
@@ -63,16 +90,34 @@ fn add_heading(
     let other = other_key(alloc, row)?;
     let from = setting_text(alloc, &row.from.value)?;
     let to = setting_text(alloc, &row.to.value)?;
+    add_values(
+        out,
+        colour,
+        row.from.key.as_str(),
+        from.as_str(),
+        other.as_str(),
+        to.as_str(),
+    )
+}
+
+/// Writes a line with two origins.
+fn add_two_sites<'x>(
+    out: &mut String,
+    colour: Colour,
+    from: &'x str,
+    to: &'x str,
+) -> Result<(), AllocError>
+    ensures { OnOk result (string_bytes out.new ≡ string_bytes out.old
+        ++ page_text colour (two_site_runs from.now to.now)) }
+{
     add_pieces(
         out,
         colour,
         &[
-            Piece::Text(Style::Key, row.from.key.as_str()),
-            Piece::Text(Style::Plain, ": "),
-            Piece::Text(Style::Plain, from.as_str()),
-            Piece::Text(Style::Plain, " -> "),
-            Piece::Text(Style::Key, other.as_str()),
-            Piece::Text(Style::Plain, to.as_str()),
+            Piece::Text(Style::Plain, "    "),
+            Piece::Text(Style::Remark, from),
+            Piece::Text(Style::Remark, " -> "),
+            Piece::Text(Style::Remark, to),
             Piece::End,
         ],
     )
@@ -94,17 +139,7 @@ fn add_sites(
     }
     let from = origins_text(alloc, &diff.from, &row.from.origins)?;
     let to = origins_text(alloc, &diff.to, &row.to.origins)?;
-    add_pieces(
-        out,
-        colour,
-        &[
-            Piece::Text(Style::Plain, "    "),
-            Piece::Text(Style::Remark, from.as_str()),
-            Piece::Text(Style::Remark, " -> "),
-            Piece::Text(Style::Remark, to.as_str()),
-            Piece::End,
-        ],
-    )
+    add_two_sites(out, colour, from.as_str(), to.as_str())
 }
 
 /// Writes a change.
@@ -122,22 +157,35 @@ fn add_change(
     add_sites(alloc, out, colour, diff, row)
 }
 
-/// Writes a test.
-fn add_test(out: &mut String, colour: Colour, test: &TestId) -> Result<(), AllocError>
+/// Writes the names of a test.
+fn add_names<'x>(
+    out: &mut String,
+    colour: Colour,
+    binary: &'x str,
+    name: &'x str,
+) -> Result<(), AllocError>
     ensures { OnOk result (string_bytes out.new ≡ string_bytes out.old
-        ++ page_text colour (test_runs test.now)) }
+        ++ page_text colour (names_runs binary.now name.now)) }
 {
     add_pieces(
         out,
         colour,
         &[
             Piece::Text(Style::Plain, "    "),
-            Piece::Text(Style::Plain, test.binary.as_str()),
+            Piece::Text(Style::Plain, binary),
             Piece::Text(Style::Plain, " "),
-            Piece::Text(Style::Plain, test.name.as_str()),
+            Piece::Text(Style::Plain, name),
             Piece::End,
         ],
     )
+}
+
+/// Writes a test.
+fn add_test(out: &mut String, colour: Colour, test: &TestId) -> Result<(), AllocError>
+    ensures { OnOk result (string_bytes out.new ≡ string_bytes out.old
+        ++ page_text colour (test_runs test.now)) }
+{
+    add_names(out, colour, test.binary.as_str(), test.name.as_str())
 }
 
 /// Writes that all tests of a binary change.
@@ -232,7 +280,7 @@ fn add_group(
 {
     add_change(alloc, out, colour, diff, group.head.row)?;
     for binary in &group.binaries {
-        add_binary(out, colour, diff, lists_all, binary)?;
+        add_binary(out, colour, diff, lists_all, &binary.items)?;
     }
     Ok(())
 }

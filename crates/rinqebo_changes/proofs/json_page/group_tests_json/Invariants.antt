@@ -6,4 +6,4 @@ use Rattle.rinqebo_changes.proofs.json_page.group_tests_json.Given as goal
 abbrev pub invariant-loop-binary : goal.invariant-loop-binary
 invariant-loop-binary l =
     map view l.list.items
-    ≡ flat_map (λ binary. map item_data binary.items) (take l.binary-index l.group.binaries.items)
+    ≡ flat_map (λ binary. map item_data binary.items.items) (take l.binary-index l.group.binaries.items)
