@@ -67,26 +67,23 @@ variables n vs =
     exact_object n (exact_puts n (λ (v : List ℕ × List ℕ). v.0) (λ v. string v.1) (λ v. exact_text n v.1) vs
     no_members (no_more n))
 
-command : (n : ℕ) (ds : Option Directories) (c : CommandText) → IsExact (n + 2) (command_data ds c)
-command n ds c =
-    exact_object (n + 1) (and_member _ (exact_list n string (exact_text n) c.args)
-    (and_member _ (variables n c.env) (and_member _ (exact_text (n + 1) _)
-    (and_member _ (exact_text (n + 1) _) (no_more (n + 1))))))
+command : (ds : Option Directories) (c : CommandText) → IsExact 2 (command_data ds c)
+command ds c =
+    exact_object 1 (and_member _ (exact_list 0 string (exact_text 0) c.args)
+    (and_member _ (variables 0 c.env) (and_member _ (exact_text 1 _) (and_member _ (exact_text 1 _) (no_more 1)))))
 
-setup : (n : ℕ) (ds : Option Directories) (e : List ℕ × SetupScriptText) → IsExact (n + 3) (setup_script_data ds e)
-setup n ds e =
-    let junit = exact_object (n + 1) (and_member _ (exact_truth (n + 1) _)
-    (and_member _ (exact_truth (n + 1) _) (no_more (n + 1)))) in
-    exact_object (n + 2) (and_member _ (exact_truth (n + 2) _) (and_member _ (exact_truth (n + 2) _)
-    (and_member _ (command n ds e.1.command) (and_member _ (exact_text (n + 2) _)
-    (and_member _ junit (and_member _ (optional (n + 2) leak_data (leak (n + 1)) e.1.leak_timeout)
-    (and_member _ (optional (n + 2) slow_data (slow (n + 1)) e.1.slow_timeout) (no_more (n + 2)))))))))
+setup : (ds : Option Directories) (e : List ℕ × SetupScriptText) → IsExact 3 (setup_script_data ds e)
+setup ds e =
+    let junit = exact_object 1 (and_member _ (exact_truth 1 _) (and_member _ (exact_truth 1 _) (no_more 1))) in
+    exact_object 2 (and_member _ (exact_truth 2 _) (and_member _ (exact_truth 2 _)
+    (and_member _ (command ds e.1.command) (and_member _ (exact_text 2 _)
+    (and_member _ junit (and_member _ (optional 2 leak_data (leak 1) e.1.leak_timeout)
+    (and_member _ (optional 2 slow_data (slow 1) e.1.slow_timeout) (no_more 2))))))))
 
-wrapper : (n : ℕ) (ds : Option Directories) (e : List ℕ × WrapperScriptText)
-    → IsExact (n + 3) (wrapper_script_data ds e)
-wrapper n ds e =
-    exact_object (n + 2) (and_member _ (command n ds e.1.command) (and_member _ (exact_text (n + 2) _)
-    (and_member _ (exact_text (n + 2) _) (no_more (n + 2)))))
+wrapper : (ds : Option Directories) (e : List ℕ × WrapperScriptText) → IsExact 3 (wrapper_script_data ds e)
+wrapper ds e =
+    exact_object 2 (and_member _ (command ds e.1.command) (and_member _ (exact_text 2 _)
+    (and_member _ (exact_text 2 _) (no_more 2))))
 
 group : (n : ℕ) (e : Name × Option TestGroupConfig) → IsExact (n + 1) (group_data e)
 group n e =
@@ -115,37 +112,30 @@ bounded n run h =
     (exact_put (codes "max-fail") _ _ (limit (n + 1) run.max_fail)
     (exact_put (codes "global-timeout") _ _ (timeout n run.global_timeout run.benchmark_timeout) h))
 
-run_is : (n : ℕ) (run : RunValues) (profiles : List Name) → IsExact (n + 2) (run_data run profiles)
-run_is n run profiles =
-    exact_object (n + 1) (bounded n run (shown n run (named n run profiles (no_more (n + 1)))))
+run_is : (run : RunValues) (profiles : List Name) → IsExact 4 (run_data run profiles)
+run_is run profiles = exact_object 3 (bounded 2 run (shown 2 run (named 2 run profiles (no_more 3))))
 
-warned : (n : ℕ) (code : List ℕ) (source : Source) (names : List (List ℕ)) (profile times : Data)
-    → IsExact (n + 1) profile → IsExact (n + 1) times
-    → IsExact (n + 2) (warning_of code source names profile times)
-warned n code source names profile times p t =
-    exact_object (n + 1) (and_member _ (exact_text (n + 1) _) (and_member _ t (and_member _ (exact_text (n + 1) _)
-    (and_member _ (texts n names) (and_member _ p (no_more (n + 1)))))))
+warned : (code : List ℕ) (source : Source) (names : List (List ℕ)) (profile times : Data) → IsExact 2 profile
+    → IsExact 2 times → IsExact 3 (warning_of code source names profile times)
+warned code source names profile times p t =
+    exact_object 2 (and_member _ (exact_text 2 _) (and_member _ t (and_member _ (exact_text 2 _)
+    (and_member _ (texts 1 names) (and_member _ p (no_more 2))))))
 
-warning : (n : ℕ) (w : Warning) → IsExact (n + 2) (warning_data w)
-warning n (unknown_keys source paths) =
-    warned n _ source paths null null (exact_null (n + 1)) (exact_null (n + 1))
-warning n (reserved_profiles source names) =
-    warned n _ source names null null (exact_null (n + 1)) (exact_null (n + 1))
-warning n (deprecated_scripts source) = warned n _ source [] null null (exact_null (n + 1)) (exact_null (n + 1))
-warning n (empty_sections source profile times) =
-    warned n _ source [] (string profile) (count_data times) (exact_text (n + 1) profile) (count (n + 1) times)
-
-warnings_of : (n : ℕ) (ws : List Warning) → IsExact (n + 3) (warnings_data ws)
-warnings_of n ws = exact_list (n + 2) warning_data (warning n) ws
+warning : (w : Warning) → IsExact 3 (warning_data w)
+warning (unknown_keys source paths) = warned _ source paths null null (exact_null 2) (exact_null 2)
+warning (reserved_profiles source names) = warned _ source names null null (exact_null 2) (exact_null 2)
+warning (deprecated_scripts source) = warned _ source [] null null (exact_null 2) (exact_null 2)
+warning (empty_sections source profile times) =
+    warned _ source [] (string profile) (count_data times) (exact_text 2 profile) (count 2 times)
 
 objects : (facts : ProfileFacts) (run : RunValues) (profiles : List Name) (ws : List Warning) (ds : Option Directories)
     → IsExact 5 (objects_data facts run profiles ws ds)
 objects facts run profiles ws ds =
-    exact_object 4 (and_member _ (warnings_of 1 ws)
+    exact_object 4 (and_member _ (exact_list 3 warning_data warning ws)
     (and_member _ (exact_list 3 group_data (group 2) facts.groups)
-    (and_member _ (run_is 2 run profiles)
-    (and_member _ (exact_list 3 (setup_script_data ds) (setup 0 ds) facts.scripts.setup)
-    (and_member _ (exact_list 3 (wrapper_script_data ds) (wrapper 0 ds) facts.scripts.wrapper) (no_more 4))))))
+    (and_member _ (run_is run profiles)
+    (and_member _ (exact_list 3 (setup_script_data ds) (setup ds) facts.scripts.setup)
+    (and_member _ (exact_list 3 (wrapper_script_data ds) (wrapper ds) facts.scripts.wrapper) (no_more 4))))))
 
 pub objects_are_whole : {facts : ProfileFacts} {profiles : List Name} {ws : List Warning} {ds : Option Directories}
     (value : Data) → AreObjectsOf facts profiles ws ds value → has_float value ≡ false
