@@ -212,9 +212,12 @@ finding f =
     (and_member _ (exact_text 2 _)
     (and_member _ (place_lines 1 f.place)
     (and_member _ (text 2 f.message)
+    (and_member _ (texts 1 f.notes.items)
     (and_member _ (optional_text 2 f.path)
     (and_member _ (place_range 0 f.place)
-    (and_member _ (place_source 2 f.place) (and_member _ (expression_span 1 f.expression) (no_more 2)))))))))))))
+    (and_member _ (place_source 2 f.place)
+    (and_member _ (expression_span 1 f.expression)
+    (and_member _ (optional_text 2 f.upstream) (no_more 2)))))))))))))))
 
 -- members with what was asked for, and with those of each page
 asked : {ms : Members} (command : List ℕ) (a : Asked) → AreExact 8 ms → AreExact 8 (with_requested command a ms)

@@ -258,8 +258,9 @@ expression_span_data (Some expression) = span_data expression.span
 -- members, with what is wrong
 abbrev pub with_fault : Finding → Members → Members
 with_fault finding members =
-    put (codes "message") (text_data finding.message) (put (codes "level")
-    (string (level_word finding.level)) (put (codes "code") (text_data finding.code) members))
+    put (codes "upstream") (optional_text_data finding.upstream)
+    (put (codes "message") (text_data finding.message) (put (codes "level")
+    (string (level_word finding.level)) (put (codes "code") (text_data finding.code) members)))
 
 -- members, with where it stands
 abbrev pub with_site : Finding → Members → Members
@@ -279,8 +280,9 @@ with_expression finding members =
 -- members, with what to do
 abbrev pub with_advice : Finding → Members → Members
 with_advice finding members =
-    put (codes "help") (optional_text_data finding.help)
-    (put (codes "expected") (optional_text_data finding.expected) members)
+    put (codes "notes") (list_data text_data finding.notes.items)
+    (put (codes "help") (optional_text_data finding.help)
+    (put (codes "expected") (optional_text_data finding.expected) members))
 
 -- a finding
 abbrev pub finding_data : Finding → Data
@@ -293,7 +295,9 @@ finding_data finding =
     (member (codes "level") (string (level_word finding.level))
     (member (codes "lines") (place_lines_data finding.place)
     (member (codes "message") (text_data finding.message)
+    (member (codes "notes") (list_data text_data finding.notes.items)
     (member (codes "path") (optional_text_data finding.path)
     (member (codes "range") (place_range_data finding.place)
     (member (codes "source") (place_source_data finding.place)
-    (member (codes "span") (expression_span_data finding.expression) no_members))))))))))))
+    (member (codes "span") (expression_span_data finding.expression)
+    (member (codes "upstream") (optional_text_data finding.upstream) no_members))))))))))))))

@@ -1,5 +1,5 @@
 -- The pages of a report.
-use Rattle.std.specs.Prelude.{ℕ, ◌+◌, ◌-◌, max, Bool, true, false, List, [], ◌∷◌, ◌++◌, Option, None, Some, is_some, option_map, length, fold, flat_map, unwrap_or, count_by, codes, decimal, take, String, string_bytes, if◌then◌else◌, not}
+use Rattle.std.specs.Prelude.{ℕ, ◌+◌, ◌-◌, ◌==◌, max, Bool, true, false, List, [], ◌∷◌, ◌++◌, Option, None, Some, is_some, option_map, length, fold, flat_map, unwrap_or, count_by, codes, decimal, take, String, string_bytes, if◌then◌else◌, not}
 use Rattle.std.specs.declared.alloc.Global.{Global}
 use Rattle.std.specs.Str.{chars}
 use Rattle.unicode_width.specs.Width.{str_width}
@@ -34,6 +34,7 @@ use Rattle.rinqebo_report.specs.declared.report.Unreached.{Unreached}
 use Rattle.rinqebo_report.specs.declared.report.Verdict.{Verdict}
 use Rattle.rinqebo_report.specs.declared.report.Verdict.TheVariants as verdicts
 use Rattle.rinqebo_report.specs.Advice.{message_with_advice}
+use Rattle.rinqebo_report.specs.Excerpts.{has_some, margin_runs, number_width, excerpt_runs, remarks_runs}
 use Rattle.rinqebo_report.specs.Joined.{joined}
 use Rattle.rinqebo_report.specs.OriginText.{all_origins_text, origin_text, path_at, position_text}
 use Rattle.rinqebo_report.specs.Pieces.{Run, styled, repeated, numbered, ending, shown_char}
@@ -354,6 +355,14 @@ finding_place root sources (Some place) column =
     path_at root sources place.source
     ++ (spot_text place.range place.lines column ++ codes ": ")
 
+-- where a finding is, on a row of its own
+abbrev pub arrow_runs :
+    ℕ → List ℕ → List Source → Option FilePlace → Option ℕ → List Run
+arrow_runs w root sources None column = []
+arrow_runs w root sources (Some place) column =
+    margin_runs w (codes "--> ") ++ plain (path_at root sources place.source
+    ++ spot_text place.range place.lines column) ∷ ending ∷ []
+
 -- the level of a finding, and its name in brackets
 abbrev pub level_text : Finding → List ℕ
 level_text finding =
@@ -388,19 +397,35 @@ expression_runs (Some expression) =
     plain (codes "    ") ∷ plain (string_bytes expression.text) ∷ ending
     ∷ caret_runs (string_bytes expression.text) expression.span
 
--- a remark below a finding
-abbrev pub remark_runs : List ℕ → Option (String Global) → List Run
-remark_runs word None = []
-remark_runs word (Some text) =
-    plain (codes "    ") ∷ styled styles.Help word ∷ plain (string_bytes text) ∷ ending ∷ []
+-- an expression that no line shows
+abbrev pub apart_runs : Finding → List Run
+apart_runs finding =
+    if has_some finding.lines.items then [] else expression_runs finding.expression
+
+-- a level in its style, and a message
+abbrev pub title_line_runs : Style → List ℕ → List ℕ → List Run
+title_line_runs style level message =
+    styled style level ∷ plain (codes ": ") ∷ plain message ∷ ending ∷ []
+
+-- the first line of a finding on a page: its level, its name and its message
+abbrev pub title_runs : Finding → List Run
+title_runs finding =
+    title_line_runs (level_style finding.level) (level_text finding)
+    (string_bytes finding.message)
+
+-- a finding, with a margin of this width: where it is, the lines that show it, remarks, and an
+-- empty line
+abbrev pub framed_runs : ℕ → List ℕ → List Source → Finding → List Run
+framed_runs w root sources finding =
+    title_runs finding
+    ++ (arrow_runs w root sources finding.place finding.column
+    ++ (excerpt_runs w finding
+    ++ (apart_runs finding ++ (remarks_runs w finding ++ ending ∷ []))))
 
 -- a finding
 abbrev pub finding_runs : List ℕ → List Source → Finding → List Run
 finding_runs root sources finding =
-    head_runs root sources finding (string_bytes finding.message)
-    ++ (expression_runs finding.expression
-    ++ (remark_runs (codes "= expected: ") finding.expected
-    ++ remark_runs (codes "= help: ") finding.help))
+    framed_runs (number_width finding.lines.items) root sources finding
 
 -- whether a level refuses
 abbrev pub is_refusal : Level → Bool
@@ -434,10 +459,17 @@ summary_text report =
     ++ flat_map (unreached_text (string_bytes report.root) report.sources.items)
     report.unreached.items
 
--- the findings
+-- how many findings follow those that a page shows
+abbrev pub further_runs : ℕ → List Run
+further_runs n =
+    if n == 0 then []
+    else plain (codes "further findings: ") ∷ numbered n ∷ ending ∷ ending ∷ []
+
+-- the first hundred findings, and how many there are beside them
 abbrev pub findings_runs : Report → List Run
 findings_runs report =
-    flat_map (finding_runs (string_bytes report.root) report.sources.items) report.findings.items
+    flat_map (finding_runs (string_bytes report.root) report.sources.items)
+    (take 100 report.findings.items) ++ further_runs (length report.findings.items - 100)
 
 -- a finding on one line, with its advice
 abbrev pub concise_line_runs : List ℕ → List Source → Finding → List Run

@@ -12,10 +12,10 @@ const ANSWER_FORMATS: &[&str] = &["text", "json"];
 const ANSWER_FORMATS_HELP: &str = "Output format: text or json\n[default: text]";
 
 /// The formats of findings.
-const CHECK_FORMATS: &[&str] = &["text", "json", "concise", "github"];
+const CHECK_FORMATS: &[&str] = &["text", "json", "short", "concise", "github"];
 
 /// The help of the option that chooses among them.
-const CHECK_FORMATS_HELP: &str = "Format: text, json, concise or github\n[default: text]";
+const CHECK_FORMATS_HELP: &str = "Format: text, json, short or github\n[default: text]";
 
 /// When colours are used.
 const COLOURS: &[&str] = &["auto", "always", "never"];
@@ -92,12 +92,13 @@ Exit status:
 const CHECK_NOTES: &str = "\
 Examples:
   rinqebo check
-  rinqebo check --deny-warnings --format github
+  rinqebo check --deny warnings --format github
+  rinqebo check --explain unknown-key
   rinqebo check - --stdin-path .config/nextest.toml < edited.toml
 
 Exit status:
   0  no errors
-  1  warnings, with --deny-warnings
+  1  warnings, with --deny warnings
   2  invalid command line or metadata
   3  error in a configuration file
   5  out of memory
@@ -386,7 +387,20 @@ fn check_command<'a>(alloc: Global) -> Result<Command<'a>, AllocError> {
             "PATH",
             "Path to report for standard input\n[default: -]",
         ))?
-        .arg(flag(alloc, "deny-warnings", "Exit with status 1 on warnings"))?;
+        .arg(option(
+            alloc,
+            "deny",
+            "WHAT",
+            "Exit with status 1 on WHAT: warnings",
+        ))?
+        .arg(flag(alloc, "deny-warnings", "The same as --deny warnings"))?
+        .arg(option(
+            alloc,
+            "explain",
+            "CODE",
+            "Print what a code means, and check nothing",
+        ))?
+        .arg(flag(alloc, "codes", "Print all codes, and check nothing"))?;
     let command = with_files(alloc, command)?;
     with_output(alloc, command, CHECK_FORMATS, CHECK_FORMATS_HELP)
 }

@@ -1,6 +1,7 @@
 //! The request of a user.
 use crate::named::ProfileSource;
 use nextest_config::{BuildPlatform, ConfigExperimental, NextestRunMode, Setting, ToolName};
+use rinqebo_codes::Code;
 use rinqebo_report::{Colour, Format};
 use std::collections::BTreeSet;
 
@@ -220,6 +221,10 @@ impl<'a> Request<'a> {
 pub enum Command<'a> {
     /// The JSON schema of a file. Nothing is read for it.
     Schema,
+    /// The list of the codes of findings. Nothing is read for it.
+    Codes,
+    /// The page of a code. Nothing is read for it.
+    CodePage(Code),
     /// A request for a report.
     Answer(Request<'a>),
 }

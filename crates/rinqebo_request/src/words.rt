@@ -12,6 +12,7 @@ use crate::test_words::explain_request;
 use clap::ArgMatches;
 use clap::error::ErrorKind;
 use nextest_config::{ConfigExperimental, InvalidIdentifier, NextestRunMode, ToolName};
+use rinqebo_codes::{CODES, Code, find_code};
 use rinqebo_report::{Colour, Format};
 use std::alloc::{AllocError, Global};
 use std::collections::BTreeSet;
@@ -184,7 +185,7 @@ fn file_engines<'a>(matches: &ArgMatches<'a>) -> EngineOptions<'a> {
 pub fn format<'a>(matches: &ArgMatches<'a>, environment: &'a Environment) -> Format<'a> {
     match matches.get_str("format") {
         Some("json") => Format::Json,
-        Some("concise") => Format::Concise,
+        Some("short" | "concise") => Format::Concise,
         Some("github") => Format::Github(set(&environment.workflow_folder).unwrap_or("")),
         _ => Format::Text,
     }
@@ -311,6 +312,52 @@ fn show_request<'a>(
     })
 }
 
+/// Whether a warning is no success.
+fn denies_warnings(alloc: Global, matches: &ArgMatches<'_>) -> Result<bool, ParseStop> {
+    match matches.get_str("deny") {
+        Some("warnings") => Ok(true),
+        Some(_) => Err(usage(alloc, "`--deny` takes `warnings`", None)?),
+        None => Ok(matches.get_flag("deny-warnings")),
+    }
+}
+
+/// The words of all codes.
+fn code_words(alloc: Global) -> Result<Vec<&'static str>, AllocError> {
+    let mut words = Vec::new(alloc);
+    for code in CODES.iter() {
+        words.push(code.word())?;
+    }
+    Ok(words)
+}
+
+/// The code of a word.
+fn code_named(alloc: Global, word: &str) -> Result<Code, ParseStop> {
+    match find_code(word) {
+        Some(code) => Ok(code),
+        None => {
+            let message = format!(in alloc; "no code is `{word}`: `--codes` lists all")?;
+            let hint = name_hint(alloc, word, &code_words(alloc)?)?;
+            Err(usage(alloc, message.as_str(), hint)?)
+        }
+    }
+}
+
+/// What the words of `check` ask for.
+fn check_command<'a>(
+    alloc: Global,
+    matches: &ArgMatches<'a>,
+    environment: &'a Environment,
+) -> Result<Command<'a>, ParseStop> {
+    if let Some(word) = matches.get_str("explain") {
+        return Ok(Command::CodePage(code_named(alloc, word)?));
+    }
+    if matches.get_flag("codes") {
+        return Ok(Command::Codes);
+    }
+    let request = check_request(alloc, matches, environment)?;
+    Ok(Command::Answer(request))
+}
+
 /// The request of the command `check`.
 fn check_request<'a>(
     alloc: Global,
@@ -319,7 +366,7 @@ fn check_request<'a>(
 ) -> Result<Request<'a>, ParseStop> {
     Ok(Request {
         question: Question::Check {
-            deny_warnings: matches.get_flag("deny-warnings"),
+            deny_warnings: denies_warnings(alloc, matches)?,
         },
         profile_source: ProfileSource::Fallback,
         files: files(alloc, matches, checked_file(alloc, matches)?)?,
@@ -342,7 +389,7 @@ pub fn command_of<'a>(
         Some(("list", matches)) => list_request(alloc, matches, environment)?,
         Some(("show-config", matches)) => show_request(alloc, matches, environment)?,
         Some(("schema", _)) => return Ok(Command::Schema),
-        Some((_, matches)) => check_request(alloc, matches, environment)?,
+        Some((_, matches)) => return check_command(alloc, matches, environment),
         None => return Err(usage(alloc, "no command", None)?),
     };
     Ok(Command::Answer(request))

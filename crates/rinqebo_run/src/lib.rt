@@ -8,6 +8,7 @@
 mod answer;
 mod asked;
 mod check;
+mod codes;
 mod explain;
 mod id_note;
 mod idle;
@@ -32,6 +33,7 @@ mod why;
 
 pub use answer::Answer;
 pub use asked::requested_of;
+pub use codes::{print_code, print_codes};
 pub use list::{Profile, profile_on};
 pub use list_scripts::scripts_of_list;
 pub use looked_up::config_looked_up;

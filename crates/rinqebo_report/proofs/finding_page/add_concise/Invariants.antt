@@ -1,7 +1,7 @@
 use Rattle.std.proofs.Common.{◌≡◌, ◌++◌, flat_map, take, string_bytes}
 use Rattle.rinqebo_report.specs.Pages.{concise_line_runs}
 use Rattle.rinqebo_report.specs.Pieces.{page_text}
-use Rattle.rinqebo_report.proofs.check_page.add_concise.Given as goal
+use Rattle.rinqebo_report.proofs.finding_page.add_concise.Given as goal
 
 abbrev pub invariant-loop-finding : goal.invariant-loop-finding
 invariant-loop-finding l =
