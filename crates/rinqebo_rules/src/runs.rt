@@ -22,7 +22,7 @@ use rinqebo_request::{RUNS, RequestedSettings, SettingKey};
 use std::alloc::{AllocError, Global};
 
 /// The number under which the default filter is counted among rules, which no rule has.
-const NUMBER: usize = usize::MAX;
+pub(crate) const NUMBER: usize = usize::MAX;
 
 /// The key at which a profile or an override writes its default filter.
 fn default_filter_key() -> SettingKey

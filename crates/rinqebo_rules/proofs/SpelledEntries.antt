@@ -1,0 +1,34 @@
+-- Entries of leaves that are shown as they are written.
+use Rattle.std.proofs.Common.{◌≡◌, ◌<◌, ◌+◌, ◌∙◌, ◌&&◌, ℕ, List, [], ◌∷◌, ◌++◌, Bool, true, false, cond, ap, filter, get_or, length, map, refl, subst, sym, take}
+use Rattle.std.proofs.lemmas.List.{append-nil, map-append, take_more}
+use Rattle.std.proofs.lemmas.List.Elements.{filter-append}
+use Rattle.std.proofs.lemmas.Slice.Zip.{all_zipped_more}
+use Rattle.std.specs.List.{AllZip}
+
+module _ {X Y Z : Type 0} (view : X → Y) (p : Y → Bool) (R : Y → Z → Type 0) (xs : List X) (n : ℕ) (x : X)
+    (below : n < length xs) (at : x ≡ get_or xs n x) where
+  -- the elements so far and the next one that pass a test
+  passing : (b : Bool) → p (view x) ≡ b
+      → filter p (map view (take (n + 1) xs)) ≡ filter p (map view (take n xs)) ++ cond b (view x ∷ []) []
+  passing b passes =
+      ap (λ ys. filter p (map view ys)) (take_more xs n x below ∙ ap (λ z. take n xs ++ z ∷ []) (sym at))
+      ∙ ap (filter p) (map-append view (take n xs) (x ∷ []))
+      ∙ filter-append p (map view (take n xs)) (view x ∷ [])
+      ∙ ap (λ t. filter p (map view (take n xs)) ++ cond t (view x ∷ []) []) passes
+
+  -- one more that passes and is told
+  pub passes_more : (old new : List Z) (z : Z) → AllZip R (filter p (map view (take n xs))) old
+      → p (view x) ≡ true → R (view x) z → new ≡ old ++ z ∷ []
+      → AllZip R (filter p (map view (take (n + 1) xs))) new
+  passes_more old new z before passes is more =
+      subst (λ ys. AllZip R ys new) (sym (passing true passes))
+      (subst (AllZip R (filter p (map view (take n xs)) ++ view x ∷ [])) (sym more)
+      (all_zipped_more R (filter p (map view (take n xs))) old (view x) z before is))
+
+  -- one more that does not pass
+  pub passes_not : (old new : List Z) → AllZip R (filter p (map view (take n xs))) old
+      → p (view x) ≡ false → new ≡ old → AllZip R (filter p (map view (take (n + 1) xs))) new
+  passes_not old new before fails kept =
+      subst (λ ys. AllZip R ys new)
+      (sym (passing false fails ∙ append-nil (filter p (map view (take n xs)))))
+      (subst (AllZip R (filter p (map view (take n xs)))) (sym kept) before)
