@@ -25,7 +25,7 @@ use std::alloc::{AllocError, Global};
 pub(crate) const NUMBER: usize = usize::MAX;
 
 /// The key at which a profile or an override writes its default filter.
-fn default_filter_key() -> SettingKey
+pub fn default_filter_key() -> SettingKey
     ensures table { option_map (λ table. table.now) result.table ≡ None }
     ensures key { result.key.now ≡ codes "default-filter" }
 {

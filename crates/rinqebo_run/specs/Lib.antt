@@ -6,6 +6,7 @@ pub mod Answered
 pub mod Refused
 pub mod Reasons
 pub mod TellsReasons
+pub mod RunsReasons
 pub mod Listed
 pub mod ListedBy
 pub mod ShownConfig

@@ -11,7 +11,9 @@ use Rattle.nextest_tables.specs.Written.{Name}
 use Rattle.nextest_tree.specs.Node.{Node}
 use Rattle.rinqebo_rules.specs.LeafValue.{is_tellable}
 use Rattle.rinqebo_rules.specs.ReportedEntries.{IsEntryOf}
+use Rattle.rinqebo_rules.specs.SpelledLeaves.{AreSpelledOut}
 use Rattle.rinqebo_rules.specs.Trees.{trees_of}
+use Rattle.rinqebo_files.specs.declared.layers.Layer.{Layer}
 use Rattle.rinqebo_report.specs.declared.origin.FilePlace.{FilePlace}
 use Rattle.rinqebo_report.specs.declared.report.Content.{Content}
 use Rattle.rinqebo_report.specs.declared.report.Content.TheVariants as contents
@@ -40,6 +42,16 @@ pub record AreShown (layers : List Node) (chain keys : List (List ℕ)) (with_hi
   pub are_leaves : AreEntries layers chain keys with_hidden leaves
   pub told : TellLeaves leaves entries
 
+-- Entries tell what is asked for of a chain of profiles in the layers of files: the leaves that count, and
+-- then what the files write at keys that are shown as they are written.
+pub record AreShownOf (layers : List Layer) (chain keys : List (List ℕ)) (with_hidden : Bool)
+    (entries : List Entry) : Type 0 where
+  pub counted : List Entry
+  pub spelled : List Entry
+  pub are : entries ≡ counted ++ spelled
+  pub counted_shown : AreShown (trees_of layers) chain keys with_hidden counted
+  pub spelled_out : AreSpelledOut layers chain keys spelled
+
 -- a fact of the entries that a report shows
 abbrev pub IfShown : Content → (List Entry → Type 0) → Type 0
 IfShown (contents.ShowConfig asked entries) P = P entries.items
@@ -61,7 +73,7 @@ pub record IsShownIn (session : Session) (parents : Parents) (profile : Name)
     (keys : List (List ℕ)) (with_hidden : Bool) (content : Content) : Type 0 where
   pub chain : List Name
   pub is_chain : IsChainAndDefault parents profile chain
-  pub shown : IfShown content (AreShown (trees_of session.layers.items) chain keys with_hidden)
+  pub shown : IfShown content (AreShownOf session.layers.items chain keys with_hidden)
   -- It says what was asked for.
   pub requested : IfRequested content (IsRequestedOf session profile modes.Test chain)
 

@@ -30,6 +30,7 @@ mod status;
 mod telling;
 mod unset;
 mod why;
+mod why_runs;
 
 pub use answer::Answer;
 pub use asked::requested_of;

@@ -9,7 +9,7 @@ ghost use Rattle.rinqebo_rules.specs.LeafValue.{is_tellable};
 ghost use Rattle.rinqebo_findings.specs.Failures.{IsFailureAbout};
 ghost use Rattle.rinqebo_findings.specs.Reports.{IsReportOf};
 ghost use Rattle.rinqebo_rules.specs.Trees.{trees_of};
-ghost use Rattle.rinqebo_run.specs.ShownConfig.{TellsLeaf, TellLeaves, AreShown, IsShownIn, shown_status, ShowsConfig};
+ghost use Rattle.rinqebo_run.specs.ShownConfig.{TellsLeaf, TellLeaves, AreShown, AreShownOf, IsShownIn, shown_status, ShowsConfig};
 
 use crate::answer::Answer;
 use crate::asked::requested_of;
@@ -21,7 +21,7 @@ use rinqebo_files::{Layer, path_place};
 use rinqebo_findings::{config_with, report_of};
 use rinqebo_load::{Config, Failure, Session, chain_of_profile};
 use rinqebo_report::{Content, Entry};
-use rinqebo_rules::{reported_entry, steps_of, trees_of};
+use rinqebo_rules::{reported_entry, spelled_entries, steps_of, trees_of};
 use std::alloc::{AllocError, Global};
 
 /// A leaf as it is reported, with its place in the file of its layer. There is none where its value
@@ -73,6 +73,23 @@ pub fn entries_in(
     reported_leaves(alloc, layers, &leaves)
 }
 
+/// The leaves of a chain of profiles below keys, and what the files write there as it is written.
+fn shown_entries(
+    alloc: Global,
+    layers: &[Layer],
+    chain: &[&str],
+    keys: &[&str],
+    with_hidden: bool,
+) -> Result<Vec<Entry>, AllocError>
+    ensures { IfOk result (λ entries. AreShownOf layers.now (keys_view chain.now)
+        (keys_view keys.now) with_hidden entries.items) }
+{
+    let mut entries = entries_in(alloc, layers, chain, keys, with_hidden)?;
+    let mut spelled = spelled_entries(alloc, layers, chain, keys)?;
+    entries.append(&mut spelled)?;
+    Ok(entries)
+}
+
 /// The leaves of a profile below keys, by a configuration.
 fn shown(
     alloc: Global,
@@ -88,7 +105,7 @@ fn shown(
 {
     let chain = chain_of_profile(alloc, config, profile)?;
     let asked = requested_of(alloc, session, profile, &chain, NextestRunMode::Test)?;
-    let entries = entries_in(alloc, &session.layers, &chain, keys, with_hidden)?;
+    let entries = shown_entries(alloc, &session.layers, &chain, keys, with_hidden)?;
     Ok(Content::ShowConfig { asked, entries })
 }
 
