@@ -40,7 +40,7 @@ pub use progress::{NoProgress, Progress};
 pub use reported_entries::{reported_entry, steps_of};
 pub use reported_values::{reported, reported_if_set};
 pub use rule_places::{RuleKind, RulePlace};
-pub use runs::default_filter_key;
+pub use runs::{default_filter_key, filtering_place};
 pub use scripts::scripts_of;
 pub use spelled_entries::spelled_entries;
 pub use trees::trees_of;

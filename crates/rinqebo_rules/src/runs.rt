@@ -107,7 +107,7 @@ fn id_in<'c, F: Filters, S: Specs>(profile: &EvaluatableProfile<'c, F, S>) -> Op
 }
 
 /// Where the override of a profile stands whose default filter counts, if it is one of an override.
-pub(crate) fn filtering_place<'c, F: Filters, S: Specs>(
+pub fn filtering_place<'c, F: Filters, S: Specs>(
     profile: &EvaluatableProfile<'c, F, S>,
 ) -> Option<RulePlace<'c>>
     ensures { option_map place_view result

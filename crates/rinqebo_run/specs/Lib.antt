@@ -9,6 +9,7 @@ pub mod TellsReasons
 pub mod RunsReasons
 pub mod Listed
 pub mod ListedBy
+pub mod InForce
 pub mod ShownConfig
 pub mod Begun
 pub mod Written

@@ -12,6 +12,7 @@ mod codes;
 mod explain;
 mod id_note;
 mod idle;
+mod in_force;
 mod list;
 mod list_fault;
 mod list_origins;
