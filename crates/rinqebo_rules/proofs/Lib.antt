@@ -11,6 +11,7 @@ pub mod Listing
 pub mod NoneHold
 pub mod RowsMore
 pub mod FilterRules
+pub mod FilterChoice
 pub mod SpelledLeaves
 pub mod Spelling
 pub mod SpelledEntries

@@ -6,6 +6,7 @@
 mod chain_rules;
 mod conditions;
 mod evaluated_filters;
+mod filter_laws;
 mod filter_rules;
 mod grounds;
 mod holds;
@@ -31,6 +32,7 @@ mod verdict_laws;
 pub use chain_rules::{SettingRule, rules_for};
 pub use conditions::{Answers, Asking};
 pub use evaluated_filters::{FilterPlace, PlacedFilter, filters_asking, filters_left_open};
+pub use filter_laws::law_filter_rules;
 pub use filter_rules::{filter_rules, is_matched_by_default};
 pub use grounds::{built_in, idle_grounds, profile_grounds};
 pub use leaf_value::reported_value;
