@@ -4,6 +4,15 @@ use Rattle.std.proofs.lemmas.List.{append-nil, map-append, take_more}
 use Rattle.std.proofs.lemmas.List.Elements.{filter-append}
 use Rattle.std.proofs.lemmas.Slice.Zip.{all_zipped_more}
 use Rattle.std.specs.List.{AllZip}
+use Rattle.nextest_places.specs.declared.step.Step.{Step}
+use Rattle.rinqebo_files.specs.Origins.{IsPathPlace}
+use Rattle.rinqebo_files.specs.declared.layers.Layer.{Layer}
+use Rattle.rinqebo_report.specs.declared.origin.FilePlace.{FilePlace}
+use Rattle.rinqebo_report.specs.declared.origin.Origin.{Origin}
+use Rattle.rinqebo_report.specs.declared.origin.Origin.TheVariants as kinds
+use Rattle.rinqebo_report.specs.declared.origin.Part.{Part}
+use Rattle.rinqebo_rules.specs.Origins.{step_view}
+use Rattle.rinqebo_rules.specs.SpelledLeaves.{IsOriginOfLeaf, IsPlacedOrigin, Spelled, base_steps, part_at}
 
 module _ {X Y Z : Type 0} (view : X → Y) (p : Y → Bool) (R : Y → Z → Type 0) (xs : List X) (n : ℕ) (x : X)
     (below : n < length xs) (at : x ≡ get_or xs n x) where
@@ -32,3 +41,29 @@ module _ {X Y Z : Type 0} (view : X → Y) (p : Y → Bool) (R : Y → Z → Typ
       subst (λ ys. AllZip R ys new)
       (sym (passing false fails ∙ append-nil (filter p (map view (take n xs)))))
       (subst (AllZip R (filter p (map view (take n xs)))) (sym kept) before)
+
+-- what is written at the place of a leaf is the leaf
+pub leaf_origin : (layers : List Layer) (leaf : Spelled) (part : Part) (place : FilePlace) (path : List Step)
+    (origin : Origin) → part ≡ part_at leaf.steps
+    → map step_view path ≡ base_steps leaf.spot.profile ++ leaf.steps
+    → IsPathPlace layers leaf.spot.layer path place → IsPlacedOrigin leaf.spot.profile part place origin
+    → IsOriginOfLeaf layers leaf origin
+leaf_origin layers leaf part place path kinds.BuiltIn same spelled there is = absurd is
+leaf_origin layers leaf part place path kinds.DefaultTable same spelled there is = absurd is
+leaf_origin layers leaf part place path (kinds.Written written) same spelled there is = (
+  is.0,
+  is.1 ∙ same,
+  record {
+    path = path;
+    spelled = spelled;
+    place_reported = subst (IsPathPlace layers leaf.spot.layer path) (sym is.2) there;
+  },
+)
+leaf_origin layers leaf part place path (kinds.File found) same spelled there is = (
+  is.0,
+  record {
+    path = path;
+    spelled = spelled;
+    place_reported = subst (IsPathPlace layers leaf.spot.layer path) (sym is.1) there;
+  },
+)

@@ -142,18 +142,31 @@ abbrev pub is_spelled_out : List (List ℕ) → Spelled → Bool
 is_spelled_out keys leaf =
     list_any (λ name. is_under (steps_text leaf.steps) name) keys && is_tellable leaf.value
 
--- which part of a profile steps lead into: a rule of its overrides or of its scripts, or its own fields
-abbrev pub part_at : List PathStep → Part
-part_at (key k ∷ position at ∷ steps) =
-    if bytes_eq k (codes "overrides") then parts.Override at
-    else if bytes_eq k (codes "scripts") then parts.Script at
+-- the rule at a position below a key of a profile, or its own fields where the key has no rules
+abbrev pub rule_part : List ℕ → ℕ → Part
+rule_part name at =
+    if bytes_eq name (codes "overrides") then parts.Override at
+    else if bytes_eq name (codes "scripts") then parts.Script at
     else parts.Fields
+
+-- which part of a profile steps lead into: a rule, or its own fields
+abbrev pub part_at : List PathStep → Part
+part_at (key name ∷ position at ∷ steps) = rule_part name at
 part_at steps = parts.Fields
 
 -- the steps to the table of a profile, if there is one
 abbrev pub base_steps : Option Name → List PathStep
 base_steps None = []
 base_steps (Some profile) = key (codes "profile") ∷ key profile ∷ []
+
+-- An origin tells what is written at a place: under a profile in a part of it, or beside the profiles.
+abbrev pub IsPlacedOrigin : Option Name → Part → FilePlace → Origin → Type 0
+IsPlacedOrigin profile part place (kinds.Written written) =
+    (profile ≡ Some (string_bytes written.profile)) × (written.part ≡ part)
+    × (written.place ≡ place)
+IsPlacedOrigin profile part place (kinds.File found) = (profile ≡ None) × (found ≡ place)
+IsPlacedOrigin profile part place kinds.BuiltIn = ⊥
+IsPlacedOrigin profile part place kinds.DefaultTable = ⊥
 
 -- A place in a file is that of a leaf.
 pub record IsPlaceOfLeaf (layers : List Layer) (leaf : Spelled) (place : FilePlace) : Type 0 where

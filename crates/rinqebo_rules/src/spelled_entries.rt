@@ -4,13 +4,13 @@ ghost use Rattle.std.specs.List.{AllZip, list_any};
 ghost use Rattle.nextest_grounds.specs.Layers.{keys_view};
 ghost use Rattle.nextest_inheritance.specs.View.{borrowed_view};
 ghost use Rattle.rinqebo_rules.specs.Origins.{step_view};
-ghost use Rattle.rinqebo_rules.specs.SpelledLeaves.{AreSpelledOut, IsEntryOfLeaf, IsOriginOfLeaf, base_steps, ends_or_dot, is_spelled_out, is_under, part_at, spelled_view, step_text, steps_text};
+ghost use Rattle.rinqebo_rules.specs.SpelledLeaves.{AreSpelledOut, IsEntryOfLeaf, IsOriginOfLeaf, IsPlacedOrigin, base_steps, ends_or_dot, is_spelled_out, is_under, part_at, rule_part, spelled_view, step_text, steps_text};
 
 use crate::leaf_value::reported_value;
 use crate::spelled_leaves::{SpelledLeaf, spelled_leaves};
 use nextest_places::Step;
 use rinqebo_files::{Layer, path_place};
-use rinqebo_report::{Entry, Origin, Part, Written};
+use rinqebo_report::{Entry, FilePlace, Origin, Part, Written};
 use std::alloc::{AllocError, Global};
 
 /// A step, as a user spells it.
@@ -70,16 +70,25 @@ fn is_asked(text: &str, keys: &[&str]) -> bool
     keys.iter().any(|key| is_under(text, *key))
 }
 
+/// The rule at a position below a key of a profile, or its own fields where the key has no rules.
+fn rule_part(key: &str, index: usize) -> Part
+    ensures { result ≡ rule_part key.now index }
+{
+    if key == "overrides" {
+        Part::Override(index)
+    } else if key == "scripts" {
+        Part::Script(index)
+    } else {
+        Part::Fields
+    }
+}
+
 /// Which part of a profile steps lead into.
 fn part_at(steps: &[Step<'_>]) -> Part
     ensures { result ≡ part_at (map step_view steps.now) }
 {
     match steps {
-        [Step::Key(key), Step::Position(index), ..] => match *key {
-            "overrides" => Part::Override(*index),
-            "scripts" => Part::Script(*index),
-            _ => Part::Fields,
-        },
+        [Step::Key(key), Step::Position(index), ..] => rule_part(*key, *index),
         _ => Part::Fields,
     }
 }
@@ -110,24 +119,38 @@ fn path_of<'t>(alloc: Global, leaf: &SpelledLeaf<'t>) -> Result<Vec<Step<'t>>, A
     Ok(path)
 }
 
+/// What is written at a place, under a profile or without one beside the profiles.
+fn placed_origin(
+    alloc: Global,
+    profile: Option<&str>,
+    part: Part,
+    place: FilePlace,
+) -> Result<Origin, AllocError>
+    ensures { IfOk result (IsPlacedOrigin (option_map (λ name. name.now) profile.entry) part
+        place) }
+{
+    match profile {
+        Some(name) => Ok(Origin::Written(Written {
+            place,
+            profile: String::from_str(alloc, name)?,
+            part,
+        })),
+        None => Ok(Origin::File(place)),
+    }
+}
+
 /// Where a leaf is written.
 fn origin_of(alloc: Global, layers: &[Layer], leaf: &SpelledLeaf<'_>) -> Result<Origin, AllocError>
     ensures { IfOk result (IsOriginOfLeaf layers.now (spelled_view leaf.now)) }
 {
-    let spot = leaf.spot;
-    if spot.layer == 0 {
+    let layer = leaf.spot.layer;
+    if layer == 0 {
         return Ok(Origin::DefaultTable);
     }
     let path = path_of(alloc, leaf)?;
-    let place = path_place(layers, spot.layer, &path);
-    match spot.profile {
-        Some(name) => Ok(Origin::Written(Written {
-            place,
-            profile: String::from_str(alloc, name)?,
-            part: part_at(&leaf.steps),
-        })),
-        None => Ok(Origin::File(place)),
-    }
+    let place = path_place(layers, layer, &path);
+    let part = part_at(&leaf.steps);
+    placed_origin(alloc, leaf.spot.profile, part, place)
 }
 
 /// A leaf, as it is reported, if it is under one of some keys and its value can be reported.
