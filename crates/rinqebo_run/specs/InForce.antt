@@ -1,5 +1,5 @@
 -- The default filter that counts, among the entries of a configuration.
-use Rattle.std.specs.Prelude.{◌≡◌, ◌⊎◌, ℕ, List, [], ◌∷◌, Bool, true, false, ◌||◌, not, Option, None, Some, map, filter, codes, string_bytes}
+use Rattle.std.specs.Prelude.{◌≡◌, ◌⊎◌, ◌==◌, ℕ, List, ◌∷◌, Bool, true, false, ◌||◌, not, Option, None, Some, length, map, filter, codes, string_bytes}
 use Rattle.std.specs.List.{list_any}
 use Rattle.std.specs.Str.{bytes_eq}
 use Rattle.rinqebo_files.specs.declared.layers.Layer.{Layer}
@@ -13,9 +13,8 @@ is_default entry = bytes_eq (string_bytes entry.key) (codes "default-filter")
 
 -- whether the default filter is asked for: there are no keys, or one is its key
 abbrev pub asks_for_default : List (List ℕ) → Bool
-asks_for_default [] = true
-asks_for_default (key ∷ keys) =
-    list_any (λ name. bytes_eq name (codes "default-filter")) (key ∷ keys)
+asks_for_default keys =
+    (length keys == 0) || list_any (λ name. bytes_eq name (codes "default-filter")) keys
 
 -- an entry, which is hidden if it is a default filter
 abbrev pub hide : Entry → Entry

@@ -1,5 +1,5 @@
 //! Why a test runs or not: the overrides that have a default filter, and the result of each.
-ghost use Rattle.std.specs.Prelude.{◌≡◌, ◌×◌, not, codes, IfErr, IfOk, List, map, option_map};
+ghost use Rattle.std.specs.Prelude.{◌≡◌, not, codes, IfErr, IfOk, option_map};
 ghost use Rattle.std.specs.List.{list_any};
 ghost use Rattle.nextest_inheritance.specs.Parents.{parents_in};
 ghost use Rattle.nextest_load.specs.Config.{config_parents};
