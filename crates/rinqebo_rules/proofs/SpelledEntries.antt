@@ -1,9 +1,10 @@
 -- Entries of leaves that are shown as they are written.
-use Rattle.std.proofs.Common.{◌≡◌, ◌<◌, ◌+◌, ◌∙◌, ◌&&◌, ℕ, List, [], ◌∷◌, ◌++◌, Bool, true, false, cond, ap, filter, get_or, length, map, refl, subst, sym, take}
+use Rattle.std.proofs.Common.{◌≡◌, ◌<◌, ◌+◌, ◌∙◌, ◌||◌, ℕ, List, [], ◌∷◌, ◌++◌, Bool, Bor, true, false, cond, ap, filter, get_or, length, map, refl, string_bytes, subst, sym, take}
 use Rattle.std.proofs.lemmas.List.{append-nil, map-append, take_more}
 use Rattle.std.proofs.lemmas.List.Elements.{filter-append}
 use Rattle.std.proofs.lemmas.Slice.Zip.{all_zipped_more}
-use Rattle.std.specs.List.{AllZip}
+use Rattle.std.specs.List.{AllZip, list_any}
+use Rattle.nextest_grounds.specs.Layers.{keys_view}
 use Rattle.nextest_places.specs.declared.step.Step.{Step}
 use Rattle.rinqebo_files.specs.Origins.{IsPathPlace}
 use Rattle.rinqebo_files.specs.declared.layers.Layer.{Layer}
@@ -12,7 +13,7 @@ use Rattle.rinqebo_report.specs.declared.origin.Origin.{Origin}
 use Rattle.rinqebo_report.specs.declared.origin.Origin.TheVariants as kinds
 use Rattle.rinqebo_report.specs.declared.origin.Part.{Part}
 use Rattle.rinqebo_rules.specs.Origins.{step_view}
-use Rattle.rinqebo_rules.specs.SpelledLeaves.{IsOriginOfLeaf, IsPlacedOrigin, Spelled, base_steps, part_at}
+use Rattle.rinqebo_rules.specs.SpelledLeaves.{IsOriginOfLeaf, IsPlacedOrigin, Spelled, base_steps, is_under, part_at}
 
 module _ {X Y Z : Type 0} (view : X → Y) (p : Y → Bool) (R : Y → Z → Type 0) (xs : List X) (n : ℕ) (x : X)
     (below : n < length xs) (at : x ≡ get_or xs n x) where
@@ -67,3 +68,15 @@ leaf_origin layers leaf part place path (kinds.File found) same spelled there is
     place_reported = subst (IsPathPlace layers leaf.spot.layer path) (sym is.1) there;
   },
 )
+
+-- one of what is made of some things passes a test
+any_made : {X Y : Type 0} (p : Y → Bool) (f : X → Y) (xs : List X) → list_any p (map f xs) ≡ list_any (λ x. p (f x)) xs
+any_made p f [] = refl
+any_made p f (x ∷ xs) = ap (λ b. p (f x) || b) (any_made p f xs)
+
+-- whether a text is asked for by keys, as code holds them
+pub asked_here : (keys : List (Bor (List ℕ))) (text other : List ℕ) → text ≡ other
+    → list_any (λ name. is_under text name.now) keys ≡ list_any (λ name. is_under other name) (keys_view keys)
+asked_here keys text other same =
+    ap (λ t. list_any (λ name. is_under t name.now) keys) same
+    ∙ sym (any_made (λ name. is_under other name) (λ name. name.now) keys)

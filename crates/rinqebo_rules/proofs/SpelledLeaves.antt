@@ -1,5 +1,5 @@
 -- The leaves that files write at keys that are shown as they are written.
-use Rattle.std.proofs.Common.{◌≡◌, ◌<◌, ◌+◌, ◌∙◌, ℕ, zero, suc, List, [], ◌∷◌, ◌++◌, Bool, true, false, cond, Option, Some, None, String, Global, ap, append_assoc, append-nil, arith, drop, flat_map, get_or, length, map, refl, string_bytes, subst, sym, take}
+use Rattle.std.proofs.Common.{◌≡◌, ◌<◌, ◌+◌, ◌∙◌, ℕ, zero, suc, List, [], ◌∷◌, ◌++◌, Bool, true, false, cond, Option, Some, None, String, Global, add-one, ap, append_assoc, append-nil, arith, drop, flat_map, get_or, length, map, refl, string_bytes, subst, sym, take}
 use Rattle.std.proofs.Math.Seq.{drop-cons}
 use Rattle.std.proofs.lemmas.Grind.{flat_map-append}
 use Rattle.std.proofs.lemmas.List.{length-map, length-take-le, map-append, take_more}
@@ -63,7 +63,7 @@ pub text_more : (items : List Tree) (i : ℕ) (item d : Tree) (t : List ℕ) →
     → are_texts (nodes_view (drop (i + 1) items)) ≡ are_texts (nodes_view items)
 text_more items i item d t below same some is =
     let split : drop i items ≡ item ∷ drop (i + 1) items =
-    drop-cons items i d below ∙ (λ j. sym same j ∷ drop (suc i) items) ∙ ap (λ k. item ∷ drop k items) (omega arith) in
+    drop-cons items i d below ∙ (λ j. sym same j ∷ drop (suc i) items) ∙ ap (λ k. item ∷ drop k items) (sym (add-one i)) in
     sym (text_first (tree_view item) (map tree_view (drop (i + 1) items)) t some)
     ∙ sym (ap (λ ts. are_texts (nodes_view ts)) split) ∙ is
 

@@ -65,7 +65,7 @@ fn is_under(text: &str, key: &str) -> bool
 
 /// Whether a text is under one of some keys.
 fn is_asked(text: &str, keys: &[&str]) -> bool
-    ensures { result ≡ list_any (λ name. is_under text.now name) (keys_view keys.now) }
+    ensures { result ≡ list_any (λ name. is_under text.now name.now) keys.now }
 {
     keys.iter().any(|key| is_under(text, *key))
 }

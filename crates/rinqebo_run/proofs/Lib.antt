@@ -7,6 +7,7 @@ pub mod Pairs
 pub mod Requests
 pub mod Meant
 pub mod RunsReasons
+pub mod InForce
 pub mod Gathering
 pub mod Listing
 pub mod Showing

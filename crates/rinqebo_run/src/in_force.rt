@@ -1,13 +1,14 @@
 //! The default filter that counts, in the place of those that it overrides: that of an override whose
 //! platforms hold.
-ghost use Rattle.std.specs.Prelude.{◌≡◌, [], ◌∷◌, IfOk, filter, map, not, option_map};
-ghost use Rattle.rinqebo_report.specs.declared.origin.Origin.{Origin};
+ghost use Rattle.std.specs.Prelude.{◌≡◌, ◌==◌, ◌||◌, IfOk, codes, filter, length, map, not, option_map};
+ghost use Rattle.std.specs.List.{list_any};
+ghost use Rattle.std.specs.Str.{bytes_eq};
 ghost use Rattle.nextest_grounds.specs.Layers.{keys_view};
 ghost use Rattle.rinqebo_rules.specs.RulePlaces.{place_view};
-ghost use Rattle.rinqebo_run.specs.InForce.{IsDefaultEntry, IsInForce, asks_for_default, hide, is_default, overridden};
+ghost use Rattle.rinqebo_run.specs.InForce.{IsDefaultEntry, IsInForce, hide, is_default, overridden};
 
 use rinqebo_files::{Layer, text_at};
-use rinqebo_report::{Entry, Origin, Scalar, Value};
+use rinqebo_report::{Entry, Scalar, Value};
 use rinqebo_rules::{RulePlace, default_filter_key};
 use std::alloc::{AllocError, Global};
 
@@ -23,7 +24,8 @@ fn is_default(entry: &Entry) -> bool
 
 /// Whether keys select the default filter: there are none, or one is its key.
 fn asks_for_default(keys: &[&str]) -> bool
-    ensures { result ≡ asks_for_default (keys_view keys.now) }
+    ensures { result ≡ ((length keys.now == 0)
+        || list_any (λ key. bytes_eq key.now (codes "default-filter")) keys.now) }
 {
     keys.is_empty() || keys.iter().any(|key| *key == DEFAULT_FILTER)
 }
@@ -81,23 +83,18 @@ fn overridden(
     }
 }
 
-/// The first of some origins, or built in where there is none.
-fn first_origin(origins: Vec<Origin>) -> Origin
-    ensures { (origin : Origin) → origins.items ≡ origin ∷ [] → result ≡ origin }
-{
-    origins.into_iter().next().unwrap_or(Origin::BuiltIn)
-}
-
 /// The default filter of the override at a place.
 fn default_entry(alloc: Global, layers: &[Layer], place: RulePlace<'_>) -> Result<Entry, AllocError>
     ensures { IfOk result (IsDefaultEntry layers.now (place_view place.entry)) }
 {
     let text = text_at(place.table(layers), DEFAULT_FILTER).unwrap_or("");
-    let origins = place.origins_at_key(alloc, layers, default_filter_key())?;
+    let value = String::from_str(alloc, text)?;
+    let key = String::from_str(alloc, DEFAULT_FILTER)?;
+    let origin = place.origin_at_key(alloc, layers, default_filter_key())?;
     Ok(Entry {
-        key: String::from_str(alloc, DEFAULT_FILTER)?,
-        value: Value::Scalar(Scalar::Text(String::from_str(alloc, text)?)),
-        origin: first_origin(origins),
+        key,
+        value: Value::Scalar(Scalar::Text(value)),
+        origin,
         is_hidden: false,
     })
 }

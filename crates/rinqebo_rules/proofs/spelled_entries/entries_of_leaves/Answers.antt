@@ -14,13 +14,13 @@ loop-leaf-preserved c =
     let R = IsEntryOfLeaf c.args.layers.now in
     elim c.match-branch-2.branch [
       | in-Some+in_ok-push-in-Some w ↦
-          let told = rw w.in-Some.is at c.in_ok-spelled_entry.ensures in
+          let told = rw w.in-Some.is at c.in_ok-entry.ensures in
           passes_more spelled_view p R c.args.leaves.now n c.leaf-item.result c.loop-leaf-test.true c.leaf-item.is
           c.loop-leaf.entries.items c.match-branch-2.entries.items w.in-Some.entry c.loop-leaf.invariant
           told.0 told.1 (ap (λ v. v.items) w.entries-is ∙ w.in_ok-push-in-Some.ensures.items)
       | in-None w ↦ passes_not spelled_view p R c.args.leaves.now n c.leaf-item.result c.loop-leaf-test.true
           c.leaf-item.is c.loop-leaf.entries.items c.match-branch-2.entries.items c.loop-leaf.invariant
-          (rw w.in-None.is at c.in_ok-spelled_entry.ensures) (ap (λ v. v.items) w.entries-is)
+          (rw w.in-None.is at c.in_ok-entry.ensures) (ap (λ v. v.items) w.entries-is)
     ]
 
 pub returns : goal.returns

@@ -1,36 +1,30 @@
 use Rattle.std.proofs.Common.{◌≡◌, ◌∙◌, ◌&&◌, ap, map, refl, sym}
-use Rattle.std.specs.List.{list_any}
-use Rattle.nextest_grounds.specs.Layers.{keys_view}
 use Rattle.nextest_tree.specs.View.{tree_view}
 use Rattle.rinqebo_rules.specs.LeafValue.{is_tellable}
 use Rattle.rinqebo_rules.specs.Origins.{step_view}
-use Rattle.rinqebo_rules.specs.SpelledLeaves.{is_under, steps_text}
+use Rattle.rinqebo_rules.specs.SpelledLeaves.{steps_text}
+use Rattle.rinqebo_rules.proofs.SpelledEntries.{asked_here}
 use Rattle.rinqebo_rules.proofs.spelled_entries.spelled_entry.Goals as goal
 
 pub returns-then-not-is_asked : goal.returns-then-not-is_asked
 returns-then-not-is_asked c =
-    let keys = keys_view c.args.keys.now in
     let text = c.as_str.ensures.value ∙ c.in_ok-key.ensures
     ∙ ap (λ steps. steps_text (map step_view steps)) c.deref.ensures.value in
-    let asked = c.is_asked.ensures ∙ ap (λ t. list_any (λ name. is_under t name) keys) text in
+    let asked = c.is_asked.ensures ∙ asked_here c.args.keys.now _ _ text in
     ap (λ b. b && is_tellable (tree_view c.args.leaf.now.value.now)) (sym asked ∙ c.if-not-is_asked.true)
 
 pub returns-in_default : goal.returns-in_default
 returns-in_default c =
-    let keys = keys_view c.args.keys.now in
     let text = c.as_str.ensures.value ∙ c.in_ok-key.ensures
     ∙ ap (λ steps. steps_text (map step_view steps)) c.deref.ensures.value in
-    let asked = sym (c.is_asked.ensures ∙ ap (λ t. list_any (λ name. is_under t name) keys) text)
-    ∙ c.if-not-is_asked.false in
+    let asked = sym (c.is_asked.ensures ∙ asked_here c.args.keys.now _ _ text) ∙ c.if-not-is_asked.false in
     let none = rw c.in_default.is at c.in_ok-value.ensures in
     λ i. asked i && none i
 
 pub returns : goal.returns
 returns c =
-    let keys = keys_view c.args.keys.now in
     let spelled = c.in_ok-key.ensures ∙ ap (λ steps. steps_text (map step_view steps)) c.deref.ensures.value in
-    let asked = sym (c.is_asked.ensures
-    ∙ ap (λ t. list_any (λ name. is_under t name) keys) (c.as_str.ensures.value ∙ spelled))
+    let asked = sym (c.is_asked.ensures ∙ asked_here c.args.keys.now _ _ (c.as_str.ensures.value ∙ spelled))
     ∙ c.if-not-is_asked.false in
     let value = rw c.in-Some.is at c.in_ok-value.ensures in (
       λ i. asked i && value.told i,
