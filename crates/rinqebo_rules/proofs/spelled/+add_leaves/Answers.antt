@@ -34,11 +34,11 @@ add_items-loop-position-preserved t c =
     let spot = spot_view c.args.spot in
     let longer = map step_view c.in_ok-longer.longer.items in
     let added : map spelled_view c.add_leaves.new.leaves.items
-    ≡ map spelled_view l.leaves.items ++ leaves_in spot longer (tree_view c.item-item.result) =
+    ≡ map spelled_view l.leaves.items ++ leaves_in spot longer (tree_view c.index-items-position.result) =
     c.in_ok-add_leaves.ensures
-    ∙ ap (λ ks. map spelled_view l.leaves.items ++ leaves_in spot (map step_view ks) (tree_view c.item-item.result))
+    ∙ ap (λ ks. map spelled_view l.leaves.items ++ leaves_in spot (map step_view ks) (tree_view c.index-items-position.result))
     c.deref.ensures.value in
-    one_item spot steps longer c.args.items.now l.position c.item-item.result c.item-item.result
+    one_item spot steps longer c.args.items.now l.position c.index-items-position.result c.index-items-position.result
     (map spelled_view c.args.leaves.now.items) (map spelled_view l.leaves.items)
-    (map spelled_view c.add_leaves.new.leaves.items) c.loop-position-test.true c.item-item.is c.in_ok-longer.ensures
+    (map spelled_view c.add_leaves.new.leaves.items) c.loop-position-test.true c.index-items-position.is c.in_ok-longer.ensures
     l.invariant added

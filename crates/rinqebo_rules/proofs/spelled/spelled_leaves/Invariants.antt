@@ -6,4 +6,4 @@ use Rattle.rinqebo_rules.proofs.spelled.spelled_leaves.Given as goal
 abbrev pub invariant-loop-spot : goal.invariant-loop-spot
 invariant-loop-spot l =
     map spelled_view l.leaves.items
-    ≡ flat_map (λ spot. spot_leaves l.layers (spot_view spot)) (take l.spot-index l.spots.items)
+    ≡ flat_map (λ spot. spot_leaves l.layers (spot_view spot)) (take l.spot-index l.spot-items)

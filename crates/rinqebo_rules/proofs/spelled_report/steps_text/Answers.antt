@@ -12,4 +12,4 @@ returns c =
     (ap (join_by string_bytes (codes ".")) c.deref.ensures.value
     ∙ joined_alike string_bytes step_text (codes ".") c.in_ok-texts.texts.items (map step_view c.args.steps.now)
     c.in_ok-texts.ensures)
-    c.join.ensures
+    c.join.ensures.ok
