@@ -32,20 +32,14 @@ find_behind rule rules false is =
     ap (λ facts. option_map (λ rule. rule.place)
     (cond (decides_by facts) (Some rule) (find (λ rule. decides_by rule.facts) rules))) is
 
+-- the place of the first override that decides
+abbrev found_place : List FilterRule → Option Place
+found_place rules = option_map (λ rule. rule.place) (find (λ rule. decides_by rule.facts) rules)
+
 module _ {M K P : Type 0} (meets : K → P → Option Bool) (platforms : BuildPlatforms P) where
-  abbrev Written : Type 0
-  Written = Compiled M K (OverrideUse M)
-
-  -- the place of the first override that decides
-  abbrev found_place : List FilterRule → Option Place
-  found_place rules = option_map (λ rule. rule.place) (find (λ rule. decides_by rule.facts) rules)
-
-  -- the place of the first override whose default filter would count
-  abbrev chosen_place : List Written → Option Place
-  chosen_place overrides = option_map id_place (first_of filtering_id (map (rule_on meets platforms) overrides))
-
   -- an override that is kept if it has a default filter
-  found_behind : (default : Option M) (rule : Written) (rules : List Written)
+  found_behind : (default : Option M) (rule : Compiled M K (OverrideUse M))
+      (rules : List (Compiled M K (OverrideUse M)))
       → found_place (map (filter_rule_on meets platforms) (cond (is_some default) (rule ∷ rules) rules))
       ≡ cond (is_some default && platforms_hold meets platforms Target rule) (Some (id_place rule.writes.id))
       (found_place (map (filter_rule_on meets platforms) rules))
@@ -63,8 +57,9 @@ module _ {M K P : Type 0} (meets : K → P → Option Bool) (platforms : BuildPl
   id_behind false None id choice = refl
   id_behind false (Some m) id choice = refl
 
-  pub choice : (overrides : List Written)
-      → found_place (filter_rules meets platforms overrides) ≡ chosen_place overrides
+  pub choice : (overrides : List (Compiled M K (OverrideUse M)))
+      → found_place (filter_rules meets platforms overrides)
+      ≡ option_map id_place (first_of filtering_id (map (rule_on meets platforms) overrides))
   choice [] = refl
   choice (rule ∷ rules) =
       let there = is_some rule.writes.default_filter && platforms_hold meets platforms Target rule in

@@ -1,6 +1,5 @@
 -- The leaves that files write at keys that are shown as they are written.
 use Rattle.std.proofs.Common.{◌≡◌, ◌<◌, ◌+◌, ◌∙◌, ℕ, zero, suc, List, [], ◌∷◌, ◌++◌, Bool, true, false, cond, Option, Some, None, String, Global, add-one, ap, append_assoc, append-nil, arith, drop, flat_map, get_or, length, map, refl, string_bytes, subst, sym, take}
-use native.Mathlib.Numerals.{unary_clauses}
 use Rattle.std.proofs.Math.Seq.{drop-cons}
 use Rattle.std.proofs.lemmas.Grind.{flat_map-append}
 use Rattle.std.proofs.lemmas.List.{length-map, length-take-le, map-append, take_more}
@@ -137,7 +136,7 @@ one_item spot steps longer items i item d old so_far new below same long is adde
     let taken : map tree_view (take (i + 1) items) ≡ front ++ tree_view item ∷ [] =
     ap (map tree_view) (take_more items i d below ∙ ap (λ z. take i items ++ z ∷ []) (sym same))
     ∙ map-append tree_view (take i items) (item ∷ []) in
-    let count : i ≡ 0 + length front = simp unary_clauses (counted i items below) in
+    let count : i ≡ 0 + length front = omega (arith, counted i items below) in
     added ∙ (λ j. is j ++ leaves_in spot (long j) (tree_view item))
     ∙ append_assoc old (item_leaves spot steps 0 (nodes_of front)) (leaves_in spot (steps ++ position i ∷ []) (tree_view item))
     ∙ ap (λ ls. old ++ ls) (sym (item_leaves-last spot steps 0 front (tree_view item) i (count))
