@@ -1,4 +1,4 @@
-//! Findings of values that may not stand where they do.
+//! Findings of values that a file may not have where it writes them.
 use crate::delays::add_delays;
 use crate::expected::expected_at;
 use crate::findings::SourceAt;
@@ -189,7 +189,7 @@ fn add_missing(
     refused.add_finding(found)
 }
 
-/// A value that may not stand where it does.
+/// Adds that a value is refused.
 pub fn add_element(refused: &mut Refused<'_, '_>, fault: &ElementFault) -> Result<(), AllocError> {
     let alloc = refused.alloc;
     let told = Fault::Value(&fault.cause);
