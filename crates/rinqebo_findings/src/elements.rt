@@ -172,8 +172,8 @@ fn add_missing(
         Some(table) => stray_key(alloc, path, table, key)?,
         None => None,
     };
-    let at = match stray {
-        Some(stray) => path_with(alloc, path, stray)?,
+    let at = match &stray {
+        Some(stray) => path_with(alloc, path, stray.as_str())?,
         None => Vec::from_slice(alloc, path)?,
     };
     let mut found = refused.part_at(Code::MissingKey, &at, SpanPart::Key, wrong.as_str())?;
