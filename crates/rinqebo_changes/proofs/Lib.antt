@@ -5,3 +5,4 @@ mod ClassLists
 mod Reflexive
 mod Exactly
 mod Fair
+mod KeyedRows

@@ -15,7 +15,7 @@ mod same;
 mod same_origin;
 mod text_page;
 
-pub use change::{Comparison, RowChange, TestChanges, changes_of};
+pub use change::{Comparison, RowChange, SideRow, TestChanges, changes_of};
 pub use classes::{Class, ClassRule, Item, classes_of, items_of};
 pub use diff::{BinaryTests, Diff, Side};
 pub use github_page::diff_github;

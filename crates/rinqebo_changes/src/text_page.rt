@@ -2,9 +2,9 @@
 ghost use Rattle.std.specs.Prelude.{◌≡◌, ◌++◌, OnOk, IfOk, codes, flat_map, string_bytes};
 ghost use Rattle.rinqebo_report.specs.Joined.{joined};
 ghost use Rattle.rinqebo_report.specs.Pieces.{page_text};
-ghost use Rattle.rinqebo_changes.specs.Pages.{setting_text, origins_text, other_key, value_runs, heading_runs, two_site_runs, site_runs, change_runs, names_runs, test_runs, whole_runs, total_of, is_whole, item_runs, binary_runs, group_runs, target_text, asked_text, file_text, remark_runs, both_runs, head_runs, listed_runs, run_runs, count_runs, IsDiffText};
+ghost use Rattle.rinqebo_changes.specs.Pages.{setting_text, origins_text, source_text, has_source, other_key, value_runs, heading_runs, two_site_runs, site_runs, change_runs, names_runs, test_runs, whole_runs, total_of, is_whole, item_runs, binary_runs, group_runs, target_text, asked_text, file_text, remark_runs, both_runs, head_runs, listed_runs, run_runs, count_runs, IsDiffText};
 
-use crate::change::RowChange;
+use crate::change::{RowChange, SideRow};
 use crate::classes::Item;
 use crate::diff::{BinaryTests, Diff, Side};
 use crate::groups::{Group, groups_of};
@@ -26,8 +26,8 @@ pub fn setting_text(alloc: Global, value: &Option<Value>) -> Result<String, Allo
     }
 }
 
-/// Where the value of a side comes from, as a text.
-pub fn origins_text(alloc: Global, side: &Side, origins: &[Origin]) -> Result<String, AllocError>
+/// Origins of a side, as a text.
+fn origins_text(alloc: Global, side: &Side, origins: &[Origin]) -> Result<String, AllocError>
     ensures { IfOk result (λ text. string_bytes text ≡ origins_text side.now origins.now) }
 {
     if origins.is_empty() {
@@ -38,13 +38,34 @@ pub fn origins_text(alloc: Global, side: &Side, origins: &[Origin]) -> Result<St
     Ok(text)
 }
 
+/// What a page shows in place of the origins of a test that a list says to be ignored.
+const IGNORED: &str = "ignored in LIST";
+
+/// Where the value of a side comes from, as a text.
+pub fn source_text(alloc: Global, side: &Side, given: &SideRow) -> Result<String, AllocError>
+    ensures { IfOk result (λ text. string_bytes text ≡ source_text side.now given.now) }
+{
+    if given.is_ignored {
+        String::from_str(alloc, IGNORED)
+    } else {
+        origins_text(alloc, side, &given.row.origins)
+    }
+}
+
+/// Whether it is known where the value of a side comes from.
+pub fn has_source(given: &SideRow) -> bool
+    ensures { result ≡ has_source given.now }
+{
+    given.is_ignored || !given.row.origins.is_empty()
+}
+
 /// The key of the right side, where it is another one.
 pub fn other_key(alloc: Global, row: &RowChange) -> Result<String, AllocError>
     ensures { IfOk result (λ text. string_bytes text ≡ other_key row.now) }
 {
     let mut text = String::new(alloc);
-    if row.from.key.as_str() != row.to.key.as_str() {
-        text.push_str(row.to.key.as_str())?;
+    if row.from.row.key.as_str() != row.to.row.key.as_str() {
+        text.push_str(row.to.row.key.as_str())?;
         text.push_str(": ")?;
     }
     Ok(text)
@@ -88,12 +109,12 @@ fn add_heading(
         ++ page_text colour (heading_runs row.now)) }
 {
     let other = other_key(alloc, row)?;
-    let from = setting_text(alloc, &row.from.value)?;
-    let to = setting_text(alloc, &row.to.value)?;
+    let from = setting_text(alloc, &row.from.row.value)?;
+    let to = setting_text(alloc, &row.to.row.value)?;
     add_values(
         out,
         colour,
-        row.from.key.as_str(),
+        row.from.row.key.as_str(),
         from.as_str(),
         other.as_str(),
         to.as_str(),
@@ -134,11 +155,11 @@ fn add_sites(
     ensures { OnOk result (string_bytes out.new ≡ string_bytes out.old
         ++ page_text colour (site_runs diff.now row.now)) }
 {
-    if row.from.origins.is_empty() && row.to.origins.is_empty() {
+    if !has_source(&row.from) && !has_source(&row.to) {
         return Ok(());
     }
-    let from = origins_text(alloc, &diff.from, &row.from.origins)?;
-    let to = origins_text(alloc, &diff.to, &row.to.origins)?;
+    let from = source_text(alloc, &diff.from, &row.from)?;
+    let to = source_text(alloc, &diff.to, &row.to)?;
     add_two_sites(out, colour, from.as_str(), to.as_str())
 }
 
@@ -330,7 +351,7 @@ fn add_target(out: &mut String, target: &Option<String>) -> Result<(), AllocErro
     }
 }
 
-/// What was asked of a side, as a text.
+/// The profile, mode and platforms of a side, as a text.
 pub fn asked_text(alloc: Global, side: &Side) -> Result<String, AllocError>
     ensures { IfOk result (λ text. string_bytes text ≡ asked_text side.now.asked) }
 {

@@ -1,5 +1,5 @@
 -- Tests that are compared one after another, and lists that are matched.
-use Rattle.std.proofs.Common.{◌≡◌, ℕ, ◌<◌, ◌+◌, ◌∙◌, Bool, true, false, cond, not, List, [], ◌∷◌, ◌++◌, Option, None, Some, MatchOption, IfOk, Result, Ok, Err, length, map, filter, take, get_or, refl, sym, ap, subst, absurd, tt}
+use Rattle.std.proofs.Common.{◌≡◌, ℕ, ◌<◌, ◌+◌, ◌∙◌, Bool, true, false, cond, not, List, [], ◌∷◌, ◌++◌, Option, None, Some, MatchOption, IfOk, Result, Ok, Err, length, map, filter, take, get_or, refl, sym, ap, subst}
 use Rattle.std.specs.List.{All, AllZip, filter_map}
 use Rattle.std.proofs.lemmas.Grind.{take_at_read}
 use Rattle.std.proofs.lemmas.List.{append-nil, map-append}
