@@ -14,30 +14,34 @@ use Rattle.rinqebo_report.specs.declared.report.SettingRow.{SettingRow}
 use Rattle.rinqebo_changes.specs.Keyed.{is_of, has_key, HaveSameKey, IsAbsent, IsAbsentFor, SaysNothing, IsPlaceOf, IsFound, IsMissing, IsTaken, AreBeside, AreAligned}
 
 -- the first row of a key
+place_found : (name : List ℕ) (rows : List SettingRow) → position_or_len (is_of name) rows < length rows
+    → IsPlaceOf name rows (position_or_len (is_of name) rows)
+place_found name rows below = record {
+  below = below;
+  key = λ row here. (bytes_decides (string_bytes row.key) name).0
+      (subst (λ x. is_of name x ≡ true)
+      (get_or_from_slice_get rows (position_or_len (is_of name) rows) row row here)
+      (passes_at_first (is_of name) rows row below));
+}
+
+place_chosen : (name : List ℕ) (rows : List SettingRow) (r : Option ℕ) (b : Bool)
+    → ltb (position_or_len (is_of name) rows) (length rows) ≡ b
+    → r ≡ cond b (Some (position_or_len (is_of name) rows)) None
+    → MatchOption r (has_key rows name ≡ false) (IsPlaceOf name rows)
+place_chosen name rows r true is same =
+    subst (λ o. MatchOption o (has_key rows name ≡ false) (IsPlaceOf name rows)) (sym same)
+    (place_found name rows (ltb-true (position_or_len (is_of name) rows) (length rows) is))
+place_chosen name rows r false is same =
+    let over : length rows ≤ position_or_len (is_of name) rows =
+    ltb-false (position_or_len (is_of name) rows) (length rows) is in
+    subst (λ o. MatchOption o (has_key rows name ≡ false) (IsPlaceOf name rows)) (sym same)
+    (list_any_none (is_of name) rows (λ k d below. fails_before_first (is_of name) rows k d (omega arith)))
+
 pub place_by : (name : List ℕ) (rows : List SettingRow) (r : Option ℕ)
     → r ≡ cond (ltb (position_or_len (is_of name) rows) (length rows)) (Some (position_or_len (is_of name) rows)) None
     → MatchOption r (has_key rows name ≡ false) (IsPlaceOf name rows)
-place_by name rows r e = chosen (ltb (position_or_len (is_of name) rows) (length rows)) refl e
-  where
-    first : ℕ
-    first = position_or_len (is_of name) rows
-
-    Chosen : Option ℕ → Type 0
-    Chosen o = MatchOption o (has_key rows name ≡ false) (IsPlaceOf name rows)
-
-    chosen : (b : Bool) → ltb first (length rows) ≡ b → r ≡ cond b (Some first) None → Chosen r
-    chosen true is same =
-        let below : first < length rows = ltb-true first (length rows) is in
-        subst Chosen (sym same) (record {
-          below = below;
-          key = λ row here. (bytes_decides (string_bytes row.key) name).0
-              (subst (λ x. is_of name x ≡ true) (get_or_from_slice_get rows first row row here)
-              (passes_at_first (is_of name) rows row below));
-        })
-    chosen false is same =
-        let over : length rows ≤ first = ltb-false first (length rows) is in
-        subst Chosen (sym same) (list_any_none (is_of name) rows
-        (λ k d below. fails_before_first (is_of name) rows k d (omega arith)))
+place_by name rows r e =
+    place_chosen name rows r (ltb (position_or_len (is_of name) rows) (length rows)) refl e
 
 -- the row at the place of a key
 pub found_at : (name : List ℕ) (rows old : List SettingRow) (place : ℕ) (row : SettingRow) (new : List SettingRow)

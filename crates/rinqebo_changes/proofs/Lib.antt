@@ -6,3 +6,4 @@ mod Reflexive
 mod Exactly
 mod Fair
 mod KeyedRows
+mod WholeGroups

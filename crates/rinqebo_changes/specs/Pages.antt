@@ -145,7 +145,7 @@ target_text (Some target) = codes ", target " ++ string_bytes target
 abbrev pub assumed_text : Bool → List ℕ
 assumed_text assumed = if assumed then codes " (assumed)" else []
 
--- what was asked of a side
+-- the profile, mode and platforms of a side
 abbrev pub asked_text : Asked → List ℕ
 asked_text asked =
     codes "profile " ++ (joined (codes " < ") string_bytes asked.chain.items ++ (codes ", "
@@ -162,12 +162,16 @@ abbrev pub remark_runs : List ℕ → List Run
 remark_runs text = styled styles.Remark text ∷ ending ∷ []
 
 -- what is the same on both sides, or what each side has
-abbrev pub both_runs : List ℕ → List ℕ → List Run
-both_runs from to =
-    if bytes_eq from to then remark_runs (codes "# " ++ from)
-    else remark_runs (codes "# from " ++ (from ++ (codes "  to " ++ to)))
+abbrev pub both_text : List ℕ → List ℕ → List ℕ
+both_text from to =
+    if bytes_eq from to then codes "# " ++ from
+    else codes "# from " ++ (from ++ (codes "  to " ++ to))
 
--- what was asked of the two sides, and their files
+-- a line with what both sides have
+abbrev pub both_runs : List ℕ → List ℕ → List Run
+both_runs from to = remark_runs (both_text from to)
+
+-- the profiles, modes and platforms of the two sides, and their files
 abbrev pub head_runs : Diff → List Run
 head_runs diff =
     both_runs (asked_text diff.from.asked) (asked_text diff.to.asked)

@@ -5,7 +5,7 @@ ghost use Rattle.rinqebo_changes.specs.GithubPage.{place_in, first_place, site_o
 use crate::change::{RowChange, SideRow};
 use crate::diff::Diff;
 use crate::groups::{Group, groups_of};
-use crate::text_page::{other_key, setting_text};
+use crate::texts::{other_key, setting_text};
 use rinqebo_report::{FilePlace, Origin, add_file, add_message, add_property};
 use std::alloc::{AllocError, Global};
 

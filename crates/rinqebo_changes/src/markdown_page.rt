@@ -1,12 +1,13 @@
 //! A diff as a table for a comment.
-ghost use Rattle.std.specs.Prelude.{◌≡◌, ◌++◌, OnOk, IfOk, flat_map, string_bytes};
-ghost use Rattle.rinqebo_changes.specs.MarkdownPage.{is_mark, marked_char, marked_text, source_cell, given_cell, test_cell, item_cell, whole_cell, binary_cell, cells_text, group_line, run_line, alone_line, last_text, IsMarkdownText};
+ghost use Rattle.std.specs.Prelude.{◌≡◌, ◌++◌, OnOk, IfOk, Some, flat_map, string_bytes};
+ghost use Rattle.rinqebo_changes.specs.MarkdownPage.{is_mark, marked_char, marked_text, source_cell, given_cell, test_cell, item_cell, whole_cell, binary_cell_at, binary_cell, cells_text, group_line, run_line, alone_line, last_text, IsMarkdownText};
 
 use crate::change::{RowChange, SideRow};
 use crate::classes::Item;
 use crate::diff::{Diff, Side};
 use crate::groups::{Group, groups_of};
-use crate::text_page::{has_source, is_whole, setting_text, source_text};
+use crate::text_page::is_whole;
+use crate::texts::{has_source, setting_text, source_text};
 use rinqebo_report::TestId;
 use std::alloc::{AllocError, Global};
 
@@ -30,9 +31,10 @@ fn add_char(out: &mut String, c: char) -> Result<(), AllocError>
     if c.is_control() {
         return out.push(' ');
     }
-    if is_mark(c) {
-        out.push('\\')?;
+    if !is_mark(c) {
+        return out.push(c);
     }
+    out.push('\\')?;
     out.push(c)
 }
 
@@ -110,6 +112,26 @@ fn add_whole(alloc: Global, out: &mut String, binary: &str, count: usize) -> Res
     out.push_str(count.as_str())
 }
 
+/// Writes the changes of a binary's tests, of which one is the first: once where they are all, unless
+/// each is listed.
+fn add_from(
+    alloc: Global,
+    out: &mut String,
+    diff: &Diff,
+    lists_all: bool,
+    items: &[Item<'_>],
+    first: &Item<'_>,
+) -> Result<(), AllocError>
+    ensures { OnOk result (string_bytes out.new ≡ string_bytes out.old
+        ++ binary_cell_at diff.now.binaries.items lists_all items.now (Some first.now)) }
+{
+    if !lists_all && is_whole(diff, items) {
+        add_whole(alloc, out, first.test.binary.as_str(), items.len())
+    } else {
+        add_tests(out, items)
+    }
+}
+
 /// Writes the changes of a binary's tests.
 fn add_binary(
     alloc: Global,
@@ -122,10 +144,8 @@ fn add_binary(
         ++ binary_cell diff.now.binaries.items lists_all items.now) }
 {
     match items.first() {
-        Some(item) if !lists_all && is_whole(diff, items) => {
-            add_whole(alloc, out, item.test.binary.as_str(), items.len())
-        }
-        _ => add_tests(out, items),
+        Some(first) => add_from(alloc, out, diff, lists_all, items, first),
+        None => add_tests(out, items),
     }
 }
 

@@ -1,1 +1,5 @@
-mod Comparing
+pub mod Comparing
+pub mod Matching
+pub mod RunRows
+pub mod Sides
+pub mod Failing

@@ -14,7 +14,7 @@ use rinqebo_request::{
     ConfigFile, EngineOptions, Environment, FileOptions, ListFile, ParseStop, ProfileSource,
     Question, Request, RequestedSettings, set,
 };
-use std::alloc::{AllocError, Global};
+use std::alloc::Global;
 
 /// Whether an option of the right side is given.
 fn has_right_side(matches: &ArgMatches<'_>) -> bool {
@@ -145,7 +145,7 @@ fn right_engines<'a>(matches: &ArgMatches<'a>, left: EngineOptions<'a>) -> Engin
         host_cfg: matches.get_str("to-host-cfg").or(left.host_cfg),
         target_cfg: matches.get_str("to-target-cfg").or(left.target_cfg),
         metadata: matches.get_str("to-metadata").or(left.metadata),
-        ..left
+        build_target: left.build_target,
     }
 }
 
