@@ -107,13 +107,15 @@ each_same (c ∷ cs) (g ∷ gs) uniform all =
     (λ item. change_view one.head.row.now ≡ change_view item.row.now) (λ item is. together_same one.head item is) c
     (All-from_recursion (λ item. same_item Row one.head item ≡ true) c one.together) in
     let headed : change_view one.head.row.now ≡ change_view g.head.row.now =
-    All-contains (λ item. change_view one.head.row.now ≡ change_view item.row.now) c g.head like all.0.head in
-    (record {
-      same = All-permutation (λ item. change_view item.row.now ≡ change_view g.head.row.now) c (group_items g)
-          (joined_one c g all.0)
-          (All-weaker (λ item. change_view one.head.row.now ≡ change_view item.row.now)
-          (λ item. change_view item.row.now ≡ change_view g.head.row.now) (λ item is. sym is ∙ headed) c like);
-    }, each_same cs gs uniform.1 all.1)
+    All-contains (λ item. change_view one.head.row.now ≡ change_view item.row.now) c g.head like all.0.head in (
+      record {
+        same = All-permutation (λ item. change_view item.row.now ≡ change_view g.head.row.now) c (group_items g)
+            (joined_one c g all.0)
+            (All-weaker (λ item. change_view one.head.row.now ≡ change_view item.row.now)
+            (λ item. change_view item.row.now ≡ change_view g.head.row.now) (λ item is. sym is ∙ headed) c like);
+      },
+      each_same cs gs uniform.1 all.1,
+    )
 
 pub whole_groups : (tests : List TestChanges) (groups : List Group) → AreGroups tests groups
     → AreWholeGroups tests groups

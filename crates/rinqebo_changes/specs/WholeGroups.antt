@@ -14,9 +14,10 @@ use Rattle.rinqebo_changes.specs.ValueViews.{PlainValue, value_view}
 
 -- what a side gives to a setting: its value, whether a list says that the test is ignored, and origins
 abbrev pub given_view : SideRow → (Option PlainValue × Bool) × List PlainOrigin
-given_view given =
-    ((option_map value_view given.row.value, given.is_ignored),
-    map origin_view given.row.origins.items)
+given_view given = (
+  (option_map value_view given.row.value, given.is_ignored),
+  map origin_view given.row.origins.items,
+)
 
 -- a change of a setting: the place of the setting, and what both sides give
 abbrev pub change_view : RowChange

@@ -9,8 +9,8 @@ use crate::classes::Item;
 use crate::diff::{Diff, Side};
 use crate::groups::{Group, groups_of};
 use rinqebo_report::{
-    TestId, optional_text_json, optional_value_json, origins_json, sources_json,
-    test_id_json, texts_json,
+    TestId, optional_text_json, optional_value_json, origins_json, sources_json, test_id_json,
+    texts_json,
 };
 use serde_json::{Value, json};
 use std::alloc::{AllocError, Global};

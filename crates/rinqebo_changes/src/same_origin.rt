@@ -40,9 +40,7 @@ fn are_same_ranges(a: Option<Range>, b: Option<Range>) -> bool
 fn is_same_place(a: FilePlace, b: FilePlace) -> bool
     ensures { result ≡ same_place a b }
 {
-    a.source == b.source
-        && are_same_lines(a.lines, b.lines)
-        && are_same_ranges(a.range, b.range)
+    a.source == b.source && are_same_lines(a.lines, b.lines) && are_same_ranges(a.range, b.range)
 }
 
 /// Whether two parts of a profile are the same.

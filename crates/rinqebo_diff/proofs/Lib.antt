@@ -1,3 +1,4 @@
+pub mod Zips
 pub mod Comparing
 pub mod Matching
 pub mod RunRows

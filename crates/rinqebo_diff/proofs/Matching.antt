@@ -14,7 +14,7 @@ use Rattle.nextest_lists.specs.ListView.{list_test_view}
 use Rattle.nextest_lists.specs.declared.list.ListedTest.{ListedTest}
 use Rattle.rinqebo_diff.specs.Matched.{same_test, is_in, pair_view, TestPair, IsPlaceOf, IsPairOf, ArePairs}
 use Rattle.rinqebo_diff.specs.declared.matched.Pair.{Pair}
-use Rattle.rinqebo_diff.proofs.Comparing.{taken_more}
+use Rattle.rinqebo_diff.proofs.Zips.{taken_more}
 
 -- whether a listed test is the same as a test
 abbrev pub is_it : ListTest → ListedTest → Bool

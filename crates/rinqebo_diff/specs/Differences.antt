@@ -18,7 +18,7 @@ use Rattle.rinqebo_request.specs.declared.request.RequestedSettings.TheVariants 
 use Rattle.rinqebo_run.specs.ListedBy.{basis_of}
 use Rattle.rinqebo_diff.specs.Compared.{AreCompared, ReportsBy}
 use Rattle.rinqebo_diff.specs.Matched.{TestPair, ArePairs, is_in}
-use Rattle.rinqebo_diff.specs.RunRows.{AreRunChangesIf}
+use Rattle.rinqebo_diff.specs.RunChanges.{AreRunChangesIf}
 use Rattle.rinqebo_diff.specs.Sides.{Evaluation, IsEvaluationOf, IsSideOf}
 use Rattle.rinqebo_diff.specs.Written.{IsRendered, TellsDiff}
 use Rattle.rinqebo_diff.specs.declared.request.DiffRequest.{DiffRequest}

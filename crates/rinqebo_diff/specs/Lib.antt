@@ -3,6 +3,7 @@ pub mod Compared
 pub mod Loaded
 pub mod Sides
 pub mod RunRows
+pub mod RunChanges
 pub mod Failing
 pub mod Statuses
 pub mod Written

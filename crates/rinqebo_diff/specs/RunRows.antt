@@ -1,16 +1,11 @@
--- What a side gives to the whole run.
+-- What a side gives to the whole run, as rows.
 use Rattle.std.specs.Prelude.{◌≡◌, ℕ, ◌==◌, ◌||◌, not, Bool, true, false, List, [], ◌∷◌, ◌++◌, Option, None, Some, filter, length, slice_index, codes, string_bytes}
 use Rattle.std.specs.Prelude.{String, Vec}
 use Rattle.std.specs.List.{AllZip, list_any}
 use Rattle.std.specs.declared.alloc.Global.{Global}
 use Rattle.nextest_elements.specs.declared.run_mode.NextestRunMode.TheVariants as modes
-use Rattle.nextest_lists.specs.ListView.{list_view}
-use Rattle.nextest_lists.specs.Lists.{all_binaries, all_tests}
 use Rattle.nextest_settings.specs.Settings.{settings}
 use Rattle.nextest_settings.specs.declared.setting.Setting.{Setting}
-use Rattle.rinqebo_changes.specs.Keyed.{AreKeyedChanges}
-use Rattle.rinqebo_changes.specs.declared.change.RowChange.{RowChange}
-use Rattle.rinqebo_load.specs.Sessions.{readings}
 use Rattle.rinqebo_report.specs.OriginText.{after_prefix}
 use Rattle.rinqebo_report.specs.declared.report.Entry.{Entry}
 use Rattle.rinqebo_report.specs.declared.report.ListScripts.{ListScripts}
@@ -19,10 +14,6 @@ use Rattle.rinqebo_report.specs.declared.report.SettingRow.{SettingRow}
 use Rattle.rinqebo_report.specs.declared.value.Scalar.TheVariants as scalars
 use Rattle.rinqebo_report.specs.declared.value.Value.TheVariants as values
 use Rattle.rinqebo_request.specs.Keys.{key_text}
-use Rattle.rinqebo_rules.specs.Scripts.{AreScriptsReported}
-use Rattle.rinqebo_rules.specs.Trees.{trees_of}
-use Rattle.rinqebo_run.specs.ShownConfig.{AreShown}
-use Rattle.rinqebo_diff.specs.Sides.{Evaluation}
 
 -- whether a text is what follows a whole key: nothing, or a dot and more
 abbrev pub is_end : List ℕ → Bool
@@ -86,30 +77,3 @@ pub record AreRunRows (entries : List Entry) (scripts : ListScripts) (rows : Lis
   pub wrappers : List SettingRow
   pub are_wrappers : AllZip IsWrapperRow scripts.list_wrappers.items wrappers
   pub are_rows : rows ≡ (leaves ++ setup ∷ []) ++ wrappers
-
--- Rows are what a side gives to the whole run: the leaves of its profile that count, and the scripts
--- that its profile gives to its list.
-pub record AreRunRowsOf (evaluation : Evaluation) (rows : List SettingRow) : Type 0 where
-  pub entries : List Entry
-  pub are_entries : AreShown (trees_of evaluation.session.layers.items) evaluation.chain [] false
-      entries
-  pub scripts : ListScripts
-  pub are_scripts : AreScriptsReported
-      (readings evaluation.session.engines.filters).matches_test
-      (readings evaluation.session.engines.filters).matches_binary evaluation.profile
-      (all_tests (list_view evaluation.session.tests))
-      (all_binaries (list_view evaluation.session.tests)) scripts
-  pub are_rows : AreRunRows entries scripts rows
-
--- Changes are those of the whole run, from what one side gives it to what another one does.
-pub record AreRunChanges (left right : Evaluation) (changes : List RowChange) : Type 0 where
-  pub before : List SettingRow
-  pub after : List SettingRow
-  pub are_before : AreRunRowsOf left before
-  pub are_after : AreRunRowsOf right after
-  pub are_changes : AreKeyedChanges before after changes
-
--- changes are those of the whole run, where they are compared
-abbrev pub AreRunChangesIf : Bool → Evaluation → Evaluation → List RowChange → Type 0
-AreRunChangesIf true left right changes = AreRunChanges left right changes
-AreRunChangesIf false left right changes = changes ≡ []

@@ -8,7 +8,7 @@ ghost use Rattle.rinqebo_diff.specs.Compared.{AreCompared};
 ghost use Rattle.rinqebo_diff.specs.Differences.{SideReports, compares_runs, IsCountOf, IsDiffOf, IsIdOf};
 ghost use Rattle.rinqebo_diff.specs.Evaluated.{evaluation_of, IsDiffOfLoaded};
 ghost use Rattle.rinqebo_diff.specs.Matched.{pair_view};
-ghost use Rattle.rinqebo_diff.specs.RunRows.{AreRunChangesIf, AreRunRowsOf};
+ghost use Rattle.rinqebo_diff.specs.RunChanges.{AreRunChangesIf, AreRunRowsOf};
 ghost use Rattle.rinqebo_diff.specs.Sides.{IsSideOf};
 
 use crate::compared::{TestLister, compared};
