@@ -4,3 +4,4 @@ pub mod Matching
 pub mod RunRows
 pub mod Sides
 pub mod Failing
+pub mod EqualSides

@@ -7,6 +7,7 @@
 mod compared;
 mod format;
 mod gathering;
+mod laws;
 mod loaded;
 mod matched;
 mod options;
@@ -17,6 +18,7 @@ mod sides;
 mod words;
 
 pub use gathering::{GatheredSides, gather_sides};
+pub use laws::law_equal_sides;
 pub use loaded::{DiffFailure, Loaded, SideName, load_side};
 pub use perform::{DiffAnswer, diff_answer, diff_page, perform_diff};
 pub use request::{AnyCommand, DiffFormat, DiffRequest, DiffSide};
