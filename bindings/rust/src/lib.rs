@@ -32,7 +32,8 @@ mod spelled;
 mod version;
 
 pub use document::{
-    Document, Finding, Level, ListWrapper, Origin, OriginKind, Refusal, Setting, Source, SourceKind, TestRow,
+    Document, Finding, Level, ListWrapper, Origin, OriginKind, Range, Refusal, Runs, Setting, Source, SourceKind,
+    TestRow,
 };
 pub use error::Error;
 pub use objects::{
