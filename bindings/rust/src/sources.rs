@@ -47,7 +47,7 @@ pub enum ReadOutcome {
     NotFound,
     /// A part of its path that should be a directory is none.
     NotADirectory,
-    /// Anything else, as bytes that are not valid UTF-8: a message, which a refusal tells.
+    /// Anything else, as bytes that are not valid UTF-8: a message, which a refusal includes.
     Failed(String),
 }
 
