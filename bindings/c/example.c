@@ -1,4 +1,4 @@
-// Answers the request of a file, asks for the settings of some tests, or checks the calls by themselves.
+// Runs the request of a file, prints the settings of some tests, or checks the calls by themselves.
 //
 //   example                          checks each call, and exits with the number of the first that fails
 //   example REQUEST                  prints the output of a whole run, and exits with its status

@@ -92,7 +92,7 @@ impl Serialize for ReadOutcome {
     }
 }
 
-/// What `fs::read_to_string` answers.
+/// What `fs::read_to_string` returns.
 impl From<io::Result<String>> for ReadOutcome {
     fn from(read: io::Result<String>) -> ReadOutcome {
         match read {
