@@ -1,11 +1,11 @@
--- Where codes stand among all.
+-- The place of each code among all.
 use Rattle.std.proofs.Common.{◌≡◌, ◌<◌, ℕ, Contains, Some, refl, rules}
 use Rattle.std.specs.List.{slice_get}
 use Rattle.rinqebo_codes.specs.declared.code.Code.{Code}
 use Rattle.rinqebo_codes.specs.declared.code.Code.TheVariants as variants
 use Rattle.rinqebo_codes.specs.declared.code.TheConstants.{CODES}
 
--- where a code stands among all
+-- the place of a code among all
 abbrev pub place : Code → ℕ
 place variants.UnknownKey = 0
 place variants.ReservedProfile = 1

@@ -130,9 +130,9 @@ code_meaning variants.WrongScriptKind =
     codes "A rule names a script at a key that takes scripts of another kind."
 code_meaning variants.ListWrapperFilter =
     codes "A list wrapper wraps a whole binary, so its filter may not ask for tests."
-code_meaning variants.UnknownProfile = codes "No file has the profile that is asked for."
-code_meaning variants.UnknownTest = codes "The list has no test of the name that is asked for."
-code_meaning variants.SeveralTests = codes "Several tests have the name that is asked for."
+code_meaning variants.UnknownProfile = codes "No file has the given profile."
+code_meaning variants.UnknownTest = codes "The list has no test of the given name."
+code_meaning variants.SeveralTests = codes "Several tests have the given name."
 
 -- the lines of an example
 unfoldable pub code_example : Code → List (List ℕ)

@@ -68,11 +68,11 @@ pub enum Code {
     WrongScriptKind,
     /// A list wrapper wraps a whole binary, so its filter may not ask for tests.
     ListWrapperFilter,
-    /// No file has the profile that is asked for.
+    /// No file has the given profile.
     UnknownProfile,
-    /// The list has no test of the name that is asked for.
+    /// The list has no test of the given name.
     UnknownTest,
-    /// Several tests have the name that is asked for.
+    /// Several tests have the given name.
     SeveralTests,
 }
 

@@ -56,9 +56,9 @@ impl Code {
                 "A rule names a script at a key that takes scripts of another kind.",
             Code::ListWrapperFilter =>
                 "A list wrapper wraps a whole binary, so its filter may not ask for tests.",
-            Code::UnknownProfile => "No file has the profile that is asked for.",
-            Code::UnknownTest => "The list has no test of the name that is asked for.",
-            Code::SeveralTests => "Several tests have the name that is asked for.",
+            Code::UnknownProfile => "No file has the given profile.",
+            Code::UnknownTest => "The list has no test of the given name.",
+            Code::SeveralTests => "Several tests have the given name.",
         }
     }
 

@@ -219,7 +219,7 @@ finding f =
     (and_member _ (expression_span 1 f.expression)
     (and_member _ (optional_text 2 f.upstream) (no_more 2)))))))))))))))
 
--- members with what was asked for, and with those of each page
+-- members with what was requested, and with those of each page
 asked : {ms : Members} (command : List ℕ) (a : Asked) → AreExact 8 ms → AreExact 8 (with_requested command a ms)
 asked command a h =
     exact_put (codes "target") _ _ (optional_text 8 a.target)

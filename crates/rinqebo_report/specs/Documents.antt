@@ -262,7 +262,7 @@ with_fault finding members =
     (put (codes "message") (text_data finding.message) (put (codes "level")
     (string (level_word finding.level)) (put (codes "code") (text_data finding.code) members)))
 
--- members, with where it stands
+-- members, with where it is
 abbrev pub with_site : Finding → Members → Members
 with_site finding members =
     put (codes "source") (place_source_data finding.place)

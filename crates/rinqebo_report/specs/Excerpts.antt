@@ -74,7 +74,7 @@ signs_runs w line =
 abbrev pub line_runs : ℕ → SourceLine → List Run
 line_runs w line = ending ∷ (numbered_runs w line ++ ending ∷ signs_runs w line)
 
--- whether a finding shows its help beside the carets: it has lines, and asks for it
+-- whether a finding shows its help beside the carets: it has lines, and its help belongs there
 abbrev pub is_beside : HelpPlace → Bool
 is_beside places.Beside = true
 is_beside places.Below = false
@@ -112,7 +112,7 @@ abbrev pub remark_runs : ℕ → List ℕ → Option (String Global) → List Ru
 remark_runs w word None = []
 remark_runs w word (Some text) = noted_runs w word text
 
--- whether remarks follow help that stands beside the carets
+-- whether remarks follow help that is beside the carets
 abbrev pub parts_remarks : Finding → Bool
 parts_remarks finding =
     shows_beside finding && (is_some finding.expected || has_some finding.notes.items)
@@ -122,7 +122,7 @@ abbrev pub parting_runs : ℕ → Finding → List Run
 parting_runs w finding =
     if parts_remarks finding then margin_runs w (codes " |") ++ ending ∷ [] else []
 
--- the help below a finding, if it does not stand beside the carets
+-- the help below a finding, if it is not beside the carets
 abbrev pub help_runs : ℕ → Finding → List Run
 help_runs w finding =
     if shows_beside finding then [] else remark_runs w (codes "= help: ") finding.help

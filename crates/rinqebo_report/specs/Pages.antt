@@ -136,14 +136,14 @@ abbrev pub build_text : List ℕ → Option (List ℕ) → List ℕ
 build_text host None = host
 build_text host (Some target) = codes "host " ++ (host ++ (codes ", target " ++ target))
 
--- what is asked about: the test, the profiles, the mode, and what it runs on
+-- what a page is about: the test, the profiles, the mode, and what it runs on
 abbrev pub header_text : Asked → TestRows → List ℕ
 header_text asked test =
     codes "# " ++ (string_bytes test.binary ++ (codes " " ++ (string_bytes test.name
     ++ (codes ", " ++ (profiles_text asked ++ (codes ", " ++ (platform_word test.platform
     ++ (codes " " ++ triple_of asked test.platform))))))))
 
--- what is asked of a list: the profiles, the mode, and what the tests run on
+-- what a list is about: the profiles, the mode, and what the tests run on
 abbrev pub list_header_text : Asked → List ℕ
 list_header_text asked =
     codes "# " ++ (profiles_text asked
@@ -175,19 +175,19 @@ abbrev pub number_run : Verdict → ℕ → Run
 number_run verdicts.Fallback n = plain (codes "-")
 number_run _ n = numbered (n + 1)
 
--- what is told of a condition: that it does not hold, or that it can't be told
+-- what a page shows of a condition: that it does not hold, or that this is unknown
 abbrev pub reported_answer : ConditionAnswer → Option (List ℕ)
 reported_answer answers.No = Some (codes ": no")
 reported_answer answers.Unknown = Some (codes ": unknown")
 reported_answer _ = None
 
--- a line of a rule, if something is told there
+-- a line of a rule, if it shows something
 abbrev pub reported_runs : List ℕ → List ℕ → Option (List ℕ) → List Run
 reported_runs word text None = []
 reported_runs word text (Some told) =
     plain (codes "     ") ∷ plain word ∷ plain (codes " ") ∷ plain text ∷ plain told ∷ ending ∷ []
 
--- a condition, where it does not hold or can't be told
+-- a condition, where it does not hold or is unknown
 abbrev pub condition_runs : List ℕ → Condition → List Run
 condition_runs word condition =
     reported_runs word (string_bytes condition.text) (reported_answer condition.answer)
@@ -211,7 +211,7 @@ abbrev pub written_runs : List ℕ → Verdict → Option (List ℕ) → List Ru
 written_runs key verdict None = []
 written_runs key verdict (Some value) = if shows_value verdict then value_runs key value else []
 
--- the first line of a rule: its number, the verdict, and where it stands
+-- the first line of a rule: its number, the verdict, and its origin
 abbrev pub verdict_runs : ℕ → Verdict → List ℕ → List Run
 verdict_runs n verdict origin =
     number_run verdict n ∷ plain (codes "  ")
@@ -273,11 +273,11 @@ count_runs n = plain (codes "tests: ") ∷ numbered n ∷ ending ∷ []
 abbrev pub unused_line_runs : List ℕ → List Run
 unused_line_runs origin = plain (codes "unused: ") ∷ plain origin ∷ ending ∷ []
 
--- where a rule that holds for no test stands
+-- the origin of a rule that holds for no test
 abbrev pub unused_runs : List ℕ → List Source → Origin → List Run
 unused_runs root sources origin = unused_line_runs (origin_text root sources origin)
 
--- what is asked of a list, in a line
+-- what a list is about, in a line
 abbrev pub list_head_runs : Asked → List Run
 list_head_runs asked = styled styles.Remark (list_header_text asked) ∷ ending ∷ []
 
@@ -286,7 +286,7 @@ abbrev pub list_end_runs : List ℕ → List Source → ℕ → List Origin → 
 list_end_runs root sources n unused =
     count_runs n ++ flat_map (unused_runs root sources) unused
 
--- what is asked, the tests, how many there are, and the rules that hold for none
+-- what it is about, the tests, how many there are, and the rules that hold for none
 abbrev pub list_runs : List ℕ → List Source → Asked → List TestRows → List Origin → List Run
 list_runs root sources asked tests unused =
     list_head_runs asked
@@ -348,7 +348,7 @@ abbrev pub spot_text : Option Range → Option FileLines → Option ℕ → List
 spot_text (Some range) lines column = position_text range.start
 spot_text None lines column = line_text lines column
 
--- where a finding is, before what is told
+-- where a finding is, before its message
 abbrev pub finding_place : List ℕ → List Source → Option FilePlace → Option ℕ → List ℕ
 finding_place root sources None column = []
 finding_place root sources (Some place) column =
@@ -482,7 +482,7 @@ concise_runs report =
     flat_map (concise_line_runs (string_bytes report.root) report.sources.items)
     report.findings.items
 
--- the page of what a command answers
+-- the page of what a command returns
 abbrev pub content_runs : Report → Content → List Run
 content_runs report (contents.Explain asked test) =
     explain_runs (string_bytes report.root) report.sources.items asked test

@@ -29,7 +29,7 @@ toml_char c =
 abbrev pub quoted : List ℕ → List ℕ
 quoted text = 34 ∷ (flat_map toml_char (chars text) ++ 34 ∷ [])
 
--- whether a byte may stand in a key without quotes: a letter or a digit of ASCII, `_` or `-`
+-- whether a byte may be in a key without quotes: a letter or a digit of ASCII, `_` or `-`
 abbrev pub is_bare_byte : ℕ → Bool
 is_bare_byte c = is_ascii_alphanumeric c || ((c == 95) || (c == 45))
 

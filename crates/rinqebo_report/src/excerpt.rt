@@ -256,7 +256,7 @@ impl Finding {
         has_lines(&self.lines) && self.help_place.is_beside()
     }
 
-    /// Whether remarks follow help that stands beside the carets.
+    /// Whether remarks follow help that is beside the carets.
     fn parts_remarks(&self) -> bool
         ensures { result ≡ parts_remarks self.now }
     {
@@ -387,7 +387,7 @@ fn add_parting(
     add_end(out, colour)
 }
 
-/// Writes the help below a finding, if it does not stand beside the carets.
+/// Writes the help below a finding, if it is not beside the carets.
 fn add_help(
     out: &mut String,
     colour: Colour,

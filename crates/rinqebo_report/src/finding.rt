@@ -31,7 +31,7 @@ pub struct RefusedExpression {
     pub span: Option<CharSpan>,
 }
 
-/// What stands below a part of a line.
+/// The sign below a part of a line.
 #[derive(Clone, Copy)]
 pub enum Sign {
     /// Nothing: the part has no fault.
@@ -42,10 +42,10 @@ pub enum Sign {
     Related,
 }
 
-/// A part of a line, and what stands below it.
+/// A part of a line, and the sign below it.
 #[derive(Clone, Copy)]
 pub struct LinePart {
-    /// What stands below it.
+    /// The sign below it.
     pub sign: Sign,
     /// Its characters.
     pub span: CharSpan,

@@ -81,7 +81,7 @@ fn add_spot(
     }
 }
 
-/// Where a finding is, before what is told.
+/// Where a finding is, before its message.
 fn finding_place(
     alloc: Global,
     root: &str,
