@@ -6,7 +6,7 @@ use crate::version::check_version;
 use crate::{ffi, json_of, Error, Mode, Sources, DONE};
 use serde::Serialize;
 
-/// The request of a run: all settings that a profile gives to each test of a list.
+/// What a run is asked: all settings that a profile gives to each test of a list.
 #[derive(Clone, Copy, Debug, Serialize)]
 pub struct RunRequest<'a> {
     #[serde(flatten)]
@@ -18,12 +18,12 @@ pub struct RunRequest<'a> {
     pub list: &'a str,
 }
 
-/// Resolves a request.
+/// Answers a request.
 pub fn resolve(request: &RunRequest<'_>) -> Result<Document, Error> {
     resolve_json(&json_of(request)?)
 }
 
-/// Resolves a request in JSON.
+/// Answers a request in JSON.
 pub fn resolve_json(request: &[u8]) -> Result<Document, Error> {
     check_version()?;
     let run = Run::new(request)?;
@@ -35,7 +35,7 @@ pub fn resolve_json(request: &[u8]) -> Result<Document, Error> {
     }
 }
 
-/// A run of the library, which keeps its output.
+/// A run of the library, which keeps what it tells.
 struct Run {
     room: Room,
 }
@@ -55,7 +55,7 @@ impl Run {
         unsafe { ffi::rinqebo_run_status(self.room.as_ptr()) }
     }
 
-    /// The output of the run, read piece after piece.
+    /// What the run tells, read piece after piece.
     fn text(&self) -> Vec<u8> {
         // SAFETY: the room holds a run.
         let mut text = vec![0; unsafe { ffi::rinqebo_run_length(self.room.as_ptr()) }];

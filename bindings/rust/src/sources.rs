@@ -26,8 +26,6 @@ pub struct Sources {
     pub host: Machine,
     /// The machine that is built for, where it is another one.
     pub target: Option<Machine>,
-    /// The target directory, to which programs of scripts may be relative.
-    pub target_directory: Option<String>,
 }
 
 /// A file: its path, and what came of reading it.
@@ -47,7 +45,7 @@ pub enum ReadOutcome {
     NotFound,
     /// A part of its path that should be a directory is none.
     NotADirectory,
-    /// Anything else, as bytes that are not valid UTF-8: a message, which a refusal includes.
+    /// Anything else, as bytes that are not valid UTF-8: a message, which a refusal tells.
     Failed(String),
 }
 
@@ -92,7 +90,7 @@ impl Serialize for ReadOutcome {
     }
 }
 
-/// What `fs::read_to_string` returns.
+/// What `fs::read_to_string` answers.
 impl From<io::Result<String>> for ReadOutcome {
     fn from(read: io::Result<String>) -> ReadOutcome {
         match read {
@@ -140,7 +138,6 @@ impl Sources {
                 cfg: None,
             },
             target: None,
-            target_directory: None,
         }
     }
 }

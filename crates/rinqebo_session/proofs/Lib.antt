@@ -1,3 +1,2 @@
 pub mod Loads
 pub mod Numbering
-pub mod Faults

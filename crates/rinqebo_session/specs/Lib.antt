@@ -9,5 +9,3 @@ pub mod Answering
 pub mod Texts
 pub mod Sizes
 pub mod Versions
-pub mod Needs
-pub mod Arguments

@@ -1,5 +1,5 @@
-//! Metadata of a workspace that is refused, and the targets of its packages.
-use filter_packages::{MetadataFault, PackageGraph, Place, Wanted, targets_of};
+//! Metadata of a workspace that is refused.
+use filter_packages::{MetadataFault, PackageGraph, Place, Wanted};
 use std::test::Fail;
 
 /// Why the metadata is refused, if it is.
@@ -30,48 +30,5 @@ fn faults(rt: HostRuntime) -> Result<(), Fail> {
         fault,
         MetadataFault::UnknownPackage(Place::WorkspaceMember(0))
     );
-    Ok(())
-}
-
-/// The packages of a workspace, with targets of each kind.
-const TARGETS: &str = r#"{
-    "packages": [
-        {"id": "1", "name": "my-db", "targets": [
-            {"name": "my_db", "kind": ["rlib", "cdylib"]}, {"name": "smoke", "kind": ["test"]}
-        ]},
-        {"id": "2", "name": "other"},
-        {"id": "3", "name": "mac", "targets": [
-            {"name": "mac", "kind": ["proc-macro"]}, {"name": "tool", "kind": ["bin"]}
-        ]}
-    ],
-    "workspace_members": ["1", "3"]
-}"#;
-
-/// The ids of the binaries of the targets, with a comma between them.
-fn ids_of(rt: &HostRuntime, text: &str) -> Result<String, Fail> {
-    let targets = targets_of(rt.alloc(), text).ok().ok_or("no targets")?;
-    let mut ids = String::new(rt.alloc());
-    for target in &targets {
-        if !ids.is_empty() {
-            ids.push_str(",")?;
-        }
-        ids.push_str(target.binary_id(rt.alloc())?.as_str())?;
-    }
-    Ok(ids)
-}
-
-#[test]
-fn targets(rt: HostRuntime) -> Result<(), Fail> {
-    let ids = ids_of(&rt, TARGETS)?;
-    assert_eq!(rt; ids.as_str(), "my-db,my-db::smoke,mac,mac::bin/tool");
-    let targets = targets_of(rt.alloc(), TARGETS).ok().ok_or("no targets")?;
-    let library = targets.first().ok_or("no library")?;
-    assert_eq!(rt; library.kind.as_str(), "lib");
-    assert_eq!(rt; library.name.as_str(), "my_db");
-    let unnamed =
-        r#"{"workspace_members": ["1"], "packages": [{"id": "1", "name": "p", "targets": [{}]}]}"#;
-    let fault = targets_of(rt.alloc(), unnamed).err().ok_or("no fault")?;
-    let expected = MetadataFault::Expected(Wanted::Text, Place::TargetName(0, 0));
-    assert_eq!(rt; fault, expected);
     Ok(())
 }

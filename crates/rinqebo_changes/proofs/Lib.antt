@@ -1,9 +1,0 @@
-mod Deciding
-mod SameValues
-mod SameOrigins
-mod ClassLists
-mod Reflexive
-mod Exactly
-mod Fair
-mod KeyedRows
-mod WholeGroups
