@@ -159,9 +159,22 @@ fn element_finding(
     Ok(found)
 }
 
+/// The path of a key of the table in which a value is refused.
+fn path_of_stray<'p>(
+    alloc: Global,
+    source: SourceAt<'p, '_>,
+    fault: &'p ElementFault,
+    stray: &'p str,
+) -> Result<Vec<Step<'p>>, AllocError> {
+    let refusal = Fault::Value(&fault.cause);
+    let table = spelled_path(alloc, source, fault.path.as_str(), refusal)?;
+    path_with(alloc, &table, stray)
+}
+
 /// Adds that a table lacks a key: at a key that it does not know, if one is near.
 fn add_missing(
     refused: &mut Refused<'_, '_>,
+    fault: &ElementFault,
     key: &str,
     path: &[Step<'_>],
 ) -> Result<(), AllocError> {
@@ -172,11 +185,13 @@ fn add_missing(
         Some(table) => stray_key(alloc, path, table, key)?,
         None => None,
     };
-    let at = match &stray {
-        Some(stray) => path_with(alloc, path, stray.as_str())?,
-        None => Vec::from_slice(alloc, path)?,
+    let mut found = match &stray {
+        Some(stray) => {
+            let at = path_of_stray(alloc, refused.source, fault, stray.as_str())?;
+            refused.part_at(Code::MissingKey, &at, SpanPart::Key, wrong.as_str())?
+        }
+        None => refused.part_at(Code::MissingKey, path, SpanPart::Key, wrong.as_str())?,
     };
-    let mut found = refused.part_at(Code::MissingKey, &at, SpanPart::Key, wrong.as_str())?;
     if stray.is_some() {
         found.help = Some(format!(in alloc; "did you mean `{key}`?")?);
         found.help_place = HelpPlace::Beside;
@@ -195,7 +210,7 @@ pub fn add_element(refused: &mut Refused<'_, '_>, fault: &ElementFault) -> Resul
     let told = Fault::Value(&fault.cause);
     let path = spelled_path(alloc, refused.source, fault.path.as_str(), told)?;
     match (&fault.cause, value_at(refused.source, &path)) {
-        (ElementCause::Missing(key), _) => add_missing(refused, key.as_str(), &path),
+        (ElementCause::Missing(key), _) => add_missing(refused, fault, key.as_str(), &path),
         (ElementCause::OutOfRange, Some(Tree::Table(_))) => add_delays(refused, &path),
         (cause, _) => {
             let found = element_finding(refused, cause, &path)?;
