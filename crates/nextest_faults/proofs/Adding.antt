@@ -1,0 +1,33 @@
+-- Faults that are added.
+use Rattle.std.proofs.Common.{◌≡◌, ℕ, List, [], ◌∷◌, ◌++◌, map, Option, Some, None, option_map, refl, sym, ap, ◌∙◌, append_assoc}
+use Rattle.std.proofs.lemmas.List.{append-nil, map-append}
+use Rattle.nextest_places.specs.declared.step.Step.{Step}
+use Rattle.nextest_tree.specs.declared.fault.ElementCause.{ElementCause}
+use Rattle.nextest_tree.specs.Schema.{Fault, FaultCause, at}
+use Rattle.nextest_faults.specs.declared.found.FoundFault.{FoundFault}
+use Rattle.nextest_faults.specs.Found.{Adds, Sees, cause_view, found_view, path_text}
+
+-- nothing is added
+pub adds_none : (old : List FoundFault) → Adds old old []
+adds_none old = sym (append-nil (map found_view old))
+
+-- one list after another
+pub adds_more : (old middle new : List FoundFault) (xs ys : List Fault) → Adds old middle xs → Adds middle new ys
+    → Adds old new (xs ++ ys)
+adds_more old middle new xs ys first second =
+    second ∙ ap (λ t. t ++ map (λ f. Some f) ys) first
+    ∙ append_assoc (map found_view old) (map (λ f. Some f) xs) (map (λ f. Some f) ys)
+    ∙ ap (λ t. map found_view old ++ t) (sym (map-append (λ f. Some f) xs ys))
+
+-- one fault, at its path
+pub added_at : (old new : List FoundFault) (one : FoundFault) (path : List Step) (cause : ElementCause)
+    (spec : Option FaultCause) → new ≡ old ++ one ∷ [] → one.path.items ≡ path → one.cause ≡ cause
+    → Sees (cause_view cause) spec → Adds old new (at (path_text path) spec)
+added_at old new one path cause spec is at_path same sees =
+    let mk : FaultCause → Fault = λ c. record { path = path_text path; cause = c } in
+    let view : found_view one ≡ Some (mk sees.cause) =
+    (λ i. option_map (λ c. let f : Fault = record { path = path_text (at_path i); cause = c } in f) (cause_view (same i)))
+    ∙ ap (option_map mk) sees.seen in
+    ap (map found_view) is ∙ map-append found_view old (one ∷ [])
+    ∙ ap (λ v. map found_view old ++ v ∷ []) view
+    ∙ sym (ap (λ s. map found_view old ++ map (λ f. Some f) (at (path_text path) s)) sees.meant)

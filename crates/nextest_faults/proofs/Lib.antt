@@ -1,0 +1,5 @@
+pub mod Reading
+pub mod Adding
+pub mod Words
+pub mod Paths
+pub mod Listed

@@ -1,0 +1,15 @@
+-- Paths with one more step.
+use Rattle.std.proofs.Common.{◌≡◌, ℕ, List, [], ◌∷◌, ◌++◌, fold, refl, ap, ◌∙◌}
+use Rattle.nextest_places.specs.declared.step.Step.{Step}
+use Rattle.nextest_tree.specs.Schema.{below}
+use Rattle.nextest_faults.specs.Found.{path_text, step_text}
+
+from : (p : List ℕ) (path : List Step) (step : Step)
+    → fold (λ q s. below q (step_text s)) p (path ++ step ∷ [])
+    ≡ below (fold (λ q s. below q (step_text s)) p path) (step_text step)
+from p [] step = refl
+from p (first ∷ path) step = from (below p (step_text first)) path step
+
+-- one more step is one more key
+pub one_more : (path : List Step) (step : Step) → path_text (path ++ step ∷ []) ≡ below (path_text path) (step_text step)
+one_more path step = from [] path step

@@ -1,0 +1,174 @@
+//! The list of the faults of a tree.
+ghost use Rattle.std.specs.Prelude.{◌++◌, OnOk};
+ghost use Rattle.nextest_tree.specs.Schema.{each_entry, each_item, faults, field_faults, fields_faults, others_faults, at, below, names_of};
+ghost use Rattle.nextest_tree.specs.View.{tree_view, nodes_view, entries_view};
+ghost use Rattle.nextest_faults.specs.Found.{Adds, path_text};
+ghost use Rattle.nextest_faults.specs.Places.{names_test, others_view, place_view, field_view, fields_view};
+
+use crate::across::{Names, member};
+use crate::found::{FoundFault, add_at, longer};
+use crate::place::{Field, Others, Place};
+use nextest_places::Step;
+use nextest_tree::{ElementCause, Key, Tree};
+use std::alloc::{AllocError, Global};
+use std::collections::BTreeMap;
+
+/// Whether a key is one of some fields'.
+fn is_field(fields: &[Field<Place>], key: &str) -> bool {
+    fields.iter().any(|field| field.key.text() == key)
+}
+
+/// Adds the faults of the keys of a table that are none of its fields.
+fn add_others<'t>(
+    alloc: Global,
+    others: Others,
+    fields: &[Field<Place>],
+    path: &[Step<'t>],
+    members: &'t BTreeMap<String, Tree>,
+    found: &mut Vec<FoundFault<'t>>,
+) -> Result<(), AllocError>
+    ensures { let es = entries_view members.entry.now.entries in
+        OnOk result (Adds found.old.items found.new.items
+        (others_faults (others_view others) (names_of (fields_view fields.now))
+        (path_text path.now) es)) }
+{
+    if others == Others::Noted {
+        return Ok(());
+    }
+    for key in members.keys() {
+        if !is_field(fields, key.as_str()) {
+            let path = longer(alloc, path, Step::Key(key.as_str()))?;
+            add_at(alloc, &path, Some(ElementCause::UnknownField), found)?;
+        }
+    }
+    Ok(())
+}
+
+/// Adds that a table lacks a key.
+fn add_missing<'t>(
+    alloc: Global,
+    key: Key,
+    path: &[Step<'t>],
+    found: &mut Vec<FoundFault<'t>>,
+) -> Result<(), AllocError> {
+    let cause = ElementCause::Missing(String::from_str(alloc, key.text())?);
+    add_at(alloc, path, Some(cause), found)
+}
+
+/// Adds the faults of a tree at a place.
+#[cycle(listing)]
+pub(crate) fn add_faults<'t>(
+    alloc: Global,
+    place: &Place,
+    path: &[Step<'t>],
+    tree: &'t Tree,
+    found: &mut Vec<FoundFault<'t>>,
+) -> Result<(), AllocError>
+    ensures { OnOk result (Adds found.old.items found.new.items
+        (faults (place_view place.now) (path_text path.now) (tree_view tree.entry.now))) }
+{
+    match place {
+        Place::Anything => Ok(()),
+        Place::Leaf(leaf) => add_at(alloc, path, leaf.cause(alloc, tree)?, found),
+        Place::Table {
+            others,
+            other,
+            fields,
+            across,
+        } => match tree {
+            Tree::Table(members) => {
+                add_others(alloc, *others, fields, path, members, found)?;
+                add_fields(alloc, fields, path, members, found)?;
+                add_at(alloc, path, across.cause(members), found)
+            }
+            _ => add_faults(alloc, other, path, tree, found),
+        },
+        Place::Map { names, values } => match tree {
+            Tree::Table(members) => add_entries(alloc, *names, values, path, members, found),
+            _ => add_at(alloc, path, Some(ElementCause::WrongKind), found),
+        },
+        Place::List {
+            other,
+            items,
+            across,
+        } => match tree {
+            Tree::Array(values) => {
+                add_items(alloc, items, path, values, found)?;
+                add_at(alloc, path, across.cause(values), found)
+            }
+            _ => add_faults(alloc, other, path, tree, found),
+        },
+    }
+}
+
+/// Adds the faults at the fields of a table, each in turn.
+#[cycle(listing)]
+fn add_fields<'t>(
+    alloc: Global,
+    fields: &Vec<Field<Place>>,
+    path: &[Step<'t>],
+    members: &'t BTreeMap<String, Tree>,
+    found: &mut Vec<FoundFault<'t>>,
+) -> Result<(), AllocError>
+    ensures { let es = entries_view members.entry.now.entries in
+        OnOk result (Adds found.old.items found.new.items
+        (fields_faults (fields_view fields.now.items) (path_text path.now) es)) }
+{
+    for field in fields {
+        match member(members, field.key) {
+            Some(tree) => {
+                let path = longer(alloc, path, Step::Key(field.key.text()))?;
+                add_faults(alloc, &field.place, &path, tree, found)?;
+            }
+            None => {
+                if field.need.holds_in(members) {
+                    add_missing(alloc, field.key, path, found)?;
+                }
+            }
+        }
+    }
+    Ok(())
+}
+
+/// Adds the faults of the names and of the values of a table.
+#[cycle(listing)]
+fn add_entries<'t>(
+    alloc: Global,
+    names: Names,
+    values: &Place,
+    path: &[Step<'t>],
+    members: &'t BTreeMap<String, Tree>,
+    found: &mut Vec<FoundFault<'t>>,
+) -> Result<(), AllocError>
+    ensures { let p = path_text path.now in let es = entries_view members.entry.now.entries in
+        OnOk result (Adds found.old.items found.new.items
+        (each_entry (λ k n. at (below p k) (names_test names k)
+        ++ faults (place_view values.now) (below p k) n) es)) }
+{
+    for (key, tree) in members.iter() {
+        let path = longer(alloc, path, Step::Key(key.as_str()))?;
+        add_at(alloc, &path, names.cause(alloc, key.as_str())?, found)?;
+        add_faults(alloc, values, &path, tree, found)?;
+    }
+    Ok(())
+}
+
+/// Adds the faults of the items of an array.
+#[cycle(listing)]
+fn add_items<'t>(
+    alloc: Global,
+    items: &Place,
+    path: &[Step<'t>],
+    values: &'t [Tree],
+    found: &mut Vec<FoundFault<'t>>,
+) -> Result<(), AllocError>
+    ensures { OnOk result (Adds found.old.items found.new.items
+        (each_item (faults (place_view items.now)) (path_text path.now) 0
+        (nodes_view values.entry.now))) }
+{
+    for (position, tree) in values.iter().enumerate() {
+        let path = longer(alloc, path, Step::Position(position))?;
+        add_faults(alloc, items, &path, tree, found)?;
+    }
+    Ok(())
+}
