@@ -19,6 +19,27 @@ adds_more old middle new xs ys first second =
     ∙ append_assoc (map found_view old) (map (λ f. Some f) xs) (map (λ f. Some f) ys)
     ∙ ap (λ t. map found_view old ++ t) (sym (map-append (λ f. Some f) xs ys))
 
+-- of all faults that are to be added these are left
+abbrev pub Left : List FoundFault → List FoundFault → (rest all : List Fault) → Type 0
+Left old now rest all =
+    map found_view now ++ map (λ f. Some f) rest ≡ map found_view old ++ map (λ f. Some f) all
+
+-- some of those that are left are added
+pub left_more : (old now new : List FoundFault) (xs rest left all : List Fault) → Left old now left all
+    → left ≡ xs ++ rest → Adds now new xs → Left old new rest all
+left_more old now new xs rest left all is parts added =
+    ap (λ t. t ++ map (λ f. Some f) rest) added
+    ∙ append_assoc (map found_view now) (map (λ f. Some f) xs) (map (λ f. Some f) rest)
+    ∙ ap (λ t. map found_view now ++ t)
+    (sym (map-append (λ f. Some f) xs rest) ∙ ap (map (λ f. Some f)) (sym parts))
+    ∙ is
+
+-- none is left
+pub left_none : (old now : List FoundFault) (left all : List Fault) → Left old now left all → left ≡ []
+    → Adds old now all
+left_none old now left all is none =
+    sym (append-nil (map found_view now)) ∙ ap (λ l. map found_view now ++ map (λ f. Some f) l) (sym none) ∙ is
+
 -- one fault, at its path
 pub added_at : (old new : List FoundFault) (one : FoundFault) (path : List Step) (cause : ElementCause)
     (spec : Option FaultCause) → new ≡ old ++ one ∷ [] → one.path.items ≡ path → one.cause ≡ cause

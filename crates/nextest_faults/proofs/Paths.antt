@@ -13,3 +13,8 @@ from p (first ∷ path) step = from (below p (step_text first)) path step
 -- one more step is one more key
 pub one_more : (path : List Step) (step : Step) → path_text (path ++ step ∷ []) ≡ below (path_text path) (step_text step)
 one_more path step = from [] path step
+
+-- the path that is one key longer
+pub key_more : (path longer : List Step) (step : Step) (k : List ℕ) → longer ≡ path ++ step ∷ [] → step_text step ≡ k
+    → path_text longer ≡ below (path_text path) k
+key_more path longer step k is named = ap path_text is ∙ one_more path step ∙ ap (below (path_text path)) named

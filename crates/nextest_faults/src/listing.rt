@@ -1,9 +1,11 @@
 //! The list of the faults of a tree.
-ghost use Rattle.std.specs.Prelude.{◌++◌, OnOk};
-ghost use Rattle.nextest_tree.specs.Schema.{each_entry, each_item, faults, field_faults, fields_faults, others_faults, at, below, names_of};
+ghost use Rattle.std.specs.Prelude.{◌≡◌, ◌++◌, Some, OnOk, map};
+ghost use Rattle.nextest_tree.specs.Key.{key_text};
+ghost use Rattle.nextest_tree.specs.Node.{get};
+ghost use Rattle.nextest_tree.specs.Schema.{each_entry, each_item, faults, field_faults, fields_faults, others_faults, are_refused, at, below, is_one_of, missing, names_of};
 ghost use Rattle.nextest_tree.specs.View.{tree_view, nodes_view, entries_view};
 ghost use Rattle.nextest_faults.specs.Found.{Adds, path_text};
-ghost use Rattle.nextest_faults.specs.Places.{names_test, others_view, place_view, field_view, fields_view};
+ghost use Rattle.nextest_faults.specs.Places.{names_test, need_test, others_view, place_view, fields_view};
 
 use crate::across::{Names, member};
 use crate::found::{FoundFault, add_at, longer};
@@ -14,8 +16,36 @@ use std::alloc::{AllocError, Global};
 use std::collections::BTreeMap;
 
 /// Whether a key is one of some fields'.
-fn is_field(fields: &[Field<Place>], key: &str) -> bool {
-    fields.iter().any(|field| field.key.text() == key)
+fn is_field(fields: &[Field<Place>], key: &str) -> bool
+    ensures { result ≡ is_one_of (map key_text (names_of (fields_view fields.now))) key.now }
+{
+    for field in fields {
+        if field.key.text() == key {
+            return true;
+        }
+    }
+    false
+}
+
+/// Adds each key of a table that is none of its fields.
+fn add_unknown<'t>(
+    alloc: Global,
+    fields: &[Field<Place>],
+    path: &[Step<'t>],
+    members: &'t BTreeMap<String, Tree>,
+    found: &mut Vec<FoundFault<'t>>,
+) -> Result<(), AllocError>
+    ensures { let es = entries_view members.entry.now.entries in
+        OnOk result (Adds found.old.items found.new.items
+        (others_faults are_refused (names_of (fields_view fields.now)) (path_text path.now) es)) }
+{
+    for key in members.keys() {
+        if !is_field(fields, key.as_str()) {
+            let path = longer(alloc, path, Step::Key(key.as_str()))?;
+            add_at(alloc, &path, Some(ElementCause::UnknownField), found)?;
+        }
+    }
+    Ok(())
 }
 
 /// Adds the faults of the keys of a table that are none of its fields.
@@ -32,16 +62,10 @@ fn add_others<'t>(
         (others_faults (others_view others) (names_of (fields_view fields.now))
         (path_text path.now) es)) }
 {
-    if others == Others::Noted {
-        return Ok(());
+    match others {
+        Others::Noted => Ok(()),
+        Others::Refused => add_unknown(alloc, fields, path, members, found),
     }
-    for key in members.keys() {
-        if !is_field(fields, key.as_str()) {
-            let path = longer(alloc, path, Step::Key(key.as_str()))?;
-            add_at(alloc, &path, Some(ElementCause::UnknownField), found)?;
-        }
-    }
-    Ok(())
 }
 
 /// Adds that a table lacks a key.
@@ -50,7 +74,10 @@ fn add_missing<'t>(
     key: Key,
     path: &[Step<'t>],
     found: &mut Vec<FoundFault<'t>>,
-) -> Result<(), AllocError> {
+) -> Result<(), AllocError>
+    ensures { OnOk result (Adds found.old.items found.new.items
+        (at (path_text path.now) (Some (missing (key_text key))))) }
+{
     let cause = ElementCause::Missing(String::from_str(alloc, key.text())?);
     add_at(alloc, path, Some(cause), found)
 }
@@ -101,6 +128,30 @@ pub(crate) fn add_faults<'t>(
     }
 }
 
+/// Adds the faults at one field of a table.
+#[cycle(listing)]
+fn add_field<'t>(
+    alloc: Global,
+    field: &Field<Place>,
+    path: &[Step<'t>],
+    members: &'t BTreeMap<String, Tree>,
+    found: &mut Vec<FoundFault<'t>>,
+) -> Result<(), AllocError>
+    ensures { let f = field.now in let es = entries_view members.entry.now.entries in
+        OnOk result (Adds found.old.items found.new.items
+        (field_faults f.key (need_test f.need es) (faults (place_view f.place))
+        (path_text path.now) (get (key_text f.key) es))) }
+{
+    match member(members, field.key) {
+        Some(tree) => {
+            let path = longer(alloc, path, Step::Key(field.key.text()))?;
+            add_faults(alloc, &field.place, &path, tree, found)
+        }
+        None if field.need.holds_in(members) => add_missing(alloc, field.key, path, found),
+        None => Ok(()),
+    }
+}
+
 /// Adds the faults at the fields of a table, each in turn.
 #[cycle(listing)]
 fn add_fields<'t>(
@@ -115,17 +166,7 @@ fn add_fields<'t>(
         (fields_faults (fields_view fields.now.items) (path_text path.now) es)) }
 {
     for field in fields {
-        match member(members, field.key) {
-            Some(tree) => {
-                let path = longer(alloc, path, Step::Key(field.key.text()))?;
-                add_faults(alloc, &field.place, &path, tree, found)?;
-            }
-            None => {
-                if field.need.holds_in(members) {
-                    add_missing(alloc, field.key, path, found)?;
-                }
-            }
-        }
+        add_field(alloc, field, path, members, found)?;
     }
     Ok(())
 }
