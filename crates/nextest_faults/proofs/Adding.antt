@@ -1,11 +1,12 @@
 -- Faults that are added.
-use Rattle.std.proofs.Common.{◌≡◌, ℕ, List, [], ◌∷◌, ◌++◌, map, Option, Some, None, option_map, refl, sym, ap, ◌∙◌, append_assoc}
+use Rattle.std.proofs.Common.{◌≡◌, ℕ, List, [], ◌∷◌, ◌++◌, map, Option, Some, None, option_map, refl, sym, ap, ◌∙◌, append_assoc, subst}
 use Rattle.std.proofs.lemmas.List.{append-nil, map-append}
 use Rattle.nextest_places.specs.declared.step.Step.{Step}
 use Rattle.nextest_tree.specs.declared.fault.ElementCause.{ElementCause}
-use Rattle.nextest_tree.specs.Schema.{Fault, FaultCause, at}
+use Rattle.nextest_tree.specs.Schema.{Fault, FaultCause, at, below}
 use Rattle.nextest_faults.specs.declared.found.FoundFault.{FoundFault}
-use Rattle.nextest_faults.specs.Found.{Adds, Sees, cause_view, found_view, path_text}
+use Rattle.nextest_faults.specs.Found.{Adds, Sees, cause_view, found_view, path_text, step_text}
+use Rattle.nextest_faults.proofs.Paths.{key_more}
 
 -- nothing is added
 pub adds_none : (old : List FoundFault) → Adds old old []
@@ -34,6 +35,12 @@ left_more old now new xs rest left all is parts added =
     (sym (map-append (λ f. Some f) xs rest) ∙ ap (map (λ f. Some f)) (sym parts))
     ∙ is
 
+-- those that are left, written another way
+pub left_same : (old now : List FoundFault) (left rest all : List Fault) → Left old now left all → left ≡ rest
+    → Left old now rest all
+left_same old now left rest all is same =
+    ap (λ l. map found_view now ++ map (λ f. Some f) l) (sym same) ∙ is
+
 -- none is left
 pub left_none : (old now : List FoundFault) (left all : List Fault) → Left old now left all → left ≡ []
     → Adds old now all
@@ -52,3 +59,10 @@ added_at old new one path cause spec is at_path same sees =
     ap (map found_view) is ∙ map-append found_view old (one ∷ [])
     ∙ ap (λ v. map found_view old ++ v ∷ []) view
     ∙ sym (ap (λ s. map found_view old ++ map (λ f. Some f) (at (path_text path) s)) sees.meant)
+
+-- what is added at a path with one step more
+pub added_below : (f : List ℕ → List Fault) (old new : List FoundFault) (p longer : List Step) (step : Step)
+    (k : List ℕ) → longer ≡ p ++ step ∷ [] → step_text step ≡ k → Adds old new (f (path_text longer))
+    → Adds old new (f (below (path_text p) k))
+added_below f old new p longer step k is named added =
+    subst (λ q. Adds old new (f q)) (key_more p longer step k is named) added

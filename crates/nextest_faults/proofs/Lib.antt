@@ -3,3 +3,4 @@ pub mod Adding
 pub mod Words
 pub mod Paths
 pub mod Listed
+pub mod Views

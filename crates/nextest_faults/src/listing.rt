@@ -1,8 +1,9 @@
 //! The list of the faults of a tree.
 ghost use Rattle.std.specs.Prelude.{◌≡◌, ◌++◌, Some, OnOk, map};
+ghost use Rattle.std.specs.Fmt.{decimal};
 ghost use Rattle.nextest_tree.specs.Key.{key_text};
 ghost use Rattle.nextest_tree.specs.Node.{get};
-ghost use Rattle.nextest_tree.specs.Schema.{each_entry, each_item, faults, field_faults, fields_faults, others_faults, are_refused, at, below, is_one_of, missing, names_of};
+ghost use Rattle.nextest_tree.specs.Schema.{each_entry, each_item, faults, field_faults, fields_faults, others_faults, are_refused, at, below, is_one_of, missing, names_of, unknown_field};
 ghost use Rattle.nextest_tree.specs.View.{tree_view, nodes_view, entries_view};
 ghost use Rattle.nextest_faults.specs.Found.{Adds, path_text};
 ghost use Rattle.nextest_faults.specs.Places.{names_test, need_test, others_view, place_view, fields_view};
@@ -27,6 +28,21 @@ fn is_field(fields: &[Field<Place>], key: &str) -> bool
     false
 }
 
+/// Adds that a table has a key that it refuses.
+fn add_unknown_key<'t>(
+    alloc: Global,
+    key: &'t str,
+    path: &[Step<'t>],
+    found: &mut Vec<FoundFault<'t>>,
+) -> Result<(), AllocError>
+    ensures { OnOk result (Adds found.old.items found.new.items
+        (at (below (path_text path.now) key.entry.now) (Some unknown_field))) }
+{
+    let path = longer(alloc, path, Step::Key(key))?;
+    add_at(alloc, &path, Some(ElementCause::UnknownField), found)?;
+    Ok(())
+}
+
 /// Adds each key of a table that is none of its fields.
 fn add_unknown<'t>(
     alloc: Global,
@@ -41,8 +57,7 @@ fn add_unknown<'t>(
 {
     for key in members.keys() {
         if !is_field(fields, key.as_str()) {
-            let path = longer(alloc, path, Step::Key(key.as_str()))?;
-            add_at(alloc, &path, Some(ElementCause::UnknownField), found)?;
+            add_unknown_key(alloc, key.as_str(), path, found)?;
         }
     }
     Ok(())
@@ -79,7 +94,8 @@ fn add_missing<'t>(
         (at (path_text path.now) (Some (missing (key_text key))))) }
 {
     let cause = ElementCause::Missing(String::from_str(alloc, key.text())?);
-    add_at(alloc, path, Some(cause), found)
+    add_at(alloc, path, Some(cause), found)?;
+    Ok(())
 }
 
 /// Adds the faults of a tree at a place.
@@ -102,28 +118,30 @@ pub(crate) fn add_faults<'t>(
             other,
             fields,
             across,
-        } => match tree {
-            Tree::Table(members) => {
+        } => match tree.as_table() {
+            Some(members) => {
                 add_others(alloc, *others, fields, path, members, found)?;
                 add_fields(alloc, fields, path, members, found)?;
-                add_at(alloc, path, across.cause(members), found)
+                add_at(alloc, path, across.cause(members), found)?;
+                Ok(())
             }
-            _ => add_faults(alloc, other, path, tree, found),
+            None => add_faults(alloc, other, path, tree, found),
         },
-        Place::Map { names, values } => match tree {
-            Tree::Table(members) => add_entries(alloc, *names, values, path, members, found),
-            _ => add_at(alloc, path, Some(ElementCause::WrongKind), found),
+        Place::Map { names, values } => match tree.as_table() {
+            Some(members) => add_entries(alloc, *names, values, path, members, found),
+            None => add_at(alloc, path, Some(ElementCause::WrongKind), found),
         },
         Place::List {
             other,
             items,
             across,
-        } => match tree {
-            Tree::Array(values) => {
+        } => match tree.as_array() {
+            Some(values) => {
                 add_items(alloc, items, path, values, found)?;
-                add_at(alloc, path, across.cause(values), found)
+                add_at(alloc, path, across.cause(values), found)?;
+                Ok(())
             }
-            _ => add_faults(alloc, other, path, tree, found),
+            None => add_faults(alloc, other, path, tree, found),
         },
     }
 }
@@ -145,7 +163,8 @@ fn add_field<'t>(
     match member(members, field.key) {
         Some(tree) => {
             let path = longer(alloc, path, Step::Key(field.key.text()))?;
-            add_faults(alloc, &field.place, &path, tree, found)
+            add_faults(alloc, &field.place, &path, tree, found)?;
+            Ok(())
         }
         None if field.need.holds_in(members) => add_missing(alloc, field.key, path, found),
         None => Ok(()),
@@ -171,7 +190,29 @@ fn add_fields<'t>(
     Ok(())
 }
 
-/// Adds the faults of the names and of the values of a table.
+/// Adds the faults of the name and of the value of an entry.
+#[cycle(listing)]
+fn add_entry<'t>(
+    alloc: Global,
+    names: Names,
+    values: &Place,
+    path: &[Step<'t>],
+    key: &'t str,
+    tree: &'t Tree,
+    found: &mut Vec<FoundFault<'t>>,
+) -> Result<(), AllocError>
+    ensures { let p = below (path_text path.now) key.entry.now in
+        OnOk result (Adds found.old.items found.new.items
+        (at p (names_test names key.entry.now)
+        ++ faults (place_view values.now) p (tree_view tree.entry.now))) }
+{
+    let path = longer(alloc, path, Step::Key(key))?;
+    add_at(alloc, &path, names.cause(alloc, key)?, found)?;
+    add_faults(alloc, values, &path, tree, found)?;
+    Ok(())
+}
+
+/// Adds the faults of the entries of a table, each in turn.
 #[cycle(listing)]
 fn add_entries<'t>(
     alloc: Global,
@@ -187,14 +228,31 @@ fn add_entries<'t>(
         ++ faults (place_view values.now) (below p k) n) es)) }
 {
     for (key, tree) in members.iter() {
-        let path = longer(alloc, path, Step::Key(key.as_str()))?;
-        add_at(alloc, &path, names.cause(alloc, key.as_str())?, found)?;
-        add_faults(alloc, values, &path, tree, found)?;
+        add_entry(alloc, names, values, path, key.as_str(), tree, found)?;
     }
     Ok(())
 }
 
-/// Adds the faults of the items of an array.
+/// Adds the faults of an item of an array.
+#[cycle(listing)]
+fn add_item<'t>(
+    alloc: Global,
+    items: &Place,
+    path: &[Step<'t>],
+    position: usize,
+    tree: &'t Tree,
+    found: &mut Vec<FoundFault<'t>>,
+) -> Result<(), AllocError>
+    ensures { OnOk result (Adds found.old.items found.new.items
+        (faults (place_view items.now) (below (path_text path.now) (decimal position))
+        (tree_view tree.entry.now))) }
+{
+    let path = longer(alloc, path, Step::Position(position))?;
+    add_faults(alloc, items, &path, tree, found)?;
+    Ok(())
+}
+
+/// Adds the faults of the items of an array, each in turn.
 #[cycle(listing)]
 fn add_items<'t>(
     alloc: Global,
@@ -208,8 +266,7 @@ fn add_items<'t>(
         (nodes_view values.entry.now))) }
 {
     for (position, tree) in values.iter().enumerate() {
-        let path = longer(alloc, path, Step::Position(position))?;
-        add_faults(alloc, items, &path, tree, found)?;
+        add_item(alloc, items, path, position, tree, found)?;
     }
     Ok(())
 }

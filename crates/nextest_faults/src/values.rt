@@ -1,18 +1,15 @@
 //! What is wrong with single values and with names.
-ghost use Rattle.std.specs.Prelude.{◌≡◌, ◌↔◌, IfOk, IsTrue, Option, map};
+ghost use Rattle.std.specs.Prelude.{◌≡◌, ℕ, IfOk, List, Option, map};
 ghost use Rattle.nextest_tree.specs.Leaf.{cause_of};
-ghost use Rattle.nextest_tree.specs.Node.{Node};
-ghost use Rattle.nextest_tree.specs.Schema.{FaultCause, is_one_of, leaf};
+ghost use Rattle.nextest_tree.specs.Schema.{FaultCause, at, faults, is_one_of};
 ghost use Rattle.nextest_tree.specs.View.{tree_view};
 ghost use Rattle.nextest_elements.specs.RetryPolicy.{count_at};
-ghost use Rattle.nextest_elements.specs.Positive.{positive_at};
 ghost use Rattle.nextest_scripts.specs.CommandLine.{line_cause};
 ghost use Rattle.nextest_scripts.specs.EnvMap.{env_key_cause};
 ghost use Rattle.nextest_faults.specs.Found.{IsCause, IsSeen};
 ghost use Rattle.nextest_faults.specs.Values.{words_cause};
 
-use nextest_elements::Positive;
-use nextest_scripts::{ShellWordsError, is_env_var_key, split_shell_words};
+use nextest_scripts::{ScriptCommand, is_env_var_key};
 use nextest_tree::{Element, ElementCause, ElementFault, Name, Tree, Walk};
 use std::alloc::{AllocError, Global};
 
@@ -27,14 +24,14 @@ fn cause_in(fault: ElementFault) -> Result<ElementCause, AllocError>
     }
 }
 
-/// What is wrong with a value that an element reads as a leaf.
-#[tactic(auto, using(crate::proofs::Reading::read_leaf, crate::proofs::Reading::refused_leaf))]
+/// What is wrong with a value of an element that has at most one fault, at the value itself.
 pub(crate) fn element_cause<T: Element>(
     alloc: Global,
     tree: &Tree,
 ) -> Result<Option<ElementCause>, AllocError>
-    ensures { (test : Node → Option FaultCause) → T.schema ≡ leaf test
-        → IfOk result (λ cause. IsCause cause (test (tree_view tree.now))) }
+    ensures { (test : Option FaultCause)
+        → ((p : List ℕ) → faults T.schema p (tree_view tree.now) ≡ at p test)
+        → IfOk result (λ cause. IsCause cause test) }
 {
     let mut walk = Walk::new(alloc);
     match T::read(alloc, tree, &mut walk) {
@@ -118,16 +115,9 @@ pub(crate) fn count_cause(tree: &Tree) -> Option<ElementCause>
 pub(crate) fn line_cause(alloc: Global, tree: &Tree) -> Result<Option<ElementCause>, AllocError>
     ensures { IfOk result (λ cause. IsCause cause (line_cause (tree_view tree.now))) }
 {
-    let Tree::Text(text) = tree else {
-        return Ok(Some(ElementCause::WrongKind));
-    };
-    let text = text.as_str();
-    match split_shell_words(alloc, text) {
-        Ok(words) if !words.is_empty() => Ok(None),
-        Ok(_) | Err(ShellWordsError::Unclosed) => {
-            Ok(Some(bad_value(alloc, text, "a command line with a program")?))
-        }
-        Err(ShellWordsError::Memory) => Err(AllocError),
+    match tree {
+        Tree::Text(_) => Ok(element_cause::<ScriptCommand>(alloc, tree)?),
+        _ => Ok(Some(ElementCause::WrongKind)),
     }
 }
 
