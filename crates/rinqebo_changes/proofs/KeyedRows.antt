@@ -120,23 +120,23 @@ zip_behind R (x ∷ xs) us (y ∷ ys) vs one two = (one.0, zip_behind R xs us ys
 -- rows that say nothing for others have their keys
 absent_keys : (rows absent : List SettingRow) → AllZip IsAbsentFor rows absent → AllZip HaveSameKey absent rows
 absent_keys [] [] all = tt
-absent_keys [] (a ∷ as) all = absurd all
+absent_keys [] (a ∷ made) all = absurd all
 absent_keys (r ∷ rs) [] all = absurd all
-absent_keys (r ∷ rs) (a ∷ as) all = (all.0.key, absent_keys rs as all.1)
+absent_keys (r ∷ rs) (a ∷ made) all = (all.0.key, absent_keys rs made all.1)
 
 absent_nothing : (rows absent : List SettingRow) → AllZip IsAbsentFor rows absent → All SaysNothing absent
 absent_nothing [] [] all = All-nil SaysNothing
-absent_nothing [] (a ∷ as) all = absurd all
+absent_nothing [] (a ∷ made) all = absurd all
 absent_nothing (r ∷ rs) [] all = absurd all
-absent_nothing (r ∷ rs) (a ∷ as) all =
-    All-cons SaysNothing a as (record { value = all.0.value }) (absent_nothing rs as all.1)
+absent_nothing (r ∷ rs) (a ∷ made) all =
+    All-cons SaysNothing a made (record { value = all.0.value }) (absent_nothing rs made all.1)
 
 absent_has : (name : List ℕ) (rows absent : List SettingRow) → AllZip IsAbsentFor rows absent
     → has_key absent name ≡ has_key rows name
 absent_has name [] [] all = refl
-absent_has name [] (a ∷ as) all = absurd all
+absent_has name [] (a ∷ made) all = absurd all
 absent_has name (r ∷ rs) [] all = absurd all
-absent_has name (r ∷ rs) (a ∷ as) all = λ i. bytes_eq (all.0.key i) name || absent_has name rs as all.1 i
+absent_has name (r ∷ rs) (a ∷ made) all = λ i. bytes_eq (all.0.key i) name || absent_has name rs made all.1 i
 
 -- all rows of two sides are put beside each other
 pub aligned_all : (from to right rest absent left all : List SettingRow) → AreBeside to from right rest

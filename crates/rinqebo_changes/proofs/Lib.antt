@@ -7,3 +7,4 @@ mod Exactly
 mod Fair
 mod KeyedRows
 mod WholeGroups
+mod WholeDiffs

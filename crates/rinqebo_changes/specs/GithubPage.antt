@@ -33,12 +33,17 @@ change_text row =
     string_bytes row.from.row.key ++ (codes ": " ++ (setting_text row.from.row.value
     ++ (codes " -> " ++ (other_key row ++ setting_text row.to.row.value))))
 
--- a notice about a change, at the place of the right side
+-- the properties of a notice: the place of the right side, and the setting as the title
+abbrev pub properties_text : List ℕ → Diff → RowChange → List ℕ
+properties_text workspace diff row =
+    file_property workspace diff.to.sources.items (site_of row.to)
+    ++ (codes "title=" ++ flat_map property_char (chars (string_bytes row.from.row.key)))
+
+-- a notice about a change
 abbrev pub notice_text : List ℕ → Diff → RowChange → List ℕ → List ℕ
 notice_text workspace diff row tests =
-    codes "::notice " ++ (file_property workspace diff.to.sources.items (site_of row.to)
-    ++ (codes "title=" ++ (flat_map property_char (chars (string_bytes row.from.row.key))
-    ++ (codes "::" ++ (flat_map message_char (chars (change_text row)) ++ (tests ++ 10 ∷ []))))))
+    codes "::notice " ++ (properties_text workspace diff row
+    ++ (codes "::" ++ (flat_map message_char (chars (change_text row)) ++ (tests ++ 10 ∷ []))))
 
 -- a notice about a group, with how many tests it has
 abbrev pub group_notice : List ℕ → Diff → Group → List ℕ

@@ -105,11 +105,16 @@ abbrev pub head_text : List ℕ
 head_text =
     codes "| Setting | From | To | Tests |" ++ 10 ∷ (codes "|---|---|---|---|" ++ 10 ∷ [])
 
+-- the table of a diff, whose changes are in groups
+abbrev pub table_text : Diff → Bool → List Group → List ℕ
+table_text diff lists_all groups =
+    head_text ++ (flat_map (group_line diff lists_all) groups
+    ++ (alone_line (codes "removed") diff.removed.items
+    ++ (alone_line (codes "added") diff.added.items
+    ++ (flat_map (run_line diff) diff.run.items ++ last_text diff))))
+
 -- A text is the table of a diff: its changes are in groups, and it has what they are.
 pub record IsMarkdownText (diff : Diff) (lists_all : Bool) (text : List ℕ) : Type 0 where
   pub groups : List Group
   pub are_groups : AreGroups diff.changed.items groups
-  pub is_text : text ≡ head_text ++ (flat_map (group_line diff lists_all) groups
-      ++ (alone_line (codes "removed") diff.removed.items
-      ++ (alone_line (codes "added") diff.added.items
-      ++ (flat_map (run_line diff) diff.run.items ++ last_text diff))))
+  pub is_text : text ≡ table_text diff lists_all groups

@@ -16,6 +16,7 @@ use Rattle.rinqebo_report.specs.TomlText.{value_text}
 use Rattle.rinqebo_changes.specs.declared.change.RowChange.{RowChange}
 use Rattle.rinqebo_changes.specs.declared.change.SideRow.{SideRow}
 use Rattle.rinqebo_changes.specs.declared.change.TestChanges.{TestChanges}
+use Rattle.rinqebo_changes.specs.declared.classes.Class.{Class}
 use Rattle.rinqebo_changes.specs.declared.classes.Item.{Item}
 use Rattle.rinqebo_changes.specs.declared.diff.BinaryTests.{BinaryTests}
 use Rattle.rinqebo_changes.specs.declared.diff.Diff.{Diff}
@@ -129,12 +130,16 @@ abbrev pub binary_runs : List BinaryTests → Bool → List Item → List Run
 binary_runs binaries lists_all items =
     binary_runs_at binaries lists_all items (slice_get items 0)
 
+-- the changes of the tests of binaries
+abbrev pub binaries_runs : List BinaryTests → Bool → List Class → List Run
+binaries_runs binaries lists_all classes =
+    flat_map (λ class. binary_runs binaries lists_all class.items.items) classes
+
 -- a group: what changes, and its tests
 abbrev pub group_runs : Diff → Bool → Group → List Run
 group_runs diff lists_all group =
     change_runs diff group.head.row.now
-    ++ flat_map (λ binary. binary_runs diff.binaries.items lists_all binary.items.items)
-    group.binaries.items
+    ++ binaries_runs diff.binaries.items lists_all group.binaries.items
 
 -- the target, if there is one
 abbrev pub target_text : Option (String Global) → List ℕ
@@ -188,10 +193,10 @@ run_runs diff =
     if length diff.run.items == 0 then []
     else remark_runs (codes "# run") ++ flat_map (change_runs diff) diff.run.items
 
--- how many tests change
-abbrev pub count_runs : Diff → List Run
-count_runs diff =
-    numbered (length diff.changed.items) ∷ plain (codes " of ") ∷ numbered diff.compared
+-- that so many tests of all change
+abbrev pub count_runs : ℕ → ℕ → List Run
+count_runs changed compared =
+    numbered changed ∷ plain (codes " of ") ∷ numbered compared
     ∷ plain (codes " tests change") ∷ ending ∷ []
 
 -- the page of a diff, whose changes are in groups
@@ -199,7 +204,8 @@ abbrev pub diff_runs : Diff → Bool → List Group → List Run
 diff_runs diff lists_all groups =
     head_runs diff ++ (flat_map (group_runs diff lists_all) groups
     ++ (listed_runs (codes "removed:") diff.removed.items
-    ++ (listed_runs (codes "added:") diff.added.items ++ (run_runs diff ++ count_runs diff))))
+    ++ (listed_runs (codes "added:") diff.added.items
+    ++ (run_runs diff ++ count_runs (length diff.changed.items) diff.compared))))
 
 -- A text is the page of a diff: its changes are in groups, and it has what they are.
 pub record IsDiffText (diff : Diff) (lists_all : Bool) (tint : Colour) (text : List ℕ) : Type 0 where

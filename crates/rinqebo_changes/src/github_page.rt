@@ -1,6 +1,6 @@
 //! A diff as notices of GitHub's workflows, beside the lines of the right side.
-ghost use Rattle.std.specs.Prelude.{◌≡◌, ◌++◌, OnOk, IfOk, string_bytes};
-ghost use Rattle.rinqebo_changes.specs.GithubPage.{place_in, first_place, site_of, change_text, notice_text, group_notice, IsGithubText};
+ghost use Rattle.std.specs.Prelude.{◌≡◌, ◌++◌, OnOk, IfOk, flat_map, string_bytes};
+ghost use Rattle.rinqebo_changes.specs.GithubPage.{place_in, first_place, site_of, change_text, properties_text, notice_text, group_notice, run_notice, IsGithubText};
 
 use crate::change::{RowChange, SideRow};
 use crate::diff::Diff;
@@ -57,6 +57,21 @@ fn change_text(alloc: Global, row: &RowChange) -> Result<String, AllocError>
     Ok(text)
 }
 
+/// Writes the properties of a notice: the place of the right side, and the setting.
+fn add_properties(
+    out: &mut String,
+    workspace: &str,
+    diff: &Diff,
+    row: &RowChange,
+) -> Result<(), AllocError>
+    ensures { OnOk result (string_bytes out.new ≡ string_bytes out.old
+        ++ properties_text workspace.now diff.now row.now) }
+{
+    add_file(out, workspace, &diff.to.sources, site_of(&row.to))?;
+    out.push_str("title=")?;
+    add_property(out, row.from.row.key.as_str())
+}
+
 /// Writes a notice about a change.
 fn add_notice(
     alloc: Global,
@@ -71,9 +86,7 @@ fn add_notice(
 {
     let text = change_text(alloc, row)?;
     out.push_str("::notice ")?;
-    add_file(out, workspace, &diff.to.sources, site_of(&row.to))?;
-    out.push_str("title=")?;
-    add_property(out, row.from.row.key.as_str())?;
+    add_properties(out, workspace, diff, row)?;
     out.push_str("::")?;
     add_message(out, text.as_str())?;
     out.push_str(tests)?;
@@ -96,6 +109,34 @@ fn add_group_notice(
     add_notice(alloc, out, workspace, diff, group.head.row, tests.as_str())
 }
 
+/// Writes a notice about each group.
+fn add_groups(
+    alloc: Global,
+    out: &mut String,
+    workspace: &str,
+    diff: &Diff,
+    groups: &[Group<'_>],
+) -> Result<(), AllocError>
+    ensures { OnOk result (string_bytes out.new ≡ string_bytes out.old
+        ++ flat_map (group_notice workspace.now diff.now) groups.now) }
+{
+    for group in groups {
+        add_group_notice(alloc, out, workspace, diff, group)?;
+    }
+    Ok(())
+}
+
+/// Writes a notice about each change of the whole run.
+fn add_runs(alloc: Global, out: &mut String, workspace: &str, diff: &Diff) -> Result<(), AllocError>
+    ensures { OnOk result (string_bytes out.new ≡ string_bytes out.old
+        ++ flat_map (run_notice workspace.now diff.now) diff.now.run.items) }
+{
+    for row in &diff.run {
+        add_notice(alloc, out, workspace, diff, row, "")?;
+    }
+    Ok(())
+}
+
 /// The notices of a diff: one for each group, and one for each change of the whole run.
 pub fn diff_github(alloc: Global, workspace: &str, diff: &Diff) -> Result<String, AllocError>
     ensures { IfOk result (λ text.
@@ -103,11 +144,7 @@ pub fn diff_github(alloc: Global, workspace: &str, diff: &Diff) -> Result<String
 {
     let groups = groups_of(alloc, &diff.changed)?;
     let mut text = String::new(alloc);
-    for group in &groups {
-        add_group_notice(alloc, &mut text, workspace, diff, group)?;
-    }
-    for row in &diff.run {
-        add_notice(alloc, &mut text, workspace, diff, row, "")?;
-    }
+    add_groups(alloc, &mut text, workspace, diff, &groups)?;
+    add_runs(alloc, &mut text, workspace, diff)?;
     Ok(text)
 }

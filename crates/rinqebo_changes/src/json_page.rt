@@ -2,7 +2,7 @@
 ghost use Rattle.std.specs.Prelude.{◌≡◌, ◌++◌, IfOk, OnOk, map, string_bytes};
 ghost use Rattle.serde_json.specs.View.{view};
 ghost use Rattle.rinqebo_report.specs.Documents.{list_data, test_id_data};
-ghost use Rattle.rinqebo_changes.specs.Documents.{given_data, change_data, item_data, group_tests_data, group_data, side_data, IsDiffDocument, IsDiffJson};
+ghost use Rattle.rinqebo_changes.specs.Documents.{given_data, change_data, item_data, group_tests_data, group_data, side_data, diff_data, IsDiffDocument, IsDiffJson};
 
 use crate::change::{RowChange, SideRow};
 use crate::classes::Item;
@@ -114,13 +114,12 @@ fn side_json(alloc: Global, side: &Side) -> Result<Value, AllocError>
     })
 }
 
-/// The document of a diff.
-pub fn diff_document(alloc: Global, diff: &Diff) -> Result<Value, AllocError>
-    ensures { IfOk result (λ value. IsDiffDocument diff.now (view value)) }
+/// The document of a diff, whose changes are in groups.
+fn document_of(alloc: Global, diff: &Diff, groups: &[Group<'_>]) -> Result<Value, AllocError>
+    ensures { IfOk result (λ value. view value ≡ diff_data diff.now groups.now) }
 {
-    let groups = groups_of(alloc, &diff.changed)?;
     let added = ids_json(alloc, &diff.added)?;
-    let changes = groups_json(alloc, &groups)?;
+    let changes = groups_json(alloc, groups)?;
     let from = side_json(alloc, &diff.from)?;
     let removed = ids_json(alloc, &diff.removed)?;
     let run = run_json(alloc, &diff.run)?;
@@ -137,6 +136,14 @@ pub fn diff_document(alloc: Global, diff: &Diff) -> Result<Value, AllocError>
         "to": to,
         "version": 1u64
     })
+}
+
+/// The document of a diff.
+pub fn diff_document(alloc: Global, diff: &Diff) -> Result<Value, AllocError>
+    ensures { IfOk result (λ value. IsDiffDocument diff.now (view value)) }
+{
+    let groups = groups_of(alloc, &diff.changed)?;
+    document_of(alloc, diff, &groups)
 }
 
 /// The document of a diff, on one line.

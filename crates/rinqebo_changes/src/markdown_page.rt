@@ -1,6 +1,6 @@
 //! A diff as a table for a comment.
 ghost use Rattle.std.specs.Prelude.{◌≡◌, ◌++◌, OnOk, IfOk, Some, flat_map, string_bytes};
-ghost use Rattle.rinqebo_changes.specs.MarkdownPage.{is_mark, marked_char, marked_text, source_cell, given_cell, test_cell, item_cell, whole_cell, binary_cell_at, binary_cell, cells_text, group_line, run_line, alone_line, last_text, IsMarkdownText};
+ghost use Rattle.rinqebo_changes.specs.MarkdownPage.{is_mark, marked_char, marked_text, source_cell, given_cell, test_cell, item_cell, whole_cell, binary_cell_at, binary_cell, cells_text, group_line, run_line, alone_line, last_text, table_text, IsMarkdownText};
 
 use crate::change::{RowChange, SideRow};
 use crate::classes::Item;
@@ -221,20 +221,59 @@ fn add_last(alloc: Global, out: &mut String, diff: &Diff) -> Result<(), AllocErr
     out.push_str(last.as_str())
 }
 
+/// Writes lines of the table: groups.
+fn add_groups(
+    alloc: Global,
+    out: &mut String,
+    diff: &Diff,
+    lists_all: bool,
+    groups: &[Group<'_>],
+) -> Result<(), AllocError>
+    ensures { OnOk result (string_bytes out.new ≡ string_bytes out.old
+        ++ flat_map (group_line diff.now lists_all) groups.now) }
+{
+    for group in groups {
+        add_group(alloc, out, diff, lists_all, group)?;
+    }
+    Ok(())
+}
+
+/// Writes lines of the table: the changes of the whole run.
+fn add_runs(alloc: Global, out: &mut String, diff: &Diff) -> Result<(), AllocError>
+    ensures { OnOk result (string_bytes out.new ≡ string_bytes out.old
+        ++ flat_map (run_line diff.now) diff.now.run.items) }
+{
+    for row in &diff.run {
+        add_run(alloc, out, diff, row)?;
+    }
+    Ok(())
+}
+
+/// Writes the table of a diff, whose changes are in groups.
+fn add_table(
+    alloc: Global,
+    out: &mut String,
+    diff: &Diff,
+    lists_all: bool,
+    groups: &[Group<'_>],
+) -> Result<(), AllocError>
+    ensures { OnOk result (string_bytes out.new ≡ string_bytes out.old
+        ++ table_text diff.now lists_all groups.now) }
+{
+    out.push_str(HEAD)?;
+    add_groups(alloc, out, diff, lists_all, groups)?;
+    add_alone(out, "removed", &diff.removed)?;
+    add_alone(out, "added", &diff.added)?;
+    add_runs(alloc, out, diff)?;
+    add_last(alloc, out, diff)
+}
+
 /// The table of a diff, for a comment.
 pub fn diff_markdown(alloc: Global, diff: &Diff, lists_all: bool) -> Result<String, AllocError>
     ensures { IfOk result (λ text. IsMarkdownText diff.now lists_all (string_bytes text)) }
 {
     let groups = groups_of(alloc, &diff.changed)?;
-    let mut text = String::from_str(alloc, HEAD)?;
-    for group in &groups {
-        add_group(alloc, &mut text, diff, lists_all, group)?;
-    }
-    add_alone(&mut text, "removed", &diff.removed)?;
-    add_alone(&mut text, "added", &diff.added)?;
-    for row in &diff.run {
-        add_run(alloc, &mut text, diff, row)?;
-    }
-    add_last(alloc, &mut text, diff)?;
+    let mut text = String::new(alloc);
+    add_table(alloc, &mut text, diff, lists_all, &groups)?;
     Ok(text)
 }

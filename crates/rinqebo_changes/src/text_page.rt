@@ -1,10 +1,10 @@
 //! The page of a diff.
 ghost use Rattle.std.specs.Prelude.{◌≡◌, ◌++◌, OnOk, IfOk, Some, flat_map, string_bytes};
 ghost use Rattle.rinqebo_report.specs.Pieces.{page_text};
-ghost use Rattle.rinqebo_changes.specs.Pages.{value_runs, heading_runs, two_site_runs, site_runs, change_runs, names_runs, test_runs, whole_runs, total_of, whole_at, is_whole, item_runs, binary_runs_at, binary_runs, group_runs, remark_runs, both_runs, head_runs, listed_runs, run_runs, count_runs, IsDiffText};
+ghost use Rattle.rinqebo_changes.specs.Pages.{value_runs, heading_runs, two_site_runs, site_runs, change_runs, names_runs, test_runs, whole_runs, total_of, whole_at, is_whole, item_runs, binary_runs_at, binary_runs, binaries_runs, group_runs, remark_runs, both_runs, head_runs, listed_runs, run_runs, count_runs, diff_runs, IsDiffText};
 
 use crate::change::RowChange;
-use crate::classes::Item;
+use crate::classes::{Class, Item};
 use crate::diff::{BinaryTests, Diff};
 use crate::groups::{Group, groups_of};
 use crate::texts::{
@@ -254,6 +254,23 @@ fn add_binary(
     }
 }
 
+/// Writes the changes of the tests of binaries.
+fn add_binaries(
+    out: &mut String,
+    colour: Colour,
+    diff: &Diff,
+    lists_all: bool,
+    binaries: &[Class<'_>],
+) -> Result<(), AllocError>
+    ensures { OnOk result (string_bytes out.new ≡ string_bytes out.old
+        ++ page_text colour (binaries_runs diff.now.binaries.items lists_all binaries.now)) }
+{
+    for binary in binaries {
+        add_binary(out, colour, diff, lists_all, &binary.items)?;
+    }
+    Ok(())
+}
+
 /// Writes a group: what changes, and its tests.
 fn add_group(
     alloc: Global,
@@ -267,10 +284,7 @@ fn add_group(
         ++ page_text colour (group_runs diff.now lists_all group.now)) }
 {
     add_change(alloc, out, colour, diff, group.head.row)?;
-    for binary in &group.binaries {
-        add_binary(out, colour, diff, lists_all, &binary.items)?;
-    }
-    Ok(())
+    add_binaries(out, colour, diff, lists_all, &group.binaries)
 }
 
 /// Writes groups.
@@ -366,22 +380,47 @@ fn add_run(alloc: Global, out: &mut String, colour: Colour, diff: &Diff) -> Resu
     Ok(())
 }
 
-/// Writes how many tests change.
-fn add_count(out: &mut String, colour: Colour, diff: &Diff) -> Result<(), AllocError>
+/// Writes that so many tests of all change.
+fn add_count(
+    out: &mut String,
+    colour: Colour,
+    changed: u64,
+    compared: u64,
+) -> Result<(), AllocError>
     ensures { OnOk result (string_bytes out.new ≡ string_bytes out.old
-        ++ page_text colour (count_runs diff.now)) }
+        ++ page_text colour (count_runs changed compared)) }
 {
     add_pieces(
         out,
         colour,
         &[
-            Piece::Number(diff.changed.len() as u64),
+            Piece::Number(changed),
             Piece::Text(Style::Plain, " of "),
-            Piece::Number(diff.compared),
+            Piece::Number(compared),
             Piece::Text(Style::Plain, " tests change"),
             Piece::End,
         ],
     )
+}
+
+/// Writes the page of a diff, whose changes are in groups.
+fn add_page(
+    alloc: Global,
+    out: &mut String,
+    colour: Colour,
+    diff: &Diff,
+    lists_all: bool,
+    groups: &[Group<'_>],
+) -> Result<(), AllocError>
+    ensures { OnOk result (string_bytes out.new ≡ string_bytes out.old
+        ++ page_text colour (diff_runs diff.now lists_all groups.now)) }
+{
+    add_head(alloc, out, colour, diff)?;
+    add_groups(alloc, out, colour, diff, lists_all, groups)?;
+    add_listed(out, colour, "removed:", &diff.removed)?;
+    add_listed(out, colour, "added:", &diff.added)?;
+    add_run(alloc, out, colour, diff)?;
+    add_count(out, colour, diff.changed.len() as u64, diff.compared)
 }
 
 /// The page of a diff.
@@ -395,11 +434,6 @@ pub fn diff_text(
 {
     let groups = groups_of(alloc, &diff.changed)?;
     let mut text = String::new(alloc);
-    add_head(alloc, &mut text, colour, diff)?;
-    add_groups(alloc, &mut text, colour, diff, lists_all, &groups)?;
-    add_listed(&mut text, colour, "removed:", &diff.removed)?;
-    add_listed(&mut text, colour, "added:", &diff.added)?;
-    add_run(alloc, &mut text, colour, diff)?;
-    add_count(&mut text, colour, diff)?;
+    add_page(alloc, &mut text, colour, diff, lists_all, &groups)?;
     Ok(text)
 }

@@ -1,0 +1,10 @@
+use Rattle.std.proofs.Common.{◌∙◌, ap, subst}
+use Rattle.rinqebo_changes.specs.Groups.{AreGroups}
+use Rattle.rinqebo_changes.proofs.text_page.diff_text.Goals as goal
+
+pub returns : goal.returns
+returns c = record {
+  groups = c.in_ok-groups.groups.items;
+  are_groups = subst (λ tests. AreGroups tests c.in_ok-groups.groups.items) c.deref.ensures.value c.in_ok-groups.ensures;
+  is_text = ?;
+}
