@@ -1,7 +1,7 @@
-// Answers the request of a file, asks for the settings of some tests, or checks the calls by themselves.
+// Runs the request of a file, prints the settings of some tests, or checks the calls by themselves.
 //
 //   example                          checks each call, and exits with the number of the first that fails
-//   example REQUEST                  prints what a whole run tells, and exits with its status
+//   example REQUEST                  prints the output of a whole run, and exits with its status
 //   example REQUEST PROFILE BINARY TEST..   prints the settings of tests of a binary
 #include "rinqebo.h"
 #include <inttypes.h>
@@ -163,7 +163,7 @@ static int check_objects(const struct rinqebo_profile *profile) {
     return memcmp(out + strlen(findings), groups, length) == 0 && out[needed - 1] == '}' ? 0 : 39;
 }
 
-// A request that is refused, and what may still be asked. 0, or the number of the check that fails.
+// A request that is refused, and the calls that may still follow. 0, or the number of the check that fails.
 static int check_refused(const char *request, uint32_t status) {
     struct rinqebo_session *session = load(request);
     if (session == NULL) return 40;
@@ -182,7 +182,7 @@ static int check_refused(const char *request, uint32_t status) {
     return 0;
 }
 
-// What is told of a run, in a buffer that is made as large as it has to be; NULL where there is no memory for it.
+// The output of a run, in a buffer that is made as large as it has to be; NULL where there is no memory for it.
 static uint8_t *run(const char *request, size_t length, uint32_t *status, size_t *needed) {
     size_t room = length + 1;
     uint8_t *answer = malloc(room);
@@ -199,7 +199,7 @@ static uint8_t *run(const char *request, size_t length, uint32_t *status, size_t
 // What came of reading a file: OUTCOME, with TEXT, which is JSON.
 #define READ(PATH, OUTCOME, TEXT) "{\"path\": \"" PATH "\", \"outcome\": \"" OUTCOME "\", \"text\": " TEXT "}"
 
-// A request for a run over files, each as READ has it, where PROFILE is asked of the tests of LIST.
+// A request for a run over files, each as READ has it, for PROFILE and the tests of LIST.
 #define RUN_OVER(FILE, CONFIG_FILE, PROFILE, LIST) \
     "{\"root\": \"/w\", \"file\": " FILE ", \"config-file\": " CONFIG_FILE "," \
     " \"organisation-config-file\": null, \"tools\": []," \
@@ -238,7 +238,7 @@ static int is_in_pieces(const char *request, size_t size, uint32_t status, const
     return is;
 }
 
-// Whether a run ends with a status, and tells this text among others; and by pieces it tells the same.
+// Whether a run ends with a status, and its output has this text; and by pieces the output is the same.
 static int ends_with(const char *request, uint32_t wanted, const char *text) {
     size_t needed = 0, length = strlen(text);
     uint32_t status = 0;
@@ -344,7 +344,7 @@ static void print_settings(const struct rinqebo_profile *profile, const char *bi
            settings.retries.count, (int)length, (const char *)group);
 }
 
-// Prints what is told of a run, and answers its status, or 99 where there is no memory for it.
+// Prints the output of a run, and returns its status, or 99 where there is no memory for it.
 static int print_run(const char *request) {
     size_t needed = 0;
     uint32_t status = 0;

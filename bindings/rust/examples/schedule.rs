@@ -2,10 +2,11 @@
 //!
 //!     schedule CONFIG LIST PROFILE PROCESSORS
 //!
-//! A test starts as soon as its threads are free and its group has room, those of a higher priority
-//! first. The clock is simulated: each test takes one tick. The plan begins with what the profile says for
-//! the whole run and its setup scripts. A line of a test has the tick, the test, its threads and its group;
-//! then the variables that its wrapper sets, and the command that runs it. No other file is opened.
+//! The tests are those that the profile's default filter matches and that the list does not say to be ignored.
+//! A test starts as soon as its threads are free and its group has room, those of a higher priority first. The
+//! clock is simulated: each test takes one tick. The plan begins with what the profile says for the whole run
+//! and its setup scripts. A line of a test has the tick, the test, its threads and its group; then the variables
+//! that its wrapper sets, and the command that runs it. No other file is opened.
 
 use rinqebo::{Command, Config, Error, GroupThreads, Platform, Profile, RunSettings, Schedule, SetupScript, Sources};
 use rinqebo::{MaxFail, Test, Threads, WrapperScript};
@@ -36,7 +37,13 @@ struct Suite {
     binary_path: String,
     kind: String,
     build_platform: String,
-    testcases: BTreeMap<String, serde::de::IgnoredAny>,
+    testcases: BTreeMap<String, Case>,
+}
+
+#[derive(Deserialize)]
+struct Case {
+    #[serde(default)]
+    ignored: bool,
 }
 
 /// A test of the list, with what a scheduler needs.
@@ -46,7 +53,7 @@ struct Planned<'l> {
     schedule: Schedule,
 }
 
-/// The test of a name, as the library is asked about it.
+/// The test of a name, as the library takes it.
 fn test_of<'l>(suite: &'l Suite, name: &'l str) -> Test<'l> {
     Test::named(name)
         .in_binary(&suite.binary_id)
@@ -55,13 +62,15 @@ fn test_of<'l>(suite: &'l Suite, name: &'l str) -> Test<'l> {
         .on(if suite.build_platform == "host" { Platform::Host } else { Platform::Target })
 }
 
-/// Each test, those of a higher priority first.
+/// Each test that the default filter matches and that is not ignored, those of a higher priority first.
 fn plan<'l>(profile: &Profile<'_>, list: &'l List) -> Result<Vec<Planned<'l>>, Error> {
     let mut planned = Vec::new();
     for suite in list.rust_suites.values() {
-        for name in suite.testcases.keys() {
+        for (name, case) in &suite.testcases {
             let schedule = profile.schedule(&test_of(suite, name))?;
-            planned.push(Planned { suite, name, schedule });
+            if schedule.in_default_filter && !case.ignored {
+                planned.push(Planned { suite, name, schedule });
+            }
         }
     }
     planned.sort_by_key(|test| std::cmp::Reverse(test.schedule.priority));

@@ -1,5 +1,5 @@
 //! Safe types over Rinqebo's proved library: one call for a whole run, and nextest configurations that
-//! are loaded once and asked often.
+//! are loaded once and queried often.
 //!
 //! ```no_run
 //! # fn main() -> Result<(), rinqebo::Error> {
@@ -32,7 +32,8 @@ mod spelled;
 mod version;
 
 pub use document::{
-    Document, Finding, Level, ListWrapper, Origin, OriginKind, Refusal, Setting, Source, SourceKind, TestRow,
+    Document, Finding, Level, ListWrapper, Origin, OriginKind, Range, Refusal, Runs, Setting, Source, SourceKind,
+    TestRow,
 };
 pub use error::Error;
 pub use objects::{
@@ -78,7 +79,7 @@ pub enum Mode {
 
 /// A test, and what is known of its binary, each as nextest lists it.
 ///
-/// Filters may ask for each part, so that each is asked for:
+/// Filters may ask for each part, so that each has to be given:
 ///
 /// ```
 /// let test = rinqebo::Test::named("db::reads").in_binary("api").of_target("lib", "api").of_package("api 0.1.0");
@@ -94,14 +95,14 @@ pub struct Test<'a> {
     mode: Mode,
 }
 
-/// The name of a test, whose binary is still asked for.
+/// The name of a test, whose binary is still to be given.
 #[derive(Clone, Copy, Debug)]
 #[must_use]
 pub struct NamedTest<'a> {
     name: &'a str,
 }
 
-/// A test of a binary, whose target is still asked for.
+/// A test of a binary, whose target is still to be given.
 #[derive(Clone, Copy, Debug)]
 #[must_use]
 pub struct BinaryTest<'a> {
@@ -109,7 +110,7 @@ pub struct BinaryTest<'a> {
     binary: &'a str,
 }
 
-/// A test of a binary's target, whose package is still asked for.
+/// A test of a binary's target, whose package is still to be given.
 #[derive(Clone, Copy, Debug)]
 #[must_use]
 pub struct TargetTest<'a> {
@@ -387,6 +388,7 @@ impl Profile<'_> {
         let numbers = self.numbers(test)?;
         Ok(Schedule {
             priority: numbers.priority,
+            in_default_filter: numbers.in_default_filter == 1,
             threads_required: settings::threads(numbers.threads_required),
             group: (numbers.test_group != NO_NAME)
                 .then(|| (numbers.test_group, settings::group_threads(numbers.group_threads))),
@@ -442,6 +444,8 @@ impl Drop for Profile<'_> {
 pub struct Schedule {
     /// A higher one runs earlier.
     pub priority: i32,
+    /// Whether the profile's default filter matches the test.
+    pub in_default_filter: bool,
     pub threads_required: Threads,
     /// The index of the group and how many of its tests run at a time, unless it is the global one.
     pub group: Option<(usize, GroupThreads)>,

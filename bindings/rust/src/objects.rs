@@ -202,6 +202,7 @@ pub struct Objects {
 #[derive(Clone, Debug, PartialEq, Eq, Serialize, Deserialize)]
 #[non_exhaustive]
 pub struct Warning {
+    /// Its code, as `unknown-key`.
     pub code: String,
     /// The path of the file.
     pub file: String,
@@ -216,41 +217,42 @@ impl Warning {
     fn finding(&self, path: Option<String>, message: String) -> Finding {
         Finding {
             code: self.code.clone(),
+            upstream: None,
             level: Level::Warning,
             message,
             path,
             file: Some(self.file.clone()),
             source: None,
             lines: None,
+            range: None,
             column: None,
             expression: None,
             span: None,
             expected: None,
             help: None,
+            notes: Vec::new(),
         }
     }
 
-    /// What a whole run reports of it, without places in the file: a finding for each of its names.
+    /// The findings that a whole run reports for it, without places in the file: one for each of its names.
     pub fn findings(&self) -> Vec<Finding> {
-        let names = |words: fn(&str) -> (String, String)| {
-            let told = self.names.iter().map(|name| words(name));
-            told.map(|(path, message)| self.finding(Some(path), message)).collect()
+        let of_names = |words: fn(&str) -> (String, String)| {
+            let findings = self.names.iter().map(|name| words(name));
+            findings.map(|(path, message)| self.finding(Some(path), message)).collect()
         };
         match (self.code.as_str(), &self.profile, self.count) {
-            ("UnknownConfigKeys", _, _) => names(|path| (path.to_owned(), format!("{path} has no effect"))),
-            ("UnknownReservedProfiles", _, _) => names(|name| {
-                let path = format!("profile.{name}");
-                let message = format!("{path}: names that begin `default-` are nextest's own");
-                (path, message)
+            ("unknown-key", _, _) => of_names(|path| (path.to_owned(), format!("`{path}` has no effect"))),
+            ("reserved-profile", _, _) => of_names(|name| {
+                let message = format!("`{name}`: names of profiles that begin with `default-` are nextest's own");
+                (format!("profile.{name}"), message)
             }),
-            ("DeprecatedScriptConfig", _, _) => {
-                let message = "script: this table is the old place of setup scripts".to_owned();
+            ("old-script-table", _, _) => {
+                let message = "the table `script` is the old place of setup scripts".to_owned();
                 vec![self.finding(Some("script".to_owned()), message)]
             }
-            ("EmptyScriptSections", Some(profile), Some(count)) => {
+            ("empty-script-rule", Some(profile), Some(count)) => {
                 let path = format!("profile.{profile}.scripts");
-                let message = format!("{path}: rules that name no script: {count}");
-                vec![self.finding(Some(path), message)]
+                vec![self.finding(Some(path), format!("rules that name no script: {count}"))]
             }
             (code, _, _) => vec![self.finding(None, code.to_owned())],
         }

@@ -47,7 +47,7 @@ pub enum ReadOutcome {
     NotFound,
     /// A part of its path that should be a directory is none.
     NotADirectory,
-    /// Anything else, as bytes that are not valid UTF-8: a message, which a refusal tells.
+    /// Anything else, as bytes that are not valid UTF-8: a message, which a refusal includes.
     Failed(String),
 }
 
@@ -92,7 +92,7 @@ impl Serialize for ReadOutcome {
     }
 }
 
-/// What `fs::read_to_string` answers.
+/// What `fs::read_to_string` returns.
 impl From<io::Result<String>> for ReadOutcome {
     fn from(read: io::Result<String>) -> ReadOutcome {
         match read {

@@ -318,7 +318,9 @@ fn a_file_that_could_not_be_read_is_refused_with_its_message() {
     let (reason, refusal) = refusal_of(&sources);
     assert!(reason.contains("ReadError") && reason.contains(message), "{reason}");
     assert_eq!(refusal.findings.len(), 1);
-    assert_eq!((refusal.findings[0].code.as_str(), refusal.findings[0].message.as_str()), ("ReadError", message));
+    let finding = &refusal.findings[0];
+    assert_eq!((finding.code.as_str(), finding.upstream.as_deref()), ("unreadable-file", Some("ReadError")));
+    assert_eq!(finding.message, message);
 }
 
 #[test]
@@ -429,6 +431,9 @@ fn a_run_tells_all_settings_of_each_test() {
     assert_eq!(priority.origins[0].kind, OriginKind::Override);
     assert_eq!(priority.origins[0].lines, Some((50, 50)));
     assert_eq!(test.settings["test-group"].origins[0].kind, OriginKind::BuiltIn);
+    assert!(test.runs.value && !test.runs.ignored);
+    let arguments = &test.settings["run-extra-args"].value;
+    assert!(arguments.as_array().is_some_and(|texts| texts.iter().all(|text| text.is_string())), "{arguments}");
     let benchmarks = answer("ci", Mode::Benchmark).unwrap();
     assert!(benchmarks.tests.iter().all(|test| test.settings.contains_key("bench.slow-timeout")));
 }
@@ -692,16 +697,16 @@ fn a_session_tells_its_warnings() {
     let config = runner(None);
     let findings = config.findings().unwrap();
     let told: Vec<_> = findings.iter().map(|found| (found.code.as_str(), found.path.as_deref().unwrap())).collect();
-    assert_eq!(told, [("UnknownConfigKeys", "unknown"), ("UnknownReservedProfiles", "profile.default-x")]);
+    assert_eq!(told, [("unknown-key", "unknown"), ("reserved-profile", "profile.default-x")]);
     assert!(findings.iter().all(|found| found.level == Level::Warning));
     assert_eq!(findings[0].file.as_deref(), Some("/w/.config/nextest.toml"));
-    // A whole run tells the same, with places.
+    // A whole run reports the same, with places.
     let list = example("list.json");
     let sources = Sources::of_file("/w", RUNNER, TRIPLE);
     let request = RunRequest { sources: &sources, profile: "ci", mode: Mode::Test, list: &list };
     let document = resolve(&request).unwrap();
     let words = |findings: &[Finding]| -> Vec<_> {
-        findings.iter().map(|found| (found.code.clone(), found.path.clone(), found.message.clone())).collect()
+        findings.iter().map(|found| (found.code.clone(), found.path.clone(), found.level)).collect()
     };
     assert_eq!(words(&findings), words(&document.findings));
     assert!(self::config().findings().unwrap().is_empty());

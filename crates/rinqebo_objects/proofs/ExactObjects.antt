@@ -14,6 +14,7 @@ use Rattle.nextest_settings.specs.Profile.{ProfileFacts}
 use Rattle.nextest_sources.specs.Sources.{Source}
 use Rattle.nextest_sources.specs.Warnings.{Warning, unknown_keys, reserved_profiles, deprecated_scripts, empty_sections}
 use Rattle.nextest_tables.specs.Written.{Name}
+use Rattle.rinqebo_codes.specs.declared.code.Code.{Code}
 use Rattle.rinqebo_objects.specs.Objects.{AreObjectsOf, objects_data, run_data, with_bounds, with_names, with_output}
 use Rattle.rinqebo_objects.specs.Scripts.{Directories, command_data, group_data, setup_script_data, wrapper_script_data, variables_data}
 use Rattle.rinqebo_objects.specs.Values.{global_timeout_data, leak_data, max_fail_data, optional_data, report_data, slow_data, threads_data}
@@ -115,7 +116,7 @@ bounded n run h =
 run_is : (run : RunValues) (profiles : List Name) → IsExact 4 (run_data run profiles)
 run_is run profiles = exact_object 3 (bounded 2 run (shown 2 run (named 2 run profiles (no_more 3))))
 
-warned : (code : List ℕ) (source : Source) (names : List (List ℕ)) (profile times : Data) → IsExact 2 profile
+warned : (code : Code) (source : Source) (names : List (List ℕ)) (profile times : Data) → IsExact 2 profile
     → IsExact 2 times → IsExact 3 (warning_of code source names profile times)
 warned code source names profile times p t =
     exact_object 2 (and_member _ (exact_text 2 _) (and_member _ t (and_member _ (exact_text 2 _)

@@ -1,30 +1,32 @@
 //! The warnings of a load as JSON.
-ghost use Rattle.std.specs.Prelude.{◌≡◌, [], IfOk, codes, map, string_bytes};
+ghost use Rattle.std.specs.Prelude.{◌≡◌, [], IfOk, map, string_bytes};
 ghost use Rattle.serde_json.specs.Data.{null, string};
 ghost use Rattle.serde_json.specs.View.{view};
 ghost use Rattle.nextest_sources.specs.Sources.{source_view};
 ghost use Rattle.nextest_sources.specs.WarningsView.{warning_view, warnings_view};
+ghost use Rattle.rinqebo_codes.specs.declared.code.Code.TheVariants.{EmptyScriptRule, OldScriptTable};
 ghost use Rattle.rinqebo_objects.specs.WarningObjects.{warning_data, warning_of, warnings_data};
 ghost use Rattle.rinqebo_report.specs.Documents.{count_data, list_data};
 
 use crate::values::names_json;
 use nextest_sources::{ConfigSource, ConfigWarning, DefaultConfigWarnings};
+use rinqebo_codes::Code;
 use serde_json::{Value, json};
 use std::alloc::{AllocError, Global};
 
 /// A warning of a code about a file, with names.
 fn names_warning(
     alloc: Global,
-    code: &str,
+    code: Code,
     source: &ConfigSource,
     names: &[String],
 ) -> Result<Value, AllocError>
     ensures { IfOk result (λ value. view value
-        ≡ warning_of code.now (source_view source.now) (map string_bytes names.now) null null) }
+        ≡ warning_of code (source_view source.now) (map string_bytes names.now) null null) }
 {
     let names = names_json(alloc, names)?;
     json!(in alloc; {
-        "code": code,
+        "code": code.word(),
         "file": source.path().absolute_path(),
         "names": names,
         "profile": null,
@@ -35,10 +37,10 @@ fn names_warning(
 /// A warning of scripts under the old key.
 fn old_scripts_warning(alloc: Global, source: &ConfigSource) -> Result<Value, AllocError>
     ensures { IfOk result (λ value. view value
-        ≡ warning_of (codes "DeprecatedScriptConfig") (source_view source.now) [] null null) }
+        ≡ warning_of OldScriptTable (source_view source.now) [] null null) }
 {
     json!(in alloc; {
-        "code": "DeprecatedScriptConfig",
+        "code": Code::OldScriptTable.word(),
         "file": source.path().absolute_path(),
         "names": [],
         "profile": null,
@@ -53,11 +55,11 @@ fn empty_rules_warning(
     profile: &str,
     count: usize,
 ) -> Result<Value, AllocError>
-    ensures { IfOk result (λ value. view value ≡ warning_of (codes "EmptyScriptSections")
+    ensures { IfOk result (λ value. view value ≡ warning_of EmptyScriptRule
         (source_view source.now) [] (string profile.now) (count_data count)) }
 {
     json!(in alloc; {
-        "code": "EmptyScriptSections",
+        "code": Code::EmptyScriptRule.word(),
         "file": source.path().absolute_path(),
         "names": [],
         "profile": profile,
@@ -71,10 +73,10 @@ fn warning_json(alloc: Global, warning: &ConfigWarning) -> Result<Value, AllocEr
 {
     match warning {
         ConfigWarning::UnknownConfigKeys { source, paths } => {
-            names_warning(alloc, "UnknownConfigKeys", source, paths)
+            names_warning(alloc, Code::UnknownKey, source, paths)
         }
         ConfigWarning::UnknownReservedProfiles { source, names } => {
-            names_warning(alloc, "UnknownReservedProfiles", source, names)
+            names_warning(alloc, Code::ReservedProfile, source, names)
         }
         ConfigWarning::DeprecatedScriptConfig { source } => old_scripts_warning(alloc, source),
         ConfigWarning::EmptyScriptSections {

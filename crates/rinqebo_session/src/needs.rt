@@ -1,7 +1,7 @@
 //! Which parts of tests the filters of a profile ask for.
 ghost use Rattle.std.specs.List.{list_any};
 ghost use Rattle.std.specs.Option.{option_map_or};
-ghost use Rattle.std.specs.Prelude.{◌≡◌, ◌||◌, false, map};
+ghost use Rattle.std.specs.Prelude.{◌≡◌, ◌||◌, false, map, option_map};
 ghost use Rattle.nextest_settings.specs.View.{evaluated_override_view, evaluated_script_rule_view};
 ghost use Rattle.rinqebo_session.specs.Needs.{asked_on, filter_asks, is_missing, lacks, rule_asks, AreNeeds};
 
@@ -29,7 +29,8 @@ pub struct Needs {
 
 /// Whether a filter asks for a field, if there is one.
 fn filter_asks(filter: Option<&Filterset<FieldMatcher>>, field: Field) -> bool
-    ensures { result ≡ option_map_or (λ expr. filter_asks field expr.now) filter.entry false }
+    ensures { result
+        ≡ option_map_or (filter_asks field) (option_map (λ expr. expr.now) filter.entry) false }
 {
     match filter {
         Some(filter) => filter.asks::<NextestFilters>(field),
