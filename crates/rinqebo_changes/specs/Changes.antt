@@ -20,7 +20,8 @@ like_source_of sources others from to =
     beq from.is_ignored to.is_ignored
     && (from.is_ignored || like_origins sources others from.row.origins.items to.row.origins.items)
 
--- whether a setting changes: its value does, or, where that counts, the same value comes from elsewhere
+-- whether a setting changes: its value does, or, where that counts, the same value comes from
+-- elsewhere
 abbrev pub is_change : List Source → List Source → Bool → SideRow → SideRow → Bool
 is_change sources others with_origins from to =
     not (option_eq same_value from.row.value to.row.value)
@@ -35,8 +36,8 @@ abbrev pub runs_in : Bool → SideRow → List SideRow
 runs_in true runs = runs ∷ []
 runs_in false runs = []
 
--- the rows of a test: whether it runs, which a list may decide, where that is compared, and then the
--- settings
+-- the rows of a test: whether it runs, which a list may decide, where that is compared, and then
+-- the settings
 abbrev pub rows_in : Bool → TestRows → List SideRow
 rows_in with_runs test =
     runs_in with_runs (record { row = test.runs; is_ignored = test.is_ignored })

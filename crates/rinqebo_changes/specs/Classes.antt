@@ -49,8 +49,8 @@ pub record IsFirstLeast (items : List Item) (head : Item) : Type 0 where
   pub here : Contains items head
   pub least : All (λ item. head.row.now.place ≤ item.row.now.place) items
 
--- Classes of some items: the first class is of the items that are put together with one whose setting
--- comes first, in their order, and the other classes are those of the other items.
+-- Classes of some items: the first class is of the items that are put together with one whose
+-- setting comes first, in their order, and the other classes are those of the other items.
 pub data AreClasses (same : Item → Item → Bool) : List Item → List (List Item) → Type 0 where
   none : AreClasses same [] []
   more : {items : List Item} {classes : List (List Item)} (head : Item) → IsFirstLeast items head

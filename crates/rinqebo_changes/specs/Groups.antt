@@ -13,8 +13,8 @@ pub record IsGroup (class : List Item) (group : Group) : Type 0 where
   pub count : group.count ≡ length class
   pub binaries : AreClasses (same_item Binary) class (map class_items group.binaries.items)
 
--- Groups are those of the changes of tests: each is of a class of changes of the same setting with the
--- same values and origins.
+-- Groups are those of the changes of tests: each is of a class of changes of the same setting with
+-- the same values and origins.
 pub record AreGroups (tests : List TestChanges) (groups : List Group) : Type 0 where
   pub items : List Item
   pub all : map item_view items ≡ items_of tests

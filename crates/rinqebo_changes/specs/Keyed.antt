@@ -62,10 +62,10 @@ pub record AreBeside (to from right rest : List SettingRow) : Type 0 where
   pub keys : AllZip HaveSameKey from right
   pub apart : All (λ row. has_key rest (string_bytes row.key) ≡ false) absent
 
--- Rows of two sides are put beside each other: the left ones are those of the left side and then rows
--- without a value, the right ones are those of the right side, in another order, and rows without a
--- value, and two beside each other have the same key. No key has a row without a value on both sides:
--- each row has one of the other side beside it, unless those are used up.
+-- Rows of two sides are put beside each other: the left ones are those of the left side and then
+-- rows without a value, the right ones are those of the right side, in another order, and rows
+-- without a value, and two beside each other have the same key. No key has a row without a value on
+-- both sides: each row has one of the other side beside it, unless those are used up.
 pub record AreAligned (from to left right : List SettingRow) : Type 0 where
   pub left_absent : List SettingRow
   pub left_nothing : All SaysNothing left_absent

@@ -27,8 +27,8 @@ abbrev pub AreRising : List ℕ → Type 0
 AreRising [] = Unit {0}
 AreRising (n ∷ ns) = AllByRecursion (λ m. n < m) ns × AreRising ns
 
--- The rows that change are exactly those that differ, each once: each is a change at its place, each
--- change at a place is one of them, and their places rise.
+-- The rows that change are exactly those that differ, each once: each is a change at its place,
+-- each change at a place is one of them, and their places rise.
 pub record AreExactly (test : SideRow → SideRow → Bool) (from to : List SideRow) : Type 0
   where
     pub sound : (c : RowChange) → IsOneOf (changed_rows test from to) c → IsChangeAt test from to c

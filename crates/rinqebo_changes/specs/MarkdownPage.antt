@@ -55,8 +55,8 @@ abbrev pub whole_cell : List ℕ → ℕ → List ℕ
 whole_cell binary n =
     marked_text binary ++ (codes " \\* (" ++ (decimal n ++ codes " tests)<br>"))
 
--- the changes of a binary's tests, of which one is the first: once where they are all, unless each is
--- listed
+-- the changes of a binary's tests, of which one is the first: once where they are all, unless each
+-- is listed
 abbrev pub binary_cell_at : List BinaryTests → Bool → List Item → Option Item → List ℕ
 binary_cell_at binaries lists_all items None = flat_map item_cell items
 binary_cell_at binaries lists_all items (Some item) =

@@ -101,8 +101,8 @@ total_of [] binary = 0
 total_of (b ∷ bs) binary =
     if bytes_eq (string_bytes b.binary) binary then b.tests else total_of bs binary
 
--- whether so many changes of tests of the binary of a first one are those of all its tests, of which
--- there are several
+-- whether so many changes of tests of the binary of a first one are those of all its tests, of
+-- which there are several
 abbrev pub whole_at : List BinaryTests → ℕ → Option Item → Bool
 whole_at binaries n None = false
 whole_at binaries n (Some item) =
@@ -116,8 +116,8 @@ is_whole binaries items = whole_at binaries (length items) (slice_get items 0)
 abbrev pub item_runs : Item → List Run
 item_runs item = test_runs item.test.now
 
--- the changes of a binary's tests, of which one is the first: one line where they are all, unless each
--- is listed
+-- the changes of a binary's tests, of which one is the first: one line where they are all, unless
+-- each is listed
 abbrev pub binary_runs_at : List BinaryTests → Bool → List Item → Option Item → List Run
 binary_runs_at binaries lists_all items None = flat_map item_runs items
 binary_runs_at binaries lists_all items (Some item) =
@@ -208,7 +208,8 @@ diff_runs diff lists_all groups =
     ++ (run_runs diff ++ count_runs (length diff.changed.items) diff.compared))))
 
 -- A text is the page of a diff: its changes are in groups, and it has what they are.
-pub record IsDiffText (diff : Diff) (lists_all : Bool) (tint : Colour) (text : List ℕ) : Type 0 where
-  pub groups : List Group
-  pub are_groups : AreGroups diff.changed.items groups
-  pub is_text : text ≡ page_text tint (diff_runs diff lists_all groups)
+pub record IsDiffText (diff : Diff) (lists_all : Bool) (tint : Colour) (text : List ℕ) : Type 0
+  where
+    pub groups : List Group
+    pub are_groups : AreGroups diff.changed.items groups
+    pub is_text : text ≡ page_text tint (diff_runs diff lists_all groups)

@@ -78,8 +78,8 @@ like_optional _ _ = false
 abbrev pub like_source : List Source → List Source → ℕ → ℕ → Bool
 like_source from to a b = like_optional (slice_get from a) (slice_get to b)
 
--- whether an origin of the left side is the same part of the same profile of a file of the same owner
--- as one of the right side: paths and lines may differ
+-- whether an origin of the left side is the same part of the same profile of a file of the same
+-- owner as one of the right side: paths and lines may differ
 abbrev pub like_origin : List Source → List Source → Origin → Origin → Bool
 like_origin from to origins.BuiltIn origins.BuiltIn = true
 like_origin from to origins.DefaultTable origins.DefaultTable = true

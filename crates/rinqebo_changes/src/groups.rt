@@ -30,7 +30,8 @@ fn group_of<'c>(alloc: Global, class: &Class<'c>) -> Result<Group<'c>, AllocErro
     })
 }
 
-/// The changes of tests in groups: in the order of the settings, and then of the first test of each.
+/// The changes of tests in groups: in the order of the settings, and then of the first test of
+/// each.
 pub fn groups_of<'c>(alloc: Global, tests: &'c [TestChanges]) -> Result<Vec<Group<'c>>, AllocError>
     ensures { IfOk result (λ groups. AreGroups tests.now groups.items) }
 {

@@ -84,8 +84,8 @@ fn align(alloc: Global, from: Vec<SettingRow>, to: Vec<SettingRow>) -> Result<Al
     Ok(Aligned { left, right })
 }
 
-/// What changes between rows, by their keys: in the order of the left side, and then of what the right
-/// side has alone.
+/// What changes between rows, by their keys: in the order of the left side, and then of what the
+/// right side has alone.
 pub fn keyed_changes(
     alloc: Global,
     from: Vec<SettingRow>,

@@ -20,7 +20,8 @@ use crate::change::Comparison;
 use crate::classes::ClassRule;
 use rinqebo_report::{Origin, Value};
 
-/// The values of a setting are the same exactly where they are equal: as values, not as they are kept.
+/// The values of a setting are the same exactly where they are equal: as values, not as they are
+/// kept.
 pub fn law_values(a: &Option<Value>, b: &Option<Value>)
     ensures { Decides (option_eq same_value a.now b.now)
         (option_map value_view a.now ≡ option_map value_view b.now) }
@@ -43,8 +44,8 @@ pub fn law_swapped(compare: &Comparison<'_>)
         compare.now.with_origins }
 {}
 
-/// Groups have all changes of tests and no others, each once: nothing is lost. The changes of a group are
-/// of the same setting, from the same value and origins to the same value and origins.
+/// Groups have all changes of tests and no others, each once: nothing is lost. The changes of a
+/// group are of the same setting, from the same value and origins to the same value and origins.
 pub fn law_groups()
     ensures { (tests : List Tests) (groups : List Grouped) → AreGroups tests groups
         → AreWholeGroups tests groups }

@@ -112,8 +112,8 @@ fn add_whole(alloc: Global, out: &mut String, binary: &str, count: usize) -> Res
     out.push_str(count.as_str())
 }
 
-/// Writes the changes of a binary's tests, of which one is the first: once where they are all, unless
-/// each is listed.
+/// Writes the changes of a binary's tests, of which one is the first: once where they are all,
+/// unless each is listed.
 fn add_from(
     alloc: Global,
     out: &mut String,

@@ -127,8 +127,8 @@ impl TwoSources<'_> {
         }
     }
 
-    /// Whether an origin of the left side is the same part of the same profile of a file of the same
-    /// owner as one of the right side. Paths and lines may differ.
+    /// Whether an origin of the left side is the same part of the same profile of a file of the
+    /// same owner as one of the right side. Paths and lines may differ.
     fn is_like_origin(&self, a: &Origin, b: &Origin) -> bool
         ensures { result ≡ like_origin self.now.from.now self.now.to.now a.now b.now }
     {

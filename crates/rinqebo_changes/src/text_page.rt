@@ -187,8 +187,8 @@ pub fn total_of(binaries: &[BinaryTests], binary: &str) -> usize
     0
 }
 
-/// Whether so many changes of tests of the binary of a first one are those of all its tests, of which
-/// there are several.
+/// Whether so many changes of tests of the binary of a first one are those of all its tests, of
+/// which there are several.
 fn is_whole_at(binaries: &[BinaryTests], count: usize, first: &Item<'_>) -> bool
     ensures { result ≡ whole_at binaries.now count (Some first.now) }
 {
@@ -216,8 +216,8 @@ fn add_tests(out: &mut String, colour: Colour, items: &[Item<'_>]) -> Result<(),
     Ok(())
 }
 
-/// Writes the changes of a binary's tests, of which one is the first: in one line where they are all,
-/// unless each is listed.
+/// Writes the changes of a binary's tests, of which one is the first: in one line where they are
+/// all, unless each is listed.
 fn add_from(
     out: &mut String,
     colour: Colour,

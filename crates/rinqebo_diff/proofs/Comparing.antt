@@ -8,6 +8,7 @@ use Rattle.rinqebo_changes.specs.Changes.{changed_rows, rows_in, IsChangedTest}
 use Rattle.rinqebo_changes.specs.declared.change.SideRow.{SideRow}
 use Rattle.rinqebo_changes.specs.declared.change.TestChanges.{TestChanges}
 use Rattle.rinqebo_report.specs.declared.report.TestRows.{TestRows}
+use Rattle.rinqebo_rules.specs.TestOrigins.{Basis}
 use Rattle.rinqebo_diff.specs.Compared.{AreCompared, IsComparedBy}
 use Rattle.rinqebo_diff.specs.Matched.{TestPair}
 use Rattle.rinqebo_diff.proofs.Zips.{zip_push}
@@ -46,3 +47,12 @@ pub compared_by : {left right : ListTest → TestRows → Type 0} {changes : Sid
 compared_by with_runs pair before after (Ok found) l r verdict =
     record { before = before; after = after; left_reports = l; right_reports = r; verdict = verdict }
 compared_by with_runs pair before after (Err e) l r verdict = tt
+
+-- origins are looked up in the same by another name
+pub moved_bases : {changes : SideRow → SideRow → Bool} {with_runs : Bool} {pair : TestPair}
+    {result : Option TestChanges} (left right : Basis → ListTest → TestRows → Type 0) (a b c d : Basis) → a ≡ b → c ≡ d
+    → IsComparedBy (left a) (right c) changes with_runs pair result
+    → IsComparedBy (left b) (right d) changes with_runs pair result
+moved_bases {changes} {with_runs} {pair} {result} left right a b c d one two is =
+    subst (λ o. IsComparedBy (left b) (right o) changes with_runs pair result) two
+    (subst (λ o. IsComparedBy (left o) (right c) changes with_runs pair result) one is)

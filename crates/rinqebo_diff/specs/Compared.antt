@@ -21,8 +21,8 @@ abbrev pub ReportsBy : {M : Type 0} → (M → Test → M → Bool) → Basis �
 ReportsBy matches basis profile mode asked t =
     IsTestReported basis (query_in matches profile t.test) mode profile asked t
 
--- What changes for a test that both sides have, if something does: each side reports rows of it, and
--- they are compared.
+-- What changes for a test that both sides have, if something does: each side reports rows of it,
+-- and they are compared.
 pub record IsComparedBy (left right : ListTest → TestRows → Type 0)
     (changes : SideRow → SideRow → Bool) (with_runs : Bool) (pair : TestPair)
     (result : Option TestChanges) : Type 0 where
@@ -34,8 +34,8 @@ pub record IsComparedBy (left right : ListTest → TestRows → Type 0)
       (changed_rows changes (rows_in with_runs before) (rows_in with_runs after) ≡ [])
       (IsChangedTest changes with_runs before after)
 
--- What changes for tests that both sides have: each is compared, and those are kept of which a setting
--- changes, in their order.
+-- What changes for tests that both sides have: each is compared, and those are kept of which a
+-- setting changes, in their order.
 pub record AreCompared (left right : ListTest → TestRows → Type 0)
     (changes : SideRow → SideRow → Bool) (with_runs : Bool) (pairs : List TestPair)
     (changed : List TestChanges) : Type 0 where

@@ -23,8 +23,8 @@ use Rattle.rinqebo_diff.specs.Sides.{Evaluation, IsEvaluationOf, IsSideOf}
 use Rattle.rinqebo_diff.specs.Written.{IsRendered, TellsDiff}
 use Rattle.rinqebo_diff.specs.declared.request.DiffRequest.{DiffRequest}
 
--- a side reports rows of a test: whether it runs, and the settings that are requested, as its profile
--- gives them to the test
+-- a side reports rows of a test: whether it runs, and the settings that are requested, as its
+-- profile gives them to the test
 abbrev pub SideReports : Evaluation → NextestRunMode → RequestedSettings → ListTest → TestRows
     → Type 0
 SideReports evaluation mode asked =

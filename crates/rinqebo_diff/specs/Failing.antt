@@ -42,8 +42,8 @@ pub record LacksItsProfile (side : DiffSide) (gathered : Gathered) : Type 0 wher
   pub begun : IsSessionOf side.request gathered session
   pub lacks : LacksProfile session side.profile.now
 
--- An exit status says something of files: it is 3 only where those of a side are refused, and 4 only
--- where those of a side lack its profile.
+-- An exit status says something of files: it is 3 only where those of a side are refused, and 4
+-- only where those of a side lack its profile.
 pub record HasCause (request : DiffRequest) (from to : Gathered) (status : ℕ) : Type 0 where
   pub refused : status ≡ 3 → IsRefusedSide request.from from ⊎ IsRefusedSide request.to to
   pub lacking : status ≡ 4 → LacksItsProfile request.from from ⊎ LacksItsProfile request.to to

@@ -14,8 +14,8 @@ use Rattle.rinqebo_run.specs.ShownConfig.{AreShown}
 use Rattle.rinqebo_diff.specs.RunRows.{AreRunRows}
 use Rattle.rinqebo_diff.specs.Sides.{Evaluation}
 
--- Rows are what a side gives to the whole run: the leaves of its profile that count, and the scripts
--- that its profile gives to its list.
+-- Rows are what a side gives to the whole run: the leaves of its profile that count, and the
+-- scripts that its profile gives to its list.
 pub record AreRunRowsOf (evaluation : Evaluation) (rows : List SettingRow) : Type 0 where
   pub entries : List Entry
   pub are_entries : AreShown (trees_of evaluation.session.layers.items) evaluation.chain [] false

@@ -66,8 +66,8 @@ pub record IsWrapperRow (wrapper : ListWrapper) (row : SettingRow) : Type 0 wher
   pub value : row.value ≡ Some (values.Scalar (scalars.Text wrapper.value))
   pub origins : row.origins.items ≡ []
 
--- Rows are those of leaves and of scripts: each leaf that no test has a setting for, the setup scripts,
--- and what wraps each binary, in their order.
+-- Rows are those of leaves and of scripts: each leaf that no test has a setting for, the setup
+-- scripts, and what wraps each binary, in their order.
 pub record AreRunRows (entries : List Entry) (scripts : ListScripts) (rows : List SettingRow)
     : Type 0 where
   pub leaves : List SettingRow

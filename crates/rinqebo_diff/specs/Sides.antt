@@ -23,16 +23,16 @@ use Rattle.rinqebo_run.specs.Requested.{IsRequestedOf}
 use Rattle.rinqebo_run.specs.TellsReasons.{configured_by}
 use Rattle.rinqebo_diff.specs.declared.request.DiffSide.{DiffSide}
 
--- What a side is compared by: its session, its profile on the platforms of its build, and the profiles
--- that count for it.
+-- What a side is compared by: its session, its profile on the platforms of its build, and the
+-- profiles that count for it.
 pub record Evaluation : Type 0 where
   pub session : Session
   pub profile : EvaluatableModel Filter
   pub chain : List Name
 
 -- A side is compared by what its files mean: its session is that of its request over them, and its
--- profile is the one that is requested. Every written rule holds of the files, they have the profile, and
--- each filter that it evaluates was looked up.
+-- profile is the one that is requested. Every written rule holds of the files, they have the
+-- profile, and each filter that it evaluates was looked up.
 pub record IsEvaluationOf (side : DiffSide) (gathered : Gathered) (evaluation : Evaluation) : Type 0
   where
     pub begun : IsSessionOf side.request gathered evaluation.session

@@ -22,7 +22,8 @@ abbrev pub IsRendered : DiffRequest → Diff → List ℕ → Type 0
 IsRendered request = IsRenderedAs request.format request
 
 -- A writer gets a diff in the format of a request.
-pub record TellsDiff (request : DiffRequest) (diff : Diff) (before after : Option (List ℕ)) : Type 0 where
+pub record TellsDiff (request : DiffRequest) (diff : Diff) (before after : Option (List ℕ))
+    : Type 0 where
   pub text : List ℕ
   pub is_text : IsRendered request diff text
   pub appended : Appends before after text

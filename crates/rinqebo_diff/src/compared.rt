@@ -57,8 +57,8 @@ fn add_found(changed: &mut Vec<TestChanges>, found: Option<TestChanges>) -> Resu
     Ok(())
 }
 
-/// What changes for the tests that both sides have, in their order: those of which a setting changes.
-/// It keeps nothing of the others, and reports progress after each test.
+/// What changes for the tests that both sides have, in their order: those of which a setting
+/// changes. It keeps nothing of the others, and reports progress after each test.
 pub fn compared<'c, 'd, P: Progress>(
     alloc: Global,
     compare: &Comparison<'_>,

@@ -25,7 +25,8 @@ fn copy_of(outcome: &ReadOutcome) -> Result<ReadOutcome, AllocError> {
     })
 }
 
-/// Reads the files that the two sides of a request name, with the outcome of reading standard input.
+/// Reads the files that the two sides of a request name, with the outcome of reading standard
+/// input.
 pub fn gather_sides<R: FileReader>(
     alloc: Global,
     request: &DiffRequest<'_>,

@@ -11,8 +11,8 @@ ghost use Rattle.rinqebo_diff.specs.Differences.{SideReports, compares_runs};
 ghost use Rattle.rinqebo_diff.specs.Matched.{IsOneTest, TestPair};
 ghost use Rattle.rinqebo_diff.specs.Sides.{Evaluation};
 
-/// Nothing changes between a side and itself: by the same session, profile and mode each test has the
-/// same values.
+/// Nothing changes between a side and itself: by the same session, profile and mode each test has
+/// the same values.
 pub fn law_equal_sides()
     ensures { (side : Evaluation) (mode : Mode) (asked : Asked) (files : List File)
         (pairs : List TestPair) (changed : List Changed) → AllByRecursion IsOneTest pairs

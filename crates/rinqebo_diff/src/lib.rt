@@ -1,7 +1,8 @@
-//! What changes between two sides of a configuration: two files, profiles, platforms, modes or lists.
+//! What changes between two sides of a configuration: two files, profiles, platforms, modes or
+//! lists.
 //!
-//! [`perform_diff`] writes what changes between the sides of a request, over the files that they name.
-//! [`diff_answer`] returns it as a value, and [`diff_page`] as a text.
+//! [`perform_diff`] writes what changes between the sides of a request, over the files that they
+//! name. [`diff_answer`] returns it as a value, and [`diff_page`] as a text.
 #![tactic(auto)]
 
 mod compared;

@@ -29,7 +29,8 @@ pub struct DiffAnswer {
     pub report: Report,
 }
 
-/// What changes between the two sides of a request, over the files that they name. Nothing is written.
+/// What changes between the two sides of a request, over the files that they name. Nothing is
+/// written.
 pub fn diff_answer<P: Progress>(
     alloc: Global,
     request: &DiffRequest<'_>,
@@ -175,11 +176,12 @@ fn tell_answer<O: Write, E: Write>(
     tell(text.as_str(), status_of(&answer.diff), out)
 }
 
-/// Writes what changes between the sides of a request, over the files that they name, and returns the
-/// exit status: 0 where nothing changes, 1 where something does, 2 for a list, platforms and metadata
-/// that are not understood, 3 where the files of a side are refused, 4 where a side has no such profile,
-/// 5 for want of memory, 6 where a write fails. Where there is no result, standard output gets nothing,
-/// but for JSON a document of why the files of a side are refused or lack its profile.
+/// Writes what changes between the sides of a request, over the files that they name, and returns
+/// the exit status: 0 where nothing changes, 1 where something does, 2 for a list, platforms and
+/// metadata that are not understood, 3 where the files of a side are refused, 4 where a side has no
+/// such profile, 5 for want of memory, 6 where a write fails. Where there is no result, standard
+/// output gets nothing, but for JSON a document of why the files of a side are refused or lack its
+/// profile.
 pub fn perform_diff<O: Write, E: Write>(
     alloc: Global,
     request: &DiffRequest<'_>,

@@ -21,8 +21,8 @@ pub enum DiffFormat<'a> {
     Text,
     /// One document of JSON, on a line.
     Json,
-    /// Notices of GitHub's workflows, with paths below the folder in which a workflow runs: the empty
-    /// text, where that is not known.
+    /// Notices of GitHub's workflows, with paths below the folder in which a workflow runs: the
+    /// empty text, where that is not known.
     Github(&'a str),
     /// A table for a comment.
     Markdown,

@@ -1,5 +1,5 @@
-//! What a side gives to the whole run, in rows: leaves of the configuration that no test has a setting
-//! for, setup scripts, and what wraps binaries while they list their tests.
+//! What a side gives to the whole run, in rows: leaves of the configuration that no test has a
+//! setting for, setup scripts, and what wraps binaries while they list their tests.
 ghost use Rattle.std.specs.Prelude.{◌≡◌, IfOk, OnOk, filter};
 ghost use Rattle.std.specs.List.{AllZip};
 ghost use Rattle.rinqebo_diff.specs.RunRows.{is_end, is_below, is_of_setting, is_of_tests, is_of_run, IsEntryRow, AddsEntry, IsSetupRow, IsWrapperRow, AreRunRows};
