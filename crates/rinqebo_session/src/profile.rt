@@ -4,7 +4,7 @@ ghost use Rattle.nextest_load.specs.ConfigView.{groups_view};
 ghost use Rattle.nextest_scripts.specs.ScriptId.{script_text};
 ghost use Rattle.rinqebo_session.specs.Answering.{Answers, AreSized, IsAnswerOf};
 ghost use Rattle.rinqebo_objects.specs.Scripts.{directories_view};
-ghost use Rattle.rinqebo_session.specs.Arguments.{IsArgumentCopied, IsArgumentOf, IsCopiedOrNone};
+ghost use Rattle.rinqebo_session.specs.Arguments.{AnswersArgument, AnswersArgumentBy, IsArgumentCopied, IsArgumentOf, IsCopiedOrNone};
 ghost use Rattle.rinqebo_session.specs.Asking.{needs_on, IsFaultIn, IsKnownTest};
 ghost use Rattle.rinqebo_session.specs.Opening.{directories_in, group_entry, IsObjectsText, IsOpened, IsNotOpened, IsProfileIn, IsOpenedIn};
 ghost use Rattle.nextest_engines.specs.Engines.{test_view};
@@ -248,6 +248,7 @@ impl Opened<'_> {
     }
 
     /// The test, where it is understood and gives each part that a filter asks for.
+    #[tactic(auto, using(crate::proofs::Faults::fault_in))]
     fn known<'t>(&self, test: &RequestedTest<'t>) -> Result<Asked<'t>, TestFault>
         ensures ok { IfOk result (λ asked.
             IsKnownTest self.now test.now (test_view asked.query) asked.mode) }
@@ -288,6 +289,22 @@ impl Opened<'_> {
             .settings_for(asked.mode, &asked.query, &mut tally);
         let arguments = settings.run_extra_args();
         Ok(text_at(arguments, index))
+    }
+
+    /// Copies out the argument of an index that a test is given, or returns why there is none.
+    fn copy_argument(
+        &self,
+        test: &RequestedTest<'_>,
+        index: usize,
+        out: &mut [u8],
+        needed: &mut usize,
+    ) -> u32
+        ensures { AnswersArgument self.now test.now index out.old out.new needed.new result }
+    {
+        match self.argument(test, index) {
+            Ok(text) => copy_text_or_none(text, out, needed),
+            Err(fault) => copy_nothing(fault.status(), needed),
+        }
     }
 
     /// The name of a group or of a wrapper: of kind 1 those of groups, of kind 2 those of wrappers. Of
@@ -351,6 +368,23 @@ impl<'a> Profile<'a> {
         }
     }
 
+    /// Copies out the argument of an index that a test is given, where the profile is open.
+    fn copy_argument_if_open(
+        &self,
+        test: &RequestedTest<'_>,
+        index: usize,
+        out: &mut [u8],
+        needed: &mut usize,
+    ) -> u32
+        ensures { AnswersArgumentBy self.now.outcome test.now index out.old out.new needed.new
+            result }
+    {
+        match &self.outcome {
+            Ok(opened) => opened.copy_argument(test, index, out, needed),
+            Err(failure) => copy_nothing(failure.status(), needed),
+        }
+    }
+
     /// Copies out the argument of an index that a test is given. It takes no memory.
     pub fn copy_argument(
         &self,
@@ -364,14 +398,7 @@ impl<'a> Profile<'a> {
         if !is_sized(test) {
             return copy_nothing(BAD_SIZE, needed);
         }
-        let opened = match &self.outcome {
-            Ok(opened) => opened,
-            Err(failure) => return copy_nothing(failure.status(), needed),
-        };
-        match opened.argument(test, index) {
-            Ok(text) => copy_text_or_none(text, out, needed),
-            Err(fault) => copy_nothing(fault.status(), needed),
-        }
+        self.copy_argument_if_open(test, index, out, needed)
     }
 
     /// The text of a kind and an index: of kind 0 why the profile is not open, of kind 1 the name of
