@@ -2,18 +2,18 @@
 use Rattle.std.proofs.Common.{◌≡◌, ℕ, ◌<◌, ◌≤◌, ◌+◌, ◌∙◌, Bool, true, false, cond, List, [], ◌∷◌, Option, None, Some, map, filter, zero, suc, refl, sym, ap, subst, arith}
 use Rattle.std.specs.List.{AllByRecursion, enumerate_from, zip}
 use Rattle.std.specs.Prelude.{slice_get}
-use Rattle.rinqebo_report.specs.declared.report.SettingRow.{SettingRow}
 use Rattle.rinqebo_changes.specs.declared.change.RowChange.{RowChange}
+use Rattle.rinqebo_changes.specs.declared.change.SideRow.{SideRow}
 use Rattle.rinqebo_changes.specs.Changes.{changed_rows, change_of}
 use Rattle.rinqebo_changes.specs.Laws.{IsOneOf, IsChangeAt, AreRising, AreExactly}
 
 -- the rows that change, with places from n on
-abbrev changed_from : (SettingRow → SettingRow → Bool) → ℕ → List SettingRow → List SettingRow → List RowChange
+abbrev changed_from : (SideRow → SideRow → Bool) → ℕ → List SideRow → List SideRow → List RowChange
 changed_from test n from to =
     filter (λ c. test c.from c.to) (map change_of (enumerate_from n (zip from to)))
 
 -- a change is of two rows at a place from n on
-record Found (test : SettingRow → SettingRow → Bool) (n : ℕ) (from to : List SettingRow) (c : RowChange) : Type 0 where
+record Found (test : SideRow → SideRow → Bool) (n : ℕ) (from to : List SideRow) (c : RowChange) : Type 0 where
   k : ℕ
   place : c.place ≡ n + k
   left_row : slice_get from k ≡ Some c.from
@@ -21,7 +21,7 @@ record Found (test : SettingRow → SettingRow → Bool) (n : ℕ) (from to : Li
   changes : test c.from c.to ≡ true
 
 -- one that is found behind the first rows is found
-found_behind : (test : SettingRow → SettingRow → Bool) (n : ℕ) (a b : SettingRow) (from to : List SettingRow)
+found_behind : (test : SideRow → SideRow → Bool) (n : ℕ) (a b : SideRow) (from to : List SideRow)
     (c : RowChange) → Found test (n + 1) from to c → Found test n (a ∷ from) (b ∷ to) c
 found_behind test n a b from to c f = record {
   k = suc f.k;
@@ -31,7 +31,7 @@ found_behind test n a b from to c f = record {
   changes = f.changes;
 }
 
-sound_step : (test : SettingRow → SettingRow → Bool) (n : ℕ) (a b : SettingRow) (from to : List SettingRow)
+sound_step : (test : SideRow → SideRow → Bool) (n : ℕ) (a b : SideRow) (from to : List SideRow)
     (c : RowChange) (q : Bool) → test a b ≡ q
     → ((i : ℕ) → slice_get (changed_from test (n + 1) from to) i ≡ Some c → Found test (n + 1) from to c)
     → (i : ℕ) → slice_get (cond q (change_of (n, (a, b)) ∷ changed_from test (n + 1) from to)
@@ -47,7 +47,7 @@ sound_step test n a b from to c true is behind zero here =
     }
 sound_step test n a b from to c true is behind (suc i) here = found_behind test n a b from to c (behind i here)
 
-sound_from : (test : SettingRow → SettingRow → Bool) (n : ℕ) (from to : List SettingRow) (c : RowChange) (i : ℕ)
+sound_from : (test : SideRow → SideRow → Bool) (n : ℕ) (from to : List SideRow) (c : RowChange) (i : ℕ)
     → slice_get (changed_from test n from to) i ≡ Some c → Found test n from to c
 sound_from test n [] to c i here = absurd (let no : None ≡ Some c = here in cc)
 sound_from test n (a ∷ from) [] c i here = absurd (let no : None ≡ Some c = here in cc)
@@ -67,11 +67,11 @@ first_one true x xs c passes is = record { index = 0; here = ap Some is }
 first_one false x xs c passes is = absurd (cc)
 
 -- changes of equal parts
-alike : (m k : ℕ) (a f b t : SettingRow) → m ≡ k → a ≡ f → b ≡ t
+alike : (m k : ℕ) (a f b t : SideRow) → m ≡ k → a ≡ f → b ≡ t
     → ◌≡◌ {A = RowChange} (change_of (m, (a, b))) (record { place = k; from = f; to = t })
 alike m k a f b t p e g = λ i. record { place = p i; from = e i; to = g i }
 
-whole_from : (test : SettingRow → SettingRow → Bool) (n : ℕ) (from to : List SettingRow) (k : ℕ) (f t : SettingRow)
+whole_from : (test : SideRow → SideRow → Bool) (n : ℕ) (from to : List SideRow) (k : ℕ) (f t : SideRow)
     → slice_get from k ≡ Some f → slice_get to k ≡ Some t → test f t ≡ true
     → IsOneOf (changed_from test n from to) (record { place = n + k; from = f; to = t })
 whole_from test n [] to k f t left right changes = absurd (let no : None ≡ Some f = left in cc)
@@ -102,7 +102,7 @@ stronger : (n : ℕ) → (ns : List ℕ) → AllByRecursion (λ k. n + 1 ≤ k) 
 stronger n [] all = tt
 stronger n (k ∷ ks) all = (let h : n + 1 ≤ k = all.0 in omega arith, stronger n ks all.1)
 
-rises_step : (q : Bool) (n : ℕ) (a b : SettingRow) (cs : List RowChange)
+rises_step : (q : Bool) (n : ℕ) (a b : SideRow) (cs : List RowChange)
     → Rises (n + 1) (map (λ c. c.place) cs)
     → Rises n (map (λ c. c.place) (cond q (change_of (n, (a, b)) ∷ cs) cs))
 rises_step false n a b cs r =
@@ -112,14 +112,14 @@ rises_step true n a b cs r = record {
   rising = (stronger n (map (λ c. c.place) cs) r.above, r.rising);
 }
 
-rises_from : (test : SettingRow → SettingRow → Bool) (n : ℕ) (from to : List SettingRow)
+rises_from : (test : SideRow → SideRow → Bool) (n : ℕ) (from to : List SideRow)
     → Rises n (map (λ c. c.place) (changed_from test n from to))
 rises_from test n [] to = record { above = tt; rising = tt }
 rises_from test n (a ∷ from) [] = record { above = tt; rising = tt }
 rises_from test n (a ∷ from) (b ∷ to) =
     rises_step (test a b) n a b (changed_from test (n + 1) from to) (rises_from test (n + 1) from to)
 
-pub exactly : (test : SettingRow → SettingRow → Bool) (from to : List SettingRow) → AreExactly test from to
+pub exactly : (test : SideRow → SideRow → Bool) (from to : List SideRow) → AreExactly test from to
 exactly test from to = record {
   sound = λ c one. at_place c (sound_from test 0 from to c one.index one.here);
   whole = λ c at. from_place c (whole_from test 0 from to c.place c.from c.to at.left_row at.right_row at.changes);

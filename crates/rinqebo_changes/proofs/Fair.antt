@@ -1,7 +1,7 @@
 -- Nothing changes between equal rows, and swapped sides swap what changes.
 use Rattle.std.proofs.Common.{◌≡◌, ℕ, ◌+◌, ◌∙◌, Bool, true, false, cond, not, ◌&&◌, ◌||◌, List, [], ◌∷◌, Option, None, Some, option_map, map, filter, bytes_eq, string_bytes, refl, sym, ap}
 use Rattle.std.specs.Prelude.{slice_get}
-use Rattle.std.specs.Bool.{Decides}
+use Rattle.std.specs.Bool.{beq, Decides}
 use Rattle.std.specs.List.{enumerate_from, zip}
 use Rattle.std.specs.Cmp.Lexicographic.{pointwise, bytes_decides}
 use Rattle.std.specs.Option.{option_eq}
@@ -12,10 +12,10 @@ use Rattle.rinqebo_report.specs.declared.origin.Source.{Source}
 use Rattle.rinqebo_report.specs.declared.origin.SourceKind.{SourceKind}
 use Rattle.rinqebo_report.specs.declared.origin.SourceKind.TheVariants.{Default, Tool, Organisation, Explicit, Discovered}
 use Rattle.rinqebo_report.specs.declared.origin.Written.{Written}
-use Rattle.rinqebo_report.specs.declared.report.SettingRow.{SettingRow}
 use Rattle.rinqebo_report.specs.declared.value.Value.{Value}
 use Rattle.rinqebo_changes.specs.declared.change.RowChange.{RowChange}
-use Rattle.rinqebo_changes.specs.Changes.{changed_rows, change_of, is_change}
+use Rattle.rinqebo_changes.specs.declared.change.SideRow.{SideRow}
+use Rattle.rinqebo_changes.specs.Changes.{changed_rows, change_of, is_change, like_source_of}
 use Rattle.rinqebo_changes.specs.Laws.{swapped, AreFair}
 use Rattle.rinqebo_changes.specs.Same.{same_value}
 use Rattle.rinqebo_changes.specs.SameOrigin.{like_kind, like_optional, like_source, like_origin, like_origins, same_written}
@@ -134,40 +134,68 @@ origins_swap s t [] (y ∷ ys) = refl
 origins_swap s t (x ∷ xs) [] = refl
 origins_swap s t (x ∷ xs) (y ∷ ys) = λ i. origin_swap s t x y i && origins_swap s t xs ys i
 
+-- where values come from
+itself : (b : Bool) → beq b b ≡ true
+itself true = refl
+itself false = refl
+
+either_true : (p q : Bool) → q ≡ true → (p || q) ≡ true
+either_true true q h = refl
+either_true false q h = h
+
+source_same : (s : List Source) (r : SideRow) → like_source_of s s r r ≡ true
+source_same s r =
+    both_true (beq r.is_ignored r.is_ignored)
+    (r.is_ignored || like_origins s s r.row.origins.items r.row.origins.items) (itself r.is_ignored)
+    (either_true r.is_ignored (like_origins s s r.row.origins.items r.row.origins.items)
+    (origins_same s r.row.origins.items))
+
+known_swap : (p q x y : Bool) → y ≡ x → (beq q p && (q || y)) ≡ (beq p q && (p || x))
+known_swap true true x y h = refl
+known_swap true false x y h = refl
+known_swap false true x y h = refl
+known_swap false false x y h = h
+
+source_swap : (s t : List Source) (a b : SideRow) → like_source_of t s b a ≡ like_source_of s t a b
+source_swap s t a b =
+    known_swap a.is_ignored b.is_ignored (like_origins s t a.row.origins.items b.row.origins.items)
+    (like_origins t s b.row.origins.items a.row.origins.items)
+    (origins_swap s t a.row.origins.items b.row.origins.items)
+
 -- whether a setting changes
 change_none : (w p q : Bool) → p ≡ true → q ≡ true → (not p || (w && not q)) ≡ false
 change_none true p q h k = rw (h, k)
 change_none false p q h k = rw h
 
-change_same : (s : List Source) (w : Bool) (r : SettingRow) → is_change s s w r r ≡ false
+change_same : (s : List Source) (w : Bool) (r : SideRow) → is_change s s w r r ≡ false
 change_same s w r =
-    change_none w (option_eq same_value r.value r.value) (like_origins s s r.origins.items r.origins.items)
-    (settings_same r.value) (origins_same s r.origins.items)
+    change_none w (option_eq same_value r.row.value r.row.value) (like_source_of s s r r)
+    (settings_same r.row.value) (source_same s r)
 
-change_swap : (s t : List Source) (w : Bool) (a b : SettingRow) → is_change t s w b a ≡ is_change s t w a b
+change_swap : (s t : List Source) (w : Bool) (a b : SideRow) → is_change t s w b a ≡ is_change s t w a b
 change_swap s t w a b =
-    λ i. not (settings_swap a.value b.value i) || (w && not (origins_swap s t a.origins.items b.origins.items i))
+    λ i. not (settings_swap a.row.value b.row.value i) || (w && not (source_swap s t a b i))
 
 -- the rows that change, with places from n on
-abbrev changed_from : (SettingRow → SettingRow → Bool) → ℕ → List SettingRow → List SettingRow → List RowChange
+abbrev changed_from : (SideRow → SideRow → Bool) → ℕ → List SideRow → List SideRow → List RowChange
 changed_from test n from to =
     filter (λ c. test c.from c.to) (map change_of (enumerate_from n (zip from to)))
 
 -- rows that do not change
-none_from : (test : SettingRow → SettingRow → Bool) → ((r : SettingRow) → test r r ≡ false)
-    → (n : ℕ) (rows : List SettingRow) → changed_from test n rows rows ≡ []
+none_from : (test : SideRow → SideRow → Bool) → ((r : SideRow) → test r r ≡ false)
+    → (n : ℕ) (rows : List SideRow) → changed_from test n rows rows ≡ []
 none_from test same n [] = refl
 none_from test same n (r ∷ rows) =
     let rest = changed_from test (n + 1) rows rows in
     ap (λ q. cond q (change_of (n, (r, r)) ∷ rest) rest) (same r) ∙ none_from test same (n + 1) rows
 
-swap_step : (q : Bool) (n : ℕ) (a b : SettingRow) (xs ys : List RowChange) → ys ≡ map swapped xs
+swap_step : (q : Bool) (n : ℕ) (a b : SideRow) (xs ys : List RowChange) → ys ≡ map swapped xs
     → cond q (change_of (n, (b, a)) ∷ ys) ys ≡ map swapped (cond q (change_of (n, (a, b)) ∷ xs) xs)
 swap_step true n a b xs ys h = ap (λ t. change_of (n, (b, a)) ∷ t) h
 swap_step false n a b xs ys h = h
 
-swap_from : (test other : SettingRow → SettingRow → Bool) → ((a b : SettingRow) → other b a ≡ test a b)
-    → (n : ℕ) (left right : List SettingRow)
+swap_from : (test other : SideRow → SideRow → Bool) → ((a b : SideRow) → other b a ≡ test a b)
+    → (n : ℕ) (left right : List SideRow)
     → changed_from other n right left ≡ map swapped (changed_from test n left right)
 swap_from test other same n [] [] = refl
 swap_from test other same n [] (b ∷ ys) = refl

@@ -5,3 +5,5 @@ mod ClassLists
 mod Reflexive
 mod Exactly
 mod Fair
+mod KeyedRows
+mod WholeGroups

@@ -1,5 +1,5 @@
 -- The tests of origins of one side decide whether they are equal, without how they are kept.
-use Rattle.std.proofs.Common.{◌≡◌, ◌&&◌, ℕ, Bool, true, false, List, Option, None, Some, option_map, map, refl, ap, string_bytes}
+use Rattle.std.proofs.Common.{◌≡◌, ◌&&◌, ◌==◌, ℕ, Bool, true, false, List, Option, None, Some, option_map, map, refl, ap, string_bytes}
 use Rattle.std.specs.Bool.{Decides}
 use Rattle.std.specs.Cmp.Lexicographic.{bytes_decides}
 use Rattle.std.specs.Option.{option_eq}
@@ -10,16 +10,18 @@ use Rattle.rinqebo_report.specs.declared.origin.Origin.{Origin}
 use Rattle.rinqebo_report.specs.declared.origin.Origin.TheVariants.{BuiltIn, DefaultTable, Written as InFile, File}
 use Rattle.rinqebo_report.specs.declared.origin.Part.{Part}
 use Rattle.rinqebo_report.specs.declared.origin.Part.TheVariants.{Fields, Override, Script}
+use Rattle.rinqebo_report.specs.declared.origin.Position.{Position}
+use Rattle.rinqebo_report.specs.declared.origin.Range.{Range}
 use Rattle.rinqebo_report.specs.declared.origin.Written.{Written}
-use Rattle.rinqebo_changes.specs.SameOrigin.{same_lines, same_place, same_part, same_written, same_origin, same_origins}
-use Rattle.rinqebo_changes.specs.OriginViews.{built_in, default_table, written, beside, lines_view, place_view, written_view, origin_view}
+use Rattle.rinqebo_changes.specs.SameOrigin.{same_lines, same_position, same_range, same_place, same_part, same_written, same_origin, same_origins}
+use Rattle.rinqebo_changes.specs.OriginViews.{built_in, default_table, written, beside, lines_view, position_view, range_view, place_view, written_view, origin_view}
 use Rattle.rinqebo_changes.proofs.Deciding.{never, always, mapped_decides, pair_both, both_of_pair}
 
 lines_decides : (a b : FileLines) → Decides (same_lines a b) (lines_view a ≡ lines_view b)
 lines_decides a b =
     Decides-like (same_lines a b) (pair_both a.first b.first a.last b.last)
     (both_of_pair (lines_view a) (lines_view b))
-    (Decides-and _ _ (Decides-eqb a.first b.first) (Decides-eqb a.last b.last))
+    (Decides-and (a.first == b.first) (a.last == b.last) (Decides-eqb a.first b.first) (Decides-eqb a.last b.last))
 
 known_lines_decides : (a b : Option FileLines)
     → Decides (option_eq same_lines a b) (option_map lines_view a ≡ option_map lines_view b)
@@ -29,12 +31,44 @@ known_lines_decides (Some a) None = never (λ e. cc)
 known_lines_decides (Some a) (Some b) =
     Decides-like (same_lines a b) (λ e. ap Some e) (λ e. cc) (lines_decides a b)
 
+position_decides : (a b : Position) → Decides (same_position a b) (position_view a ≡ position_view b)
+position_decides a b =
+    Decides-like (same_position a b) (pair_both a.line b.line a.column b.column)
+    (both_of_pair (position_view a) (position_view b))
+    (Decides-and (a.line == b.line) (a.column == b.column) (Decides-eqb a.line b.line) (Decides-eqb a.column b.column))
+
+range_decides : (a b : Range) → Decides (same_range a b) (range_view a ≡ range_view b)
+range_decides a b =
+    Decides-like (same_range a b)
+    (pair_both (position_view a.start) (position_view b.start) (position_view a.end) (position_view b.end))
+    (both_of_pair (range_view a) (range_view b))
+    (Decides-and (same_position a.start b.start) (same_position a.end b.end) (position_decides a.start b.start)
+    (position_decides a.end b.end))
+
+known_ranges_decide : (a b : Option Range)
+    → Decides (option_eq same_range a b) (option_map range_view a ≡ option_map range_view b)
+known_ranges_decide None None = always refl
+known_ranges_decide None (Some b) = never (λ e. cc)
+known_ranges_decide (Some a) None = never (λ e. cc)
+known_ranges_decide (Some a) (Some b) =
+    Decides-like (same_range a b) (λ e. ap Some e) (λ e. cc) (range_decides a b)
+
+-- the source and the lines of a place
+abbrev source_view : FilePlace → ℕ × Option (ℕ × ℕ)
+source_view place = (place.source, option_map lines_view place.lines)
+
 place_decides : (a b : FilePlace) → Decides (same_place a b) (place_view a ≡ place_view b)
 place_decides a b =
     Decides-like (same_place a b)
-    (pair_both a.source b.source (option_map lines_view a.lines) (option_map lines_view b.lines))
+    (pair_both (source_view a) (source_view b) (option_map range_view a.range) (option_map range_view b.range))
     (both_of_pair (place_view a) (place_view b))
-    (Decides-and _ _ (Decides-eqb a.source b.source) (known_lines_decides a.lines b.lines))
+    (Decides-and (a.source == b.source && option_eq same_lines a.lines b.lines) (option_eq same_range a.range b.range)
+    (Decides-like (a.source == b.source && option_eq same_lines a.lines b.lines)
+    (pair_both a.source b.source (option_map lines_view a.lines) (option_map lines_view b.lines))
+    (both_of_pair (source_view a) (source_view b))
+    (Decides-and (a.source == b.source) (option_eq same_lines a.lines b.lines) (Decides-eqb a.source b.source)
+    (known_lines_decides a.lines b.lines)))
+    (known_ranges_decide a.range b.range))
 
 part_decides : (a b : Part) → Decides (same_part a b) (a ≡ b)
 part_decides Fields Fields = always refl

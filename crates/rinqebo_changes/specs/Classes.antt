@@ -1,10 +1,11 @@
 -- Changes that are the same for several tests.
 use Rattle.std.specs.Prelude.{◌≡◌, ℕ, ◌==◌, ◌≤◌, ◌&&◌, not, Bool, true, List, [], ◌∷◌, map, filter, flat_map, bytes_eq, string_bytes}
 use Rattle.std.specs.List.{All, Contains}
+use Rattle.std.specs.Bool.{beq}
 use Rattle.std.specs.Option.{option_eq}
-use Rattle.rinqebo_report.specs.declared.report.SettingRow.{SettingRow}
 use Rattle.rinqebo_report.specs.declared.report.TestId.{TestId}
 use Rattle.rinqebo_changes.specs.declared.change.RowChange.{RowChange}
+use Rattle.rinqebo_changes.specs.declared.change.SideRow.{SideRow}
 use Rattle.rinqebo_changes.specs.declared.change.TestChanges.{TestChanges}
 use Rattle.rinqebo_changes.specs.declared.classes.ClassRule.{ClassRule}
 use Rattle.rinqebo_changes.specs.declared.classes.ClassRule.TheVariants.{Row, Binary}
@@ -13,11 +14,13 @@ use Rattle.rinqebo_changes.specs.declared.classes.Item.{Item}
 use Rattle.rinqebo_changes.specs.Same.{same_value}
 use Rattle.rinqebo_changes.specs.SameOrigin.{same_origins}
 
--- whether two rows of a side have the same value and the same origins
-abbrev pub same_row : SettingRow → SettingRow → Bool
-same_row a b = option_eq same_value a.value b.value && same_origins a.origins.items b.origins.items
+-- whether two rows of a side have the same value, which comes from the same
+abbrev pub same_row : SideRow → SideRow → Bool
+same_row a b =
+    (option_eq same_value a.row.value b.row.value && beq a.is_ignored b.is_ignored)
+    && same_origins a.row.origins.items b.row.origins.items
 
--- whether two changes stand together
+-- whether two changes are put together
 abbrev pub same_item : ClassRule → Item → Item → Bool
 same_item Row a b =
     (a.row.now.place == b.row.now.place && same_row a.row.now.from b.row.now.from)
@@ -46,7 +49,7 @@ pub record IsFirstLeast (items : List Item) (head : Item) : Type 0 where
   pub here : Contains items head
   pub least : All (λ item. head.row.now.place ≤ item.row.now.place) items
 
--- Classes of some items: the first class is of the items that stand together with one whose setting
+-- Classes of some items: the first class is of the items that are put together with one whose setting
 -- comes first, in their order, and the other classes are those of the other items.
 pub data AreClasses (same : Item → Item → Bool) : List Item → List (List Item) → Type 0 where
   none : AreClasses same [] []

@@ -1,24 +1,32 @@
 -- A diff as JSON: objects with their keys in the order of bytes.
-use Rattle.std.specs.Prelude.{◌≡◌, ℕ, List, [], ◌∷◌, ◌++◌, length, map, flat_map, codes, string_bytes}
-use Rattle.serde_json.specs.Data.{Data, string, array, object, no_members, member}
+use Rattle.std.specs.Prelude.{◌≡◌, ℕ, true, List, [], ◌∷◌, ◌++◌, length, map, flat_map, codes, string_bytes, if◌then◌else◌}
+use Rattle.serde_json.specs.Data.{Data, boolean, string, array, object, Members, no_members, member}
 use Rattle.serde_json.specs.View.{items_of}
 use Rattle.serde_json.specs.Written.{compact_text}
-use Rattle.rinqebo_report.specs.declared.report.SettingRow.{SettingRow}
 use Rattle.rinqebo_report.specs.Documents.{count_data, text_data, optional_text_data, list_data, optional_value_data, origin_data, source_data, test_id_data}
 use Rattle.rinqebo_report.specs.Pages.{mode_word}
 use Rattle.rinqebo_changes.specs.declared.change.RowChange.{RowChange}
+use Rattle.rinqebo_changes.specs.declared.change.SideRow.{SideRow}
 use Rattle.rinqebo_changes.specs.declared.classes.Item.{Item}
 use Rattle.rinqebo_changes.specs.declared.diff.Diff.{Diff}
 use Rattle.rinqebo_changes.specs.declared.diff.Side.{Side}
 use Rattle.rinqebo_changes.specs.declared.groups.Group.{Group}
 use Rattle.rinqebo_changes.specs.Groups.{AreGroups}
 
--- what a side gives to a setting
-abbrev pub given_data : SettingRow → Data
-given_data row =
-    object (member (codes "key") (text_data row.key)
-    (member (codes "origins") (list_data origin_data row.origins.items)
-    (member (codes "value") (optional_value_data row.value) no_members)))
+-- a setting as a side gives it: its key, its origins and its value
+abbrev pub given_members : SideRow → Members
+given_members given =
+    member (codes "key") (text_data given.row.key)
+    (member (codes "origins") (list_data origin_data given.row.origins.items)
+    (member (codes "value") (optional_value_data given.row.value) no_members))
+
+-- what a side gives to a setting: of whether a test runs that a list says to be ignored, a member says
+-- so
+abbrev pub given_data : SideRow → Data
+given_data given =
+    if given.is_ignored
+    then object (member (codes "ignored") (boolean true) (given_members given))
+    else object (given_members given)
 
 -- a change of the whole run
 abbrev pub change_data : RowChange → Data
@@ -42,7 +50,7 @@ group_data group =
     (member (codes "tests") (group_tests_data group)
     (member (codes "to") (given_data group.head.row.now.to) no_members)))
 
--- a side: its sources, and what was asked of it
+-- a side: its profile, mode and platforms, and its sources
 abbrev pub side_data : Side → Data
 side_data side =
     object (member (codes "chain") (list_data text_data side.asked.chain.items)

@@ -1,11 +1,12 @@
 -- A diff as notices of GitHub's workflows.
-use Rattle.std.specs.Prelude.{◌≡◌, ℕ, List, [], ◌∷◌, ◌++◌, Option, None, Some, option_and_then, slice_get, flat_map, codes, decimal, string_bytes}
+use Rattle.std.specs.Prelude.{◌≡◌, ℕ, List, [], ◌∷◌, ◌++◌, Option, None, Some, option_and_then, slice_get, flat_map, codes, decimal, string_bytes, if◌then◌else◌}
 use Rattle.std.specs.Str.{chars}
 use Rattle.rinqebo_report.specs.declared.origin.FilePlace.{FilePlace}
 use Rattle.rinqebo_report.specs.declared.origin.Origin.{Origin}
 use Rattle.rinqebo_report.specs.declared.origin.Origin.TheVariants as origins
 use Rattle.rinqebo_report.specs.Github.{file_property, message_char, property_char}
 use Rattle.rinqebo_changes.specs.declared.change.RowChange.{RowChange}
+use Rattle.rinqebo_changes.specs.declared.change.SideRow.{SideRow}
 use Rattle.rinqebo_changes.specs.declared.diff.Diff.{Diff}
 use Rattle.rinqebo_changes.specs.declared.groups.Group.{Group}
 use Rattle.rinqebo_changes.specs.Groups.{AreGroups}
@@ -19,20 +20,24 @@ place_in (origins.Written written) = Some written.place
 place_in (origins.File place) = Some place
 
 -- the place of the first of origins, if it is in a file
-abbrev pub site_of : List Origin → Option FilePlace
-site_of origins = option_and_then place_in (slice_get origins 0)
+abbrev pub first_place : List Origin → Option FilePlace
+first_place origins = option_and_then place_in (slice_get origins 0)
+
+-- the place from which the value of a side comes, if it is in a file
+abbrev pub site_of : SideRow → Option FilePlace
+site_of given = if given.is_ignored then None else first_place given.row.origins.items
 
 -- a change on one line
 abbrev pub change_text : RowChange → List ℕ
 change_text row =
-    string_bytes row.from.key ++ (codes ": " ++ (setting_text row.from.value
-    ++ (codes " -> " ++ (other_key row ++ setting_text row.to.value))))
+    string_bytes row.from.row.key ++ (codes ": " ++ (setting_text row.from.row.value
+    ++ (codes " -> " ++ (other_key row ++ setting_text row.to.row.value))))
 
 -- a notice about a change, at the place of the right side
 abbrev pub notice_text : List ℕ → Diff → RowChange → List ℕ → List ℕ
 notice_text workspace diff row tests =
-    codes "::notice " ++ (file_property workspace diff.to.sources.items (site_of row.to.origins.items)
-    ++ (codes "title=" ++ (flat_map property_char (chars (string_bytes row.from.key))
+    codes "::notice " ++ (file_property workspace diff.to.sources.items (site_of row.to)
+    ++ (codes "title=" ++ (flat_map property_char (chars (string_bytes row.from.row.key))
     ++ (codes "::" ++ (flat_map message_char (chars (change_text row)) ++ (tests ++ 10 ∷ []))))))
 
 -- a notice about a group, with how many tests it has

@@ -11,3 +11,4 @@ pub mod GithubPage
 pub mod MarkdownPage
 pub mod Keyed
 pub mod Laws
+pub mod WholeGroups

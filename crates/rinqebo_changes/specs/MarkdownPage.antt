@@ -2,17 +2,16 @@
 use Rattle.std.specs.Prelude.{◌≡◌, ℕ, ◌==◌, ◌&&◌, ◌||◌, not, Bool, List, [], ◌∷◌, ◌++◌, Option, None, Some, length, slice_get, flat_map, codes, decimal, encode_utf8, string_bytes, if◌then◌else◌}
 use Rattle.std.specs.Char.{is_control}
 use Rattle.std.specs.Str.{chars}
-use Rattle.rinqebo_report.specs.declared.report.SettingRow.{SettingRow}
 use Rattle.rinqebo_report.specs.declared.report.TestId.{TestId}
-use Rattle.rinqebo_report.specs.declared.origin.Origin.{Origin}
 use Rattle.rinqebo_changes.specs.declared.change.RowChange.{RowChange}
+use Rattle.rinqebo_changes.specs.declared.change.SideRow.{SideRow}
 use Rattle.rinqebo_changes.specs.declared.classes.Item.{Item}
 use Rattle.rinqebo_changes.specs.declared.diff.BinaryTests.{BinaryTests}
 use Rattle.rinqebo_changes.specs.declared.diff.Diff.{Diff}
 use Rattle.rinqebo_changes.specs.declared.diff.Side.{Side}
 use Rattle.rinqebo_changes.specs.declared.groups.Group.{Group}
 use Rattle.rinqebo_changes.specs.Groups.{AreGroups}
-use Rattle.rinqebo_changes.specs.Pages.{is_whole, origins_text, setting_text}
+use Rattle.rinqebo_changes.specs.Pages.{has_source, is_whole, setting_text, source_text}
 
 -- whether a character has a meaning in a table or in a text between two marks
 abbrev pub is_mark : ℕ → Bool
@@ -32,14 +31,14 @@ abbrev pub marked_text : List ℕ → List ℕ
 marked_text text = flat_map marked_char (chars text)
 
 -- where the value of a side comes from, on a line of its own, if that is known
-abbrev pub origins_cell : Side → List Origin → List ℕ
-origins_cell side origins =
-    if length origins == 0 then [] else codes "<br>" ++ marked_text (origins_text side origins)
+abbrev pub source_cell : Side → SideRow → List ℕ
+source_cell side given =
+    if has_source given then codes "<br>" ++ marked_text (source_text side given) else []
 
 -- what a side gives: its value, and where that comes from
-abbrev pub given_cell : Side → SettingRow → List ℕ
-given_cell side row =
-    marked_text (setting_text row.value) ++ origins_cell side row.origins.items
+abbrev pub given_cell : Side → SideRow → List ℕ
+given_cell side given =
+    marked_text (setting_text given.row.value) ++ source_cell side given
 
 -- a test
 abbrev pub test_cell : TestId → List ℕ
@@ -73,7 +72,7 @@ binary_cell binaries lists_all items =
 -- the first three cells of a change
 abbrev pub cells_text : Diff → RowChange → List ℕ
 cells_text diff row =
-    codes "| " ++ (marked_text (string_bytes row.to.key) ++ (codes " | "
+    codes "| " ++ (marked_text (string_bytes row.to.row.key) ++ (codes " | "
     ++ (given_cell diff.from row.from ++ (codes " | " ++ (given_cell diff.to row.to
     ++ codes " | ")))))
 

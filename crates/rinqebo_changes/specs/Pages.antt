@@ -1,12 +1,11 @@
 -- The page of a diff.
-use Rattle.std.specs.Prelude.{◌≡◌, ℕ, ◌==◌, nat_lt, ◌-◌, ◌&&◌, Bool, true, false, List, [], ◌∷◌, ◌++◌, Option, None, Some, length, slice_get, flat_map, not, codes, bytes_eq, String, string_bytes, if◌then◌else◌}
+use Rattle.std.specs.Prelude.{◌≡◌, ℕ, ◌==◌, nat_lt, ◌-◌, ◌&&◌, ◌||◌, Bool, true, false, List, [], ◌∷◌, ◌++◌, Option, None, Some, length, slice_get, flat_map, not, codes, bytes_eq, String, string_bytes, if◌then◌else◌}
 use Rattle.std.specs.declared.alloc.Global.{Global}
 use Rattle.rinqebo_report.specs.declared.origin.Origin.{Origin}
 use Rattle.rinqebo_report.specs.declared.origin.Source.{Source}
 use Rattle.rinqebo_report.specs.declared.piece.Colour.{Colour}
 use Rattle.rinqebo_report.specs.declared.piece.Style.TheVariants as styles
 use Rattle.rinqebo_report.specs.declared.report.Asked.{Asked}
-use Rattle.rinqebo_report.specs.declared.report.SettingRow.{SettingRow}
 use Rattle.rinqebo_report.specs.declared.report.TestId.{TestId}
 use Rattle.rinqebo_report.specs.declared.value.Value.{Value}
 use Rattle.rinqebo_report.specs.Joined.{joined}
@@ -15,6 +14,7 @@ use Rattle.rinqebo_report.specs.Pages.{plain, mode_word}
 use Rattle.rinqebo_report.specs.Pieces.{Run, styled, numbered, ending, page_text}
 use Rattle.rinqebo_report.specs.TomlText.{value_text}
 use Rattle.rinqebo_changes.specs.declared.change.RowChange.{RowChange}
+use Rattle.rinqebo_changes.specs.declared.change.SideRow.{SideRow}
 use Rattle.rinqebo_changes.specs.declared.change.TestChanges.{TestChanges}
 use Rattle.rinqebo_changes.specs.declared.classes.Item.{Item}
 use Rattle.rinqebo_changes.specs.declared.diff.BinaryTests.{BinaryTests}
@@ -28,17 +28,27 @@ abbrev pub setting_text : Option Value → List ℕ
 setting_text None = codes "none"
 setting_text (Some value) = value_text value
 
--- where the value of a side comes from, with commas between origins, or that nothing is known
+-- origins of a side, with commas between them, or that none is known
 abbrev pub origins_text : Side → List Origin → List ℕ
 origins_text side origins =
     if length origins == 0 then codes "none"
     else joined (codes ", ") (origin_text (string_bytes side.root) side.sources.items) origins
 
+-- where the value of a side comes from: its list, or origins
+abbrev pub source_text : Side → SideRow → List ℕ
+source_text side given =
+    if given.is_ignored then codes "ignored in LIST"
+    else origins_text side given.row.origins.items
+
+-- whether it is known where the value of a side comes from
+abbrev pub has_source : SideRow → Bool
+has_source given = given.is_ignored || not (length given.row.origins.items == 0)
+
 -- the key of the right side, where it is another one
 abbrev pub other_key : RowChange → List ℕ
 other_key row =
-    if bytes_eq (string_bytes row.from.key) (string_bytes row.to.key) then []
-    else string_bytes row.to.key ++ codes ": "
+    if bytes_eq (string_bytes row.from.row.key) (string_bytes row.to.row.key) then []
+    else string_bytes row.to.row.key ++ codes ": "
 
 -- a line with a setting, and its two values
 abbrev pub value_runs : List ℕ → List ℕ → List ℕ → List ℕ → List Run
@@ -49,8 +59,8 @@ value_runs key from other to =
 -- a setting, and its two values
 abbrev pub heading_runs : RowChange → List Run
 heading_runs row =
-    value_runs (string_bytes row.from.key) (setting_text row.from.value) (other_key row)
-    (setting_text row.to.value)
+    value_runs (string_bytes row.from.row.key) (setting_text row.from.row.value) (other_key row)
+    (setting_text row.to.row.value)
 
 -- two origins
 abbrev pub two_site_runs : List ℕ → List ℕ → List Run
@@ -61,9 +71,9 @@ two_site_runs from to =
 -- where the two values come from, if that is known of one
 abbrev pub site_runs : Diff → RowChange → List Run
 site_runs diff row =
-    if length row.from.origins.items == 0 && length row.to.origins.items == 0 then []
-    else two_site_runs (origins_text diff.from row.from.origins.items)
-    (origins_text diff.to row.to.origins.items)
+    if has_source row.from || has_source row.to
+    then two_site_runs (source_text diff.from row.from) (source_text diff.to row.to)
+    else []
 
 -- a change
 abbrev pub change_runs : Diff → RowChange → List Run
@@ -135,7 +145,7 @@ target_text (Some target) = codes ", target " ++ string_bytes target
 abbrev pub assumed_text : Bool → List ℕ
 assumed_text assumed = if assumed then codes " (assumed)" else []
 
--- what was asked of a side
+-- the profile, mode and platforms of a side
 abbrev pub asked_text : Asked → List ℕ
 asked_text asked =
     codes "profile " ++ (joined (codes " < ") string_bytes asked.chain.items ++ (codes ", "
@@ -152,12 +162,16 @@ abbrev pub remark_runs : List ℕ → List Run
 remark_runs text = styled styles.Remark text ∷ ending ∷ []
 
 -- what is the same on both sides, or what each side has
-abbrev pub both_runs : List ℕ → List ℕ → List Run
-both_runs from to =
-    if bytes_eq from to then remark_runs (codes "# " ++ from)
-    else remark_runs (codes "# from " ++ (from ++ (codes "  to " ++ to)))
+abbrev pub both_text : List ℕ → List ℕ → List ℕ
+both_text from to =
+    if bytes_eq from to then codes "# " ++ from
+    else codes "# from " ++ (from ++ (codes "  to " ++ to))
 
--- what was asked of the two sides, and their files
+-- a line with what both sides have
+abbrev pub both_runs : List ℕ → List ℕ → List Run
+both_runs from to = remark_runs (both_text from to)
+
+-- the profiles, modes and platforms of the two sides, and their files
 abbrev pub head_runs : Diff → List Run
 head_runs diff =
     both_runs (asked_text diff.from.asked) (asked_text diff.to.asked)

@@ -8,6 +8,8 @@ use Rattle.rinqebo_report.specs.declared.origin.Origin.{Origin}
 use Rattle.rinqebo_report.specs.declared.origin.Origin.TheVariants as origins
 use Rattle.rinqebo_report.specs.declared.origin.Part.{Part}
 use Rattle.rinqebo_report.specs.declared.origin.Part.TheVariants.{Fields, Override, Script}
+use Rattle.rinqebo_report.specs.declared.origin.Position.{Position}
+use Rattle.rinqebo_report.specs.declared.origin.Range.{Range}
 use Rattle.rinqebo_report.specs.declared.origin.Source.{Source}
 use Rattle.rinqebo_report.specs.declared.origin.SourceKind.{SourceKind}
 use Rattle.rinqebo_report.specs.declared.origin.SourceKind.TheVariants as kinds
@@ -17,9 +19,19 @@ use Rattle.rinqebo_report.specs.declared.origin.Written.{Written}
 abbrev pub same_lines : FileLines → FileLines → Bool
 same_lines a b = a.first == b.first && a.last == b.last
 
--- whether two places are in the same lines of the same source
+-- whether two positions are the same
+abbrev pub same_position : Position → Position → Bool
+same_position a b = a.line == b.line && a.column == b.column
+
+-- whether two ranges are the same
+abbrev pub same_range : Range → Range → Bool
+same_range a b = same_position a.start b.start && same_position a.end b.end
+
+-- whether two places are the same lines and the same range of the same source
 abbrev pub same_place : FilePlace → FilePlace → Bool
-same_place a b = a.source == b.source && option_eq same_lines a.lines b.lines
+same_place a b =
+    (a.source == b.source && option_eq same_lines a.lines b.lines)
+    && option_eq same_range a.range b.range
 
 -- whether two parts of a profile are the same
 abbrev pub same_part : Part → Part → Bool

@@ -1,21 +1,30 @@
 //! What changes for a test: the settings that the two sides give it differently.
-ghost use Rattle.std.specs.Prelude.{◌≡◌, ◌∷◌, [], IfOk, MatchOption};
-ghost use Rattle.rinqebo_changes.specs.Changes.{is_change, rows_beside, changed_rows, rows_in, IsChangedTest};
+ghost use Rattle.std.specs.Prelude.{◌≡◌, ◌++◌, [], IfOk, MatchOption, map};
+ghost use Rattle.rinqebo_changes.specs.Changes.{like_source_of, is_change, side_row, runs_in, rows_beside, changed_rows, rows_in, IsChangedTest};
 
 use crate::same::is_same_setting;
 use crate::same_origin::TwoSources;
 use rinqebo_report::{SettingRow, TestId, TestRows};
 use std::alloc::{AllocError, Global};
 
+/// A setting as a side gives it.
+#[derive(Drop)]
+pub struct SideRow {
+    /// Its key, its value, and where that comes from.
+    pub row: SettingRow,
+    /// Whether it says whether a test runs, and the list of the side says that the test is ignored.
+    pub is_ignored: bool,
+}
+
 /// A setting that the two sides give differently.
 #[derive(Drop)]
 pub struct RowChange {
-    /// Its position among the rows of a test, from 0. The first is whether the test runs.
+    /// Its position among the rows that are compared, from 0.
     pub place: usize,
     /// What the left side gives.
-    pub from: SettingRow,
+    pub from: SideRow,
     /// What the right side gives.
-    pub to: SettingRow,
+    pub to: SideRow,
 }
 
 /// What changes for a test.
@@ -34,25 +43,59 @@ pub struct Comparison<'s> {
     pub sources: TwoSources<'s>,
     /// Whether other origins are a change too, where the values are the same.
     pub with_origins: bool,
+    /// Whether it is compared whether tests run.
+    pub with_runs: bool,
 }
 
 impl Comparison<'_> {
-    /// Whether a setting changes from one row to another.
-    pub fn is_change(&self, from: &SettingRow, to: &SettingRow) -> bool
-        ensures { result ≡ is_change self.now.sources.from.now self.now.sources.to.now
-            self.now.with_origins
+    /// Whether a value comes from the same on both sides: from the lists, or from like origins.
+    fn is_like_source(&self, from: &SideRow, to: &SideRow) -> bool
+        ensures { result ≡ like_source_of self.now.sources.from.now self.now.sources.to.now
             from.now to.now }
     {
-        !is_same_setting(&from.value, &to.value)
-            || self.with_origins && !self.sources.are_like_origins(&from.origins, &to.origins)
+        from.is_ignored == to.is_ignored
+            && (from.is_ignored
+                || self
+                    .sources
+                    .are_like_origins(&from.row.origins, &to.row.origins))
+    }
+
+    /// Whether a setting changes from one side to the other.
+    pub fn is_change(&self, from: &SideRow, to: &SideRow) -> bool
+        ensures { result ≡ is_change self.now.sources.from.now self.now.sources.to.now
+            self.now.with_origins from.now to.now }
+    {
+        !is_same_setting(&from.row.value, &to.row.value)
+            || self.with_origins && !self.is_like_source(from, to)
     }
 }
 
-/// The rows of a test, whether it runs first.
-fn rows_of(runs: SettingRow, settings: Vec<SettingRow>) -> Result<Vec<SettingRow>, AllocError>
-    ensures { IfOk result (λ rows. rows.items ≡ runs ∷ settings.items) }
+/// Settings that the list of a side says nothing of.
+pub fn side_rows(alloc: Global, rows: Vec<SettingRow>) -> Result<Vec<SideRow>, AllocError>
+    ensures { IfOk result (λ sides. sides.items ≡ map side_row rows.items) }
 {
-    let mut rows = settings;
+    rows.into_iter()
+        .map(|row| SideRow {
+            row,
+            is_ignored: false,
+        })
+        .collect(alloc)
+}
+
+/// The rows of a test: whether it runs, where that is compared, and then its settings.
+fn rows_of(
+    alloc: Global,
+    with_runs: bool,
+    runs: SideRow,
+    settings: Vec<SettingRow>,
+) -> Result<Vec<SideRow>, AllocError>
+    ensures { IfOk result (λ rows. rows.items
+        ≡ runs_in with_runs runs ++ map side_row settings.items) }
+{
+    let mut rows = side_rows(alloc, settings)?;
+    if !with_runs {
+        return Ok(rows);
+    }
     rows.insert(0, runs)?;
     Ok(rows)
 }
@@ -60,8 +103,8 @@ fn rows_of(runs: SettingRow, settings: Vec<SettingRow>) -> Result<Vec<SettingRow
 /// The rows of the two sides beside each other.
 fn rows_beside(
     alloc: Global,
-    from: Vec<SettingRow>,
-    to: Vec<SettingRow>,
+    from: Vec<SideRow>,
+    to: Vec<SideRow>,
 ) -> Result<Vec<RowChange>, AllocError>
     ensures { IfOk result (λ rows. rows.items ≡ rows_beside from.items to.items) }
 {
@@ -76,8 +119,8 @@ fn rows_beside(
 pub fn changed_rows(
     alloc: Global,
     compare: &Comparison<'_>,
-    from: Vec<SettingRow>,
-    to: Vec<SettingRow>,
+    from: Vec<SideRow>,
+    to: Vec<SideRow>,
 ) -> Result<Vec<RowChange>, AllocError>
     ensures { IfOk result (λ rows. rows.items ≡ changed_rows
         (is_change compare.now.sources.from.now compare.now.sources.to.now compare.now.with_origins)
@@ -99,17 +142,26 @@ pub fn changes_of(
 ) -> Result<Option<TestChanges>, AllocError>
     ensures { IfOk result (λ changes. MatchOption changes
         (changed_rows (is_change compare.now.sources.from.now compare.now.sources.to.now
-        compare.now.with_origins) (rows_in from) (rows_in to) ≡ [])
+        compare.now.with_origins) (rows_in compare.now.with_runs from)
+        (rows_in compare.now.with_runs to) ≡ [])
         (IsChangedTest (is_change compare.now.sources.from.now compare.now.sources.to.now
-        compare.now.with_origins) from to)) }
+        compare.now.with_origins) compare.now.with_runs from to)) }
 {
-    let from = rows_of(from.runs, from.settings)?;
+    let left = SideRow {
+        row: from.runs,
+        is_ignored: from.is_ignored,
+    };
+    let right = SideRow {
+        row: to.runs,
+        is_ignored: to.is_ignored,
+    };
     let test = TestId {
         binary: to.binary,
         name: to.name,
         platform: to.platform,
     };
-    let to = rows_of(to.runs, to.settings)?;
+    let from = rows_of(alloc, compare.with_runs, left, from.settings)?;
+    let to = rows_of(alloc, compare.with_runs, right, to.settings)?;
     let rows = changed_rows(alloc, compare, from, to)?;
     if rows.is_empty() {
         Ok(None)

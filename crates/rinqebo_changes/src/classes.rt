@@ -3,10 +3,10 @@ ghost use Rattle.std.specs.Prelude.{◌≡◌, IfOk, MatchOption, [], filter, ma
 ghost use Rattle.std.specs.List.{All};
 ghost use Rattle.rinqebo_changes.specs.Classes.{same_item, same_row, item_view, items_of, class_items, AreClasses, HasHead, IsFirstLeast};
 
-use crate::change::{RowChange, TestChanges};
+use crate::change::{RowChange, SideRow, TestChanges};
 use crate::same::is_same_setting;
 use crate::same_origin::are_same_origins;
-use rinqebo_report::{SettingRow, TestId};
+use rinqebo_report::TestId;
 use std::alloc::{AllocError, Global};
 
 /// A setting of a test that changes.
@@ -18,16 +18,16 @@ pub struct Item<'c> {
     pub row: &'c RowChange,
 }
 
-/// Changes that stand together.
+/// Changes that are put together.
 #[derive(Drop)]
 pub struct Class<'c> {
-    /// One of them, with which all stand together.
+    /// One of them, with which all are put together.
     pub head: Item<'c>,
     /// All of them, in their order.
     pub items: Vec<Item<'c>>,
 }
 
-/// When changes stand together.
+/// When changes are put together.
 #[derive(Clone, Copy)]
 pub enum ClassRule {
     /// The same setting changes from the same value and origins to the same value and origins.
@@ -36,15 +36,17 @@ pub enum ClassRule {
     Binary,
 }
 
-/// Whether two rows of a side have the same value and the same origins.
-fn is_same_row(a: &SettingRow, b: &SettingRow) -> bool
+/// Whether two rows of a side have the same value, which comes from the same.
+fn is_same_row(a: &SideRow, b: &SideRow) -> bool
     ensures { result ≡ same_row a.now b.now }
 {
-    is_same_setting(&a.value, &b.value) && are_same_origins(&a.origins, &b.origins)
+    is_same_setting(&a.row.value, &b.row.value)
+        && a.is_ignored == b.is_ignored
+        && are_same_origins(&a.row.origins, &b.row.origins)
 }
 
 impl ClassRule {
-    /// Whether two changes stand together.
+    /// Whether two changes are put together.
     fn is_same(self, a: &Item<'_>, b: &Item<'_>) -> bool
         ensures { result ≡ same_item self a.now b.now }
     {
@@ -88,7 +90,7 @@ fn first_of<'c>(items: &[Item<'c>]) -> Option<Item<'c>>
     Some(first)
 }
 
-/// The changes that stand together with one.
+/// The changes that are put together with one.
 fn together_with<'c>(
     alloc: Global,
     rule: ClassRule,
@@ -104,7 +106,7 @@ fn together_with<'c>(
         .collect(alloc)
 }
 
-/// The changes that do not stand together with one.
+/// The changes that are not put together with one.
 fn apart_from<'c>(
     alloc: Global,
     rule: ClassRule,

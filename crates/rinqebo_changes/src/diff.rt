@@ -9,7 +9,7 @@ pub struct Side {
     pub root: String,
     /// Its sources, the lowest first.
     pub sources: Vec<Source>,
-    /// What was asked for.
+    /// Its profile, mode and platforms.
     pub asked: Asked,
 }
 

@@ -1,11 +1,11 @@
 //! A diff as notices of GitHub's workflows, beside the lines of the right side.
 ghost use Rattle.std.specs.Prelude.{◌≡◌, ◌++◌, OnOk, IfOk, string_bytes};
-ghost use Rattle.rinqebo_changes.specs.GithubPage.{place_in, site_of, change_text, notice_text, group_notice, IsGithubText};
+ghost use Rattle.rinqebo_changes.specs.GithubPage.{place_in, first_place, site_of, change_text, notice_text, group_notice, IsGithubText};
 
-use crate::change::RowChange;
+use crate::change::{RowChange, SideRow};
 use crate::diff::Diff;
 use crate::groups::{Group, groups_of};
-use crate::text_page::{other_key, setting_text};
+use crate::texts::{other_key, setting_text};
 use rinqebo_report::{FilePlace, Origin, add_file, add_message, add_property};
 use std::alloc::{AllocError, Global};
 
@@ -21,8 +21,8 @@ fn place_in(origin: &Origin) -> Option<FilePlace>
 }
 
 /// The place of the first of origins, if it is in a file.
-fn site_of(origins: &[Origin]) -> Option<FilePlace>
-    ensures { result ≡ site_of origins.now }
+fn first_place(origins: &[Origin]) -> Option<FilePlace>
+    ensures { result ≡ first_place origins.now }
 {
     match origins.first() {
         Some(origin) => place_in(origin),
@@ -30,14 +30,25 @@ fn site_of(origins: &[Origin]) -> Option<FilePlace>
     }
 }
 
+/// The place from which the value of a side comes, if it is in a file.
+fn site_of(given: &SideRow) -> Option<FilePlace>
+    ensures { result ≡ site_of given.now }
+{
+    if given.is_ignored {
+        None
+    } else {
+        first_place(&given.row.origins)
+    }
+}
+
 /// A change on one line.
 fn change_text(alloc: Global, row: &RowChange) -> Result<String, AllocError>
     ensures { IfOk result (λ text. string_bytes text ≡ change_text row.now) }
 {
-    let from = setting_text(alloc, &row.from.value)?;
+    let from = setting_text(alloc, &row.from.row.value)?;
     let other = other_key(alloc, row)?;
-    let to = setting_text(alloc, &row.to.value)?;
-    let mut text = String::from_str(alloc, row.from.key.as_str())?;
+    let to = setting_text(alloc, &row.to.row.value)?;
+    let mut text = String::from_str(alloc, row.from.row.key.as_str())?;
     text.push_str(": ")?;
     text.push_str(from.as_str())?;
     text.push_str(" -> ")?;
@@ -60,9 +71,9 @@ fn add_notice(
 {
     let text = change_text(alloc, row)?;
     out.push_str("::notice ")?;
-    add_file(out, workspace, &diff.to.sources, site_of(&row.to.origins))?;
+    add_file(out, workspace, &diff.to.sources, site_of(&row.to))?;
     out.push_str("title=")?;
-    add_property(out, row.from.key.as_str())?;
+    add_property(out, row.from.row.key.as_str())?;
     out.push_str("::")?;
     add_message(out, text.as_str())?;
     out.push_str(tests)?;

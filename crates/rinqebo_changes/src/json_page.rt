@@ -4,24 +4,29 @@ ghost use Rattle.serde_json.specs.View.{view};
 ghost use Rattle.rinqebo_report.specs.Documents.{list_data, test_id_data};
 ghost use Rattle.rinqebo_changes.specs.Documents.{given_data, change_data, item_data, group_tests_data, group_data, side_data, IsDiffDocument, IsDiffJson};
 
-use crate::change::RowChange;
+use crate::change::{RowChange, SideRow};
 use crate::classes::Item;
 use crate::diff::{Diff, Side};
 use crate::groups::{Group, groups_of};
 use rinqebo_report::{
-    SettingRow, TestId, optional_text_json, optional_value_json, origins_json, sources_json,
-    test_id_json, texts_json,
+    TestId, optional_text_json, optional_value_json, origins_json, sources_json, test_id_json,
+    texts_json,
 };
 use serde_json::{Value, json};
 use std::alloc::{AllocError, Global};
 
 /// What a side gives to a setting.
-fn given_json(alloc: Global, row: &SettingRow) -> Result<Value, AllocError>
-    ensures { IfOk result (λ value. view value ≡ given_data row.now) }
+fn given_json(alloc: Global, given: &SideRow) -> Result<Value, AllocError>
+    ensures { IfOk result (λ value. view value ≡ given_data given.now) }
 {
-    let origins = origins_json(alloc, &row.origins)?;
-    let value = optional_value_json(alloc, &row.value)?;
-    json!(in alloc; {"key": row.key.as_str(), "origins": origins, "value": value})
+    let key = given.row.key.as_str();
+    let origins = origins_json(alloc, &given.row.origins)?;
+    let value = optional_value_json(alloc, &given.row.value)?;
+    if given.is_ignored {
+        json!(in alloc; {"ignored": true, "key": key, "origins": origins, "value": value})
+    } else {
+        json!(in alloc; {"key": key, "origins": origins, "value": value})
+    }
 }
 
 /// Adds the tests of changes to a list.

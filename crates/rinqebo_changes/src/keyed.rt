@@ -1,8 +1,9 @@
 //! What changes between two lists of rows that may have different keys.
-ghost use Rattle.std.specs.Prelude.{◌≡◌, IfOk, string_bytes};
-ghost use Rattle.rinqebo_changes.specs.Keyed.{IsAbsent, AreAligned, AreKeyedChanges};
+ghost use Rattle.std.specs.Prelude.{◌≡◌, false, IfOk, MatchOption};
+ghost use Rattle.std.specs.List.{AllZip};
+ghost use Rattle.rinqebo_changes.specs.Keyed.{has_key, IsAbsent, IsAbsentFor, IsPlaceOf, IsTaken, AreBeside, AreAligned, AreKeyedChanges};
 
-use crate::change::{Comparison, RowChange, changed_rows};
+use crate::change::{Comparison, RowChange, changed_rows, side_rows};
 use crate::same_origin::TwoSources;
 use rinqebo_report::SettingRow;
 use std::alloc::{AllocError, Global};
@@ -25,14 +26,48 @@ fn absent(alloc: Global, key: &str) -> Result<SettingRow, AllocError>
     })
 }
 
-/// Takes the row of a key out of rows, or makes one that says that there is none.
-fn taken(alloc: Global, rows: &mut Vec<SettingRow>, key: &str) -> Result<SettingRow, AllocError>
-    ensures { IfOk result (λ row. string_bytes row.key ≡ key.now) }
+/// The place of the first row of a key, if there is one.
+fn place_of(rows: &[SettingRow], key: &str) -> Option<usize>
+    ensures { MatchOption result (has_key rows.now key.now ≡ false) (IsPlaceOf key.now rows.now) }
 {
-    match rows.iter().position(|row| row.key.as_str() == key) {
+    rows.iter().position(|row| row.key.as_str() == key)
+}
+
+/// Takes the first row of a key out of rows, or makes one that says that there is none.
+fn taken(alloc: Global, rows: &mut Vec<SettingRow>, key: &str) -> Result<SettingRow, AllocError>
+    ensures { IfOk result (λ row. IsTaken key.now rows.old.items row rows.new.items) }
+{
+    match place_of(rows.as_slice(), key) {
         Some(place) => Ok(rows.remove(place)),
         None => absent(alloc, key),
     }
+}
+
+/// The rows to put beside those of the left side, by their keys. They are taken out of those of the
+/// right side.
+fn beside(
+    alloc: Global,
+    from: &[SettingRow],
+    rest: &mut Vec<SettingRow>,
+) -> Result<Vec<SettingRow>, AllocError>
+    ensures { IfOk result (λ right. AreBeside rest.old.items from.now right.items rest.new.items) }
+{
+    let mut right = Vec::new(alloc);
+    for row in from {
+        right.push(taken(alloc, rest, row.key.as_str())?)?;
+    }
+    Ok(right)
+}
+
+/// The rows to put beside those that the right side has alone.
+fn absent_rows(alloc: Global, rows: &[SettingRow]) -> Result<Vec<SettingRow>, AllocError>
+    ensures { IfOk result (λ absent. AllZip IsAbsentFor rows.now absent.items) }
+{
+    let mut made = Vec::new(alloc);
+    for row in rows {
+        made.push(absent(alloc, row.key.as_str())?)?;
+    }
+    Ok(made)
 }
 
 /// Puts the rows of the right side beside those of the left side, by their keys.
@@ -41,15 +76,11 @@ fn align(alloc: Global, from: Vec<SettingRow>, to: Vec<SettingRow>) -> Result<Al
         rows.right.items) }
 {
     let mut rest = to;
-    let (mut left, mut right) = (Vec::new(alloc), Vec::new(alloc));
-    for row in from {
-        right.push(taken(alloc, &mut rest, row.key.as_str())?)?;
-        left.push(row)?;
-    }
-    for row in rest {
-        left.push(absent(alloc, row.key.as_str())?)?;
-        right.push(row)?;
-    }
+    let mut right = beside(alloc, &from, &mut rest)?;
+    let mut made = absent_rows(alloc, &rest)?;
+    let mut left = from;
+    left.append(&mut made)?;
+    right.append(&mut rest)?;
     Ok(Aligned { left, right })
 }
 
@@ -66,6 +97,9 @@ pub fn keyed_changes(
     let compare = Comparison {
         sources: TwoSources { from: &[], to: &[] },
         with_origins: false,
+        with_runs: false,
     };
-    changed_rows(alloc, &compare, rows.left, rows.right)
+    let from = side_rows(alloc, rows.left)?;
+    let to = side_rows(alloc, rows.right)?;
+    changed_rows(alloc, &compare, from, to)
 }

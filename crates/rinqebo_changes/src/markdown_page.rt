@@ -1,13 +1,14 @@
 //! A diff as a table for a comment.
-ghost use Rattle.std.specs.Prelude.{◌≡◌, ◌++◌, OnOk, IfOk, flat_map, string_bytes};
-ghost use Rattle.rinqebo_changes.specs.MarkdownPage.{is_mark, marked_char, marked_text, given_cell, test_cell, item_cell, whole_cell, binary_cell, cells_text, group_line, run_line, alone_line, last_text, IsMarkdownText};
+ghost use Rattle.std.specs.Prelude.{◌≡◌, ◌++◌, OnOk, IfOk, Some, flat_map, string_bytes};
+ghost use Rattle.rinqebo_changes.specs.MarkdownPage.{is_mark, marked_char, marked_text, source_cell, given_cell, test_cell, item_cell, whole_cell, binary_cell_at, binary_cell, cells_text, group_line, run_line, alone_line, last_text, IsMarkdownText};
 
-use crate::change::RowChange;
+use crate::change::{RowChange, SideRow};
 use crate::classes::Item;
 use crate::diff::{Diff, Side};
 use crate::groups::{Group, groups_of};
-use crate::text_page::{is_whole, origins_text, setting_text};
-use rinqebo_report::{SettingRow, TestId};
+use crate::text_page::is_whole;
+use crate::texts::{has_source, setting_text, source_text};
+use rinqebo_report::TestId;
 use std::alloc::{AllocError, Global};
 
 /// The head of the table.
@@ -30,9 +31,10 @@ fn add_char(out: &mut String, c: char) -> Result<(), AllocError>
     if c.is_control() {
         return out.push(' ');
     }
-    if is_mark(c) {
-        out.push('\\')?;
+    if !is_mark(c) {
+        return out.push(c);
     }
+    out.push('\\')?;
     out.push(c)
 }
 
@@ -46,24 +48,37 @@ fn add_text(out: &mut String, text: &str) -> Result<(), AllocError>
     Ok(())
 }
 
+/// Writes where the value of a side comes from, on a line of its own, if that is known.
+fn add_source(
+    alloc: Global,
+    out: &mut String,
+    side: &Side,
+    given: &SideRow,
+) -> Result<(), AllocError>
+    ensures { OnOk result (string_bytes out.new
+        ≡ string_bytes out.old ++ source_cell side.now given.now) }
+{
+    if !has_source(given) {
+        return Ok(());
+    }
+    let source = source_text(alloc, side, given)?;
+    out.push_str("<br>")?;
+    add_text(out, source.as_str())
+}
+
 /// Writes what a side gives: its value, and where that comes from.
 fn add_given(
     alloc: Global,
     out: &mut String,
     side: &Side,
-    row: &SettingRow,
+    given: &SideRow,
 ) -> Result<(), AllocError>
     ensures { OnOk result (string_bytes out.new
-        ≡ string_bytes out.old ++ given_cell side.now row.now) }
+        ≡ string_bytes out.old ++ given_cell side.now given.now) }
 {
-    let value = setting_text(alloc, &row.value)?;
+    let value = setting_text(alloc, &given.row.value)?;
     add_text(out, value.as_str())?;
-    if row.origins.is_empty() {
-        return Ok(());
-    }
-    let origins = origins_text(alloc, side, &row.origins)?;
-    out.push_str("<br>")?;
-    add_text(out, origins.as_str())
+    add_source(alloc, out, side, given)
 }
 
 /// Writes a test.
@@ -97,6 +112,26 @@ fn add_whole(alloc: Global, out: &mut String, binary: &str, count: usize) -> Res
     out.push_str(count.as_str())
 }
 
+/// Writes the changes of a binary's tests, of which one is the first: once where they are all, unless
+/// each is listed.
+fn add_from(
+    alloc: Global,
+    out: &mut String,
+    diff: &Diff,
+    lists_all: bool,
+    items: &[Item<'_>],
+    first: &Item<'_>,
+) -> Result<(), AllocError>
+    ensures { OnOk result (string_bytes out.new ≡ string_bytes out.old
+        ++ binary_cell_at diff.now.binaries.items lists_all items.now (Some first.now)) }
+{
+    if !lists_all && is_whole(diff, items) {
+        add_whole(alloc, out, first.test.binary.as_str(), items.len())
+    } else {
+        add_tests(out, items)
+    }
+}
+
 /// Writes the changes of a binary's tests.
 fn add_binary(
     alloc: Global,
@@ -109,10 +144,8 @@ fn add_binary(
         ++ binary_cell diff.now.binaries.items lists_all items.now) }
 {
     match items.first() {
-        Some(item) if !lists_all && is_whole(diff, items) => {
-            add_whole(alloc, out, item.test.binary.as_str(), items.len())
-        }
-        _ => add_tests(out, items),
+        Some(first) => add_from(alloc, out, diff, lists_all, items, first),
+        None => add_tests(out, items),
     }
 }
 
@@ -127,7 +160,7 @@ fn add_cells(
         ++ cells_text diff.now row.now) }
 {
     out.push_str("| ")?;
-    add_text(out, row.to.key.as_str())?;
+    add_text(out, row.to.row.key.as_str())?;
     out.push_str(" | ")?;
     add_given(alloc, out, &diff.from, &row.from)?;
     out.push_str(" | ")?;

@@ -1,9 +1,11 @@
 //! Whether two origins are the same: within one side, and across the two sides.
 ghost use Rattle.std.specs.Prelude.{◌≡◌, Some};
 ghost use Rattle.std.specs.Option.{option_eq};
-ghost use Rattle.rinqebo_changes.specs.SameOrigin.{same_lines, same_place, same_part, same_written, same_origin, same_origins, like_kind, like_source, like_origin, like_origins};
+ghost use Rattle.rinqebo_changes.specs.SameOrigin.{same_lines, same_position, same_range, same_place, same_part, same_written, same_origin, same_origins, like_kind, like_source, like_origin, like_origins};
 
-use rinqebo_report::{FileLines, FilePlace, Origin, Part, Source, SourceKind, Written};
+use rinqebo_report::{
+    FileLines, FilePlace, Origin, Part, Position, Range, Source, SourceKind, Written,
+};
 
 /// Whether lines are the same, or not known twice.
 fn are_same_lines(a: Option<FileLines>, b: Option<FileLines>) -> bool
@@ -16,11 +18,29 @@ fn are_same_lines(a: Option<FileLines>, b: Option<FileLines>) -> bool
     }
 }
 
-/// Whether two places are in the same lines of the same source.
+/// Whether two positions are the same.
+fn is_same_position(a: Position, b: Position) -> bool
+    ensures { result ≡ same_position a b }
+{
+    a.line == b.line && a.column == b.column
+}
+
+/// Whether ranges are the same, or not known twice.
+fn are_same_ranges(a: Option<Range>, b: Option<Range>) -> bool
+    ensures { result ≡ option_eq same_range a b }
+{
+    match (a, b) {
+        (Some(a), Some(b)) => is_same_position(a.start, b.start) && is_same_position(a.end, b.end),
+        (None, None) => true,
+        _ => false,
+    }
+}
+
+/// Whether two places are the same lines and the same range of the same source.
 fn is_same_place(a: FilePlace, b: FilePlace) -> bool
     ensures { result ≡ same_place a b }
 {
-    a.source == b.source && are_same_lines(a.lines, b.lines)
+    a.source == b.source && are_same_lines(a.lines, b.lines) && are_same_ranges(a.range, b.range)
 }
 
 /// Whether two parts of a profile are the same.

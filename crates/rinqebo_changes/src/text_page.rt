@@ -1,54 +1,17 @@
 //! The page of a diff.
-ghost use Rattle.std.specs.Prelude.{◌≡◌, ◌++◌, OnOk, IfOk, codes, flat_map, string_bytes};
-ghost use Rattle.rinqebo_report.specs.Joined.{joined};
+ghost use Rattle.std.specs.Prelude.{◌≡◌, ◌++◌, OnOk, IfOk, Some, flat_map, string_bytes};
 ghost use Rattle.rinqebo_report.specs.Pieces.{page_text};
-ghost use Rattle.rinqebo_changes.specs.Pages.{setting_text, origins_text, other_key, value_runs, heading_runs, two_site_runs, site_runs, change_runs, names_runs, test_runs, whole_runs, total_of, is_whole, item_runs, binary_runs, group_runs, target_text, asked_text, file_text, remark_runs, both_runs, head_runs, listed_runs, run_runs, count_runs, IsDiffText};
+ghost use Rattle.rinqebo_changes.specs.Pages.{value_runs, heading_runs, two_site_runs, site_runs, change_runs, names_runs, test_runs, whole_runs, total_of, whole_at, is_whole, item_runs, binary_runs_at, binary_runs, group_runs, remark_runs, both_runs, head_runs, listed_runs, run_runs, count_runs, IsDiffText};
 
 use crate::change::RowChange;
 use crate::classes::Item;
-use crate::diff::{BinaryTests, Diff, Side};
+use crate::diff::{BinaryTests, Diff};
 use crate::groups::{Group, groups_of};
-use rinqebo_report::{
-    Colour, Origin, Piece, Style, TestId, Value, add_origins, add_pieces, path_at, value_text,
+use crate::texts::{
+    asked_text, both_text, file_text, has_source, other_key, setting_text, source_text,
 };
+use rinqebo_report::{Colour, Piece, Style, TestId, add_pieces};
 use std::alloc::{AllocError, Global};
-
-/// What a page shows where there is no value and no origin.
-const NONE: &str = "none";
-
-/// A value as a text.
-pub fn setting_text(alloc: Global, value: &Option<Value>) -> Result<String, AllocError>
-    ensures { IfOk result (λ text. string_bytes text ≡ setting_text value.now) }
-{
-    match value {
-        Some(value) => value_text(alloc, value),
-        None => String::from_str(alloc, NONE),
-    }
-}
-
-/// Where the value of a side comes from, as a text.
-pub fn origins_text(alloc: Global, side: &Side, origins: &[Origin]) -> Result<String, AllocError>
-    ensures { IfOk result (λ text. string_bytes text ≡ origins_text side.now origins.now) }
-{
-    if origins.is_empty() {
-        return String::from_str(alloc, NONE);
-    }
-    let mut text = String::new(alloc);
-    add_origins(&mut text, side.root.as_str(), &side.sources, origins)?;
-    Ok(text)
-}
-
-/// The key of the right side, where it is another one.
-pub fn other_key(alloc: Global, row: &RowChange) -> Result<String, AllocError>
-    ensures { IfOk result (λ text. string_bytes text ≡ other_key row.now) }
-{
-    let mut text = String::new(alloc);
-    if row.from.key.as_str() != row.to.key.as_str() {
-        text.push_str(row.to.key.as_str())?;
-        text.push_str(": ")?;
-    }
-    Ok(text)
-}
 
 /// Writes a line with a setting, and its two values.
 fn add_values<'x>(
@@ -88,12 +51,12 @@ fn add_heading(
         ++ page_text colour (heading_runs row.now)) }
 {
     let other = other_key(alloc, row)?;
-    let from = setting_text(alloc, &row.from.value)?;
-    let to = setting_text(alloc, &row.to.value)?;
+    let from = setting_text(alloc, &row.from.row.value)?;
+    let to = setting_text(alloc, &row.to.row.value)?;
     add_values(
         out,
         colour,
-        row.from.key.as_str(),
+        row.from.row.key.as_str(),
         from.as_str(),
         other.as_str(),
         to.as_str(),
@@ -134,11 +97,11 @@ fn add_sites(
     ensures { OnOk result (string_bytes out.new ≡ string_bytes out.old
         ++ page_text colour (site_runs diff.now row.now)) }
 {
-    if row.from.origins.is_empty() && row.to.origins.is_empty() {
+    if !has_source(&row.from) && !has_source(&row.to) {
         return Ok(());
     }
-    let from = origins_text(alloc, &diff.from, &row.from.origins)?;
-    let to = origins_text(alloc, &diff.to, &row.to.origins)?;
+    let from = source_text(alloc, &diff.from, &row.from)?;
+    let to = source_text(alloc, &diff.to, &row.to)?;
     add_two_sites(out, colour, from.as_str(), to.as_str())
 }
 
@@ -224,14 +187,20 @@ pub fn total_of(binaries: &[BinaryTests], binary: &str) -> usize
     0
 }
 
+/// Whether so many changes of tests of the binary of a first one are those of all its tests, of which
+/// there are several.
+fn is_whole_at(binaries: &[BinaryTests], count: usize, first: &Item<'_>) -> bool
+    ensures { result ≡ whole_at binaries.now count (Some first.now) }
+{
+    1 < count && count == total_of(binaries, first.test.binary.as_str())
+}
+
 /// Whether changes of a binary's tests are those of all its tests, of which there are several.
 pub fn is_whole(diff: &Diff, items: &[Item<'_>]) -> bool
     ensures { result ≡ is_whole diff.now.binaries.items items.now }
 {
     match items.first() {
-        Some(item) => {
-            items.len() > 1 && items.len() == total_of(&diff.binaries, item.test.binary.as_str())
-        }
+        Some(first) => is_whole_at(&diff.binaries, items.len(), first),
         None => false,
     }
 }
@@ -247,7 +216,28 @@ fn add_tests(out: &mut String, colour: Colour, items: &[Item<'_>]) -> Result<(),
     Ok(())
 }
 
-/// Writes the changes of a binary's tests: in one line where they are all, unless each is listed.
+/// Writes the changes of a binary's tests, of which one is the first: in one line where they are all,
+/// unless each is listed.
+fn add_from(
+    out: &mut String,
+    colour: Colour,
+    diff: &Diff,
+    lists_all: bool,
+    items: &[Item<'_>],
+    first: &Item<'_>,
+) -> Result<(), AllocError>
+    ensures { OnOk result (string_bytes out.new ≡ string_bytes out.old
+        ++ page_text colour (binary_runs_at diff.now.binaries.items lists_all items.now
+        (Some first.now))) }
+{
+    if !lists_all && is_whole(diff, items) {
+        add_whole(out, colour, first.test.binary.as_str(), items.len())
+    } else {
+        add_tests(out, colour, items)
+    }
+}
+
+/// Writes the changes of a binary's tests.
 fn add_binary(
     out: &mut String,
     colour: Colour,
@@ -259,10 +249,8 @@ fn add_binary(
         ++ page_text colour (binary_runs diff.now.binaries.items lists_all items.now)) }
 {
     match items.first() {
-        Some(item) if !lists_all && is_whole(diff, items) => {
-            add_whole(out, colour, item.test.binary.as_str(), items.len())
-        }
-        _ => add_tests(out, colour, items),
+        Some(first) => add_from(out, colour, diff, lists_all, items, first),
+        None => add_tests(out, colour, items),
     }
 }
 
@@ -303,57 +291,6 @@ fn add_groups(
     Ok(())
 }
 
-/// Writes profiles, the nearest first.
-fn add_chain(out: &mut String, chain: &[String]) -> Result<(), AllocError>
-    ensures { OnOk result (string_bytes out.new
-        ≡ string_bytes out.old ++ joined (codes " < ") string_bytes chain.now) }
-{
-    let mut separator = "";
-    for profile in chain {
-        out.push_str(separator)?;
-        out.push_str(profile.as_str())?;
-        separator = " < ";
-    }
-    Ok(())
-}
-
-/// Writes a target, if there is one.
-fn add_target(out: &mut String, target: &Option<String>) -> Result<(), AllocError>
-    ensures { OnOk result (string_bytes out.new ≡ string_bytes out.old ++ target_text target.now) }
-{
-    match target {
-        Some(target) => {
-            out.push_str(", target ")?;
-            out.push_str(target.as_str())
-        }
-        None => Ok(()),
-    }
-}
-
-/// What was asked of a side, as a text.
-pub fn asked_text(alloc: Global, side: &Side) -> Result<String, AllocError>
-    ensures { IfOk result (λ text. string_bytes text ≡ asked_text side.now.asked) }
-{
-    let asked = &side.asked;
-    let mut text = String::from_str(alloc, "profile ")?;
-    add_chain(&mut text, &asked.chain)?;
-    text.push_str(", ")?;
-    text.push_str(asked.mode.word())?;
-    text.push_str(", ")?;
-    text.push_str(asked.host.as_str())?;
-    text.push_str(if asked.assumes_host { " (assumed)" } else { "" })?;
-    add_target(&mut text, &asked.target)?;
-    Ok(text)
-}
-
-/// The file of a side that lies above all others, as a text: without a file, the defaults.
-pub fn file_text<'s>(side: &'s Side) -> &'s str
-    ensures { result.now ≡ file_text side.now }
-{
-    let last = side.sources.len().saturating_sub(1);
-    path_at(side.root.as_str(), &side.sources, last)
-}
-
 /// Writes a line that is said beside.
 fn add_remark(out: &mut String, colour: Colour, text: &str) -> Result<(), AllocError>
     ensures { OnOk result (string_bytes out.new ≡ string_bytes out.old
@@ -373,11 +310,7 @@ fn add_both(
     ensures { OnOk result (string_bytes out.new ≡ string_bytes out.old
         ++ page_text colour (both_runs from.now to.now)) }
 {
-    let text = if from == to {
-        format!(in alloc; "# {from}")?
-    } else {
-        format!(in alloc; "# from {from}  to {to}")?
-    };
+    let text = both_text(alloc, from, to)?;
     add_remark(out, colour, text.as_str())
 }
 

@@ -1,1 +1,7 @@
-mod Comparing
+pub mod Zips
+pub mod Comparing
+pub mod Matching
+pub mod RunRows
+pub mod Sides
+pub mod Failing
+pub mod EqualSides

@@ -11,6 +11,10 @@ pub record TestPair : Type 0 where
   pub from : ListTest
   pub to : ListTest
 
+-- A pair is of one test.
+pub record IsOneTest (pair : TestPair) : Type 0 where
+  pub same : pair.from ≡ pair.to
+
 -- a pair of tests
 abbrev pub pair_view : Pair → TestPair
 pair_view pair = record { from = list_test_view pair.from; to = list_test_view pair.to }

@@ -1,5 +1,5 @@
 -- What goes out of a diff.
-use Rattle.std.specs.Prelude.{ℕ, List}
+use Rattle.std.specs.Prelude.{ℕ, List, Option}
 use Rattle.std.specs.Io.KnownBytes.{Appends}
 use Rattle.rinqebo_changes.specs.Documents.{IsDiffJson}
 use Rattle.rinqebo_changes.specs.GithubPage.{IsGithubText}
@@ -22,7 +22,7 @@ abbrev pub IsRendered : DiffRequest → Diff → List ℕ → Type 0
 IsRendered request = IsRenderedAs request.format request
 
 -- A writer gets a diff in the format of a request.
-pub record TellsDiff (request : DiffRequest) (diff : Diff) (before after : List ℕ) : Type 0 where
+pub record TellsDiff (request : DiffRequest) (diff : Diff) (before after : Option (List ℕ)) : Type 0 where
   pub text : List ℕ
   pub is_text : IsRendered request diff text
   pub appended : Appends before after text

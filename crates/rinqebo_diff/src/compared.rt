@@ -1,5 +1,6 @@
 //! Compares what the two sides give to the tests that both have, one test after another.
-ghost use Rattle.std.specs.Prelude.{◌≡◌, IfOk, map};
+ghost use Rattle.std.specs.Prelude.{◌≡◌, ◌++◌, IfOk, OnOk, map};
+ghost use Rattle.std.specs.Option.{option_to_list};
 ghost use Rattle.filter_language.specs.Filtersets.{marks_view};
 ghost use Rattle.filter_engine.specs.Compiling.{names_of};
 ghost use Rattle.filter_engine.specs.Engine.{filter_holds};
@@ -32,18 +33,28 @@ fn compared_pair<'c, 'd>(
 ) -> Result<Option<TestChanges>, AllocError>
     ensures same_from { from_origins.new ≡ from_origins.old }
     ensures same_to { to_origins.new ≡ to_origins.old }
-    ensures told { IfOk result (IsComparedBy (ReportsBy filter_holds from_origins.old
+    ensures changes { IfOk result (IsComparedBy (ReportsBy filter_holds from_origins.old
         (profile_meaning (marks_view names_of) from.now.profile.now) from.now.mode
         from.now.asked.now)
         (ReportsBy filter_holds to_origins.old
         (profile_meaning (marks_view names_of) to.now.profile.now) to.now.mode
         to.now.asked.now)
         (is_change compare.now.sources.from.now compare.now.sources.to.now
-        compare.now.with_origins) (pair_view pair.now)) }
+        compare.now.with_origins) compare.now.with_runs (pair_view pair.now)) }
 {
     let before = from.rows_of(alloc, &pair.from, from_tally, from_origins)?;
     let after = to.rows_of(alloc, &pair.to, to_tally, to_origins)?;
     changes_of(alloc, compare, before, after)
+}
+
+/// Adds what changes for a test, if something does.
+fn add_found(changed: &mut Vec<TestChanges>, found: Option<TestChanges>) -> Result<(), AllocError>
+    ensures { OnOk result (changed.new.items ≡ changed.old.items ++ option_to_list found) }
+{
+    if let Some(test) = found {
+        changed.push(test)?;
+    }
+    Ok(())
 }
 
 /// What changes for the tests that both sides have, in their order: those of which a setting changes.
@@ -65,7 +76,8 @@ pub fn compared<'c, 'd, P: Progress>(
         (profile_meaning (marks_view names_of) to.now.profile.now) to.now.mode
         to.now.asked.now)
         (is_change compare.now.sources.from.now compare.now.sources.to.now
-        compare.now.with_origins) (map pair_view pairs.now) changed.items) }
+        compare.now.with_origins) compare.now.with_runs (map pair_view pairs.now)
+        changed.items) }
 {
     let mut changed = Vec::new(alloc);
     let mut from_tally = NextestTally::new();
@@ -83,9 +95,7 @@ pub fn compared<'c, 'd, P: Progress>(
             from_origins,
             to_origins,
         )?;
-        if let Some(test) = found {
-            changed.push(test)?;
-        }
+        add_found(&mut changed, found)?;
         done += 1;
         progress.asked(done, pairs.len());
     }

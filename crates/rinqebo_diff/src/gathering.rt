@@ -15,7 +15,7 @@ pub struct GatheredSides {
     pub to: Gathered,
 }
 
-/// A copy of what came of a read.
+/// A copy of the outcome of a read.
 fn copy_of(outcome: &ReadOutcome) -> Result<ReadOutcome, AllocError> {
     Ok(match outcome {
         ReadOutcome::Text(text) => ReadOutcome::Text(text.clone()?),
@@ -25,7 +25,7 @@ fn copy_of(outcome: &ReadOutcome) -> Result<ReadOutcome, AllocError> {
     })
 }
 
-/// Reads the files that the two sides of a request name, with what came of reading standard input.
+/// Reads the files that the two sides of a request name, with the outcome of reading standard input.
 pub fn gather_sides<R: FileReader>(
     alloc: Global,
     request: &DiffRequest<'_>,

@@ -1,12 +1,13 @@
 //! What changes between two sides of a configuration: two files, profiles, platforms, modes or lists.
 //!
-//! [`perform_diff`] answers a request for a diff over the files that its sides name. [`diff_answer`]
-//! gives the answer as a value.
+//! [`perform_diff`] writes what changes between the sides of a request, over the files that they name.
+//! [`diff_answer`] returns it as a value, and [`diff_page`] as a text.
 #![tactic(auto)]
 
 mod compared;
 mod format;
 mod gathering;
+mod laws;
 mod loaded;
 mod matched;
 mod options;
@@ -17,8 +18,8 @@ mod sides;
 mod words;
 
 pub use gathering::{GatheredSides, gather_sides};
+pub use laws::law_equal_sides;
 pub use loaded::{DiffFailure, Loaded, SideName, load_side};
-pub use perform::{DiffAnswer, diff_answer, perform_diff};
+pub use perform::{DiffAnswer, diff_answer, diff_page, perform_diff};
 pub use request::{AnyCommand, DiffFormat, DiffRequest, DiffSide};
-pub use sides::diff_of;
 pub use words::parse_all;

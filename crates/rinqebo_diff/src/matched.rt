@@ -40,12 +40,7 @@ fn first_place(tests: &[ListedTest<'_>], test: &ListedTest<'_>) -> Option<usize>
         (is_in (map list_test_view tests.now) (list_test_view test.now) ≡ false)
         (IsPlaceOf (map list_test_view tests.now) (list_test_view test.now)) }
 {
-    for (place, one) in tests.iter().enumerate() {
-        if is_same_test(one, test) {
-            return Some(place);
-        }
-    }
-    None
+    tests.iter().position(|one| is_same_test(one, test))
 }
 
 /// The place of a test among tests, if it is one of them. It is looked for at a place first.

@@ -1,7 +1,11 @@
-//! Answers a request for a diff, and writes the answer.
-ghost use Rattle.std.specs.Prelude.{◌≡◌, ◌⊎◌, ◌≤◌, IfOk};
-ghost use Rattle.rinqebo_diff.specs.Differences.{diff_status, Answers, Differs};
+//! Writes what changes between the sides of a request.
+ghost use Rattle.std.specs.Prelude.{◌≡◌, ◌⊎◌, ◌≤◌, IfErr, IfOk, string_bytes};
+ghost use Rattle.rinqebo_diff.specs.Differences.{diff_status, HasResult, Differs, IsPageOf};
+ghost use Rattle.rinqebo_diff.specs.Failing.{DiffFails, HasCause};
+ghost use Rattle.rinqebo_diff.specs.Statuses.{HasFailureStatus, TellsDiffFailure, TellsRefusal};
 ghost use Rattle.rinqebo_diff.specs.Written.{TellsDiff};
+ghost use Rattle.rinqebo_run.specs.Refused.{TellsFailure};
+ghost use Rattle.rinqebo_run.specs.Statuses.{failure_status};
 
 use crate::format::render_diff;
 use crate::loaded::{DiffFailure, SideName, load_side};
@@ -11,17 +15,17 @@ use rinqebo_changes::Diff;
 use rinqebo_files::Gathered;
 use rinqebo_load::Failure;
 use rinqebo_report::{Report, render_findings};
-use rinqebo_rules::Progress;
+use rinqebo_rules::{NoProgress, Progress};
 use rinqebo_run::{ProgressLine, Status, refuse_for_memory, refuse_in, tell};
 use std::alloc::{AllocError, Global};
 use std::io::Write;
 
-/// The answer to a request for a diff.
+/// The result of a request for a diff.
 #[derive(Drop)]
 pub struct DiffAnswer {
     /// What changes.
     pub diff: Diff,
-    /// The sources of the right side, and what is warned of.
+    /// The sources of the right side, and the warnings about them.
     pub report: Report,
 }
 
@@ -33,7 +37,8 @@ pub fn diff_answer<P: Progress>(
     to: &Gathered,
     progress: &mut P,
 ) -> Result<DiffAnswer, DiffFailure>
-    ensures { IfOk result (λ answer. Differs request.now from.now to.now answer.diff) }
+    ensures ok { IfOk result (λ answer. Differs request.now from.now to.now answer.diff) }
+    ensures err { IfErr result (DiffFails request.now from.now to.now) }
 {
     let left = match load_side(alloc, &request.from, from) {
         Ok(left) => left,
@@ -50,6 +55,21 @@ pub fn diff_answer<P: Progress>(
     })
 }
 
+/// What a request for a diff prints, over the files that its sides name.
+pub fn diff_page(
+    alloc: Global,
+    request: &DiffRequest<'_>,
+    from: &Gathered,
+    to: &Gathered,
+) -> Result<String, DiffFailure>
+    ensures ok { IfOk result
+        (λ text. IsPageOf request.now from.now to.now (string_bytes text)) }
+    ensures err { IfErr result (DiffFails request.now from.now to.now) }
+{
+    let answer = diff_answer(alloc, request, from, to, &mut NoProgress)?;
+    Ok(render_diff(alloc, &answer.diff, request)?)
+}
+
 /// The exit status of a diff: 0 where nothing changes, else 1.
 fn status_of(diff: &Diff) -> u8
     ensures { result ≡ diff_status diff.now }
@@ -62,41 +82,35 @@ fn status_of(diff: &Diff) -> u8
 }
 
 /// The side that a message is about.
-fn side_word(side: SideName) -> &'static str {
+fn side_note(side: SideName) -> &'static str {
     match side {
-        SideName::From => "note: the left side (`from`) answers nothing:\n",
-        SideName::To => "note: the right side (`to`) answers nothing:\n",
+        SideName::From => "note: no result for the left side (`from`):\n",
+        SideName::To => "note: no result for the right side (`to`):\n",
     }
 }
 
-/// The request of a side.
-fn side_in<'r, 'a>(request: &'r DiffRequest<'a>, side: SideName) -> &'r DiffSide<'a> {
-    match side {
-        SideName::From => &request.from,
-        SideName::To => &request.to,
-    }
-}
-
-/// Writes why a side answers nothing, and which one, and returns the exit status.
+/// Writes why a side has no result, and which one, and returns the exit status.
 fn refuse_side<O: Write, E: Write>(
     alloc: Global,
-    request: &DiffRequest<'_>,
-    side: SideName,
+    name: SideName,
+    side: &DiffSide<'_>,
     failure: &Failure,
     out: &mut O,
     err: &mut E,
 ) -> u8
-    ensures low { 2 ≤ result }
-    ensures high { result ≤ 6 }
+    ensures status { (result ≡ failure_status failure.now) ⊎ (result ≡ 5) ⊎ (result ≡ 6) }
+    ensures quiet { (result ≡ 6) ⊎ (O.contents out.new ≡ O.contents out.old)
+        ⊎ TellsFailure failure.now side.now.request result
+        (O.contents out.old) (O.contents out.new) }
 {
-    let told = tell(side_word(side), Status::Success as u8, err);
+    let told = tell(side_note(name), Status::Success as u8, err);
     if told != Status::Success as u8 {
         return told;
     }
-    refuse_in(alloc, failure, &side_in(request, side).request, out, err)
+    refuse_in(alloc, failure, &side.request, out, err)
 }
 
-/// Writes why a diff answers nothing, and returns the exit status.
+/// Writes why a diff has no result, and returns the exit status.
 fn refuse_diff<O: Write, E: Write>(
     alloc: Global,
     request: &DiffRequest<'_>,
@@ -104,16 +118,23 @@ fn refuse_diff<O: Write, E: Write>(
     out: &mut O,
     err: &mut E,
 ) -> u8
-    ensures low { 2 ≤ result }
-    ensures high { result ≤ 6 }
+    ensures status { HasFailureStatus failure.now result }
+    ensures quiet { (result ≡ 6) ⊎ (O.contents out.new ≡ O.contents out.old)
+        ⊎ TellsDiffFailure request.now failure.now result
+        (O.contents out.old) (O.contents out.new) }
 {
     match failure {
-        DiffFailure::Side(_, Failure::Memory) | DiffFailure::Memory => refuse_for_memory(err),
-        DiffFailure::Side(side, failure) => refuse_side(alloc, request, *side, failure, out, err),
+        DiffFailure::Side(SideName::From, failure) => {
+            refuse_side(alloc, SideName::From, &request.from, failure, out, err)
+        }
+        DiffFailure::Side(SideName::To, failure) => {
+            refuse_side(alloc, SideName::To, &request.to, failure, out, err)
+        }
+        DiffFailure::Memory => refuse_for_memory(err),
     }
 }
 
-/// What is warned of beside a page: a document has nothing beside it.
+/// The warnings beside a page: a document has nothing beside it.
 fn notes_of(
     alloc: Global,
     request: &DiffRequest<'_>,
@@ -127,7 +148,7 @@ fn notes_of(
     }
 }
 
-/// Writes an answer: what is warned of, and then the diff.
+/// Writes a result: the warnings, and then the diff.
 fn tell_answer<O: Write, E: Write>(
     alloc: Global,
     request: &DiffRequest<'_>,
@@ -136,6 +157,8 @@ fn tell_answer<O: Write, E: Write>(
     err: &mut E,
 ) -> u8
     ensures status { (result ≡ diff_status answer.now.diff) ⊎ (result ≡ 5) ⊎ (result ≡ 6) }
+    ensures quiet { (result ≡ diff_status answer.now.diff) ⊎ (result ≡ 6)
+        ⊎ (O.contents out.new ≡ O.contents out.old) }
     ensures page { (result ≡ 5) ⊎ (result ≡ 6) ⊎ TellsDiff request.now answer.now.diff
         (O.contents out.old) (O.contents out.new) }
 {
@@ -152,10 +175,11 @@ fn tell_answer<O: Write, E: Write>(
     tell(text.as_str(), status_of(&answer.diff), out)
 }
 
-/// Answers a request for a diff over the files that its sides name, and returns the exit status: 0
-/// where nothing changes, 1 where something does, 2 for a list, platforms and metadata that are not
-/// understood, 3 where the files of a side are refused, 4 where a side has no such profile, 5 for want
-/// of memory, 6 where a write fails.
+/// Writes what changes between the sides of a request, over the files that they name, and returns the
+/// exit status: 0 where nothing changes, 1 where something does, 2 for a list, platforms and metadata
+/// that are not understood, 3 where the files of a side are refused, 4 where a side has no such profile,
+/// 5 for want of memory, 6 where a write fails. Where there is no result, standard output gets nothing,
+/// but for JSON a document of why the files of a side are refused or lack its profile.
 pub fn perform_diff<O: Write, E: Write>(
     alloc: Global,
     request: &DiffRequest<'_>,
@@ -165,8 +189,12 @@ pub fn perform_diff<O: Write, E: Write>(
     err: &mut E,
 ) -> u8
     ensures status { result ≤ 6 }
-    ensures page { result ≤ 1 → Answers request.now from.now to.now result
+    ensures page { result ≤ 1 → HasResult request.now from.now to.now result
         (O.contents out.old) (O.contents out.new) }
+    ensures quiet { (result ≤ 1) ⊎ (result ≡ 6) ⊎ (O.contents out.new ≡ O.contents out.old)
+        ⊎ TellsRefusal request.now from.now to.now result
+        (O.contents out.old) (O.contents out.new) }
+    ensures cause { HasCause request.now from.now to.now result }
 {
     let mut progress = ProgressLine::new(&mut *err, request.shows_progress);
     let answer = diff_answer(alloc, request, from, to, &mut progress);

@@ -1,9 +1,9 @@
-//! What is asked of two sides.
+//! Requests for what changes between two sides.
 use nextest_config::NextestRunMode;
 use rinqebo_report::Colour;
 use rinqebo_request::{Command, Request, RequestedSettings};
 
-/// What is asked of a side.
+/// A side of a request.
 #[derive(Drop)]
 pub struct DiffSide<'a> {
     /// Its files, engines, features and list.
@@ -28,15 +28,17 @@ pub enum DiffFormat<'a> {
     Markdown,
 }
 
-/// What is asked of two sides.
+/// A request for what changes between two sides.
 #[derive(Drop)]
 pub struct DiffRequest<'a> {
     /// The left side, from which something changes.
     pub from: DiffSide<'a>,
     /// The right side, to which something changes.
     pub to: DiffSide<'a>,
-    /// Which settings are compared.
+    /// Which settings of tests are compared.
     pub asked: RequestedSettings,
+    /// Whether what changes for the whole run is compared too.
+    pub with_run: bool,
     /// Whether other origins are a change too, where the values are the same.
     pub with_origins: bool,
     /// Whether each test of a group is listed, also where it has all tests of a binary.
@@ -45,7 +47,7 @@ pub struct DiffRequest<'a> {
     pub format: DiffFormat<'a>,
     /// Whether the page has colours.
     pub colour: Colour,
-    /// Whether standard error is told how far the diff is.
+    /// Whether standard error shows how far the diff is.
     pub shows_progress: bool,
 }
 
@@ -56,7 +58,7 @@ impl DiffRequest<'_> {
     }
 }
 
-/// What words ask for: a diff, or what another command does.
+/// What words request: a diff, or what another command does.
 #[derive(Drop)]
 pub enum AnyCommand<'a> {
     /// What changes between two sides.

@@ -14,7 +14,7 @@ use rinqebo_request::{
     ConfigFile, EngineOptions, Environment, FileOptions, ListFile, ParseStop, ProfileSource,
     Question, Request, RequestedSettings, set,
 };
-use std::alloc::{AllocError, Global};
+use std::alloc::Global;
 
 /// Whether an option of the right side is given.
 fn has_right_side(matches: &ArgMatches<'_>) -> bool {
@@ -31,7 +31,20 @@ fn list_file<'a>(path: &'a str) -> ListFile<'a> {
     }
 }
 
-/// A request of a side, which asks for no settings of its own.
+/// How it is written that a side has no result.
+fn side_format<'a>(matches: &ArgMatches<'a>) -> Format<'a> {
+    match matches.get_str("format") {
+        Some("json") => Format::Json,
+        _ => Format::Text,
+    }
+}
+
+/// Whether what changes for the whole run is compared: it is unless settings are named.
+fn compares_run(matches: &ArgMatches<'_>) -> bool {
+    matches.get_strs("KEY").unwrap_or(&[]).is_empty()
+}
+
+/// The request of a side.
 fn side_request<'a>(
     alloc: Global,
     matches: &ArgMatches<'a>,
@@ -58,7 +71,7 @@ fn side_request<'a>(
             files,
             engines,
             features: features(alloc, matches, environment)?,
-            format: Format::Text,
+            format: side_format(matches),
             colour: colour(matches, environment),
             shows_progress: false,
         },
@@ -132,7 +145,7 @@ fn right_engines<'a>(matches: &ArgMatches<'a>, left: EngineOptions<'a>) -> Engin
         host_cfg: matches.get_str("to-host-cfg").or(left.host_cfg),
         target_cfg: matches.get_str("to-target-cfg").or(left.target_cfg),
         metadata: matches.get_str("to-metadata").or(left.metadata),
-        ..left
+        build_target: left.build_target,
     }
 }
 
@@ -192,6 +205,7 @@ fn diff_request<'a>(
         from: side_request(alloc, matches, environment, left)?,
         to: side_request(alloc, matches, environment, right)?,
         asked: explained_rows(alloc, matches, mode)?,
+        with_run: compares_run(matches),
         with_origins: matches.get_flag("origins"),
         lists_all: matches.get_flag("all"),
         format: diff_format(matches, environment),

@@ -1,4 +1,4 @@
-//! Findings of values that may not stand where they do.
+//! Findings of values that a file may not have where it writes them.
 use crate::delays::add_delays;
 use crate::expected::expected_at;
 use crate::findings::SourceAt;
@@ -172,8 +172,8 @@ fn add_missing(
         Some(table) => stray_key(alloc, path, table, key)?,
         None => None,
     };
-    let at = match stray {
-        Some(stray) => path_with(alloc, path, stray)?,
+    let at = match &stray {
+        Some(stray) => path_with(alloc, path, stray.as_str())?,
         None => Vec::from_slice(alloc, path)?,
     };
     let mut found = refused.part_at(Code::MissingKey, &at, SpanPart::Key, wrong.as_str())?;
@@ -189,7 +189,7 @@ fn add_missing(
     refused.add_finding(found)
 }
 
-/// A value that may not stand where it does.
+/// Adds that a value is refused.
 pub fn add_element(refused: &mut Refused<'_, '_>, fault: &ElementFault) -> Result<(), AllocError> {
     let alloc = refused.alloc;
     let told = Fault::Value(&fault.cause);

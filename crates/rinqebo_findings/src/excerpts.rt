@@ -10,7 +10,7 @@ const WITH_LINES: usize = 100;
 /// How many lines a finding has at most.
 const MOST_LINES: usize = 3;
 
-/// A part of a file, and the sign that stands below it.
+/// A part of a file, and the sign below it.
 #[derive(Clone, Copy)]
 pub struct Mark {
     /// The sign.

@@ -90,12 +90,12 @@ pub fn keys_note(alloc: Global, path: &[Step<'_>]) -> Result<Option<String>, All
 
 /// The key of a table that it does not know, and that is nearest to a key which it lacks, if one is
 /// near.
-pub fn stray_key<'t>(
+pub fn stray_key(
     alloc: Global,
     path: &[Step<'_>],
-    table: &'t Tree,
+    table: &Tree,
     missing: &str,
-) -> Result<Option<&'t str>, AllocError> {
+) -> Result<Option<String>, AllocError> {
     let Some(members) = table.as_table() else {
         return Ok(None);
     };
@@ -106,7 +106,10 @@ pub fn stray_key<'t>(
             strays.push(key.as_str())?;
         }
     }
-    nearest_name(alloc, missing, &strays)
+    match nearest_name(alloc, missing, &strays)? {
+        Some(key) => Ok(Some(String::from_str(alloc, key)?)),
+        None => Ok(None),
+    }
 }
 
 /// The header of the script that is meant by the first key of a table at `script.setup` or

@@ -46,6 +46,12 @@ flat_more f xs i x d below same =
     ap (flat_map f) (take_more xs i d below ∙ ap (λ z. take i xs ++ z ∷ []) (sym same))
     ∙ flat_map-append f (take i xs) (x ∷ []) ∙ ap (λ l. flat_map f (take i xs) ++ l) (append-nil (f x))
 
+-- what f gives for the elements so far and for one more
+pub flat_step : {X Y : Type 0} (f : X → List Y) (xs : List X) (i : ℕ) (x d : X) → i < length xs → x ≡ get_or xs i d
+    → (old new : List Y) → old ≡ flat_map f (take i xs) → new ≡ old ++ f x → new ≡ flat_map f (take (i + 1) xs)
+flat_step f xs i x d below same old new is added =
+    added ∙ ap (λ l. l ++ f x) is ∙ sym (flat_more f xs i x d below same)
+
 -- behind an item that is a text
 text_first : (item : Node) (items : List Node) (t : List ℕ) → Some t ≡ as_text item
     → are_texts (nodes_of (item ∷ items)) ≡ are_texts (nodes_of items)
@@ -130,7 +136,7 @@ one_item spot steps longer items i item d old so_far new below same long is adde
     let taken : map tree_view (take (i + 1) items) ≡ front ++ tree_view item ∷ [] =
     ap (map tree_view) (take_more items i d below ∙ ap (λ z. take i items ++ z ∷ []) (sym same))
     ∙ map-append tree_view (take i items) (item ∷ []) in
-    let count : i ≡ length front = counted i items below in
+    let count : i ≡ 0 + length front = omega (arith, counted i items below) in
     added ∙ (λ j. is j ++ leaves_in spot (long j) (tree_view item))
     ∙ append_assoc old (item_leaves spot steps 0 (nodes_of front)) (leaves_in spot (steps ++ position i ∷ []) (tree_view item))
     ∙ ap (λ ls. old ++ ls) (sym (item_leaves-last spot steps 0 front (tree_view item) i (count))

@@ -20,8 +20,8 @@ use Rattle.rinqebo_report.specs.declared.origin.Written.{Written}
 use Rattle.rinqebo_report.specs.declared.report.Entry.{Entry}
 use Rattle.rinqebo_rules.specs.LeafValue.{IsValueOf, are_texts, is_tellable}
 use Rattle.rinqebo_rules.specs.Origins.{PathStep, key, position, step_view}
-use Rattle.rinqebo_rules.specs.declared.spelled_leaves.SpelledLeaf.{SpelledLeaf}
-use Rattle.rinqebo_rules.specs.declared.spelled_leaves.Spot.{Spot as HeldSpot}
+use Rattle.rinqebo_rules.specs.declared.spelled.SpelledLeaf.{SpelledLeaf}
+use Rattle.rinqebo_rules.specs.declared.spelled.Spot.{Spot as HeldSpot}
 
 -- where something is written as it is shown: under a profile, or without one beside the profiles, at a
 -- key, in the layer at a position

@@ -210,7 +210,8 @@ impl<'c> ListPage<'c, '_> {
             (O.contents out.old) (O.contents out.new)) }
     {
         let text = render_list_head(alloc, asked, self.colour)?;
-        write_text(text.as_str(), out)
+        write_text(text.as_str(), out)?;
+        Ok(())
     }
 
     /// Writes what stands behind the tests: how many there are, and the rules that hold for none,

@@ -14,11 +14,11 @@ invariant-loop-pair g l = record {
   from_same : l.from_origins ≡ l.initial.from_origins;
   to_same : l.to_origins ≡ l.initial.to_origins;
   count : l.done ≡ l.pair-index;
-  told : AreCompared
+  compared : AreCompared
       (ReportsBy filter_holds l.initial.from_origins (profile_meaning (marks_view names_of) l.from.profile.now) l.from.mode
       l.from.asked.now)
       (ReportsBy filter_holds l.initial.to_origins (profile_meaning (marks_view names_of) l.to.profile.now) l.to.mode
       l.to.asked.now)
-      (is_change l.compare.sources.from.now l.compare.sources.to.now l.compare.with_origins)
+      (is_change l.compare.sources.from.now l.compare.sources.to.now l.compare.with_origins) l.compare.with_runs
       (map pair_view (take l.pair-index l.pairs)) l.changed.items;
 }

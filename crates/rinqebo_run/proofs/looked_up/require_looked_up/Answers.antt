@@ -4,14 +4,15 @@ use Rattle.filter_language.specs.Filtersets.{marks_view}
 use Rattle.nextest_profiles.specs.Meaning.{profile_meaning}
 use Rattle.rinqebo_rules.specs.EvaluatedFilters.{placed_view}
 use Rattle.rinqebo_run.proofs.LookedUp.{fails_for, first_asks, open_here}
-use Rattle.rinqebo_run.proofs.Refused.{want_evaluated}
 use Rattle.rinqebo_run.proofs.looked_up.require_looked_up.Goals as goal
 
 pub failure_of-requires : goal.failure_of-requires
-failure_of-requires c =
-    first_asks c.args.session.now.engines.filters.packages
-    (profile_meaning (marks_view names_of) c.in_ok-on.on) _ (map placed_view c.in-Some.ensures.0)
-    (sym c.in_ok-found.ensures ∙ ap (map placed_view) (sym c.deref.ensures.value ∙ c.in-Some.ensures.1))
+failure_of-requires c = record {
+  asks = first_asks c.args.session.now.engines.filters.packages
+      (profile_meaning (marks_view names_of) c.in_ok-on.on) (placed_view c.in-Some.first)
+      (map placed_view c.in-Some.ensures.0)
+      (sym c.in_ok-found.ensures ∙ ap (map placed_view) (sym c.deref.ensures.value ∙ c.in-Some.ensures.1));
+}
 
 pub returns-in-None-clause-ok : goal.returns-in-None-clause-ok
 returns-in-None-clause-ok c =
@@ -19,11 +20,11 @@ returns-in-None-clause-ok c =
     c.requires.means c.in_ok-on.ensures c.in_ok-found.ensures
     (ap (map placed_view) (sym c.deref.ensures.value ∙ c.in-None.ensures))
 
-pub returns-in-Some-clause-err : goal.returns-in-Some-clause-err
-returns-in-Some-clause-err c =
-    fails_for c.args.session.now c.args.profile.now _ (placed_view c.in-Some.first)
+pub returns-clause-err : goal.returns-clause-err
+returns-clause-err c =
+    fails_for c.args.session.now c.args.profile.now c.in_ok-failure_of-in-Some.field-0 (placed_view c.in-Some.first)
     (map placed_view c.in-Some.ensures.0)
     (open_here c.args.session.now c.args.config.now c.args.profile.now c.in_ok-on.on c.in_ok-found.found.items _
     c.requires.means c.in_ok-on.ensures c.in_ok-found.ensures
     (ap (map placed_view) (sym c.deref.ensures.value ∙ c.in-Some.ensures.1)))
-    c.in_ok-failure_of.ensures
+    c.in_ok-failure_of-in-Some.ensures

@@ -6,7 +6,7 @@ use Rattle.nextest_inheritance.specs.View.{borrowed_view}
 use Rattle.nextest_profiles.specs.Meaning.{profile_meaning}
 use Rattle.rinqebo_run.proofs.Listing.{listed_here}
 use Rattle.rinqebo_run.proofs.Requests.{requested_on}
-use Rattle.rinqebo_run.proofs.Writing.{all_first, first_here, none_first, passed_stop, stops_behind, whole_page}
+use Rattle.rinqebo_run.proofs.Writing.{all_first, first_here, none_first, passed_stop, stops_behind, stops_so, whole_page}
 use Rattle.rinqebo_run.specs.Begun.{AreFirstWritten}
 use Rattle.rinqebo_run.specs.ListedBy.{basis_of}
 use Rattle.rinqebo_run.specs.Written.{AreFirstBy}
@@ -44,6 +44,18 @@ returns-clause-page g c =
     let all : c.len.result ≡ length rows.tests.items = omega (arith, rows.tests.ok.0) in
     whole_page self.head.now self.colour c.in_ok-asked.asked c.in_ok-rows.rows.tests.items c.in_ok-unused.unused.items
     _ _ _ _ _ all c.in_ok-write_head.ensures.ok c.in_ok-rows.ensures.page c.in_ok-unused.ensures.page
+
+pub returns-in_err-write_head-clause-err : goal.returns-in_err-write_head-clause-err
+returns-in_err-write_head-clause-err g c =
+    let self = c.args.self.now in
+    let list = self.list in
+    let old = g.O.Write.contents c.args.out.now in
+    let new = g.O.Write.contents c.write_head.new.out in
+    passed_stop _ c.from_residual-in_err-write_head.result c.in_err-write_head.field-0.0
+    c.from_residual-in_err-write_head.ensures.1
+    (stops_so (λ _. ⊥) (λ _. ⊥) ⊥
+    (AreFirstBy self.session.now self.config.now list.profile.now list.mode list.settings.now self.colour old new)
+    old new c.in_err-write_head.field-0.0 (λ _ none. none) (λ none. absurd none) c.in_err-write_head.ensures.err)
 
 pub returns-in_err-rows-clause-err : goal.returns-in_err-rows-clause-err
 returns-in_err-rows-clause-err g c =

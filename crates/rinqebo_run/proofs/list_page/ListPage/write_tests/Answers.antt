@@ -1,13 +1,15 @@
-use Rattle.std.proofs.Common.{◌∙◌, inl, refl, subst}
+use Rattle.std.proofs.Common.{◌∙◌, ap, inl, map, refl, subst}
 use Rattle.std.proofs.lemmas.List.{take_all}
 use Rattle.std.specs.List.{AllZip}
 use Rattle.filter_language.specs.Filtersets.{marks_view}
+use Rattle.nextest_engines.specs.Engines.{test_view}
 use Rattle.nextest_lists.specs.ListView.{list_test_view}
 use Rattle.filter_engine.specs.Compiling.{names_of}
 use Rattle.filter_engine.specs.Engine.{filter_holds}
 use Rattle.nextest_profiles.specs.Meaning.{profile_meaning}
 use Rattle.nextest_settings.specs.Queries.{query_in}
 use Rattle.rinqebo_rules.specs.Rows.{IsTestReported}
+use Rattle.rinqebo_rules.specs.Unused.{AreUnusedIn}
 use Rattle.rinqebo_rules.proofs.Listing.{zip_mapped}
 use Rattle.rinqebo_rules.proofs.RowsMore.{zip_more_by}
 use Rattle.rinqebo_run.specs.declared.list_fault.ListFault.TheVariants as faults
@@ -73,3 +75,9 @@ returns-in_err-queries-clause-err g c =
     (inl (first_so_far c.args.origins.now asking.mode (profile_meaning (marks_view names_of) asking.profile.now) asking.asked.now
     self.head.now self.colour c.args.listed.now c.loop-test.test-index c.loop-test.tests.items _ _ before.told
     before.page))
+
+pub returns-clause-unused : goal.returns-clause-unused
+returns-clause-unused g c =
+    let profile = profile_meaning (marks_view names_of) c.args.asking.now.profile.now in
+    subst (λ tests. AreUnusedIn (map (query_in filter_holds profile) tests) profile c.in_ok-unused.unused)
+    (ap (map test_view) c.deref.ensures.value ∙ c.in_ok-queries.ensures) c.in_ok-unused.ensures

@@ -1,0 +1,7 @@
+use Rattle.rinqebo_run.proofs.run.answer_in.Goals as goal
+
+pub returns-in-Explain-clause-ok : goal.returns-in-Explain-clause-ok
+returns-in-Explain-clause-ok g c = rw c.in-Explain.is c.explain_test.ensures.ok
+
+pub returns-in-Why-clause-ok : goal.returns-in-Why-clause-ok
+returns-in-Why-clause-ok g c = rw c.in-Why.is c.why_of_test.ensures.ok
