@@ -1,6 +1,6 @@
 -- The table of codes: the word of each, the name that nextest-runner has for it, what it means, an
 -- example, what to do, and the example corrected.
-use Rattle.std.specs.Prelude.{ℕ, List, [], ◌∷◌, ◌++◌, Option, None, Some, codes}
+use Rattle.std.specs.Prelude.{ℕ, List, [], ◌∷◌, Option, None, Some, codes}
 use Rattle.rinqebo_codes.specs.declared.code.Code.{Code}
 use Rattle.rinqebo_codes.specs.declared.code.Code.TheVariants as variants
 
@@ -152,40 +152,46 @@ code_example variants.MissingKey = codes "[test-groups.db]" ∷ []
 code_example variants.InvalidValue = codes "[profile.ci]" ∷ codes "status-level = 'loud'" ∷ []
 code_example variants.OutOfRange = codes "[profile.ci]" ∷ codes "retries = -1" ∷ []
 code_example variants.MaxDelayBelowDelay =
-    codes "Raise `max-delay`, or lower `delay`."
+    codes "[profile.ci.retries]" ∷ codes "backoff = 'exponential'" ∷ codes "count = 2"
+    ∷ codes "delay = '10s'" ∷ codes "max-delay = '1s'" ∷ []
 code_example variants.RefusedKey =
-    codes "Remove the key."
+    codes "[scripts.setup.db]" ∷ codes "command = { command-line = 'make db', dir = 'x' }" ∷ []
 code_example variants.ForeignGroup =
     codes "[test-groups.'@tool:lint:db']" ∷ codes "max-threads = 1" ∷ []
 code_example variants.ForeignScript =
     codes "[scripts.setup.'@tool:lint:db']" ∷ codes "command = 'make db'" ∷ []
 code_example variants.TwoScriptTables =
-    codes "Move all scripts to `scripts.setup`."
+    codes "[script.db]" ∷ codes "command = 'make db'" ∷ codes "[scripts.setup.user]"
+    ∷ codes "command = 'make user'" ∷ []
 code_example variants.FeatureOff = codes "[scripts.setup.db]" ∷ codes "command = 'make db'" ∷ []
 code_example variants.DuplicateScript =
-    codes "Rename one of them."
+    codes "[scripts.setup.db]" ∷ codes "command = 'make db'" ∷ codes "[scripts.wrapper.db]"
+    ∷ codes "command = 'with-db'" ∷ []
 code_example variants.DefaultInherits = codes "[profile.default]" ∷ codes "inherits = 'ci'" ∷ []
 code_example variants.InheritsItself = codes "[profile.ci]" ∷ codes "inherits = 'ci'" ∷ []
 code_example variants.UnknownParent =
     codes "[profile.ci]" ∷ codes "inherits = 'bse'" ∷ codes "[profile.base]" ∷ []
 code_example variants.InheritanceCycle =
-    codes "Remove one `inherits`."
-code_example variants.InvalidFilter =
-    codes "[profile.ci]" ∷ codes "default-filter = 'test(db'" ∷ []
+    codes "[profile.a]" ∷ codes "inherits = 'b'" ∷ codes "[profile.b]" ∷ codes "inherits = 'a'" ∷ []
+code_example variants.InvalidFilter = codes "[profile.ci]" ∷ codes "default-filter = 'test(db'" ∷ []
 code_example variants.InvalidPlatform =
-    codes "Correct the part that is marked."
+    codes "[[profile.ci.overrides]]" ∷ codes "platform = 'cfg(unix'" ∷ codes "retries = 1" ∷ []
 code_example variants.RuleWithoutCondition =
     codes "[[profile.ci.overrides]]" ∷ codes "retries = 1" ∷ []
 code_example variants.TwoFilters =
-    codes "Remove one of them."
+    codes "[[profile.ci.overrides]]" ∷ codes "platform = 'cfg(unix)'" ∷ codes "filter = 'all()'"
+    ∷ codes "default-filter = 'all()'" ∷ []
 code_example variants.UnknownGroup =
-    codes "Name a group that is defined, or define it."
+    codes "[test-groups.db]" ∷ codes "max-threads = 1" ∷ codes "[[profile.ci.overrides]]"
+    ∷ codes "filter = 'test(db)'" ∷ codes "test-group = 'bd'" ∷ []
 code_example variants.UnknownScript =
-    codes "Name a script that is defined, or define it."
+    codes "[scripts.setup.db]" ∷ codes "command = 'make db'" ∷ codes "[[profile.ci.scripts]]"
+    ∷ codes "filter = 'test(db)'" ∷ codes "setup = 'bd'" ∷ []
 code_example variants.WrongScriptKind =
-    codes "Name the script at the key of its kind."
+    codes "[scripts.setup.db]" ∷ codes "command = 'make db'" ∷ codes "[[profile.ci.scripts]]"
+    ∷ codes "filter = 'test(db)'" ∷ codes "run-wrapper = 'db'" ∷ []
 code_example variants.ListWrapperFilter =
-    codes "Ask for packages, binaries or kinds."
+    codes "[[profile.ci.scripts]]" ∷ codes "filter = 'test(db)'" ∷ codes "list-wrapper = 'db'" ∷ []
 code_example variants.UnknownProfile = codes "rinqebo explain --profile cii api db_test" ∷ []
 code_example variants.UnknownTest = codes "rinqebo explain --list list.json api db_tset" ∷ []
 code_example variants.SeveralTests = codes "rinqebo explain --list list.json db_test" ∷ []
@@ -245,18 +251,22 @@ code_correction variants.MissingKey = codes "[test-groups.db]" ∷ codes "max-th
 code_correction variants.InvalidValue = codes "[profile.ci]" ∷ codes "status-level = 'all'" ∷ []
 code_correction variants.OutOfRange = codes "[profile.ci]" ∷ codes "retries = 1" ∷ []
 code_correction variants.MaxDelayBelowDelay =
-    codes "Raise `max-delay`, or lower `delay`."
+    codes "[profile.ci.retries]" ∷ codes "backoff = 'exponential'" ∷ codes "count = 2"
+    ∷ codes "delay = '1s'" ∷ codes "max-delay = '10s'" ∷ []
 code_correction variants.RefusedKey =
     codes "[scripts.setup.db]" ∷ codes "command = { command-line = 'make db' }" ∷ []
 code_correction variants.ForeignGroup = codes "[test-groups.db]" ∷ codes "max-threads = 1" ∷ []
 code_correction variants.ForeignScript =
     codes "[scripts.setup.db]" ∷ codes "command = 'make db'" ∷ []
 code_correction variants.TwoScriptTables =
-    codes "Move all scripts to `scripts.setup`."
+    codes "[scripts.setup.db]" ∷ codes "command = 'make db'" ∷ codes "[scripts.setup.user]"
+    ∷ codes "command = 'make user'" ∷ []
 code_correction variants.FeatureOff =
-    codes "Switch it on, in the file or by `--experimental`."
+    codes "experimental = ['setup-scripts']" ∷ codes "[scripts.setup.db]"
+    ∷ codes "command = 'make db'" ∷ []
 code_correction variants.DuplicateScript =
-    codes "Rename one of them."
+    codes "[scripts.setup.db]" ∷ codes "command = 'make db'" ∷ codes "[scripts.wrapper.with-db]"
+    ∷ codes "command = 'with-db'" ∷ []
 code_correction variants.DefaultInherits = codes "[profile.default]" ∷ []
 code_correction variants.InheritsItself = codes "[profile.ci]" ∷ codes "inherits = 'default'" ∷ []
 code_correction variants.UnknownParent =
@@ -266,19 +276,24 @@ code_correction variants.InheritanceCycle =
 code_correction variants.InvalidFilter =
     codes "[profile.ci]" ∷ codes "default-filter = 'test(db)'" ∷ []
 code_correction variants.InvalidPlatform =
-    codes "Correct the part that is marked."
+    codes "[[profile.ci.overrides]]" ∷ codes "platform = 'cfg(unix)'" ∷ codes "retries = 1" ∷ []
 code_correction variants.RuleWithoutCondition =
     codes "[[profile.ci.overrides]]" ∷ codes "filter = 'all()'" ∷ codes "retries = 1" ∷ []
 code_correction variants.TwoFilters =
-    codes "Remove one of them."
+    codes "[[profile.ci.overrides]]" ∷ codes "platform = 'cfg(unix)'"
+    ∷ codes "default-filter = 'all()'" ∷ []
 code_correction variants.UnknownGroup =
-    codes "Name a group that is defined, or define it."
+    codes "[test-groups.db]" ∷ codes "max-threads = 1" ∷ codes "[[profile.ci.overrides]]"
+    ∷ codes "filter = 'test(db)'" ∷ codes "test-group = 'db'" ∷ []
 code_correction variants.UnknownScript =
-    codes "Name a script that is defined, or define it."
+    codes "[scripts.setup.db]" ∷ codes "command = 'make db'" ∷ codes "[[profile.ci.scripts]]"
+    ∷ codes "filter = 'test(db)'" ∷ codes "setup = 'db'" ∷ []
 code_correction variants.WrongScriptKind =
-    codes "Name the script at the key of its kind."
+    codes "[scripts.setup.db]" ∷ codes "command = 'make db'" ∷ codes "[[profile.ci.scripts]]"
+    ∷ codes "filter = 'test(db)'" ∷ codes "setup = 'db'" ∷ []
 code_correction variants.ListWrapperFilter =
-    codes "Ask for packages, binaries or kinds."
+    codes "[[profile.ci.scripts]]" ∷ codes "filter = 'package(db)'"
+    ∷ codes "list-wrapper = 'db'" ∷ []
 code_correction variants.UnknownProfile = codes "rinqebo explain --profile ci api db_test" ∷ []
 code_correction variants.UnknownTest = codes "rinqebo explain --list list.json api db_test" ∷ []
 code_correction variants.SeveralTests = codes "rinqebo explain --list list.json api db_test" ∷ []
