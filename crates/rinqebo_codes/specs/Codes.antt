@@ -152,8 +152,8 @@ code_example variants.MissingKey = codes "[test-groups.db]" ∷ []
 code_example variants.InvalidValue = codes "[profile.ci]" ∷ codes "status-level = 'loud'" ∷ []
 code_example variants.OutOfRange = codes "[profile.ci]" ∷ codes "retries = -1" ∷ []
 code_example variants.MaxDelayBelowDelay =
-    codes "[profile.ci.retries]" ∷ codes "backoff = 'exponential'" ∷ codes "count = 2"
-    ∷ codes "delay = '10s'" ∷ codes "max-delay = '1s'" ∷ []
+    codes "[profile.ci.retries]" ∷ codes "backoff = 'exponential'" ∷ codes "count = 2" ∷
+    codes "delay = '10s'" ∷ codes "max-delay = '1s'" ∷ []
 code_example variants.RefusedKey =
     codes "[scripts.setup.db]" ∷ codes "command = { command-line = 'make db', dir = 'x' }" ∷ []
 code_example variants.ForeignGroup =
@@ -161,12 +161,12 @@ code_example variants.ForeignGroup =
 code_example variants.ForeignScript =
     codes "[scripts.setup.'@tool:lint:db']" ∷ codes "command = 'make db'" ∷ []
 code_example variants.TwoScriptTables =
-    codes "[script.db]" ∷ codes "command = 'make db'" ∷ codes "[scripts.setup.user]"
-    ∷ codes "command = 'make user'" ∷ []
+    codes "[script.db]" ∷ codes "command = 'make db'" ∷ codes "[scripts.setup.user]" ∷
+    codes "command = 'make user'" ∷ []
 code_example variants.FeatureOff = codes "[scripts.setup.db]" ∷ codes "command = 'make db'" ∷ []
 code_example variants.DuplicateScript =
-    codes "[scripts.setup.db]" ∷ codes "command = 'make db'" ∷ codes "[scripts.wrapper.db]"
-    ∷ codes "command = 'with-db'" ∷ []
+    codes "[scripts.setup.db]" ∷ codes "command = 'make db'" ∷ codes "[scripts.wrapper.db]" ∷
+    codes "command = 'with-db'" ∷ []
 code_example variants.DefaultInherits = codes "[profile.default]" ∷ codes "inherits = 'ci'" ∷ []
 code_example variants.InheritsItself = codes "[profile.ci]" ∷ codes "inherits = 'ci'" ∷ []
 code_example variants.UnknownParent =
@@ -179,17 +179,17 @@ code_example variants.InvalidPlatform =
 code_example variants.RuleWithoutCondition =
     codes "[[profile.ci.overrides]]" ∷ codes "retries = 1" ∷ []
 code_example variants.TwoFilters =
-    codes "[[profile.ci.overrides]]" ∷ codes "platform = 'cfg(unix)'" ∷ codes "filter = 'all()'"
-    ∷ codes "default-filter = 'all()'" ∷ []
+    codes "[[profile.ci.overrides]]" ∷ codes "platform = 'cfg(unix)'" ∷ codes "filter = 'all()'" ∷
+    codes "default-filter = 'all()'" ∷ []
 code_example variants.UnknownGroup =
-    codes "[test-groups.db]" ∷ codes "max-threads = 1" ∷ codes "[[profile.ci.overrides]]"
-    ∷ codes "filter = 'test(db)'" ∷ codes "test-group = 'bd'" ∷ []
+    codes "[test-groups.db]" ∷ codes "max-threads = 1" ∷ codes "[[profile.ci.overrides]]" ∷
+    codes "filter = 'test(db)'" ∷ codes "test-group = 'bd'" ∷ []
 code_example variants.UnknownScript =
-    codes "[scripts.setup.db]" ∷ codes "command = 'make db'" ∷ codes "[[profile.ci.scripts]]"
-    ∷ codes "filter = 'test(db)'" ∷ codes "setup = 'bd'" ∷ []
+    codes "[scripts.setup.db]" ∷ codes "command = 'make db'" ∷ codes "[[profile.ci.scripts]]" ∷
+    codes "filter = 'test(db)'" ∷ codes "setup = 'bd'" ∷ []
 code_example variants.WrongScriptKind =
-    codes "[scripts.setup.db]" ∷ codes "command = 'make db'" ∷ codes "[[profile.ci.scripts]]"
-    ∷ codes "filter = 'test(db)'" ∷ codes "run-wrapper = 'db'" ∷ []
+    codes "[scripts.setup.db]" ∷ codes "command = 'make db'" ∷ codes "[[profile.ci.scripts]]" ∷
+    codes "filter = 'test(db)'" ∷ codes "run-wrapper = 'db'" ∷ []
 code_example variants.ListWrapperFilter =
     codes "[[profile.ci.scripts]]" ∷ codes "filter = 'test(db)'" ∷ codes "list-wrapper = 'db'" ∷ []
 code_example variants.UnknownProfile = codes "rinqebo explain --profile cii api db_test" ∷ []
@@ -251,22 +251,22 @@ code_correction variants.MissingKey = codes "[test-groups.db]" ∷ codes "max-th
 code_correction variants.InvalidValue = codes "[profile.ci]" ∷ codes "status-level = 'all'" ∷ []
 code_correction variants.OutOfRange = codes "[profile.ci]" ∷ codes "retries = 1" ∷ []
 code_correction variants.MaxDelayBelowDelay =
-    codes "[profile.ci.retries]" ∷ codes "backoff = 'exponential'" ∷ codes "count = 2"
-    ∷ codes "delay = '1s'" ∷ codes "max-delay = '10s'" ∷ []
+    codes "[profile.ci.retries]" ∷ codes "backoff = 'exponential'" ∷ codes "count = 2" ∷
+    codes "delay = '1s'" ∷ codes "max-delay = '10s'" ∷ []
 code_correction variants.RefusedKey =
     codes "[scripts.setup.db]" ∷ codes "command = { command-line = 'make db' }" ∷ []
 code_correction variants.ForeignGroup = codes "[test-groups.db]" ∷ codes "max-threads = 1" ∷ []
 code_correction variants.ForeignScript =
     codes "[scripts.setup.db]" ∷ codes "command = 'make db'" ∷ []
 code_correction variants.TwoScriptTables =
-    codes "[scripts.setup.db]" ∷ codes "command = 'make db'" ∷ codes "[scripts.setup.user]"
-    ∷ codes "command = 'make user'" ∷ []
+    codes "[scripts.setup.db]" ∷ codes "command = 'make db'" ∷ codes "[scripts.setup.user]" ∷
+    codes "command = 'make user'" ∷ []
 code_correction variants.FeatureOff =
-    codes "experimental = ['setup-scripts']" ∷ codes "[scripts.setup.db]"
-    ∷ codes "command = 'make db'" ∷ []
+    codes "experimental = ['setup-scripts']" ∷ codes "[scripts.setup.db]" ∷
+    codes "command = 'make db'" ∷ []
 code_correction variants.DuplicateScript =
-    codes "[scripts.setup.db]" ∷ codes "command = 'make db'" ∷ codes "[scripts.wrapper.with-db]"
-    ∷ codes "command = 'with-db'" ∷ []
+    codes "[scripts.setup.db]" ∷ codes "command = 'make db'" ∷ codes "[scripts.wrapper.with-db]" ∷
+    codes "command = 'with-db'" ∷ []
 code_correction variants.DefaultInherits = codes "[profile.default]" ∷ []
 code_correction variants.InheritsItself = codes "[profile.ci]" ∷ codes "inherits = 'default'" ∷ []
 code_correction variants.UnknownParent =
@@ -280,20 +280,20 @@ code_correction variants.InvalidPlatform =
 code_correction variants.RuleWithoutCondition =
     codes "[[profile.ci.overrides]]" ∷ codes "filter = 'all()'" ∷ codes "retries = 1" ∷ []
 code_correction variants.TwoFilters =
-    codes "[[profile.ci.overrides]]" ∷ codes "platform = 'cfg(unix)'"
-    ∷ codes "default-filter = 'all()'" ∷ []
+    codes "[[profile.ci.overrides]]" ∷ codes "platform = 'cfg(unix)'" ∷
+    codes "default-filter = 'all()'" ∷ []
 code_correction variants.UnknownGroup =
-    codes "[test-groups.db]" ∷ codes "max-threads = 1" ∷ codes "[[profile.ci.overrides]]"
-    ∷ codes "filter = 'test(db)'" ∷ codes "test-group = 'db'" ∷ []
+    codes "[test-groups.db]" ∷ codes "max-threads = 1" ∷ codes "[[profile.ci.overrides]]" ∷
+    codes "filter = 'test(db)'" ∷ codes "test-group = 'db'" ∷ []
 code_correction variants.UnknownScript =
-    codes "[scripts.setup.db]" ∷ codes "command = 'make db'" ∷ codes "[[profile.ci.scripts]]"
-    ∷ codes "filter = 'test(db)'" ∷ codes "setup = 'db'" ∷ []
+    codes "[scripts.setup.db]" ∷ codes "command = 'make db'" ∷ codes "[[profile.ci.scripts]]" ∷
+    codes "filter = 'test(db)'" ∷ codes "setup = 'db'" ∷ []
 code_correction variants.WrongScriptKind =
-    codes "[scripts.setup.db]" ∷ codes "command = 'make db'" ∷ codes "[[profile.ci.scripts]]"
-    ∷ codes "filter = 'test(db)'" ∷ codes "setup = 'db'" ∷ []
+    codes "[scripts.setup.db]" ∷ codes "command = 'make db'" ∷ codes "[[profile.ci.scripts]]" ∷
+    codes "filter = 'test(db)'" ∷ codes "setup = 'db'" ∷ []
 code_correction variants.ListWrapperFilter =
-    codes "[[profile.ci.scripts]]" ∷ codes "filter = 'package(db)'"
-    ∷ codes "list-wrapper = 'db'" ∷ []
+    codes "[[profile.ci.scripts]]" ∷ codes "filter = 'package(db)'" ∷ codes "list-wrapper = 'db'" ∷
+    []
 code_correction variants.UnknownProfile = codes "rinqebo explain --profile ci api db_test" ∷ []
 code_correction variants.UnknownTest = codes "rinqebo explain --list list.json api db_test" ∷ []
 code_correction variants.SeveralTests = codes "rinqebo explain --list list.json api db_test" ∷ []
