@@ -106,6 +106,7 @@ fn add_section(out: &mut String, code: Code) -> Result<(), AllocError>
 }
 
 /// Returns the document that has the pages of codes.
+#[tactic(auto, unfolding(crate::specs::CodePages::document_head))]
 fn document_of(alloc: Global, all: &[Code]) -> Result<String, AllocError>
     ensures { IfOk result (λ text. string_bytes text
         ≡ document_head ++ flat_map section_text all.now) }

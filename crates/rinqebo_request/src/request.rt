@@ -93,6 +93,13 @@ pub enum Question<'a> {
         /// The setting whose rules are reported.
         setting: Setting,
     },
+    /// The rules that may say whether a test runs.
+    WhyRuns {
+        /// The name of the profile.
+        profile: &'a str,
+        /// The test.
+        test: RequestedTest<'a>,
+    },
     /// The settings of each test of a list.
     List {
         /// The name of the profile.
@@ -204,7 +211,9 @@ impl<'a> Request<'a> {
     pub fn list(&self) -> Option<ListFile<'a>> {
         match &self.question {
             Question::List { list, .. } => Some(*list),
-            Question::Explain { test, .. } | Question::Why { test, .. } => test.list,
+            Question::Explain { test, .. }
+            | Question::Why { test, .. }
+            | Question::WhyRuns { test, .. } => test.list,
             Question::ShowConfig { .. } | Question::Check { .. } => None,
         }
     }

@@ -168,6 +168,20 @@ pub fn engines<'a>(matches: &ArgMatches<'a>, environment: &'a Environment) -> En
     }
 }
 
+/// What the languages of a command know that reads no list: `cfg` of a target go with a target.
+pub fn target_engines<'a>(
+    alloc: Global,
+    matches: &ArgMatches<'a>,
+    environment: &'a Environment,
+) -> Result<EngineOptions<'a>, ParseStop> {
+    let engines = engines(matches, environment);
+    let has_target = engines.target.or(engines.build_target).is_some();
+    if engines.target_cfg.is_some() && !has_target {
+        return Err(usage(alloc, "`--target-cfg` goes with `--target`", None)?);
+    }
+    Ok(engines)
+}
+
 /// The languages of a command that is about no test.
 fn file_engines<'a>(matches: &ArgMatches<'a>) -> EngineOptions<'a> {
     EngineOptions {
@@ -304,7 +318,7 @@ fn show_request<'a>(
         },
         profile_source: profile_source(matches, environment),
         files: files(alloc, matches, named_file(matches))?,
-        engines: file_engines(matches),
+        engines: target_engines(alloc, matches, environment)?,
         features: features(alloc, matches, environment)?,
         format: format(matches, environment),
         colour: colour(matches, environment),

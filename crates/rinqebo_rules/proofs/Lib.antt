@@ -10,6 +10,11 @@ pub mod Copies
 pub mod Listing
 pub mod NoneHold
 pub mod RowsMore
+pub mod FilterRules
+pub mod FilterChoice
+pub mod SpelledLeaves
+pub mod Spelling
+pub mod SpelledEntries
 pub mod Selected
 pub mod ScriptRules
 pub mod Selecting

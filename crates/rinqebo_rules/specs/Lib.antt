@@ -3,6 +3,7 @@ pub mod SettingRules
 pub mod RulePlaces
 pub mod RuleAnswers
 pub mod RuleViews
+pub mod FilterRules
 pub mod Origins
 pub mod Trees
 pub mod ProfileOrigins
@@ -21,3 +22,4 @@ pub mod Runs
 pub mod EvaluatedFilters
 pub mod Rows
 pub mod Scripts
+pub mod SpelledLeaves

@@ -12,6 +12,7 @@ mod codes;
 mod explain;
 mod id_note;
 mod idle;
+mod in_force;
 mod list;
 mod list_fault;
 mod list_origins;
@@ -30,6 +31,7 @@ mod status;
 mod telling;
 mod unset;
 mod why;
+mod why_runs;
 
 pub use answer::Answer;
 pub use asked::requested_of;

@@ -42,7 +42,7 @@ use rinqebo_rules::{
 use std::alloc::{AllocError, Global};
 
 /// A condition, with its text.
-fn condition(
+pub(crate) fn condition(
     alloc: Global,
     text: Option<&str>,
     answer: ConditionAnswer,
@@ -56,7 +56,7 @@ fn condition(
 }
 
 /// A verdict, as it is reported.
-fn reported_verdict(verdict: rinqebo_rules::RuleVerdict) -> Verdict
+pub(crate) fn reported_verdict(verdict: rinqebo_rules::RuleVerdict) -> Verdict
     ensures { result ≡ page_verdict verdict }
 {
     match verdict {
@@ -122,7 +122,7 @@ fn reported_rules(
 }
 
 /// The first of some origins, or built in where there is none, and the others.
-fn first_and_others(
+pub(crate) fn first_and_others(
     alloc: Global,
     origins: Vec<Origin>,
 ) -> Result<(Origin, Vec<Origin>), AllocError> {
@@ -203,7 +203,7 @@ fn rules_and_fallback<'c>(
 }
 
 /// The names of a test, as they are reported.
-fn named_test(alloc: Global, test: &FoundTest) -> Result<TestId, AllocError>
+pub(crate) fn named_test(alloc: Global, test: &FoundTest) -> Result<TestId, AllocError>
     ensures { IfOk result (IsTestNamed test.now) }
 {
     Ok(TestId {
