@@ -3,12 +3,9 @@ ghost use Rattle.std.specs.Prelude.{◌≡◌, IfOk};
 ghost use Rattle.rinqebo_findings.specs.Reports.{IsReportOf};
 ghost use Rattle.rinqebo_findings.specs.Shown.{AreReported};
 
-use crate::above::add_refusals_above;
 use crate::excerpts::with_lines;
-use crate::findings::warning_findings;
 use crate::order::in_order;
-use crate::refusals::add_refusal;
-use crate::unreached::unreached_of;
+use crate::search::{Found, all_findings};
 use nextest_config::{ConfigParseError, DefaultConfigWarnings};
 use rinqebo_files::sources_of;
 use rinqebo_load::Session;
@@ -39,8 +36,7 @@ pub fn report_of(
     })
 }
 
-/// The report of a refused load: its warnings, all that the refusal says, and what is wrong with
-/// the files above by themselves.
+/// The report of a refused load: its warnings, and all that is wrong with the files.
 pub fn report_of_refusal(
     alloc: Global,
     session: &Session<'_>,
@@ -49,9 +45,9 @@ pub fn report_of_refusal(
 ) -> Result<Report, AllocError>
     ensures { IfOk result (IsReportOf session.now) }
 {
-    let mut findings = warning_findings(alloc, &session.layers, warnings)?;
-    add_refusal(alloc, session, error, &mut findings)?;
-    let mut unreached = unreached_of(alloc, session, error)?;
-    add_refusals_above(alloc, session, error, &mut findings, &mut unreached)?;
+    let Found {
+        findings,
+        unreached,
+    } = all_findings(alloc, session, warnings, error)?;
     report_of(alloc, session, findings, unreached, Content::Check)
 }
