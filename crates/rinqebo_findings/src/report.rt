@@ -4,6 +4,7 @@ ghost use Rattle.rinqebo_findings.specs.Reports.{IsReportOf};
 ghost use Rattle.rinqebo_findings.specs.Shown.{AreReported};
 
 use crate::excerpts::with_lines;
+use crate::nextest_forms::nextest_findings;
 use crate::order::in_order;
 use crate::search::{Found, all_findings};
 use nextest_config::{ConfigParseError, DefaultConfigWarnings};
@@ -49,5 +50,25 @@ pub fn report_of_refusal(
         findings,
         unreached,
     } = all_findings(alloc, session, warnings, error)?;
+    report_of(alloc, session, findings, unreached, Content::Check)
+}
+
+/// The report of a check whose load refuses: its warnings, and all that is wrong with the files, also
+/// what nextest refuses and a load does not look at.
+pub fn report_of_refused_check(
+    alloc: Global,
+    session: &Session<'_>,
+    warnings: &DefaultConfigWarnings,
+    error: &ConfigParseError,
+) -> Result<Report, AllocError>
+    ensures { IfOk result (IsReportOf session.now) }
+{
+    let Found {
+        mut findings,
+        unreached,
+    } = all_findings(alloc, session, warnings, error)?;
+    for finding in nextest_findings(alloc, &session.layers)? {
+        findings.push(finding)?;
+    }
     report_of(alloc, session, findings, unreached, Content::Check)
 }
