@@ -22,12 +22,19 @@ fn is_default(entry: &Entry) -> bool
     entry.key.as_str() == DEFAULT_FILTER
 }
 
+/// Whether a name is among keys.
+fn names(keys: &[&str], name: &str) -> bool
+    ensures { result ≡ list_any (λ key. bytes_eq key.now name.now) keys.now }
+{
+    keys.iter().any(|key| *key == name)
+}
+
 /// Whether keys select the default filter: there are none, or one is its key.
 fn asks_for_default(keys: &[&str]) -> bool
     ensures { result ≡ ((length keys.now == 0)
         || list_any (λ key. bytes_eq key.now (codes "default-filter")) keys.now) }
 {
-    keys.is_empty() || keys.iter().any(|key| *key == DEFAULT_FILTER)
+    keys.is_empty() || names(keys, DEFAULT_FILTER)
 }
 
 /// An entry, which is hidden if it is a default filter.
@@ -110,7 +117,7 @@ pub fn with_default_in_force(
     entries: Vec<Entry>,
 ) -> Result<Vec<Entry>, AllocError>
     ensures { IfOk result (λ told. IsInForce layers.now (option_map place_view place.entry)
-        (keys_view keys.now) with_hidden entries.entry.items told.items) }
+        (keys_view keys.now) with_hidden entries.items told.items) }
 {
     let Some(place) = place else {
         return Ok(entries);
