@@ -22,12 +22,19 @@ fn is_default(entry: &Entry) -> bool
     entry.key.as_str() == DEFAULT_FILTER
 }
 
+/// Whether one of some keys is that of the default filter.
+fn name_default(keys: &[&str]) -> bool
+    ensures { result ≡ list_any (λ key. bytes_eq key.now (codes "default-filter")) keys.now }
+{
+    keys.iter().any(|key| *key == DEFAULT_FILTER)
+}
+
 /// Whether keys select the default filter: there are none, or one is its key.
 fn asks_for_default(keys: &[&str]) -> bool
     ensures { result ≡ ((length keys.now == 0)
         || list_any (λ key. bytes_eq key.now (codes "default-filter")) keys.now) }
 {
-    keys.is_empty() || keys.iter().any(|key| *key == DEFAULT_FILTER)
+    keys.is_empty() || name_default(keys)
 }
 
 /// An entry, which is hidden if it is a default filter.

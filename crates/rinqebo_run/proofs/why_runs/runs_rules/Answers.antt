@@ -9,7 +9,7 @@ pub returns : goal.returns
 returns c =
     let platforms = c.args.session.now.engines.platforms in
     let matches = c.is_matched_by_default-matches.result in
-    let decided = c.has_decision.ensures ∙ ap (list_any is_decision) c.deref-5.ensures.value in
+    let decided = c.has_decision-counts.ensures ∙ ap (list_any is_decision) c.deref-5.ensures.value in
     let verdicts = c.in_ok-verdicts.ensures
     ∙ ap (λ rules. verdicts_by false (map (λ rule. rule.facts) rules)) c.deref.ensures.value in
     let told = rw (c.deref-2.ensures.value, c.deref-3.ensures.value, c.deref-4.ensures.value) at c.in_ok-reported.ensures in

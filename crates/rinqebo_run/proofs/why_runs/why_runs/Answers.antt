@@ -16,3 +16,7 @@ returns-in_err-note-clause-err c =
 pub returns-in_err-findings-clause-err : goal.returns-in_err-findings-clause-err
 returns-in_err-findings-clause-err c =
     want_evaluated c.args.session.now c.args.profile.now _ c.from_residual-in_err-findings.ensures.1
+
+pub returns-in_err-report-clause-err : goal.returns-in_err-report-clause-err
+returns-in_err-report-clause-err c =
+    want_evaluated c.args.session.now c.args.profile.now _ c.from_residual-in_err-report.ensures.1
