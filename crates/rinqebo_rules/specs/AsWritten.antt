@@ -37,14 +37,14 @@ origin_node layers steps kinds.BuiltIn = None
 origin_node layers steps kinds.DefaultTable = None
 origin_node layers steps (kinds.File place) = None
 
--- what one file alone has for a value that comes from some origins: there is nothing where the value
--- comes from several
+-- what one file alone has for a value that comes from some origins: there is nothing where it comes
+-- from several
 abbrev pub node_alone : List Layer → List PathStep → List Origin → Option Node
 node_alone layers steps [] = None
 node_alone layers steps (origin ∷ []) = origin_node layers steps origin
 node_alone layers steps (origin ∷ other ∷ others) = None
 
--- the text that a node has for a member of a value: a table has it at the key of the member, and a text
+-- the text that a node has for a member of a value: a table has it at the member's key, and a text
 -- is itself the period
 abbrev pub member_text : List ℕ → Node → Option (List ℕ)
 member_text name (text written) = if bytes_eq name (codes "period") then Some written else None

@@ -55,15 +55,16 @@ fn key_node(table: &Tree, key: SettingKey) -> Option<&Tree>
 /// The profile or the rule of what is written in a file.
 fn written_node<'l>(layers: &'l [Layer<'_>], written: &Written) -> Option<&'l Tree>
     ensures { option_map (λ tree. tree_view tree.now) result
-        ≡ option_and_then (node_at (profile_steps (string_bytes written.now.profile) written.now.part))
+        ≡ option_and_then
+        (node_at (profile_steps (string_bytes written.now.profile) written.now.part))
         (option_and_then layer_tree (slice_get layers.now written.now.place.source)) }
 {
     let tree = tree_of(layers, written.place.source)?;
     profile_node(tree, written.profile.as_str(), written.part)
 }
 
-/// What the file of an origin has at a key of the profile or the rule of the origin. There is nothing
-/// where the origin is no place of a profile in a file.
+/// What the file of an origin has at a key of the origin's profile or rule. There is nothing where the
+/// origin is no place of a profile in a file.
 pub fn origin_node<'l>(
     layers: &'l [Layer<'_>],
     key: SettingKey,
@@ -78,8 +79,8 @@ pub fn origin_node<'l>(
     }
 }
 
-/// What one file alone has at a key for a value that comes from some origins. There is nothing where
-/// the value comes from several.
+/// What one file alone has at a key for a value that comes from some origins. There is nothing where it
+/// comes from several.
 pub(crate) fn node_alone<'l>(
     layers: &'l [Layer<'_>],
     key: SettingKey,

@@ -150,8 +150,8 @@ pub(crate) fn first_and_others(
     Ok((first, others))
 }
 
-/// What one file alone has at a key for a value that comes from an origin and perhaps others. There is
-/// nothing where it comes from others too.
+/// What one file alone has at a key for a value that comes from an origin and perhaps from others.
+/// There is nothing where it comes from others too.
 fn node_alone<'l>(
     layers: &'l [Layer<'_>],
     key: SettingKey,
