@@ -84,7 +84,7 @@ spelled_value spelling (values.Texts items) =
 spelled_value spelling (values.Table fields) =
     codes "{ " ++ (joined (codes ", ") (field_text spelling) fields.items ++ codes " }")
 
--- a value: a duration is as a file writes it, where one file writes the whole value
+-- a value: a duration is as a file writes it, where one file alone writes the value
 abbrev pub value_text : Value → List ℕ
 value_text value = spelled_value spellings.AsWritten value
 

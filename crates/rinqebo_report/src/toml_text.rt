@@ -13,7 +13,7 @@ use std::fmt::Write;
 /// How the durations of a value are spelled.
 #[derive(Clone, Copy)]
 enum Spelling {
-    /// As a file writes them, where one file writes the whole value.
+    /// As a file writes them, where one file alone writes the value.
     AsWritten,
     /// As one number, and the longest unit that divides them.
     Canonical,
@@ -199,8 +199,8 @@ fn add_value(out: &mut String, spelling: Spelling, value: &Value) -> Result<(), 
     }
 }
 
-/// A value as TOML, on one line, with its durations as a file writes them, where one file writes
-/// the whole value.
+/// A value as TOML, on one line, with its durations as a file writes them, where one file alone
+/// writes the value.
 pub fn value_text(alloc: Global, value: &Value) -> Result<String, AllocError>
     ensures { IfOk result (λ text. string_bytes text ≡ value_text value.now) }
 {

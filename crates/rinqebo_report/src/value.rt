@@ -5,7 +5,7 @@
 pub struct ReportedDuration {
     /// Its nanoseconds.
     pub nanoseconds: u128,
-    /// The text that a file writes it with, where one file writes the whole value.
+    /// The text that a file writes it with, where one file alone writes the value.
     pub written: Option<String>,
 }
 
