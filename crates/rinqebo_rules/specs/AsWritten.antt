@@ -1,5 +1,5 @@
--- Durations as a file writes them, where one file alone writes the whole value.
-use Rattle.std.specs.Prelude.{◌≡◌, ℕ, List, [], ◌∷◌, Option, None, Some, Ok, MatchOption, All, codes, option_and_then, slice_get, string_bytes, if◌then◌else◌}
+-- Durations as a file writes them, where one file alone writes the value.
+use Rattle.std.specs.Prelude.{◌≡◌, ℕ, Bool, true, false, List, [], ◌∷◌, Option, None, Some, Ok, MatchOption, All, codes, option_and_then, slice_get, string_bytes, if◌then◌else◌}
 use Rattle.std.specs.Str.{bytes_eq}
 use Rattle.nextest_places.specs.Path.{item_at}
 use Rattle.nextest_texts.specs.Nanoseconds.{duration_at}
@@ -21,28 +21,33 @@ abbrev pub step_node : PathStep → Node → Option Node
 step_node (key name) n = member_of name n
 step_node (position index) n = option_and_then (item_at index) (as_array n)
 
--- what steps lead to, one after another
-abbrev pub node_at : List PathStep → Node → Option Node
-node_at [] n = Some n
-node_at (step ∷ steps) n = option_and_then (node_at steps) (step_node step n)
+-- what steps lead to, one after another, from a node that may be absent
+abbrev pub node_at : List PathStep → Option Node → Option Node
+node_at [] from = from
+node_at (step ∷ steps) from = node_at steps (option_and_then (step_node step) from)
 
 -- what the file of an origin has at some steps from the profile or the rule of the origin; there is
 -- nothing where the origin is no place of a profile in a file
 abbrev pub origin_node : List Layer → List PathStep → Origin → Option Node
 origin_node layers steps (kinds.Written written) =
-    option_and_then (node_at steps)
-    (option_and_then (node_at (profile_steps (string_bytes written.profile) written.part))
+    node_at steps (node_at (profile_steps (string_bytes written.profile) written.part)
     (option_and_then layer_tree (slice_get layers written.place.source)))
 origin_node layers steps kinds.BuiltIn = None
 origin_node layers steps kinds.DefaultTable = None
 origin_node layers steps (kinds.File place) = None
 
--- what one file alone has for a value that comes from some origins: there is nothing where it comes
--- from several
+-- whether origins are none, or the defaults alone
+abbrev pub are_defaults : List Origin → Bool
+are_defaults [] = true
+are_defaults (kinds.DefaultTable ∷ []) = true
+are_defaults origins = false
+
+-- what one file alone has for a value that comes from some origins, beside what the defaults add: there
+-- is nothing where several files write the value
 abbrev pub node_alone : List Layer → List PathStep → List Origin → Option Node
 node_alone layers steps [] = None
-node_alone layers steps (origin ∷ []) = origin_node layers steps origin
-node_alone layers steps (origin ∷ other ∷ others) = None
+node_alone layers steps (origin ∷ others) =
+    if are_defaults others then origin_node layers steps origin else None
 
 -- the text that a node has for a member of a value: a table has it at the member's key, and a text
 -- is itself the period

@@ -29,7 +29,7 @@ reported_settings (asks.These runs asked) origin = asked.items
 
 -- A setting is told: by its key in files, with its value, and with where that comes from, for the
 -- script rule that wraps the run of the test. Durations are as a file writes them, where one file
--- alone writes the whole value.
+-- alone writes the value.
 pub record IsSettingReported (basis : Basis) (wrapping : Option RuleId)
     (value : (s : Setting) → Option (ValueOf s)) (origin : Setting → Option Origin)
     (mode : NextestRunMode) (s : Setting) (told : SettingRow) : Type 0 where

@@ -39,7 +39,7 @@ pub use filter_laws::law_filter_rules;
 pub use grounds::{built_in, idle_grounds, profile_grounds};
 pub use leaf_value::reported_value;
 pub use lister::{ListedRows, Lister, reported_platform};
-pub use origin_node::origin_node;
+pub use origin_node::node_alone;
 pub use origins::Origins;
 pub use progress::{NoProgress, Progress};
 pub use reported_entries::{reported_entry, steps_of};

@@ -9,7 +9,7 @@ ghost use Rattle.rinqebo_rules.specs.TestOrigins.{AreOriginsBy, wrapping_at, wra
 ghost use Rattle.rinqebo_rules.specs.Settings.{is_by_rule, reported_settings, IsSettingReported};
 ghost use Rattle.rinqebo_rules.specs.Origins.{IsOriginOf, key_steps};
 
-use crate::origin_node::node_alone;
+use crate::origin_node::node_of_origins;
 use crate::origins::Origins;
 use crate::values::SourcedSettings;
 use crate::{RulePlace, built_in, reported_if_set};
@@ -134,7 +134,7 @@ fn setting_row<'c, F: Filters, S: Specs>(
     let wrapping = wrapping_rule(settings);
     let layers = origins.layers();
     let found = origins_by(alloc, source, wrapping, key, origins)?;
-    let node = node_alone(layers, key, &found);
+    let node = node_of_origins(layers, key, &found);
     Ok(SettingRow {
         key: key.text(alloc)?,
         value: reported_if_set(alloc, settings.value(setting, mode), node)?,

@@ -43,7 +43,7 @@ pub record IsRuleReported (layers : List Layer) (written : RuleValue) (answers :
   pub value : option_map value_view rule.value ≡ written.value
 
 -- What a rule writes at some steps is reported with its durations as a file writes them, where one
--- file alone writes the whole value.
+-- file alone writes the value.
 abbrev pub IsRuleAsWritten : List Layer → List PathStep → Rule → Type 0
 IsRuleAsWritten layers steps rule = IfSome rule.value
     (IsValueAsWritten (node_alone layers steps (rule.origin ∷ rule.others.items)))

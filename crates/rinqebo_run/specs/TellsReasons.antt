@@ -38,7 +38,7 @@ use Rattle.rinqebo_rules.specs.Told.{reported_of, value_view}
 -- The rules of a setting are told for a test: each override of a profile, in order, or
 -- for a run wrapper each script rule, with what comes of it on the platforms of a build, and then
 -- what counts where none decides. Durations are as a file writes them, where one file alone writes
--- the whole value.
+-- the value.
 pub record AreReasons {M K P : Type 0} (layers : List Layer) (meets : K → P → Option Bool)
     (matches : M → Test → M → Bool) (platforms : BuildPlatforms P) (test : FoundTest) (s : Setting)
     (profile : EarlyModel M K) (rules : List Rule) : Type 0 where

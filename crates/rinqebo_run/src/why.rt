@@ -1,5 +1,5 @@
 //! The rules of a setting, and the result of each.
-ghost use Rattle.std.specs.Prelude.{◌≡◌, ◌∷◌, All, IfErr, IfOk, List, map, option_map};
+ghost use Rattle.std.specs.Prelude.{◌≡◌, All, IfErr, IfOk, List, map, option_map};
 ghost use Rattle.nextest_inheritance.specs.Parents.{parents_in};
 ghost use Rattle.nextest_load.specs.Config.{config_parents};
 ghost use Rattle.nextest_settings.specs.Settings.{fallback_of};
@@ -9,8 +9,6 @@ ghost use Rattle.rinqebo_request.specs.Keys.{key_name, key_table, key_text};
 ghost use Rattle.rinqebo_rules.specs.Conditions.{is_met_by, filter_matches};
 ghost use Rattle.rinqebo_run.specs.ListedBy.{read_by};
 ghost use Rattle.rinqebo_run.specs.Reasons.{page_verdict, AreRulesReportedHere, AreReportedWith, IsRuleAsWritten, IsRuleReported};
-ghost use Rattle.nextest_tree.specs.View.{tree_view};
-ghost use Rattle.rinqebo_rules.specs.AsWritten.{node_alone};
 ghost use Rattle.rinqebo_rules.specs.Origins.{key_steps};
 ghost use Rattle.rinqebo_rules.specs.RuleAnswers.{judged_here};
 ghost use Rattle.rinqebo_run.specs.LookedUp.{IsFailureOn, IsLookedUp};
@@ -30,7 +28,7 @@ use crate::profile::{Early, early_profile};
 use crate::status::Status;
 use filter_engine::NextestFilters;
 use nextest_config::{
-    BuildPlatforms, DefaultConfigWarnings, Filters, NextestRunMode, Setting, TestQuery, Tree,
+    BuildPlatforms, DefaultConfigWarnings, Filters, NextestRunMode, Setting, TestQuery,
 };
 use platform_table::Platform;
 use rinqebo_files::{Layer, host_text, target_text, text_at};
@@ -39,7 +37,7 @@ use rinqebo_load::{Config, Failure, FoundTest, Session, chain_of_profile};
 use rinqebo_report::{Condition, ConditionAnswer, Content, Origin, Rule, TestId, Verdict};
 use rinqebo_request::SettingKey;
 use rinqebo_rules::{
-    Asking, SettingRule, origin_node, profile_grounds, reported_if_set, reported_platform,
+    Asking, SettingRule, node_alone, profile_grounds, reported_if_set, reported_platform,
     rules_for, verdicts_of,
 };
 use std::alloc::{AllocError, Global};
@@ -87,11 +85,12 @@ fn reported_rule(
     let table = rule.place.table(layers);
     let answers = rule.answers;
     let origin = rule.place.origin(alloc, layers)?;
-    let node = origin_node(layers, key, &origin);
+    let others = Vec::new(alloc);
+    let node = node_alone(layers, key, &origin, &others);
     Ok(Rule {
         verdict: reported_verdict(verdict),
         origin,
-        others: Vec::new(alloc),
+        others,
         host: condition(alloc, host_text(table), answers.host)?,
         target: condition(alloc, target_text(table), answers.target)?,
         filter: condition(alloc, text_at(table, "filter"), answers.filter)?,
@@ -148,24 +147,6 @@ pub(crate) fn first_and_others(
         others.push(origin)?;
     }
     Ok((first, others))
-}
-
-/// What one file alone has at a key for a value that comes from an origin and perhaps from others.
-/// There is nothing where it comes from others too.
-fn node_alone<'l>(
-    layers: &'l [Layer<'_>],
-    key: SettingKey,
-    origin: &Origin,
-    others: &[Origin],
-) -> Option<&'l Tree>
-    ensures { option_map (λ tree. tree_view tree.now) result ≡ node_alone layers.now
-        (key_steps (option_map (λ table. table.now) key.table) key.key.now)
-        (origin.now ∷ others.now) }
-{
-    match others {
-        [] => origin_node(layers, key, origin),
-        [..] => None,
-    }
 }
 
 /// What counts where no rule of a profile decides.
