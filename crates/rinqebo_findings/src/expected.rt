@@ -45,6 +45,20 @@ fn quoted_words(alloc: Global, words: &[&str]) -> Result<String, AllocError> {
     Ok(told)
 }
 
+/// An array whose items are of a shape, in words.
+fn list_words(items: &Shape) -> &'static str {
+    match items {
+        Shape::Text(_) => "an array of strings",
+        Shape::Table(_) => "an array of tables",
+        Shape::Anything
+        | Shape::Boolean
+        | Shape::Integer { .. }
+        | Shape::List { .. }
+        | Shape::Map { .. }
+        | Shape::Either(_) => "an array",
+    }
+}
+
 /// One shape, in words.
 fn shape_words(alloc: Global, shape: &Shape) -> Result<String, AllocError> {
     match shape {
@@ -53,7 +67,7 @@ fn shape_words(alloc: Global, shape: &Shape) -> Result<String, AllocError> {
         Shape::Text(TextShape::Any) => String::from_str(alloc, "a string"),
         Shape::Text(TextShape::OneOf(words)) => quoted_words(alloc, *words),
         Shape::Text(TextShape::Of(pattern)) => String::from_str(alloc, pattern_words(*pattern)),
-        Shape::List { .. } => String::from_str(alloc, "an array"),
+        Shape::List { items, .. } => String::from_str(alloc, list_words(items)),
         Shape::Table(_) | Shape::Map { .. } => String::from_str(alloc, "a table"),
         Shape::Anything | Shape::Either(_) => String::from_str(alloc, "anything"),
     }
@@ -75,12 +89,14 @@ fn words_of_each(alloc: Global, shapes: &Vec<Shape>) -> Result<String, AllocErro
     Ok(told)
 }
 
-/// Whether a shape says what is wrong: for a kind always, and for a range where it is the only one.
-fn says_why(cause: &ElementCause, shape: &Shape) -> bool {
+/// Whether a shape says what is wrong: the kind or the range.
+fn says_why(cause: &ElementCause) -> bool {
     match cause {
-        ElementCause::WrongKind => true,
-        ElementCause::OutOfRange => !matches!(shape, Shape::Either(_)),
-        _ => false,
+        ElementCause::WrongKind | ElementCause::OutOfRange => true,
+        ElementCause::Missing(_)
+        | ElementCause::BadValue { .. }
+        | ElementCause::UnknownField
+        | ElementCause::Memory => false,
     }
 }
 
@@ -94,7 +110,7 @@ pub fn expected_at(
     let Some(shape) = shape_at(&file, path) else {
         return Ok(None);
     };
-    if !says_why(cause, shape) {
+    if !says_why(cause) {
         return Ok(None);
     }
     let words = match shape {

@@ -1,12 +1,15 @@
 //! Filters and platforms that are refused, with the part that is wrong.
+use crate::meant::{filter_meant, platform_meant};
 use crate::refused::Refused;
 use filter_engine::FaultKind;
 use nextest_config::{
     ConfigCompileError, ConfigCompileErrorKind, ConfigCompileSection, Refusal, Tree,
 };
 use nextest_places::Step;
+use nextest_spans::offsets_of;
+use rinqebo_codes::Code;
 use rinqebo_files::{host_text, profile_table, rule_table, target_text, text_at};
-use rinqebo_report::{CharSpan, RefusedExpression};
+use rinqebo_report::{CharSpan, FilePlace, Position, Range as ReportRange, RefusedExpression};
 use std::alloc::{AllocError, Global};
 use std::ops::Range;
 
@@ -30,6 +33,84 @@ fn expression(
     })
 }
 
+/// Returns the position behind a text that starts at a position.
+fn position_behind(start: Position, text: &str) -> Position {
+    let mut behind = start;
+    for c in text.chars() {
+        behind = match c {
+            '\n' => Position {
+                line: behind.line.saturating_add(1),
+                column: 1,
+            },
+            _ => Position {
+                line: behind.line,
+                column: behind.column.saturating_add(1),
+            },
+        };
+    }
+    behind
+}
+
+/// Returns the position at which a token writes the character of its string at a place, given the
+/// bytes at which it writes each.
+fn position_of(start: Position, token: &str, offsets: &[usize], place: usize) -> Option<Position> {
+    Some(position_behind(start, token.get(..*offsets.get(place)?)?))
+}
+
+/// Returns the range in which the token of a string writes some of its characters, where the token
+/// starts at a position.
+fn range_in(
+    alloc: Global,
+    start: Position,
+    token: &str,
+    span: CharSpan,
+) -> Result<Option<ReportRange>, AllocError> {
+    let Some(offsets) = offsets_of(alloc, token)? else {
+        return Ok(None);
+    };
+    match (
+        position_of(start, token, &offsets, span.from),
+        position_of(start, token, &offsets, span.to),
+    ) {
+        (Some(start), Some(end)) => Ok(Some(ReportRange { start, end })),
+        _ => Ok(None),
+    }
+}
+
+/// Returns the token of the value at a path of the refused source, if its text has one.
+fn token_at<'r>(refused: &Refused<'r, '_>, path: &[Step<'_>]) -> Option<&'r str> {
+    let value = refused.source.spans()?.at(path)?.value?;
+    refused.text?.get(value.start..value.end)
+}
+
+/// Returns the range in the file of the part of a text at a path that is at fault, if the refused
+/// source writes the text.
+fn fault_range(
+    refused: &Refused<'_, '_>,
+    path: &[Step<'_>],
+    place: Option<FilePlace>,
+    span: Option<CharSpan>,
+) -> Result<Option<ReportRange>, AllocError> {
+    let (
+        Some(
+            FilePlace {
+                source,
+                range: Some(range),
+                ..
+            },
+        ),
+        Some(span),
+        Some(token),
+    ) = (place, span, token_at(refused, path))
+    else {
+        return Ok(None);
+    };
+    if refused.source.position != Some(source) {
+        return Ok(None);
+    }
+    range_in(refused.alloc, range.start, token, span)
+}
+
 /// What to do about a refused filter, where that is not plain.
 fn filter_help(label: &str) -> Option<&'static str> {
     if label == FaultKind::NoPackageGraph.label() {
@@ -40,22 +121,46 @@ fn filter_help(label: &str) -> Option<&'static str> {
     None
 }
 
+/// What to do about a filter or a platform that is refused, where that is plain.
+fn text_help(
+    alloc: Global,
+    code: Code,
+    text: &str,
+    label: &str,
+) -> Result<Option<String>, AllocError> {
+    if let Some(help) = filter_help(label) {
+        return Ok(Some(String::from_str(alloc, help)?));
+    }
+    if code == Code::InvalidFilter {
+        return filter_meant(alloc, text);
+    }
+    match platform_meant(text) {
+        Some(help) => Ok(Some(String::from_str(alloc, help)?)),
+        None => Ok(None),
+    }
+}
+
 /// Adds what is wrong with a text at a path.
 fn add_text(
     refused: &mut Refused<'_, '_>,
+    code: Code,
     path: &[Step<'_>],
     text: &str,
     refusal: &Refusal,
 ) -> Result<(), AllocError> {
     let alloc = refused.alloc;
     let Some(span) = &refusal.span else {
-        return refused.add_at(path, refusal.message.as_str(), None);
+        return refused.add_at(code, path, refusal.message.as_str(), None);
     };
-    let mut found = refused.at(path, span.label.as_str())?;
-    found.expression = Some(expression(alloc, text, &span.bytes)?);
-    if let Some(help) = filter_help(span.label.as_str()) {
-        found.help = Some(String::from_str(alloc, help)?);
+    let mut found = refused.at(code, path, span.label.as_str())?;
+    let refused_text = expression(alloc, text, &span.bytes)?;
+    if let Some(range) = fault_range(refused, path, found.place, refused_text.span)? {
+        if let Some(place) = &mut found.place {
+            place.range = Some(range);
+        }
     }
+    found.expression = Some(refused_text);
+    found.help = text_help(alloc, code, text, span.label.as_str())?;
     refused.add_finding(found)
 }
 
@@ -90,7 +195,7 @@ fn add_filter(
         return Ok(());
     };
     let path = path_below(refused.alloc, section.path, &[key])?;
-    add_text(refused, &path, text, refusal)
+    add_text(refused, Code::InvalidFilter, &path, text, refusal)
 }
 
 /// Adds what is wrong with what a rule asks of the host, if it is refused.
@@ -103,7 +208,7 @@ fn add_host(
         return Ok(());
     };
     let path = path_below(refused.alloc, section.path, &["platform", "host"])?;
-    add_text(refused, &path, text, refusal)
+    add_text(refused, Code::InvalidPlatform, &path, text, refusal)
 }
 
 /// The path at which a rule writes what the platform has to meet which a binary runs on.
@@ -125,7 +230,7 @@ fn add_target(
         return Ok(());
     };
     let path = target_path(refused.alloc, section)?;
-    add_text(refused, &path, text, refusal)
+    add_text(refused, Code::InvalidPlatform, &path, text, refusal)
 }
 
 /// Adds what is wrong with the texts of a section: its host, its target, its filter and its default

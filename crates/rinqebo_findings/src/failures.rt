@@ -3,10 +3,11 @@ ghost use Rattle.std.specs.Prelude.{IfErr, IfOk};
 ghost use Rattle.rinqebo_load.specs.FindTests.{IsFoundFor};
 ghost use Rattle.rinqebo_findings.specs.Failures.{IsFailureToFind, IsLoadFailure, IsProfileFailure, IsTestFailure};
 
-use crate::findings::{SourceAt, finding_at, warning_findings};
+use crate::findings::{Label, SourceAt, finding_at, warning_findings};
 use crate::report::{report_of, report_of_refusal};
 use nextest_config::{ConfigParseError, DefaultConfigWarnings, ProfileNotFound};
 use nextest_places::Step;
+use rinqebo_codes::Code;
 use rinqebo_files::SpanPart;
 use rinqebo_load::{Failure, FoundTest, Missing, Session, TestFault};
 use rinqebo_report::{Content, Finding, Level, Report};
@@ -32,7 +33,7 @@ pub fn failure_of_load(
 /// An error of what a request names, which stands in no file.
 fn request_finding(
     alloc: Global,
-    code: &str,
+    code: Code,
     path: &[Step<'_>],
     message: String,
 ) -> Result<Finding, AllocError> {
@@ -41,7 +42,8 @@ fn request_finding(
         position: None,
     };
     let part = SpanPart::Key;
-    finding_at(alloc, Level::Error, code, nowhere, path, part, message)
+    let level = Level::Error;
+    finding_at(alloc, level, Label::own(code), nowhere, path, part, message)
 }
 
 /// The finding that there is no profile of a name.
@@ -49,7 +51,7 @@ fn no_profile(alloc: Global, missing: &ProfileNotFound) -> Result<Finding, Alloc
     let name = missing.name.as_str();
     let path = [Step::Key("profile"), Step::Key(name)];
     let message = missing.to_string(alloc)?;
-    let mut found = request_finding(alloc, "NoProfile", &path, message)?;
+    let mut found = request_finding(alloc, Code::UnknownProfile, &path, message)?;
     found.help = text_hint(alloc, name, &missing.known)?;
     Ok(found)
 }
@@ -73,7 +75,7 @@ pub fn failure_of_profile(
 fn test_report(
     alloc: Global,
     session: &Session<'_>,
-    code: &str,
+    code: Code,
     message: String,
     help: Option<String>,
 ) -> Result<Report, AllocError> {
@@ -95,7 +97,7 @@ fn missing_report(
         Some(near) => Some(format!(in alloc; "did you mean `{near}`?")?),
         None => None,
     };
-    test_report(alloc, session, "NoTest", missing.message, help)
+    test_report(alloc, session, Code::UnknownTest, missing.message, help)
 }
 
 /// Why a run answers nothing whose test is not found.
@@ -111,7 +113,7 @@ fn failure_of_test(
             Ok(Failure::NoTest(missing_report(alloc, session, missing)?))
         }
         TestFault::SeveralTests(tests) => {
-            let report = test_report(alloc, session, "SeveralTests", tests, None)?;
+            let report = test_report(alloc, session, Code::SeveralTests, tests, None)?;
             Ok(Failure::SeveralTests(report))
         }
         TestFault::Input(fault) => Ok(Failure::Engines(fault)),

@@ -1,9 +1,11 @@
 //! Findings: how they are made, and those of warnings.
-use crate::hints::key_hint;
 use crate::paths::{path_text, spelled_path};
 use crate::refused_values::Fault;
+use crate::tables::{keys_note, unknown_key_help, unknown_key_text};
 use nextest_config::{ConfigSource, ConfigWarning, DefaultConfigWarnings, Tree};
 use nextest_places::Step;
+use nextest_spans::PathSpans;
+use rinqebo_codes::Code;
 use rinqebo_files::{Layer, NoDocument, SpanPart, part_place, place_of};
 use rinqebo_report::{FilePlace, Finding, Level};
 use std::alloc::{AllocError, Global};
@@ -23,6 +25,11 @@ impl<'l, 't> SourceAt<'l, 't> {
         self.layers.get(self.position?)?.tree()
     }
 
+    /// Where the values of the source are written in its text, if it has one.
+    pub fn spans(self) -> Option<&'l PathSpans<'t>> {
+        self.layers.get(self.position?)?.places.as_ref()
+    }
+
     /// Why the text of the source is not a document, if it is not one.
     pub fn fault(self) -> Option<&'l NoDocument> {
         self.layers.get(self.position?)?.fault.as_ref()
@@ -39,38 +46,83 @@ impl<'l, 't> SourceAt<'l, 't> {
     }
 }
 
+/// What a finding is called: its code, and the name that nextest-runner has for it, if it has one.
+#[derive(Clone, Copy)]
+pub struct Label {
+    /// The code.
+    pub code: Code,
+    /// The name that nextest-runner has.
+    pub upstream: Option<&'static str>,
+}
+
+impl Label {
+    /// Returns a code without a name of nextest-runner.
+    pub fn own(code: Code) -> Label {
+        Label {
+            code,
+            upstream: None,
+        }
+    }
+}
+
+/// What the findings of unknown keys are called.
+const UNKNOWN_KEY: Label = Label {
+    code: Code::UnknownKey,
+    upstream: Some("UnknownConfigKeys"),
+};
+
+/// What the findings of reserved names of profiles are called.
+const RESERVED_PROFILE: Label = Label {
+    code: Code::ReservedProfile,
+    upstream: Some("UnknownReservedProfiles"),
+};
+
+/// What the findings of the old table of scripts are called.
+const OLD_SCRIPT_TABLE: Label = Label {
+    code: Code::OldScriptTable,
+    upstream: Some("DeprecatedScriptConfig"),
+};
+
+/// What the findings of rules that name no script are called.
+const EMPTY_SCRIPT_RULE: Label = Label {
+    code: Code::EmptyScriptRule,
+    upstream: Some("EmptyScriptSections"),
+};
+
+/// A copy of a text, if there is one.
+fn copied(alloc: Global, text: Option<&str>) -> Result<Option<String>, AllocError> {
+    match text {
+        Some(text) => Ok(Some(String::from_str(alloc, text)?)),
+        None => Ok(None),
+    }
+}
+
 /// A finding of a source, with a message alone.
 pub fn finding(
     alloc: Global,
     level: Level,
-    code: &str,
+    label: Label,
     source: SourceAt<'_, '_>,
     message: String,
 ) -> Result<Finding, AllocError> {
-    Ok(Finding {
-        level,
-        code: String::from_str(alloc, code)?,
-        place: source.place(),
-        column: None,
-        path: None,
-        message,
-        expression: None,
-        expected: None,
-        help: None,
-    })
+    let code = String::from_str(alloc, label.code.word())?;
+    let mut found = Finding::new(alloc, level, code, message);
+    found.upstream = copied(alloc, label.upstream)?;
+    found.place = source.place();
+    Ok(found)
 }
 
 /// A finding about the value at a path of a source, or about its key.
 pub fn finding_at(
     alloc: Global,
     level: Level,
-    code: &str,
+    label: Label,
     source: SourceAt<'_, '_>,
     path: &[Step<'_>],
     part: SpanPart,
     message: String,
 ) -> Result<Finding, AllocError> {
-    let mut found = finding(alloc, level, code, source, message)?;
+    let mut found = finding(alloc, level, label, source, message)?;
     found.place = source.place_at(path, part);
     found.path = Some(path_text(alloc, path)?);
     Ok(found)
@@ -79,21 +131,28 @@ pub fn finding_at(
 /// A warning about a key of a source.
 fn key_warning(
     alloc: Global,
-    code: &str,
+    label: Label,
     source: SourceAt<'_, '_>,
     path: &[Step<'_>],
     message: String,
 ) -> Result<Finding, AllocError> {
     let level = Level::Warning;
-    finding_at(alloc, level, code, source, path, SpanPart::Key, message)
+    finding_at(alloc, level, label, source, path, SpanPart::Key, message)
 }
 
 /// Warns of a key without effect.
 fn unknown_key(alloc: Global, source: SourceAt<'_, '_>, path: &str) -> Result<Finding, AllocError> {
-    let message = format!(in alloc; "{path} has no effect")?;
     let at = spelled_path(alloc, source, path, Fault::UnknownKey)?;
-    let mut found = key_warning(alloc, "UnknownConfigKeys", source, &at, message)?;
-    found.help = key_hint(alloc, &at)?;
+    let message = unknown_key_text(alloc, &at)?;
+    let mut found = key_warning(alloc, UNKNOWN_KEY, source, &at, message)?;
+    let (help, help_place) = unknown_key_help(alloc, &at)?;
+    found.help = help;
+    found.help_place = help_place;
+    if let Some((_key, table)) = at.split_last() {
+        if let Some(note) = keys_note(alloc, table)? {
+            found.notes.push(note)?;
+        }
+    }
     Ok(found)
 }
 
@@ -104,11 +163,11 @@ fn reserved_profile(
     name: &str,
 ) -> Result<Finding, AllocError> {
     let message = format!(in alloc;
-        "profile.{name}: names that begin `default-` are nextest's own"
+        "`{name}`: names of profiles that begin with `default-` are nextest's own"
     )?;
     key_warning(
         alloc,
-        "UnknownReservedProfiles",
+        RESERVED_PROFILE,
         source,
         &[Step::Key("profile"), Step::Key(name)],
         message,
@@ -119,11 +178,11 @@ fn reserved_profile(
 fn old_scripts(alloc: Global, source: SourceAt<'_, '_>) -> Result<Finding, AllocError> {
     let message = String::from_str(
         alloc,
-        "script: this table is the old place of setup scripts",
+        "the table `script` is the old place of setup scripts",
     )?;
     let mut found = key_warning(
         alloc,
-        "DeprecatedScriptConfig",
+        OLD_SCRIPT_TABLE,
         source,
         &[Step::Key("script")],
         message,
@@ -139,12 +198,10 @@ fn empty_rules(
     profile: &str,
     count: usize,
 ) -> Result<Finding, AllocError> {
-    let message = format!(in alloc;
-        "profile.{profile}.scripts: rules that name no script: {count}"
-    )?;
+    let message = format!(in alloc; "rules that name no script: {count}")?;
     key_warning(
         alloc,
-        "EmptyScriptSections",
+        EMPTY_SCRIPT_RULE,
         source,
         &[
             Step::Key("profile"),

@@ -21,7 +21,7 @@ fn tree_at<'t>(tree: &'t Tree, path: &[Step<'_>]) -> Option<&'t Tree> {
 }
 
 /// The kind of a value, in words.
-fn kind_words(tree: &Tree) -> &'static str {
+pub fn kind_words(tree: &Tree) -> &'static str {
     match tree {
         Tree::Table(_) => "a table",
         Tree::Array(_) => "an array",
@@ -32,16 +32,16 @@ fn kind_words(tree: &Tree) -> &'static str {
     }
 }
 
-/// The kind of what is at a path in a source, in words. A source that does not write the path is
-/// refused for what is below it: the highest one counts that does.
-pub fn given_at(source: SourceAt<'_, '_>, path: &[Step<'_>]) -> Option<&'static str> {
+/// The value at a path in a source. A source that does not write the path is refused for what is
+/// below it: the highest one counts that does.
+pub fn value_at<'l>(source: SourceAt<'l, '_>, path: &[Step<'_>]) -> Option<&'l Tree> {
     if let Some(found) = tree_at(source.tree()?, path) {
-        return Some(kind_words(found));
+        return Some(found);
     }
     for layer in source.layers.iter().rev() {
         if let Some(tree) = layer.tree() {
             if let Some(found) = tree_at(tree, path) {
-                return Some(kind_words(found));
+                return Some(found);
             }
         }
     }

@@ -1,7 +1,7 @@
 //! Hints of findings: which known name, or key of the same table, a wrong one most likely means.
 use crate::shapes::shape_at;
 use nextest_places::Step;
-use nextest_shape::{Shape, TextShape, file_shape, keys_of};
+use nextest_shape::{Shape, TextShape, file_shape};
 use rinqebo_request::name_hint;
 use std::alloc::{AllocError, Global};
 use std::collections::BTreeSet;
@@ -70,25 +70,4 @@ pub fn word_hint(
         Some(shape) => name_hint(alloc, word, &words_of(alloc, shape)?),
         None => Ok(None),
     }
-}
-
-/// A step as the shape of a file has it: any position stands for all items of a list.
-fn part_of<'s>(step: Step<'s>) -> &'s str {
-    match step {
-        Step::Key(key) => key,
-        Step::Position(_) => "0",
-    }
-}
-
-/// The hint that another key of the same table is meant, if one is near.
-pub fn key_hint(alloc: Global, path: &[Step<'_>]) -> Result<Option<String>, AllocError> {
-    let mut parts = Vec::new(alloc);
-    for step in path {
-        parts.push(part_of(*step))?;
-    }
-    let Some((key, table)) = parts.split_last() else {
-        return Ok(None);
-    };
-    let known = keys_of(alloc, &file_shape(alloc)?, table)?;
-    name_hint(alloc, *key, &known)
 }

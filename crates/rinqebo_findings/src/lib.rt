@@ -4,6 +4,10 @@
 
 mod above;
 mod checks;
+mod cycles;
+mod delays;
+mod elements;
+mod excerpts;
 mod expected;
 mod expressions;
 mod failures;
@@ -11,12 +15,17 @@ mod findings;
 mod given;
 mod hints;
 mod loading;
+mod meant;
+mod order;
+mod parents;
 mod paths;
 mod refusals;
 mod refused;
 mod refused_values;
 mod report;
 mod shapes;
+mod spellings;
+mod tables;
 mod unknown_names;
 mod unreached;
 mod ways;

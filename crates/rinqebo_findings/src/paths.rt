@@ -25,6 +25,17 @@ pub fn path_text(alloc: Global, path: &[Step<'_>]) -> Result<String, AllocError>
     Ok(text)
 }
 
+/// The path of a key of the table at a path.
+pub fn path_with<'p>(
+    alloc: Global,
+    table: &[Step<'p>],
+    key: &'p str,
+) -> Result<Vec<Step<'p>>, AllocError> {
+    let mut path = Vec::from_slice(alloc, table)?;
+    path.push(Step::Key(key))?;
+    Ok(path)
+}
+
 /// The keys of a text that no file has: parted at its dots.
 fn parted<'s>(alloc: Global, text: &'s str) -> Result<Vec<Step<'s>>, AllocError> {
     let mut steps = Vec::new(alloc);

@@ -1,23 +1,22 @@
 //! Findings of a refused configuration: one for each thing that is wrong.
-use crate::expected::expected_at;
+use crate::elements::add_element;
+use crate::excerpts::text_of;
 use crate::expressions::add_refused_texts;
 use crate::findings::SourceAt;
-use crate::given::given_at;
-use crate::hints::word_hint;
-use crate::paths::spelled_path;
+use crate::meant::line_help;
+use crate::parents::add_parents;
 use crate::refused::Refused;
-use crate::refused_values::Fault;
 use crate::unknown_names::{add_script_errors, add_unknown_group};
 use nextest_config::{
-    ConfigCompileError, ConfigCompileSection, ConfigExperimental, ConfigParseError,
-    ConfigParseErrorKind, ConfigPath, CustomTestGroup, ElementCause, ElementFault, IdentifierOwner,
-    InheritsError, ReadOutcome, ScriptId, ToolName, Tree, UnknownTestGroupError,
+    ConfigCompileError, ConfigCompileErrorKind, ConfigCompileSection, ConfigExperimental,
+    ConfigParseError, ConfigParseErrorKind, ConfigPath, CustomTestGroup, IdentifierOwner,
+    ReadOutcome, ScriptId, ToolName, Tree, UnknownTestGroupError,
 };
 use nextest_places::Step;
-use rinqebo_files::{Layer, SpanPart, place_at};
+use rinqebo_codes::Code;
+use rinqebo_files::{Layer, place_at};
 use rinqebo_load::Session;
-use rinqebo_report::{FileLines, Finding};
-use rinqebo_request::name_hint;
+use rinqebo_report::{FileLines, Finding, Position, Range};
 use std::alloc::{AllocError, Global};
 use std::collections::BTreeSet;
 
@@ -25,9 +24,12 @@ use std::collections::BTreeSet;
 fn add_outcome(refused: &mut Refused<'_, '_>, outcome: &ReadOutcome) -> Result<(), AllocError> {
     match outcome {
         ReadOutcome::Text(_) => Ok(()),
-        ReadOutcome::NotFound => refused.add_whole("no such file"),
-        ReadOutcome::NotADirectory => refused.add_whole("a part of its path is no directory"),
-        ReadOutcome::Failed(message) => refused.add_whole(message.as_str()),
+        ReadOutcome::NotFound => refused.add_whole(Code::UnreadableFile, "no such file"),
+        ReadOutcome::NotADirectory => refused.add_whole(
+            Code::UnreadableFile,
+            "a part of its path is no directory",
+        ),
+        ReadOutcome::Failed(message) => refused.add_whole(Code::UnreadableFile, message.as_str()),
     }
 }
 
@@ -48,82 +50,46 @@ fn from_one(count: usize) -> u64 {
     (count as u64).saturating_add(1)
 }
 
+/// The range of the character at a position.
+fn character_at(start: Position) -> Range {
+    Range {
+        start,
+        end: Position {
+            line: start.line,
+            column: start.column.saturating_add(1),
+        },
+    }
+}
+
+/// What to do about a line of a text, from 0, that is at fault for a reason, where that is plain.
+fn help_at(text: Option<&str>, line: usize, reason: &str) -> Option<&'static str> {
+    line_help(text?.lines().nth(line)?, reason)
+}
+
 /// The text is not a document: where it is at fault, and why.
 fn add_no_document(refused: &mut Refused<'_, '_>, message: &str) -> Result<(), AllocError> {
     let alloc = refused.alloc;
     let Some(fault) = refused.source.fault() else {
-        let found = refused.finding(on_one_line(alloc, message)?)?;
+        let found = refused.finding(Code::NotToml, on_one_line(alloc, message)?)?;
         return refused.add_finding(found);
     };
-    let mut found = refused.finding(on_one_line(alloc, fault.reason.as_str())?)?;
+    let mut found = refused.finding(Code::NotToml, on_one_line(alloc, fault.reason.as_str())?)?;
     if let (Some(place), Some(position)) = (&mut found.place, fault.position) {
-        let line = from_one(position.line);
+        let start = Position {
+            line: from_one(position.line),
+            column: from_one(position.column),
+        };
         place.lines = Some(FileLines {
-            first: line,
-            last: line,
+            first: start.line,
+            last: start.line,
         });
-        found.column = Some(from_one(position.column));
+        place.range = Some(character_at(start));
+        found.column = Some(start.column);
+        if let Some(help) = help_at(refused.text, position.line, fault.reason.as_str()) {
+            found.help = Some(String::from_str(alloc, help)?);
+        }
     }
     refused.add_finding(found)
-}
-
-/// What is wrong with a value of a wrong kind: the kind that it has.
-fn wrong_kind(
-    alloc: Global,
-    source: SourceAt<'_, '_>,
-    path: &[Step<'_>],
-) -> Result<String, AllocError> {
-    match given_at(source, path) {
-        Some(given) => format!(in alloc; "a value of the wrong kind: {given}"),
-        None => String::from_str(alloc, "a value of the wrong kind"),
-    }
-}
-
-/// What is wrong with a value, but for texts that are not taken.
-fn wrong_element(
-    alloc: Global,
-    source: SourceAt<'_, '_>,
-    cause: &ElementCause,
-    path: &[Step<'_>],
-) -> Result<String, AllocError> {
-    match cause {
-        ElementCause::WrongKind => wrong_kind(alloc, source, path),
-        cause => cause.to_string(alloc),
-    }
-}
-
-/// Whether the key is wrong or the value, where a table or a value is refused.
-fn wrong_part(cause: &ElementCause) -> SpanPart {
-    match cause {
-        ElementCause::Missing(_) | ElementCause::UnknownField => SpanPart::Key,
-        ElementCause::WrongKind
-        | ElementCause::BadValue { .. }
-        | ElementCause::OutOfRange
-        | ElementCause::Memory => SpanPart::Value,
-    }
-}
-
-/// A value that may not stand where it does.
-fn add_element(refused: &mut Refused<'_, '_>, fault: &ElementFault) -> Result<(), AllocError> {
-    let alloc = refused.alloc;
-    let told = Fault::Value(&fault.cause);
-    let path = spelled_path(alloc, refused.source, fault.path.as_str(), told)?;
-    match &fault.cause {
-        ElementCause::BadValue { given, expected } => {
-            let wrong = format!(in alloc; "invalid value `{given}`")?;
-            let mut found = refused.at(&path, wrong.as_str())?;
-            found.expected = Some(String::from_str(alloc, *expected)?);
-            found.help = word_hint(alloc, given.as_str(), &path)?;
-            refused.add_finding(found)
-        }
-        cause => {
-            let wrong = wrong_element(alloc, refused.source, cause, &path)?;
-            let expected = expected_at(alloc, cause, &path)?;
-            let mut found = refused.part_at(&path, wrong_part(cause), wrong.as_str())?;
-            found.expected = expected;
-            refused.add_finding(found)
-        }
-    }
 }
 
 /// Groups that a source may not define.
@@ -135,7 +101,7 @@ fn add_groups(
     for group in groups.iter() {
         let name = group.to_string(refused.alloc)?;
         let path = [Step::Key("test-groups"), Step::Key(name.as_str())];
-        refused.add_key_at(&path, wrong, None)?;
+        refused.add_key_at(Code::ForeignGroup, &path, wrong, None)?;
     }
     Ok(())
 }
@@ -181,6 +147,7 @@ fn script_path<'p>(
 /// Scripts that a source may not define.
 fn add_scripts(
     refused: &mut Refused<'_, '_>,
+    code: Code,
     scripts: &BTreeSet<ScriptId>,
     wrong: &str,
 ) -> Result<(), AllocError> {
@@ -188,7 +155,7 @@ fn add_scripts(
     for script in scripts.iter() {
         let name = script.to_string(alloc)?;
         let path = script_path(alloc, refused.source.tree(), name.as_str())?;
-        refused.add_key_at(&path, wrong, None)?;
+        refused.add_key_at(code, &path, wrong, None)?;
     }
     Ok(())
 }
@@ -213,70 +180,9 @@ fn add_features(
         let help = format!(in alloc;
             "write `experimental = [\"{feature}\"]`, or pass `--experimental {feature}`"
         )?;
-        refused.add_key_at(&path, wrong.as_str(), Some(help))?;
+        refused.add_key_at(Code::FeatureOff, &path, wrong.as_str(), Some(help))?;
     }
     Ok(())
-}
-
-/// The names of the profiles of all layers.
-fn profile_names<'l>(alloc: Global, layers: &'l [Layer]) -> Result<Vec<&'l str>, AllocError> {
-    let mut names = Vec::new(alloc);
-    for layer in layers {
-        let Some(tree) = layer.tree() else {
-            continue;
-        };
-        let Some(profiles) = tree.get("profile") else {
-            continue;
-        };
-        let Some(members) = profiles.as_table() else {
-            continue;
-        };
-        for name in members.keys() {
-            names.push(name.as_str())?;
-        }
-    }
-    Ok(names)
-}
-
-/// The first profile of the first of some cycles.
-fn first_of(cycles: &[Vec<String>]) -> Option<&String> {
-    cycles.first()?.first()
-}
-
-/// Adds what is wrong with the parent that a profile names.
-fn add_at_parent(
-    refused: &mut Refused<'_, '_>,
-    profile: &str,
-    wrong: &str,
-    help: Option<String>,
-) -> Result<(), AllocError> {
-    let path = [
-        Step::Key("profile"),
-        Step::Key(profile),
-        Step::Key("inherits"),
-    ];
-    refused.add_at(&path, wrong, help)
-}
-
-/// What is wrong with a parent.
-fn add_parent(refused: &mut Refused<'_, '_>, error: &InheritsError) -> Result<(), AllocError> {
-    let alloc = refused.alloc;
-    let wrong = error.to_string(alloc)?;
-    match error {
-        InheritsError::DefaultProfileInheritance(profile)
-        | InheritsError::SelfReferentialInheritance(profile) => {
-            add_at_parent(refused, profile.as_str(), wrong.as_str(), None)
-        }
-        InheritsError::UnknownInheritance(profile, parent) => {
-            let names = profile_names(alloc, refused.source.layers)?;
-            let help = name_hint(alloc, parent.as_str(), &names)?;
-            add_at_parent(refused, profile.as_str(), wrong.as_str(), help)
-        }
-        InheritsError::InheritanceCycle(cycles) => match first_of(cycles) {
-            Some(profile) => add_at_parent(refused, profile.as_str(), wrong.as_str(), None),
-            None => refused.add_whole(wrong.as_str()),
-        },
-    }
 }
 
 /// The path of a section of a profile.
@@ -302,6 +208,15 @@ fn section_path<'p>(
     Ok(path)
 }
 
+/// The code of what is wrong with a whole section.
+fn section_code(kind: &ConfigCompileErrorKind) -> Code {
+    match kind {
+        ConfigCompileErrorKind::ConstraintsNotSpecified { .. } => Code::RuleWithoutCondition,
+        ConfigCompileErrorKind::FilterAndDefaultFilterSpecified => Code::TwoFilters,
+        ConfigCompileErrorKind::Parse { .. } => Code::InvalidFilter,
+    }
+}
+
 /// What does not compile: each text that is refused, or else the whole section.
 fn add_compile(
     refused: &mut Refused<'_, '_>,
@@ -317,7 +232,7 @@ fn add_compile(
     }
     let path = section_path(alloc, profile, section)?;
     let wrong = error.kind.to_string(alloc)?;
-    refused.add_at(&path, wrong.as_str(), None)
+    refused.add_at(section_code(&error.kind), &path, wrong.as_str(), None)
 }
 
 /// A second file of a tool.
@@ -327,24 +242,17 @@ fn add_second_file(
     first: &ConfigPath,
 ) -> Result<(), AllocError> {
     let wrong = format!(in refused.alloc; "the tool `{tool}` provides `{first}`, too")?;
-    refused.add_whole(wrong.as_str())
+    refused.add_whole(Code::SecondToolFile, wrong.as_str())
 }
 
 /// Scripts under the old key and under the new one.
 fn add_both_keys(refused: &mut Refused<'_, '_>) -> Result<(), AllocError> {
     refused.add_key_at(
+        Code::TwoScriptTables,
         &[Step::Key("scripts")],
         "there is the old table `script` beside it",
         None,
     )
-}
-
-/// Parents that profiles may not have.
-fn add_parents(refused: &mut Refused<'_, '_>, errors: &[InheritsError]) -> Result<(), AllocError> {
-    for error in errors {
-        add_parent(refused, error)?;
-    }
-    Ok(())
 }
 
 /// Filters and platforms that do not compile.
@@ -401,20 +309,36 @@ fn add_kind(refused: &mut Refused<'_, '_>, kind: &ConfigParseErrorKind) -> Resul
             add_groups(refused, groups, "this group is not the organisation's own")
         }
         ConfigParseErrorKind::DuplicateConfigScriptNames(ids) => {
-            add_scripts(refused, ids, "this is a setup script and a wrapper script")
+            add_scripts(
+                refused,
+                Code::DuplicateScript,
+                ids,
+                "this is a setup script and a wrapper script",
+            )
         }
         ConfigParseErrorKind::InvalidConfigScriptsDefined(ids) => {
             add_scripts(
                 refused,
+                Code::ForeignScript,
                 ids,
                 "this script is a tool's or the organisation's",
             )
         }
         ConfigParseErrorKind::InvalidConfigScriptsDefinedByTool(ids) => {
-            add_scripts(refused, ids, "this script is not the tool's own")
+            add_scripts(
+                refused,
+                Code::ForeignScript,
+                ids,
+                "this script is not the tool's own",
+            )
         }
         ConfigParseErrorKind::InvalidConfigScriptsDefinedByOrganisation(ids) => {
-            add_scripts(refused, ids, "this script is not the organisation's own")
+            add_scripts(
+                refused,
+                Code::ForeignScript,
+                ids,
+                "this script is not the organisation's own",
+            )
         }
         ConfigParseErrorKind::InheritanceErrors(errors) => add_parents(refused, errors),
         ConfigParseErrorKind::CompileErrors(errors) => add_compiles(refused, errors),
@@ -451,13 +375,19 @@ pub fn add_refusal(
     error: &ConfigParseError,
     findings: &mut Vec<Finding>,
 ) -> Result<(), AllocError> {
+    let position = refused_place(&session.layers, error);
+    let text = match position {
+        Some(position) => text_of(session.gathered, position),
+        None => None,
+    };
     let mut refused = Refused {
         alloc,
         source: SourceAt {
             layers: &session.layers,
-            position: refused_place(&session.layers, error),
+            position,
         },
-        code: error.kind().name(),
+        text,
+        upstream: error.kind().name(),
         findings,
     };
     add_kind(&mut refused, error.kind())

@@ -1,24 +1,34 @@
 //! The findings of a refused source.
-use crate::findings::{SourceAt, finding, finding_at};
-use crate::paths::path_text;
+use crate::findings::{Label, SourceAt, finding, finding_at};
 use nextest_places::Step;
+use rinqebo_codes::Code;
 use rinqebo_files::{Layer, SpanPart, part_place};
 use rinqebo_report::{FilePlace, Finding, Level};
 use std::alloc::{AllocError, Global};
 
-/// What is refused: the source, and the name of what is wrong. Findings go behind the others.
+/// What is refused: the source, and the name of the refusal. Findings go behind the others.
 #[derive(Drop)]
 pub struct Refused<'r, 't> {
     pub alloc: Global,
     /// The source that is refused.
     pub source: SourceAt<'r, 't>,
-    /// The name of the refusal, the code of its findings.
-    pub code: &'static str,
+    /// Its text, if it has one.
+    pub text: Option<&'r str>,
+    /// The name that nextest-runner has for the refusal.
+    pub upstream: &'static str,
     /// The findings so far.
     pub findings: &'r mut Vec<Finding>,
 }
 
 impl Refused<'_, '_> {
+    /// What its findings of a code are called.
+    fn label(&self, code: Code) -> Label {
+        Label {
+            code,
+            upstream: Some(self.upstream),
+        }
+    }
+
     /// Adds a finding with more than a message.
     pub fn add_finding(&mut self, found: Finding) -> Result<(), AllocError> {
         self.findings.push(found)?;
@@ -30,15 +40,16 @@ impl Refused<'_, '_> {
     /// highest one counts that does.
     pub fn part_at(
         &self,
+        code: Code,
         path: &[Step<'_>],
         part: SpanPart,
         wrong: &str,
     ) -> Result<Finding, AllocError> {
         let alloc = self.alloc;
-        let text = path_text(alloc, path)?;
-        let message = format!(in alloc; "{text}: {wrong}")?;
+        let message = String::from_str(alloc, wrong)?;
         let level = Level::Error;
-        let mut found = finding_at(alloc, level, self.code, self.source, path, part, message)?;
+        let label = self.label(code);
+        let mut found = finding_at(alloc, level, label, self.source, path, part, message)?;
         if let Some(FilePlace { lines: None, .. }) = found.place {
             if let Some(place) = highest_place(self.source.layers, path, part) {
                 found.place = Some(place);
@@ -48,29 +59,31 @@ impl Refused<'_, '_> {
     }
 
     /// A finding about the value at a path.
-    pub fn at(&self, path: &[Step<'_>], wrong: &str) -> Result<Finding, AllocError> {
-        self.part_at(path, SpanPart::Value, wrong)
+    pub fn at(&self, code: Code, path: &[Step<'_>], wrong: &str) -> Result<Finding, AllocError> {
+        self.part_at(code, path, SpanPart::Value, wrong)
     }
 
     /// A finding with a message alone.
-    pub fn finding(&self, message: String) -> Result<Finding, AllocError> {
-        finding(self.alloc, Level::Error, self.code, self.source, message)
+    pub fn finding(&self, code: Code, message: String) -> Result<Finding, AllocError> {
+        let label = self.label(code);
+        finding(self.alloc, Level::Error, label, self.source, message)
     }
 
     /// Adds what is wrong with the whole source.
-    pub fn add_whole(&mut self, wrong: &str) -> Result<(), AllocError> {
-        let found = self.finding(String::from_str(self.alloc, wrong)?)?;
+    pub fn add_whole(&mut self, code: Code, wrong: &str) -> Result<(), AllocError> {
+        let found = self.finding(code, String::from_str(self.alloc, wrong)?)?;
         self.add_finding(found)
     }
 
     /// Adds what is wrong with the value at a path, and what to do.
     pub fn add_at(
         &mut self,
+        code: Code,
         path: &[Step<'_>],
         wrong: &str,
         help: Option<String>,
     ) -> Result<(), AllocError> {
-        let mut found = self.at(path, wrong)?;
+        let mut found = self.at(code, path, wrong)?;
         found.help = help;
         self.add_finding(found)
     }
@@ -78,11 +91,12 @@ impl Refused<'_, '_> {
     /// Adds what is wrong with the key at the end of a path, and what to do.
     pub fn add_key_at(
         &mut self,
+        code: Code,
         path: &[Step<'_>],
         wrong: &str,
         help: Option<String>,
     ) -> Result<(), AllocError> {
-        let mut found = self.part_at(path, SpanPart::Key, wrong)?;
+        let mut found = self.part_at(code, path, SpanPart::Key, wrong)?;
         found.help = help;
         self.add_finding(found)
     }

@@ -3,7 +3,9 @@ ghost use Rattle.std.specs.Prelude.{◌≡◌, IfOk};
 ghost use Rattle.rinqebo_findings.specs.Reports.{IsReportOf};
 
 use crate::above::add_refusals_above;
+use crate::excerpts::with_lines;
 use crate::findings::warning_findings;
+use crate::order::in_order;
 use crate::refusals::add_refusal;
 use crate::unreached::unreached_of;
 use nextest_config::{ConfigParseError, DefaultConfigWarnings};
@@ -12,7 +14,8 @@ use rinqebo_load::Session;
 use rinqebo_report::{Content, Finding, Report, Unreached};
 use std::alloc::{AllocError, Global};
 
-/// A report of a session.
+/// A report of a session. Findings are in the order of their files, lines and columns, and the first
+/// ones have the lines of files that show them.
 pub fn report_of(
     alloc: Global,
     session: &Session<'_>,
@@ -26,7 +29,7 @@ pub fn report_of(
     Ok(Report {
         root: session.gathered.paths.workspace_root.clone()?,
         sources: sources_of(alloc, &session.layers)?,
-        findings,
+        findings: with_lines(alloc, session.gathered, in_order(findings)?)?,
         unreached,
         content,
     })

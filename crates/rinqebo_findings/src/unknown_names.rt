@@ -3,6 +3,7 @@ use crate::hints::known_hint;
 use crate::refused::Refused;
 use nextest_config::{ProfileScriptErrors, Tree, UnknownTestGroupError};
 use nextest_places::Step;
+use rinqebo_codes::Code;
 use rinqebo_files::profile_table;
 use std::alloc::AllocError;
 use std::collections::BTreeSet;
@@ -73,19 +74,20 @@ pub fn add_unknown_group(
     let wrong = format!(in alloc; "unknown group `{name}`")?;
     let path = naming_path(refused, profile, "overrides", &["test-group"], name)?;
     let help = known_hint(alloc, name, known)?;
-    refused.add_at(&path, wrong.as_str(), help)
+    refused.add_at(Code::UnknownGroup, &path, wrong.as_str(), help)
 }
 
 /// Adds what is wrong with a script that a rule of a profile names at one of some keys.
 fn add_script(
     refused: &mut Refused<'_, '_>,
+    code: Code,
     profile: &str,
     name: &str,
     keys: &[&str],
     wrong: &str,
 ) -> Result<(), AllocError> {
     let path = naming_path(refused, profile, "scripts", keys, name)?;
-    refused.add_at(&path, wrong, None)
+    refused.add_at(code, &path, wrong, None)
 }
 
 /// Adds the scripts that are not known.
@@ -101,7 +103,7 @@ fn add_unknown_scripts(
         let path = naming_path(refused, profile, "scripts", &SCRIPT_USES, name.as_str())?;
         let wrong = format!(in alloc; "unknown script `{name}`")?;
         let help = known_hint(alloc, name.as_str(), known)?;
-        refused.add_at(&path, wrong.as_str(), help)?;
+        refused.add_at(Code::UnknownScript, &path, wrong.as_str(), help)?;
     }
     Ok(())
 }
@@ -121,6 +123,7 @@ pub fn add_script_errors(
         let profile = error.profile_name.as_str();
         add_script(
             refused,
+            Code::WrongScriptKind,
             profile,
             name.as_str(),
             &[key.as_str()],
@@ -129,9 +132,16 @@ pub fn add_script_errors(
     }
     for error in &errors.list_scripts_using_run_filters {
         let name = error.name.to_string(alloc)?;
-        let wrong = "a list wrapper may not stand beside a filter that only a running test answers";
+        let wrong = "a list wrapper cannot have a filter on tests";
         let profile = error.profile_name.as_str();
-        add_script(refused, profile, name.as_str(), &["list-wrapper"], wrong)?;
+        add_script(
+            refused,
+            Code::ListWrapperFilter,
+            profile,
+            name.as_str(),
+            &["list-wrapper"],
+            wrong,
+        )?;
     }
     Ok(())
 }

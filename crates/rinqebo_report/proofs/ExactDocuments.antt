@@ -81,7 +81,7 @@ scalar : (n : ℕ) (s : Scalar) → IsExact n (scalar_data s)
 scalar n (scalars.Boolean b) = exact_truth n b
 scalar n (scalars.Integer z) = integer n z
 scalar n (scalars.Text s) = text n s
-scalar n (scalars.Duration m) = exact_text n _
+scalar n (scalars.Duration duration) = exact_text n _
 
 value : (n : ℕ) (v : Value) → IsExact (n + 1) (value_data v)
 value n (values.Scalar s) = scalar (n + 1) s
@@ -212,11 +212,14 @@ finding f =
     (and_member _ (exact_text 2 _)
     (and_member _ (place_lines 1 f.place)
     (and_member _ (text 2 f.message)
+    (and_member _ (texts 1 f.notes.items)
     (and_member _ (optional_text 2 f.path)
     (and_member _ (place_range 0 f.place)
-    (and_member _ (place_source 2 f.place) (and_member _ (expression_span 1 f.expression) (no_more 2)))))))))))))
+    (and_member _ (place_source 2 f.place)
+    (and_member _ (expression_span 1 f.expression)
+    (and_member _ (optional_text 2 f.upstream) (no_more 2)))))))))))))))
 
--- members with what was asked for, and with those of each page
+-- members with what was requested, and with those of each page
 asked : {ms : Members} (command : List ℕ) (a : Asked) → AreExact 8 ms → AreExact 8 (with_requested command a ms)
 asked command a h =
     exact_put (codes "target") _ _ (optional_text 8 a.target)

@@ -4,7 +4,7 @@ use Rattle.std.proofs.lemmas.List.{append-nil}
 use Rattle.std.proofs.lemmas.Grind.{flat_map-append, take_at_read}
 use Rattle.rinqebo_report.specs.Joined.{joined, separator_after}
 
--- one more text stands behind its separator
+-- one more text is behind its separator
 joined-push : {X : Type 0} (s : List ℕ) (f : X → List ℕ) (xs : List X) (x : X)
     → joined s f (xs ++ x ∷ []) ≡ (joined s f xs ++ separator_after s xs) ++ f x
 joined-push {X} s f [] x = append-nil (f x)

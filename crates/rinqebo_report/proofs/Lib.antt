@@ -2,6 +2,7 @@ pub mod WholeTexts
 pub mod Joined
 pub mod Prefixes
 pub mod Pages
+pub mod Shown
 pub mod Uncoloured
 pub mod ReadDurations
 pub mod Exact

@@ -60,3 +60,11 @@ page_more {X} tint g xs i x lt is start old new h n =
     ∙ append_assoc start (page_text tint before) (page_text tint (g x))
     ∙ ap (λ t. start ++ t) (sym (flat_map-append (painted tint) before (g x)))
     ∙ ap (λ rs. start ++ page_text tint rs) (sym runs)
+
+-- what was written in two parts
+pub and_runs : (tint : Colour) (a b : List Run) (old mid new : List ℕ)
+    → mid ≡ old ++ page_text tint a → new ≡ mid ++ page_text tint b → new ≡ old ++ page_text tint (a ++ b)
+and_runs tint a b old mid new h n =
+    n ∙ ap (λ t. t ++ page_text tint b) h
+    ∙ append_assoc old (page_text tint a) (page_text tint b)
+    ∙ ap (λ t. old ++ t) (sym (flat_map-append (painted tint) a b))

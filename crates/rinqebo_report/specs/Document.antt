@@ -36,7 +36,7 @@ common_members report =
     (member (codes "unused") (array no_items)
     (member (codes "version") (count_data 1) no_members))))))))))))))))
 
--- members, with a command, and what was asked for
+-- members, with a command, and what was requested
 abbrev pub with_requested : List ℕ → Asked → Members → Members
 with_requested command asked members =
     put (codes "target") (optional_text_data asked.target)
@@ -80,7 +80,7 @@ with_config asked entries members =
     put (codes "entries") (list_data entry_data entries)
     (with_requested (codes "show-config") asked members)
 
--- members, with those of the page of what a command answers
+-- members, with those of the page of what a command returns
 abbrev pub with_content : Content → Members → Members
 with_content (contents.Explain asked test) members = with_explain asked test members
 with_content (contents.Why asked test key rules is_ignored) members =

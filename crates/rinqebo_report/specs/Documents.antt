@@ -76,12 +76,12 @@ range_data None = null
 range_data (Some range) =
     array (item (position_data range.start) (item (position_data range.end) no_items))
 
--- a value that holds no others: a duration is the text of it
+-- a value that holds no others: a duration is its text in one number, however a file writes it
 abbrev pub scalar_data : Scalar → Data
 scalar_data (scalars.Boolean b) = boolean b
 scalar_data (scalars.Integer z) = number (of_integer z)
 scalar_data (scalars.Text text) = text_data text
-scalar_data (scalars.Duration n) = string (duration_text n)
+scalar_data (scalars.Duration duration) = string (duration_text duration.nanoseconds)
 
 -- members, with one of a table
 abbrev pub with_field : Members → TableMember → Members
@@ -258,10 +258,11 @@ expression_span_data (Some expression) = span_data expression.span
 -- members, with what is wrong
 abbrev pub with_fault : Finding → Members → Members
 with_fault finding members =
-    put (codes "message") (text_data finding.message) (put (codes "level")
-    (string (level_word finding.level)) (put (codes "code") (text_data finding.code) members))
+    put (codes "upstream") (optional_text_data finding.upstream)
+    (put (codes "message") (text_data finding.message) (put (codes "level")
+    (string (level_word finding.level)) (put (codes "code") (text_data finding.code) members)))
 
--- members, with where it stands
+-- members, with where it is
 abbrev pub with_site : Finding → Members → Members
 with_site finding members =
     put (codes "source") (place_source_data finding.place)
@@ -279,8 +280,9 @@ with_expression finding members =
 -- members, with what to do
 abbrev pub with_advice : Finding → Members → Members
 with_advice finding members =
-    put (codes "help") (optional_text_data finding.help)
-    (put (codes "expected") (optional_text_data finding.expected) members)
+    put (codes "notes") (list_data text_data finding.notes.items)
+    (put (codes "help") (optional_text_data finding.help)
+    (put (codes "expected") (optional_text_data finding.expected) members))
 
 -- a finding
 abbrev pub finding_data : Finding → Data
@@ -293,7 +295,9 @@ finding_data finding =
     (member (codes "level") (string (level_word finding.level))
     (member (codes "lines") (place_lines_data finding.place)
     (member (codes "message") (text_data finding.message)
+    (member (codes "notes") (list_data text_data finding.notes.items)
     (member (codes "path") (optional_text_data finding.path)
     (member (codes "range") (place_range_data finding.place)
     (member (codes "source") (place_source_data finding.place)
-    (member (codes "span") (expression_span_data finding.expression) no_members))))))))))))
+    (member (codes "span") (expression_span_data finding.expression)
+    (member (codes "upstream") (optional_text_data finding.upstream) no_members))))))))))))))

@@ -1,4 +1,4 @@
--- Pages on which tests are put together where the same is told of them.
+-- Pages that put tests together where they show the same of them.
 use Rattle.std.specs.Prelude.{ℕ, List, [], ◌∷◌, ◌++◌, Bool, Option, None, Some, option_map, length, filter, flat_map, fold, codes, string_bytes, if◌then◌else◌}
 use Rattle.std.specs.List.{list_any}
 use Rattle.std.specs.Str.{bytes_eq}
@@ -14,7 +14,7 @@ use Rattle.rinqebo_report.specs.declared.report.SettingRow.{SettingRow}
 use Rattle.rinqebo_report.specs.declared.report.TestRows.{TestRows}
 use Rattle.rinqebo_report.specs.Pages.{plain, absent_runs, rows_shown, test_line_runs, list_head_runs, list_end_runs, content_runs}
 use Rattle.rinqebo_report.specs.Pieces.{Run, styled, ending, page_text}
-use Rattle.rinqebo_report.specs.TomlText.{value_text}
+use Rattle.rinqebo_report.specs.TomlText.{canonical_text}
 
 -- a setting and its value, or that it has none
 abbrev pub reported_line_runs : List ℕ → Option (List ℕ) → List Run
@@ -22,28 +22,29 @@ reported_line_runs key (Some value) =
     styled styles.Key key ∷ plain (codes " = ") ∷ plain value ∷ ending ∷ []
 reported_line_runs key None = absent_runs key
 
--- what is told of a setting
+-- what a page shows of a setting, the same however files write its durations
 abbrev pub reported_row_runs : SettingRow → List Run
-reported_row_runs row = reported_line_runs (string_bytes row.key) (option_map value_text row.value)
+reported_row_runs row =
+    reported_line_runs (string_bytes row.key) (option_map canonical_text row.value)
 
--- what is told of a test, a line for each row
+-- what a page shows of a test, a line for each row
 abbrev pub reported_runs : TestRows → List Run
 reported_runs test = rows_shown (reported_row_runs test.runs) reported_row_runs test
 
--- what is told of a test, as a text
+-- what a page shows of a test, as a text
 abbrev pub reported_text : TestRows → List ℕ
 reported_text test = page_text colours.Plain (reported_runs test)
 
--- whether a text is told of a test
+-- whether a text is what a page shows of a test
 abbrev pub has_reported : List ℕ → TestRows → Bool
 has_reported text test = bytes_eq (reported_text test) text
 
--- tests, and another one, if what is told of it is told of none of them
+-- tests, and another one, if what a page shows of it differs from what it shows of each of them
 abbrev pub with_first : List TestRows → TestRows → List TestRows
 with_first found test =
     if list_any (has_reported (reported_text test)) found then found else found ++ test ∷ []
 
--- of tests those that are the first of which something is told, in their order
+-- of tests the first of each text that a page shows of one, in their order
 abbrev pub firsts : List TestRows → List TestRows
 firsts tests = fold with_first [] tests
 
@@ -52,7 +53,7 @@ abbrev pub grouped_test_runs : TestRows → List Run
 grouped_test_runs test =
     plain (codes "    ") ∷ test_line_runs (string_bytes test.binary) (string_bytes test.name)
 
--- the group of a test: what is told of it, and all tests of which the same is told
+-- the group of a test: what a page shows of it, and all tests of which it shows the same
 abbrev pub group_runs : List TestRows → TestRows → List Run
 group_runs tests first =
     reported_runs first
@@ -62,13 +63,13 @@ group_runs tests first =
 abbrev pub groups_runs : List TestRows → List Run
 groups_runs tests = flat_map (group_runs tests) (firsts tests)
 
--- what is asked, tests in groups, how many tests there are, and the rules that hold for none
+-- what it is about, tests in groups, how many tests there are, and the rules that hold for none
 abbrev pub grouped_runs : List ℕ → List Source → Asked → List TestRows → List Origin → List Run
 grouped_runs root sources asked tests unused =
     list_head_runs asked
     ++ (groups_runs tests ++ list_end_runs root sources (length tests) unused)
 
--- the page of what a command answers, with the tests of a list in groups
+-- the page of what a command returns, with the tests of a list in groups
 abbrev pub grouped_content_runs : Report → Content → List Run
 grouped_content_runs report (contents.List asked tests unused scripts) =
     grouped_runs (string_bytes report.root) report.sources.items asked tests.items unused.items

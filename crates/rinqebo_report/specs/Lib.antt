@@ -3,6 +3,8 @@ pub mod Durations
 pub mod Joined
 pub mod TomlText
 pub mod OriginText
+pub mod Findings
+pub mod Excerpts
 pub mod Pages
 pub mod Pieces
 pub mod PieceView

@@ -1,5 +1,5 @@
 -- The pages of a report.
-use Rattle.std.specs.Prelude.{ℕ, ◌+◌, ◌-◌, max, Bool, true, false, List, [], ◌∷◌, ◌++◌, Option, None, Some, is_some, option_map, length, fold, flat_map, unwrap_or, count_by, codes, decimal, take, String, string_bytes, if◌then◌else◌, not}
+use Rattle.std.specs.Prelude.{ℕ, ◌+◌, ◌-◌, ◌==◌, max, Bool, true, false, List, [], ◌∷◌, ◌++◌, Option, None, Some, is_some, option_map, length, fold, flat_map, unwrap_or, count_by, codes, decimal, take, String, string_bytes, if◌then◌else◌, not}
 use Rattle.std.specs.declared.alloc.Global.{Global}
 use Rattle.std.specs.Str.{chars}
 use Rattle.unicode_width.specs.Width.{str_width}
@@ -34,6 +34,7 @@ use Rattle.rinqebo_report.specs.declared.report.Unreached.{Unreached}
 use Rattle.rinqebo_report.specs.declared.report.Verdict.{Verdict}
 use Rattle.rinqebo_report.specs.declared.report.Verdict.TheVariants as verdicts
 use Rattle.rinqebo_report.specs.Advice.{message_with_advice}
+use Rattle.rinqebo_report.specs.Excerpts.{has_some, margin_runs, number_width, excerpt_runs, remarks_runs}
 use Rattle.rinqebo_report.specs.Joined.{joined}
 use Rattle.rinqebo_report.specs.OriginText.{all_origins_text, origin_text, path_at, position_text}
 use Rattle.rinqebo_report.specs.Pieces.{Run, styled, repeated, numbered, ending, shown_char}
@@ -135,14 +136,14 @@ abbrev pub build_text : List ℕ → Option (List ℕ) → List ℕ
 build_text host None = host
 build_text host (Some target) = codes "host " ++ (host ++ (codes ", target " ++ target))
 
--- what is asked about: the test, the profiles, the mode, and what it runs on
+-- what a page is about: the test, the profiles, the mode, and what it runs on
 abbrev pub header_text : Asked → TestRows → List ℕ
 header_text asked test =
     codes "# " ++ (string_bytes test.binary ++ (codes " " ++ (string_bytes test.name
     ++ (codes ", " ++ (profiles_text asked ++ (codes ", " ++ (platform_word test.platform
     ++ (codes " " ++ triple_of asked test.platform))))))))
 
--- what is asked of a list: the profiles, the mode, and what the tests run on
+-- what a list is about: the profiles, the mode, and what the tests run on
 abbrev pub list_header_text : Asked → List ℕ
 list_header_text asked =
     codes "# " ++ (profiles_text asked
@@ -174,19 +175,19 @@ abbrev pub number_run : Verdict → ℕ → Run
 number_run verdicts.Fallback n = plain (codes "-")
 number_run _ n = numbered (n + 1)
 
--- what is told of a condition: that it does not hold, or that it can't be told
+-- what a page shows of a condition: that it does not hold, or that this is unknown
 abbrev pub reported_answer : ConditionAnswer → Option (List ℕ)
 reported_answer answers.No = Some (codes ": no")
 reported_answer answers.Unknown = Some (codes ": unknown")
 reported_answer _ = None
 
--- a line of a rule, if something is told there
+-- a line of a rule, if it shows something
 abbrev pub reported_runs : List ℕ → List ℕ → Option (List ℕ) → List Run
 reported_runs word text None = []
 reported_runs word text (Some told) =
     plain (codes "     ") ∷ plain word ∷ plain (codes " ") ∷ plain text ∷ plain told ∷ ending ∷ []
 
--- a condition, where it does not hold or can't be told
+-- a condition, where it does not hold or is unknown
 abbrev pub condition_runs : List ℕ → Condition → List Run
 condition_runs word condition =
     reported_runs word (string_bytes condition.text) (reported_answer condition.answer)
@@ -210,7 +211,7 @@ abbrev pub written_runs : List ℕ → Verdict → Option (List ℕ) → List Ru
 written_runs key verdict None = []
 written_runs key verdict (Some value) = if shows_value verdict then value_runs key value else []
 
--- the first line of a rule: its number, the verdict, and where it stands
+-- the first line of a rule: its number, the verdict, and its origin
 abbrev pub verdict_runs : ℕ → Verdict → List ℕ → List Run
 verdict_runs n verdict origin =
     number_run verdict n ∷ plain (codes "  ")
@@ -272,11 +273,11 @@ count_runs n = plain (codes "tests: ") ∷ numbered n ∷ ending ∷ []
 abbrev pub unused_line_runs : List ℕ → List Run
 unused_line_runs origin = plain (codes "unused: ") ∷ plain origin ∷ ending ∷ []
 
--- where a rule that holds for no test stands
+-- the origin of a rule that holds for no test
 abbrev pub unused_runs : List ℕ → List Source → Origin → List Run
 unused_runs root sources origin = unused_line_runs (origin_text root sources origin)
 
--- what is asked of a list, in a line
+-- what a list is about, in a line
 abbrev pub list_head_runs : Asked → List Run
 list_head_runs asked = styled styles.Remark (list_header_text asked) ∷ ending ∷ []
 
@@ -285,7 +286,7 @@ abbrev pub list_end_runs : List ℕ → List Source → ℕ → List Origin → 
 list_end_runs root sources n unused =
     count_runs n ++ flat_map (unused_runs root sources) unused
 
--- what is asked, the tests, how many there are, and the rules that hold for none
+-- what it is about, the tests, how many there are, and the rules that hold for none
 abbrev pub list_runs : List ℕ → List Source → Asked → List TestRows → List Origin → List Run
 list_runs root sources asked tests unused =
     list_head_runs asked
@@ -347,12 +348,20 @@ abbrev pub spot_text : Option Range → Option FileLines → Option ℕ → List
 spot_text (Some range) lines column = position_text range.start
 spot_text None lines column = line_text lines column
 
--- where a finding is, before what is told
+-- where a finding is, before its message
 abbrev pub finding_place : List ℕ → List Source → Option FilePlace → Option ℕ → List ℕ
 finding_place root sources None column = []
 finding_place root sources (Some place) column =
     path_at root sources place.source
     ++ (spot_text place.range place.lines column ++ codes ": ")
+
+-- where a finding is, on a row of its own
+abbrev pub arrow_runs :
+    ℕ → List ℕ → List Source → Option FilePlace → Option ℕ → List Run
+arrow_runs w root sources None column = []
+arrow_runs w root sources (Some place) column =
+    margin_runs w (codes "--> ") ++ plain (path_at root sources place.source
+    ++ spot_text place.range place.lines column) ∷ ending ∷ []
 
 -- the level of a finding, and its name in brackets
 abbrev pub level_text : Finding → List ℕ
@@ -388,19 +397,35 @@ expression_runs (Some expression) =
     plain (codes "    ") ∷ plain (string_bytes expression.text) ∷ ending
     ∷ caret_runs (string_bytes expression.text) expression.span
 
--- a remark below a finding
-abbrev pub remark_runs : List ℕ → Option (String Global) → List Run
-remark_runs word None = []
-remark_runs word (Some text) =
-    plain (codes "    ") ∷ styled styles.Help word ∷ plain (string_bytes text) ∷ ending ∷ []
+-- an expression that no line shows
+abbrev pub apart_runs : Finding → List Run
+apart_runs finding =
+    if has_some finding.lines.items then [] else expression_runs finding.expression
+
+-- a level in its style, and a message
+abbrev pub title_line_runs : Style → List ℕ → List ℕ → List Run
+title_line_runs style level message =
+    styled style level ∷ plain (codes ": ") ∷ plain message ∷ ending ∷ []
+
+-- the first line of a finding on a page: its level, its name and its message
+abbrev pub title_runs : Finding → List Run
+title_runs finding =
+    title_line_runs (level_style finding.level) (level_text finding)
+    (string_bytes finding.message)
+
+-- a finding, with a margin of this width: where it is, the lines that show it, remarks, and an
+-- empty line
+abbrev pub framed_runs : ℕ → List ℕ → List Source → Finding → List Run
+framed_runs w root sources finding =
+    title_runs finding
+    ++ (arrow_runs w root sources finding.place finding.column
+    ++ (excerpt_runs w finding
+    ++ (apart_runs finding ++ (remarks_runs w finding ++ ending ∷ []))))
 
 -- a finding
 abbrev pub finding_runs : List ℕ → List Source → Finding → List Run
 finding_runs root sources finding =
-    head_runs root sources finding (string_bytes finding.message)
-    ++ (expression_runs finding.expression
-    ++ (remark_runs (codes "= expected: ") finding.expected
-    ++ remark_runs (codes "= help: ") finding.help))
+    framed_runs (number_width finding.lines.items) root sources finding
 
 -- whether a level refuses
 abbrev pub is_refusal : Level → Bool
@@ -434,10 +459,17 @@ summary_text report =
     ++ flat_map (unreached_text (string_bytes report.root) report.sources.items)
     report.unreached.items
 
--- the findings
+-- how many findings follow those that a page shows
+abbrev pub further_runs : ℕ → List Run
+further_runs n =
+    if n == 0 then []
+    else plain (codes "further findings: ") ∷ numbered n ∷ ending ∷ ending ∷ []
+
+-- the first hundred findings, and how many there are beside them
 abbrev pub findings_runs : Report → List Run
 findings_runs report =
-    flat_map (finding_runs (string_bytes report.root) report.sources.items) report.findings.items
+    flat_map (finding_runs (string_bytes report.root) report.sources.items)
+    (take 100 report.findings.items) ++ further_runs (length report.findings.items - 100)
 
 -- a finding on one line, with its advice
 abbrev pub concise_line_runs : List ℕ → List Source → Finding → List Run
@@ -450,7 +482,7 @@ concise_runs report =
     flat_map (concise_line_runs (string_bytes report.root) report.sources.items)
     report.findings.items
 
--- the page of what a command answers
+-- the page of what a command returns
 abbrev pub content_runs : Report → Content → List Run
 content_runs report (contents.Explain asked test) =
     explain_runs (string_bytes report.root) report.sources.items asked test

@@ -1,5 +1,8 @@
 //! What is wrong with a file.
+ghost use Rattle.rinqebo_report.specs.Findings.{IsBare};
+
 use crate::origin::FilePlace;
+use std::alloc::Global;
 
 /// How bad it is.
 #[derive(Clone, Copy)]
@@ -28,6 +31,46 @@ pub struct RefusedExpression {
     pub span: Option<CharSpan>,
 }
 
+/// The sign below a part of a line.
+#[derive(Clone, Copy)]
+pub enum Sign {
+    /// Nothing: the part has no fault.
+    Blank,
+    /// Carets: the part is at fault.
+    Fault,
+    /// Hyphens: the part is what the fault is measured by.
+    Related,
+}
+
+/// A part of a line, and the sign below it.
+#[derive(Clone, Copy)]
+pub struct LinePart {
+    /// The sign below it.
+    pub sign: Sign,
+    /// Its characters.
+    pub span: CharSpan,
+}
+
+/// A line of a file that shows a fault.
+#[derive(Drop)]
+pub struct SourceLine {
+    /// Its number, from 1.
+    pub number: u64,
+    /// Its text, without the end of the line.
+    pub text: String,
+    /// Its parts up to the last one with a sign, each behind the other.
+    pub parts: Vec<LinePart>,
+}
+
+/// Where a page shows the help of a finding.
+#[derive(Clone, Copy)]
+pub enum HelpPlace {
+    /// Beside the carets, if there are some.
+    Beside,
+    /// On a line below them.
+    Below,
+}
+
 /// What is wrong, and where.
 #[derive(Drop)]
 pub struct Finding {
@@ -35,18 +78,49 @@ pub struct Finding {
     pub level: Level,
     /// The name of what is wrong.
     pub code: String,
+    /// The name that nextest-runner has for it, if it has one.
+    pub upstream: Option<String>,
     /// Where it is, if that is known.
     pub place: Option<FilePlace>,
     /// The column in the first line, from 1.
     pub column: Option<u64>,
     /// The keys that lead to it, with dots between them.
     pub path: Option<String>,
-    /// The message, on one line.
+    /// What is wrong, on one line.
     pub message: String,
+    /// The lines of the file that show it.
+    pub lines: Vec<SourceLine>,
     /// The expression that is refused, if one is.
     pub expression: Option<RefusedExpression>,
     /// What would be right there.
     pub expected: Option<String>,
+    /// What else is known, a line each.
+    pub notes: Vec<String>,
     /// What to do.
     pub help: Option<String>,
+    /// Where pages show what to do.
+    pub help_place: HelpPlace,
+}
+
+impl Finding {
+    /// Returns a finding with a message alone.
+    pub fn new(alloc: Global, level: Level, code: String, message: String) -> Finding
+        ensures { IsBare level code message result }
+    {
+        Finding {
+            level,
+            code,
+            upstream: None,
+            place: None,
+            column: None,
+            path: None,
+            message,
+            lines: Vec::new(alloc),
+            expression: None,
+            expected: None,
+            notes: Vec::new(alloc),
+            help: None,
+            help_place: HelpPlace::Below,
+        }
+    }
 }

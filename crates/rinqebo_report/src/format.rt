@@ -5,9 +5,10 @@ ghost use Rattle.rinqebo_report.specs.Pages.{content_runs, findings_runs, concis
 ghost use Rattle.rinqebo_report.specs.Pieces.{page_text};
 ghost use Rattle.rinqebo_report.specs.Rendered.{rendered};
 
-use crate::check_page::{add_check, add_concise, add_findings};
+use crate::check_page::add_check;
 use crate::config_page::add_config;
 use crate::explain_page::add_explain;
+use crate::finding_page::{add_concise, add_findings};
 use crate::github::github_text;
 use crate::group_page::add_grouped;
 use crate::json_document::render_json;

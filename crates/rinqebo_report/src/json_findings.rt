@@ -4,7 +4,9 @@ ghost use Rattle.serde_json.specs.View.{members_view, view};
 ghost use Rattle.rinqebo_report.specs.Documents.{list_data, place_source_data, place_lines_data, place_range_data, span_data, expression_data, expression_span_data, with_fault, with_site, with_expression, with_advice, finding_data};
 
 use crate::finding::{CharSpan, Finding, RefusedExpression};
-use crate::json_parts::{lines_json, optional_count_json, optional_text_json, range_json};
+use crate::json_parts::{
+    lines_json, optional_count_json, optional_text_json, range_json, texts_json,
+};
 use crate::origin::FilePlace;
 use serde_json::{Map, Value, json, put};
 use std::alloc::{AllocError, Global};
@@ -89,7 +91,9 @@ fn put_fault(
     let level = Value::try_from_str(alloc, finding.level.word())?;
     put(members, alloc, "level", level)?;
     let message = Value::try_from_str(alloc, finding.message.as_str())?;
-    put(members, alloc, "message", message)
+    put(members, alloc, "message", message)?;
+    let upstream = optional_text_json(alloc, &finding.upstream)?;
+    put(members, alloc, "upstream", upstream)
 }
 
 /// Puts where it is among members.
@@ -143,7 +147,9 @@ fn put_advice(
     let expected = optional_text_json(alloc, &finding.expected)?;
     put(members, alloc, "expected", expected)?;
     let help = optional_text_json(alloc, &finding.help)?;
-    put(members, alloc, "help", help)
+    put(members, alloc, "help", help)?;
+    let notes = texts_json(alloc, &finding.notes)?;
+    put(members, alloc, "notes", notes)
 }
 
 /// A finding.

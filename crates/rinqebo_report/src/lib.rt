@@ -7,8 +7,10 @@ mod advice;
 mod check_page;
 mod config_page;
 mod duration;
+mod excerpt;
 mod explain_page;
 mod finding;
+mod finding_page;
 mod format;
 mod github;
 mod group_page;
@@ -27,7 +29,9 @@ mod toml_text;
 mod value;
 mod why_page;
 
-pub use finding::{CharSpan, Finding, Level, RefusedExpression};
+pub use finding::{
+    CharSpan, Finding, HelpPlace, Level, LinePart, RefusedExpression, Sign, SourceLine,
+};
 pub use format::{Format, render, render_findings};
 pub use github::{add_file, add_message, add_property};
 pub use hint::nearest_name;
@@ -49,4 +53,4 @@ pub use report::{
     Rule, RunMode, SettingRow, TestId, TestRows, Unreached, Verdict,
 };
 pub use toml_text::value_text;
-pub use value::{Scalar, TableMember, Value};
+pub use value::{ReportedDuration, Scalar, TableMember, Value};

@@ -15,7 +15,7 @@ fn asks_for(question: &Question<'_>, setting: Setting) -> bool {
         Question::Explain { asked, .. } | Question::List { asked, .. } => asked.may_tell(setting),
         Question::Why { setting: asked, .. } => *asked == setting,
         Question::ShowConfig { keys, .. } => has_leaf(keys, setting),
-        Question::Check { .. } => false,
+        Question::WhyRuns { .. } | Question::Check { .. } => false,
     }
 }
 

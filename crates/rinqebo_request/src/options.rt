@@ -12,10 +12,10 @@ const ANSWER_FORMATS: &[&str] = &["text", "json"];
 const ANSWER_FORMATS_HELP: &str = "Output format: text or json\n[default: text]";
 
 /// The formats of findings.
-const CHECK_FORMATS: &[&str] = &["text", "json", "concise", "github"];
+const CHECK_FORMATS: &[&str] = &["text", "json", "short", "concise", "github"];
 
 /// The help of the option that chooses among them.
-const CHECK_FORMATS_HELP: &str = "Format: text, json, concise or github\n[default: text]";
+const CHECK_FORMATS_HELP: &str = "Format: text, json, short or github\n[default: text]";
 
 /// When colours are used.
 const COLOURS: &[&str] = &["auto", "always", "never"];
@@ -68,11 +68,13 @@ const SHOW_NOTES: &str = "\
 Examples:
   rinqebo show-config -P ci
   rinqebo show-config -P ci retries junit.path --hidden
+  rinqebo show-config -P ci overrides experimental
+  rinqebo show-config default-filter --target x86_64-pc-windows-msvc
 
 Exit status:
   0  success
   1  nothing is set under any KEY
-  2  invalid command line or metadata
+  2  invalid command line, metadata or platform
   3  error in a configuration file
   4  no such profile
   5  out of memory
@@ -92,12 +94,13 @@ Exit status:
 const CHECK_NOTES: &str = "\
 Examples:
   rinqebo check
-  rinqebo check --deny-warnings --format github
+  rinqebo check --deny warnings --format github
+  rinqebo check --explain unknown-key
   rinqebo check - --stdin-path .config/nextest.toml < edited.toml
 
 Exit status:
   0  no errors
-  1  warnings, with --deny-warnings
+  1  warnings, with --deny warnings
   2  invalid command line or metadata
   3  error in a configuration file
   5  out of memory
@@ -203,14 +206,29 @@ pub fn with_output<'a>(
         ))
 }
 
-/// The options that say on what tests run.
-pub fn with_platforms<'a>(alloc: Global, command: Command<'a>) -> Result<Command<'a>, AllocError> {
-    let host = option(
-        alloc,
-        "host",
-        "TRIPLE",
-        "Host triple [default: that of\n--rustc-version, else that of LIST, else\nx86_64-unknown-linux-gnu]",
-    );
+/// The help of `--host`, where a list may have the host.
+const LISTED_HOST_HELP: &str =
+    "Host triple [default: that of\n--rustc-version, else that of LIST, else\nx86_64-unknown-linux-gnu]";
+
+/// The help of `--target`, where a list may have the target.
+const LISTED_TARGET_HELP: &str =
+    "Target triple [default: that of LIST, else\nCARGO_BUILD_TARGET, else host]";
+
+/// The help of `--host`, where there is no list.
+const HOST_HELP: &str =
+    "Host triple [default: that of\n--rustc-version, else\nx86_64-unknown-linux-gnu]";
+
+/// The help of `--target`, where there is no list.
+const TARGET_HELP: &str = "Target triple [default: CARGO_BUILD_TARGET,\nelse host]";
+
+/// The options that say on what tests run, with the help of two of them.
+fn with_triples<'a>(
+    alloc: Global,
+    command: Command<'a>,
+    host_help: &'a str,
+    target_help: &'a str,
+) -> Result<Command<'a>, AllocError> {
+    let host = option(alloc, "host", "TRIPLE", host_help);
     command
         .arg(host.conflicts_with("rustc-version")?)?
         .arg(option(
@@ -219,12 +237,7 @@ pub fn with_platforms<'a>(alloc: Global, command: Command<'a>) -> Result<Command
             "FILE",
             "Output of `rustc -vV`, which has the host\ntriple",
         ))?
-        .arg(option(
-            alloc,
-            "target",
-            "TRIPLE",
-            "Target triple [default: that of LIST, else\nCARGO_BUILD_TARGET, else host]",
-        ))?
+        .arg(option(alloc, "target", "TRIPLE", target_help))?
         .arg(option(
             alloc,
             "host-cfg",
@@ -237,6 +250,11 @@ pub fn with_platforms<'a>(alloc: Global, command: Command<'a>) -> Result<Command
             "FILE",
             "Output of `rustc --print cfg --target T`\n[default: built-in table of targets]",
         ))
+}
+
+/// The options that say on what tests run, of a command that may read a list.
+pub fn with_platforms<'a>(alloc: Global, command: Command<'a>) -> Result<Command<'a>, AllocError> {
+    with_triples(alloc, command, LISTED_HOST_HELP, LISTED_TARGET_HELP)
 }
 
 /// The settings that are named, and what counts without one.
@@ -355,11 +373,12 @@ fn show_command<'a>(alloc: Global) -> Result<Command<'a>, AllocError> {
         .after_help(SHOW_NOTES)
         .arg(keys(
             alloc,
-            "Keys of the profile, or of store, test-groups and scripts\n[default: all]",
+            "Keys of the profile, or of the file beside profiles\n[default: all values]",
         ))?
         .arg(hidden)?
         .arg(profile(alloc))?;
     let command = with_files(alloc, command)?;
+    let command = with_triples(alloc, command, HOST_HELP, TARGET_HELP)?;
     with_output(alloc, command, ANSWER_FORMATS, ANSWER_FORMATS_HELP)
 }
 
@@ -386,7 +405,20 @@ fn check_command<'a>(alloc: Global) -> Result<Command<'a>, AllocError> {
             "PATH",
             "Path to report for standard input\n[default: -]",
         ))?
-        .arg(flag(alloc, "deny-warnings", "Exit with status 1 on warnings"))?;
+        .arg(option(
+            alloc,
+            "deny",
+            "WHAT",
+            "Exit with status 1 on WHAT: warnings",
+        ))?
+        .arg(flag(alloc, "deny-warnings", "The same as --deny warnings"))?
+        .arg(option(
+            alloc,
+            "explain",
+            "CODE",
+            "Print what a code means, and check nothing",
+        ))?
+        .arg(flag(alloc, "codes", "Print all codes, and check nothing"))?;
     let command = with_files(alloc, command)?;
     with_output(alloc, command, CHECK_FORMATS, CHECK_FORMATS_HELP)
 }

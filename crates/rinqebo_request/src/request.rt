@@ -1,6 +1,7 @@
 //! The request of a user.
 use crate::named::ProfileSource;
 use nextest_config::{BuildPlatform, ConfigExperimental, NextestRunMode, Setting, ToolName};
+use rinqebo_codes::Code;
 use rinqebo_report::{Colour, Format};
 use std::collections::BTreeSet;
 
@@ -91,6 +92,13 @@ pub enum Question<'a> {
         test: RequestedTest<'a>,
         /// The setting whose rules are reported.
         setting: Setting,
+    },
+    /// The rules that may say whether a test runs.
+    WhyRuns {
+        /// The name of the profile.
+        profile: &'a str,
+        /// The test.
+        test: RequestedTest<'a>,
     },
     /// The settings of each test of a list.
     List {
@@ -203,7 +211,9 @@ impl<'a> Request<'a> {
     pub fn list(&self) -> Option<ListFile<'a>> {
         match &self.question {
             Question::List { list, .. } => Some(*list),
-            Question::Explain { test, .. } | Question::Why { test, .. } => test.list,
+            Question::Explain { test, .. }
+            | Question::Why { test, .. }
+            | Question::WhyRuns { test, .. } => test.list,
             Question::ShowConfig { .. } | Question::Check { .. } => None,
         }
     }
@@ -220,6 +230,10 @@ impl<'a> Request<'a> {
 pub enum Command<'a> {
     /// The JSON schema of a file. Nothing is read for it.
     Schema,
+    /// The list of the codes of findings. Nothing is read for it.
+    Codes,
+    /// The page of a code. Nothing is read for it.
+    CodePage(Code),
     /// A request for a report.
     Answer(Request<'a>),
 }

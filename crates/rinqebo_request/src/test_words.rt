@@ -5,7 +5,7 @@ use crate::request::{ListFile, Question, Request, RequestedTest};
 use crate::rows::{explained_rows, one_setting};
 use crate::words::{
     ParseStop, colour, engines, features, files, format, mode, named_file, profile, profile_source,
-    usage,
+    target_engines, usage,
 };
 use clap::ArgMatches;
 use nextest_config::BuildPlatform;
@@ -88,14 +88,10 @@ fn explain_question<'a>(
         });
     };
     if matches.contains_id("KEY") || matches.contains_id("key") {
-        return Err(usage(alloc, "`--why` stands in place of settings", None)?);
+        return Err(usage(alloc, "`--why` cannot be used with KEYs", None)?);
     }
     if key == RUNS {
-        return Err(usage(
-            alloc,
-            "`--why` lists rules of a setting, and `runs` is no setting",
-            None,
-        )?);
+        return Ok(Question::WhyRuns { profile, test });
     }
     Ok(Question::Why {
         profile,
@@ -111,11 +107,11 @@ pub fn explain_request<'a>(
     environment: &'a Environment,
 ) -> Result<Request<'a>, ParseStop> {
     let question = explain_question(alloc, matches, environment)?;
-    let engines = engines(matches, environment);
-    let has_target = engines.target.or(engines.build_target).is_some() || has_list(matches);
-    if engines.target_cfg.is_some() && !has_target {
-        return Err(usage(alloc, "`--target-cfg` goes with `--target`", None)?);
-    }
+    let engines = if has_list(matches) {
+        engines(matches, environment)
+    } else {
+        target_engines(alloc, matches, environment)?
+    };
     Ok(Request {
         question,
         profile_source: profile_source(matches, environment),

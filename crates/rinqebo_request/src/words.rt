@@ -12,6 +12,7 @@ use crate::test_words::explain_request;
 use clap::ArgMatches;
 use clap::error::ErrorKind;
 use nextest_config::{ConfigExperimental, InvalidIdentifier, NextestRunMode, ToolName};
+use rinqebo_codes::{CODES, Code, find_code};
 use rinqebo_report::{Colour, Format};
 use std::alloc::{AllocError, Global};
 use std::collections::BTreeSet;
@@ -140,7 +141,7 @@ fn checked_file<'a>(alloc: Global, matches: &ArgMatches<'a>) -> Result<ConfigFil
     let file = matches.get_str("FILE");
     let shown = matches.get_str("stdin-path");
     if file.is_some() && matches.contains_id("config-file") {
-        return Err(usage(alloc, "FILE stands in place of `--config-file`", None)?);
+        return Err(usage(alloc, "FILE cannot be used with `--config-file`", None)?);
     }
     match (file, shown) {
         (Some("-"), shown) => Ok(ConfigFile::Input(shown.unwrap_or("-"))),
@@ -167,6 +168,20 @@ pub fn engines<'a>(matches: &ArgMatches<'a>, environment: &'a Environment) -> En
     }
 }
 
+/// What the languages of a command know that reads no list: `cfg` of a target go with a target.
+pub fn target_engines<'a>(
+    alloc: Global,
+    matches: &ArgMatches<'a>,
+    environment: &'a Environment,
+) -> Result<EngineOptions<'a>, ParseStop> {
+    let engines = engines(matches, environment);
+    let has_target = engines.target.or(engines.build_target).is_some();
+    if engines.target_cfg.is_some() && !has_target {
+        return Err(usage(alloc, "`--target-cfg` goes with `--target`", None)?);
+    }
+    Ok(engines)
+}
+
 /// The languages of a command that is about no test.
 fn file_engines<'a>(matches: &ArgMatches<'a>) -> EngineOptions<'a> {
     EngineOptions {
@@ -184,7 +199,7 @@ fn file_engines<'a>(matches: &ArgMatches<'a>) -> EngineOptions<'a> {
 pub fn format<'a>(matches: &ArgMatches<'a>, environment: &'a Environment) -> Format<'a> {
     match matches.get_str("format") {
         Some("json") => Format::Json,
-        Some("concise") => Format::Concise,
+        Some("short" | "concise") => Format::Concise,
         Some("github") => Format::Github(set(&environment.workflow_folder).unwrap_or("")),
         _ => Format::Text,
     }
@@ -303,12 +318,58 @@ fn show_request<'a>(
         },
         profile_source: profile_source(matches, environment),
         files: files(alloc, matches, named_file(matches))?,
-        engines: file_engines(matches),
+        engines: target_engines(alloc, matches, environment)?,
         features: features(alloc, matches, environment)?,
         format: format(matches, environment),
         colour: colour(matches, environment),
         shows_progress: false,
     })
+}
+
+/// Whether a warning is no success.
+fn denies_warnings(alloc: Global, matches: &ArgMatches<'_>) -> Result<bool, ParseStop> {
+    match matches.get_str("deny") {
+        Some("warnings") => Ok(true),
+        Some(_) => Err(usage(alloc, "`--deny` takes `warnings`", None)?),
+        None => Ok(matches.get_flag("deny-warnings")),
+    }
+}
+
+/// The words of all codes.
+fn code_words(alloc: Global) -> Result<Vec<&'static str>, AllocError> {
+    let mut words = Vec::new(alloc);
+    for code in CODES.iter() {
+        words.push(code.word())?;
+    }
+    Ok(words)
+}
+
+/// The code of a word.
+fn code_named(alloc: Global, word: &str) -> Result<Code, ParseStop> {
+    match find_code(word) {
+        Some(code) => Ok(code),
+        None => {
+            let message = format!(in alloc; "no code is `{word}`: `--codes` lists all")?;
+            let hint = name_hint(alloc, word, &code_words(alloc)?)?;
+            Err(usage(alloc, message.as_str(), hint)?)
+        }
+    }
+}
+
+/// What the words of `check` ask for.
+fn check_command<'a>(
+    alloc: Global,
+    matches: &ArgMatches<'a>,
+    environment: &'a Environment,
+) -> Result<Command<'a>, ParseStop> {
+    if let Some(word) = matches.get_str("explain") {
+        return Ok(Command::CodePage(code_named(alloc, word)?));
+    }
+    if matches.get_flag("codes") {
+        return Ok(Command::Codes);
+    }
+    let request = check_request(alloc, matches, environment)?;
+    Ok(Command::Answer(request))
 }
 
 /// The request of the command `check`.
@@ -319,7 +380,7 @@ fn check_request<'a>(
 ) -> Result<Request<'a>, ParseStop> {
     Ok(Request {
         question: Question::Check {
-            deny_warnings: matches.get_flag("deny-warnings"),
+            deny_warnings: denies_warnings(alloc, matches)?,
         },
         profile_source: ProfileSource::Fallback,
         files: files(alloc, matches, checked_file(alloc, matches)?)?,
@@ -342,7 +403,7 @@ pub fn command_of<'a>(
         Some(("list", matches)) => list_request(alloc, matches, environment)?,
         Some(("show-config", matches)) => show_request(alloc, matches, environment)?,
         Some(("schema", _)) => return Ok(Command::Schema),
-        Some((_, matches)) => check_request(alloc, matches, environment)?,
+        Some((_, matches)) => return check_command(alloc, matches, environment),
         None => return Err(usage(alloc, "no command", None)?),
     };
     Ok(Command::Answer(request))

@@ -3,6 +3,7 @@ pub mod SettingRules
 pub mod RulePlaces
 pub mod RuleAnswers
 pub mod RuleViews
+pub mod FilterRules
 pub mod Origins
 pub mod Trees
 pub mod ProfileOrigins
@@ -10,6 +11,7 @@ pub mod VerdictsBy
 pub mod Verdicts
 pub mod Told
 pub mod SettingValues
+pub mod AsWritten
 pub mod LeafValue
 pub mod ReportedEntries
 pub mod TestOrigins
@@ -21,3 +23,4 @@ pub mod Runs
 pub mod EvaluatedFilters
 pub mod Rows
 pub mod Scripts
+pub mod SpelledLeaves

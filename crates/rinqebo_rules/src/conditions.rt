@@ -58,7 +58,10 @@ pub struct Answers {
 }
 
 /// What a platform says to a spec.
-fn spec_answer(spec: &Option<<TargetSpecs as Specs>::Spec>, platform: &Platform) -> ConditionAnswer
+pub(crate) fn spec_answer(
+    spec: &Option<<TargetSpecs as Specs>::Spec>,
+    platform: &Platform,
+) -> ConditionAnswer
     ensures { result ≡ reported_condition (λ s. is_met_by s platform.now) spec.now }
 {
     match spec {

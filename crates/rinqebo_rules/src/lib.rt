@@ -3,13 +3,17 @@
 //! decides.
 #![tactic(auto)]
 
+mod as_written;
 mod chain_rules;
 mod conditions;
+mod default_rules;
 mod evaluated_filters;
+mod filter_laws;
 mod grounds;
 mod holds;
 mod leaf_value;
 mod lister;
+mod origin_node;
 mod origins;
 mod progress;
 mod reported_entries;
@@ -18,6 +22,8 @@ mod rows;
 mod rule_places;
 mod runs;
 mod scripts;
+mod spelled;
+mod spelled_report;
 mod trees;
 mod unused;
 mod unused_laws;
@@ -27,16 +33,21 @@ mod verdict_laws;
 
 pub use chain_rules::{SettingRule, rules_for};
 pub use conditions::{Answers, Asking};
+pub use default_rules::{filter_rules, is_matched_by_default};
 pub use evaluated_filters::{FilterPlace, PlacedFilter, filters_asking, filters_left_open};
+pub use filter_laws::law_filter_rules;
 pub use grounds::{built_in, idle_grounds, profile_grounds};
 pub use leaf_value::reported_value;
 pub use lister::{ListedRows, Lister, reported_platform};
+pub use origin_node::node_alone;
 pub use origins::Origins;
 pub use progress::{NoProgress, Progress};
 pub use reported_entries::{reported_entry, steps_of};
-pub use reported_values::{reported, reported_if_set};
+pub use reported_values::reported_if_set;
 pub use rule_places::{RuleKind, RulePlace};
+pub use runs::{default_filter_key, filtering_place};
 pub use scripts::scripts_of;
+pub use spelled_report::spelled_entries;
 pub use trees::trees_of;
 pub use unused::{UnusedRules, unused_rules};
 pub use unused_laws::law_unused;

@@ -139,6 +139,20 @@ impl<'c> RulePlace<'c> {
         self.origin_at(alloc, layers, &self.path())
     }
 
+    /// Where the rule writes what is at a key.
+    pub fn origin_at_key(
+        &self,
+        alloc: Global,
+        layers: &[Layer],
+        key: SettingKey,
+    ) -> Result<Origin, AllocError>
+        ensures { let rest = key_steps (option_map (λ table. table.now) key.table) key.key.now in
+            IfOk result (IsOriginOf layers.now (place_view self.now) rest) }
+    {
+        let path = setting_path(alloc, &self.path(), key)?;
+        self.origin_at(alloc, layers, &path)
+    }
+
     /// Where the rule writes a setting.
     pub fn origins_at_key(
         &self,
@@ -150,9 +164,8 @@ impl<'c> RulePlace<'c> {
             IfOk result (λ origins. AllZip (λ place origin. IsOriginOf layers.now place rest origin)
             (place_view self.now ∷ []) origins.items) }
     {
-        let path = setting_path(alloc, &self.path(), key)?;
         let mut origins = Vec::new(alloc);
-        origins.push(self.origin_at(alloc, layers, &path)?)?;
+        origins.push(self.origin_at_key(alloc, layers, key)?)?;
         Ok(origins)
     }
 

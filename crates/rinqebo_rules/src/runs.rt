@@ -22,10 +22,10 @@ use rinqebo_request::{RUNS, RequestedSettings, SettingKey};
 use std::alloc::{AllocError, Global};
 
 /// The number under which the default filter is counted among rules, which no rule has.
-const NUMBER: usize = usize::MAX;
+pub(crate) const NUMBER: usize = usize::MAX;
 
 /// The key at which a profile or an override writes its default filter.
-fn default_filter_key() -> SettingKey
+pub fn default_filter_key() -> SettingKey
     ensures table { option_map (λ table. table.now) result.table ≡ None }
     ensures key { result.key.now ≡ codes "default-filter" }
 {
@@ -97,7 +97,7 @@ fn filtering_override<'c, F: Filters, S: Specs>(
     None
 }
 
-/// The id of the override of a profile whose default filter counts, if it is that of an override.
+/// The id of the override of a profile whose default filter counts, if an override sets it.
 fn id_in<'c, F: Filters, S: Specs>(profile: &EvaluatableProfile<'c, F, S>) -> Option<&'c OverrideId>
     ensures { option_map id_place (option_map (λ id. id_view id.now) result)
         ≡ filtering_place (profile_meaning F.meaning profile.now) }
@@ -106,8 +106,8 @@ fn id_in<'c, F: Filters, S: Specs>(profile: &EvaluatableProfile<'c, F, S>) -> Op
     filtering_override(&rules.overrides)
 }
 
-/// Where the override of a profile stands whose default filter counts, if it is one of an override.
-pub(crate) fn filtering_place<'c, F: Filters, S: Specs>(
+/// The override of a profile whose default filter counts, if an override sets it.
+pub fn filtering_place<'c, F: Filters, S: Specs>(
     profile: &EvaluatableProfile<'c, F, S>,
 ) -> Option<RulePlace<'c>>
     ensures { option_map place_view result

@@ -6,6 +6,8 @@ pub mod Reasons
 pub mod Pairs
 pub mod Requests
 pub mod Meant
+pub mod RunsReasons
+pub mod InForce
 pub mod Gathering
 pub mod Listing
 pub mod Showing

@@ -46,18 +46,18 @@ module _ {E N M K P : Type 0} (f : E → M) (g : N → K) (meets : K → P → O
   abbrev pub read_meets : N → P → Option Bool
   read_meets spec platform = meets (g spec) platform
 
-  spec_meant : (platform : P) (o : Option N)
+  pub spec_meant : (platform : P) (o : Option N)
       → spec_holds read_meets o platform ≡ spec_holds meets (option_map g o) platform
   spec_meant platform None = refl
   spec_meant platform (Some spec) = refl
 
-  specs_meant : (build : BuildPlatform) (host target : Option N)
+  pub specs_meant : (build : BuildPlatform) (host target : Option N)
       → specs_hold read_meets platforms build host target
       ≡ specs_hold meets platforms build (option_map g host) (option_map g target)
   specs_meant build host target =
       λ i. spec_meant platforms.host host i && spec_meant (runs_on platforms build) target i
 
-  condition_meant : (platform : P) (o : Option N)
+  pub condition_meant : (platform : P) (o : Option N)
       → reported_condition (λ spec. read_meets spec platform) o
       ≡ reported_condition (λ spec. meets spec platform) (option_map g o)
   condition_meant platform None = refl
@@ -191,6 +191,7 @@ module _ {E N M K P : Type 0} (f : E → M) (g : N → K) (meets : K → P → O
               (rules_meant (query (f default)) layers written is.before is.rules_reported));
           fallback_reported = is.fallback_reported;
           fallback_value = is.fallback_value;
+          as_written = is.as_written;
         }
 
     -- what is told of the rules of a profile, by what texts mean

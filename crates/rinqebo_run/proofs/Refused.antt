@@ -79,6 +79,9 @@ refused_in (questions.Explain profile test asked) session report n answers three
 refused_in (questions.Why profile test setting) session report n answers three =
     let zero : n ≡ 0 = answers.0 in
     absurd (omega arith)
+refused_in (questions.WhyRuns profile test) session report n answers three =
+    let zero : n ≡ 0 = answers.0 in
+    absurd (omega arith)
 refused_in (questions.List profile mode list asked) session report n answers three =
     let zero : n ≡ 0 = answers.0 in
     absurd (omega arith)
@@ -99,6 +102,9 @@ lacking_in (questions.Explain profile test asked) session report n answers four 
     let zero : n ≡ 0 = answers.0 in
     absurd (omega arith)
 lacking_in (questions.Why profile test setting) session report n answers four =
+    let zero : n ≡ 0 = answers.0 in
+    absurd (omega arith)
+lacking_in (questions.WhyRuns profile test) session report n answers four =
     let zero : n ≡ 0 = answers.0 in
     absurd (omega arith)
 lacking_in (questions.List profile mode list asked) session report n answers four =
@@ -135,6 +141,8 @@ broken_in (questions.Explain profile test asked) session report (inl finding) = 
 broken_in (questions.Explain profile test asked) session report (inr cause) = cause
 broken_in (questions.Why profile test setting) session report (inl finding) = absurd finding
 broken_in (questions.Why profile test setting) session report (inr cause) = cause
+broken_in (questions.WhyRuns profile test) session report (inl finding) = absurd finding
+broken_in (questions.WhyRuns profile test) session report (inr cause) = cause
 broken_in (questions.List profile mode list asked) session report cause = cause
 broken_in (questions.ShowConfig profile keys with_hidden) session report cause = cause
 broken_in (questions.Check deny_warnings) session report cause = absurd cause
@@ -146,6 +154,8 @@ lacks_in (questions.Explain profile test asked) session report (inl finding) = a
 lacks_in (questions.Explain profile test asked) session report (inr cause) = cause
 lacks_in (questions.Why profile test setting) session report (inl finding) = absurd finding
 lacks_in (questions.Why profile test setting) session report (inr cause) = cause
+lacks_in (questions.WhyRuns profile test) session report (inl finding) = absurd finding
+lacks_in (questions.WhyRuns profile test) session report (inr cause) = cause
 lacks_in (questions.List profile mode list asked) session report cause = cause
 lacks_in (questions.ShowConfig profile keys with_hidden) session report cause = cause
 lacks_in (questions.Check deny_warnings) session report cause = cause
@@ -157,6 +167,8 @@ untested_in (questions.Explain profile test asked) session report (inl finding) 
 untested_in (questions.Explain profile test asked) session report (inr cause) = absurd cause
 untested_in (questions.Why profile test setting) session report (inl finding) = finding
 untested_in (questions.Why profile test setting) session report (inr cause) = absurd cause
+untested_in (questions.WhyRuns profile test) session report (inl finding) = finding
+untested_in (questions.WhyRuns profile test) session report (inr cause) = absurd cause
 untested_in (questions.List profile mode list asked) session report cause = absurd cause
 untested_in (questions.ShowConfig profile keys with_hidden) session report cause = absurd cause
 untested_in (questions.Check deny_warnings) session report cause = absurd cause

@@ -1,5 +1,5 @@
 -- What is told of the leaves of a configuration.
-use Rattle.std.proofs.Common.{◌≡◌, ◌<◌, ◌+◌, ◌∙◌, ℕ, List, [], ◌∷◌, ◌++◌, Bool, true, false, cond, ap, filter, get_or, length, map, subst, sym, take}
+use Rattle.std.proofs.Common.{◌≡◌, ◌<◌, ◌+◌, ◌∙◌, ℕ, List, [], ◌∷◌, ◌++◌, Bool, Bor, true, false, cond, ap, filter, get_or, length, map, Option, string_bytes, subst, sym, take}
 use Rattle.std.proofs.lemmas.List.{append-nil, map-append, take_more}
 use Rattle.std.proofs.lemmas.List.Elements.{filter-append}
 use Rattle.std.proofs.lemmas.Slice.Zip.{all_zipped_more}
@@ -8,7 +8,28 @@ use Rattle.nextest_grounds.specs.Entries.{Leaf, leaf_view}
 use Rattle.nextest_grounds.specs.declared.entries.LayerLeaf.{LayerLeaf as Found}
 use Rattle.rinqebo_rules.specs.LeafValue.{is_tellable}
 use Rattle.rinqebo_report.specs.declared.report.Entry.{Entry}
-use Rattle.rinqebo_run.specs.ShownConfig.{TellsLeaf, TellLeaves}
+use Rattle.filter_engine.specs.Compiling.{names_of}
+use Rattle.filter_engine.specs.Engine.{Filter}
+use Rattle.filter_engine.specs.declared.compiling.FieldMatcher.{FieldMatcher}
+use Rattle.filter_language.specs.Filtersets.{marks_view}
+use Rattle.filter_language.specs.declared.filterset.Filterset.{Filterset}
+use Rattle.nextest_grounds.specs.Layers.{keys_view}
+use Rattle.nextest_load.specs.Config.{ConfigModel}
+use Rattle.nextest_load.specs.Load.{Loaded}
+use Rattle.nextest_profiles.specs.Meaning.{configured_meaning}
+use Rattle.nextest_tables.specs.FileTexts.{names_in, IsIn}
+use Rattle.nextest_tables.specs.Written.{Name}
+use Rattle.platform_language.specs.Expressions.{Spec, spec_view}
+use Rattle.platform_language.specs.declared.expression.TargetSpec.{TargetSpec}
+use Rattle.rinqebo_files.specs.declared.layers.Layer.{Layer as FileLayer}
+use Rattle.rinqebo_load.specs.Accepted.{AreAccepted}
+use Rattle.rinqebo_load.specs.Sessions.{files_view, readings, IsLoadedFrom}
+use Rattle.rinqebo_load.specs.declared.session.Session.{Session}
+use Rattle.rinqebo_report.specs.declared.report.Content.{Content}
+use Rattle.rinqebo_report.specs.declared.report.Report.{Report}
+use Rattle.rinqebo_rules.specs.RulePlaces.{Place}
+use Rattle.rinqebo_run.specs.ListedBy.{read_by}
+use Rattle.rinqebo_run.specs.ShownConfig.{AreShownOf, IsShownBy, ShowsConfig, TellsLeaf, TellLeaves, shown_status}
 
 -- whether a leaf is told
 abbrev pub tells : Leaf → Bool
@@ -49,3 +70,42 @@ reported_less found n m leaf old new within at next before none kept =
     let same = ap (filter tells) (next_leaf found n m leaf within at next)
     ∙ ended leaves (leaf_view leaf) false none ∙ append-nil (filter tells leaves) in
     subst (λ ls. AllZip TellsLeaf ls new) (sym same) (subst (AllZip TellsLeaf (filter tells leaves)) (sym kept) before)
+
+-- what is asked for of layers, a place and a chain by other names
+pub shown_at : (keys : List (Bor (List ℕ))) (with_hidden : Bool) (layers others : List FileLayer)
+    (chain names : List (Bor (List ℕ))) (place there : Option Place) (entries : List Entry)
+    → layers ≡ others → chain ≡ names → place ≡ there
+    → AreShownOf layers place (keys_view chain) (keys_view keys) with_hidden entries
+    → AreShownOf others there (keys_view names) (keys_view keys) with_hidden entries
+shown_at keys with_hidden layers others chain names place there entries same_layers same_chain same_place is =
+    subst (λ p. AreShownOf others p (keys_view names) (keys_view keys) with_hidden entries) same_place
+    (subst (λ ns. AreShownOf others place (keys_view ns) (keys_view keys) with_hidden entries) same_chain
+    (subst (λ ls. AreShownOf ls place (keys_view chain) (keys_view keys) with_hidden entries) same_layers is))
+
+-- a report shows a configuration by what was loaded
+pub shows_config : (session : Session) (profile : Name) (keys : List (List ℕ)) (with_hidden : Bool) (report : Report)
+    (content : Content) (loaded : Loaded (Filterset FieldMatcher) TargetSpec) (status : ℕ) → AreAccepted session
+    → IsLoadedFrom (readings session.engines.filters) (files_view session.gathered.now) loaded
+    → IsIn (names_in loaded.config.profiles) profile → report.content ≡ content
+    → IsShownBy session (configured_meaning (marks_view names_of) spec_view (read_by session loaded)) profile keys
+    with_hidden content
+    → status ≡ shown_status content
+    → ShowsConfig session profile keys with_hidden report status
+shows_config session profile keys with_hidden report content loaded status accepted from there same is status_is =
+    let Shown : Content → ConfigModel Filter Spec → Type 0 =
+    λ content config. IsShownBy session (record {
+      root = string_bytes session.gathered.now.paths.workspace_root;
+      config = config;
+      scripts = loaded.scripts;
+    }) profile keys with_hidden content in
+    record {
+      acceptance = accepted;
+      scripts = loaded.scripts;
+      are_scripts = from.scripts;
+      known = subst (λ config. IsIn (names_in config.profiles) profile) from.means there;
+      shown = subst (Shown report.content) from.means
+          (subst (λ content. IsShownBy session
+          (configured_meaning (marks_view names_of) spec_view (read_by session loaded)) profile keys with_hidden content)
+          (sym same) is);
+      status_is = status_is ∙ ap shown_status (sym same);
+    }

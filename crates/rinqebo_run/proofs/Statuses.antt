@@ -26,6 +26,7 @@ use Rattle.rinqebo_load.specs.declared.session.Session.{Session}
 no_five : (q : Question) → IsAnswerStatus q 5 → ⊥
 no_five (questions.Explain profile test asked) is = omega arith
 no_five (questions.Why profile test setting) is = omega arith
+no_five (questions.WhyRuns profile test) is = omega arith
 no_five (questions.List profile mode list asked) is = omega arith
 no_five (questions.ShowConfig profile keys with_hidden) (inl is) = omega arith
 no_five (questions.ShowConfig profile keys with_hidden) (inr is) = omega arith
@@ -37,6 +38,7 @@ no_five (questions.Check deny_warnings) (inr (inr is)) = omega arith
 no_six : (q : Question) → IsAnswerStatus q 6 → ⊥
 no_six (questions.Explain profile test asked) is = omega arith
 no_six (questions.Why profile test setting) is = omega arith
+no_six (questions.WhyRuns profile test) is = omega arith
 no_six (questions.List profile mode list asked) is = omega arith
 no_six (questions.ShowConfig profile keys with_hidden) (inl is) = omega arith
 no_six (questions.ShowConfig profile keys with_hidden) (inr is) = omega arith
@@ -48,6 +50,7 @@ no_six (questions.Check deny_warnings) (inr (inr is)) = omega arith
 no_two : (q : Question) → IsAnswerStatus q 2 → ⊥
 no_two (questions.Explain profile test asked) is = omega arith
 no_two (questions.Why profile test setting) is = omega arith
+no_two (questions.WhyRuns profile test) is = omega arith
 no_two (questions.List profile mode list asked) is = omega arith
 no_two (questions.ShowConfig profile keys with_hidden) (inl is) = omega arith
 no_two (questions.ShowConfig profile keys with_hidden) (inr is) = omega arith
@@ -59,6 +62,7 @@ no_two (questions.Check deny_warnings) (inr (inr is)) = omega arith
 no_four : (q : Question) → IsAnswerStatus q 4 → ⊥
 no_four (questions.Explain profile test asked) is = omega arith
 no_four (questions.Why profile test setting) is = omega arith
+no_four (questions.WhyRuns profile test) is = omega arith
 no_four (questions.List profile mode list asked) is = omega arith
 no_four (questions.ShowConfig profile keys with_hidden) (inl is) = omega arith
 no_four (questions.ShowConfig profile keys with_hidden) (inr is) = omega arith
@@ -71,6 +75,7 @@ no_three : (q : Question) (session : Session) (report : Report) → IsFailureIn 
     → IsAnswerStatus q 3 → ⊥
 no_three (questions.Explain profile test asked) session report cause is = omega arith
 no_three (questions.Why profile test setting) session report cause is = omega arith
+no_three (questions.WhyRuns profile test) session report cause is = omega arith
 no_three (questions.List profile mode list asked) session report cause is = omega arith
 no_three (questions.ShowConfig profile keys with_hidden) session report cause (inl is) = omega arith
 no_three (questions.ShowConfig profile keys with_hidden) session report cause (inr is) = omega arith
@@ -153,6 +158,7 @@ status_of_answer : (q : Question) (session : Session) (report : Report) (n : ℕ
     → IsAnswerStatus q n
 status_of_answer (questions.Explain profile test asked) session report n answers = answers.0
 status_of_answer (questions.Why profile test setting) session report n answers = answers.0
+status_of_answer (questions.WhyRuns profile test) session report n answers = answers.0
 status_of_answer (questions.List profile mode list asked) session report n answers = answers.0
 status_of_answer (questions.ShowConfig profile keys with_hidden) session report n answers =
     one_or_none n (omega (arith, answers.status_is, shown_low report.content))

@@ -11,6 +11,7 @@ use Rattle.rinqebo_run.specs.Listed.{TellsTests}
 use Rattle.rinqebo_load.specs.FindTests.{IsFoundFor}
 use Rattle.rinqebo_run.specs.LookedUp.{AreLookedUp}
 use Rattle.rinqebo_load.specs.SessionOf.{IsSessionOf}
+use Rattle.rinqebo_run.specs.RunsReasons.{TellsRunsReasons}
 use Rattle.rinqebo_run.specs.ShownConfig.{ShowsConfig}
 use Rattle.rinqebo_run.specs.TellsReasons.{TellsReasons}
 use Rattle.rinqebo_files.specs.declared.files.Gathered.{Gathered}
@@ -35,6 +36,9 @@ AnswersQuestion (questions.Explain profile test asked) session report status =
 AnswersQuestion (questions.Why profile test setting) session report status =
     (status ≡ 0) × IsAboutTest session test
     (λ found. TellsReasons session profile.now found setting report)
+AnswersQuestion (questions.WhyRuns profile test) session report status =
+    (status ≡ 0) × IsAboutTest session test
+    (λ found. TellsRunsReasons session profile.now found report)
 AnswersQuestion (questions.List profile mode list asked) session report status =
     (status ≡ 0) × TellsTests session profile.now mode asked report
 AnswersQuestion (questions.ShowConfig profile keys with_hidden) session report status =

@@ -6,8 +6,10 @@ pub mod Answered
 pub mod Refused
 pub mod Reasons
 pub mod TellsReasons
+pub mod RunsReasons
 pub mod Listed
 pub mod ListedBy
+pub mod InForce
 pub mod ShownConfig
 pub mod Begun
 pub mod Written

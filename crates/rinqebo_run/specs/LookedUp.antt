@@ -67,6 +67,7 @@ IsFailureOn session name failure = IsFailureAbout session name failure
 abbrev pub AreLookedUp : Session → Question → Type 0
 AreLookedUp session (questions.Explain profile test asked) = IsLookedUp session profile.now
 AreLookedUp session (questions.Why profile test setting) = IsLookedUp session profile.now
+AreLookedUp session (questions.WhyRuns profile test) = IsLookedUp session profile.now
 AreLookedUp session (questions.List profile mode list asked) = IsLookedUp session profile.now
 AreLookedUp session (questions.ShowConfig profile keys with_hidden) = Unit {0}
 AreLookedUp session (questions.Check deny_warnings) = Unit {0}

@@ -34,6 +34,8 @@ IsFailureIn session (questions.Explain profile test asked) failure =
     IsFailureAboutTest session profile.now test failure
 IsFailureIn session (questions.Why profile test setting) failure =
     IsFailureAboutTest session profile.now test failure
+IsFailureIn session (questions.WhyRuns profile test) failure =
+    IsFailureAboutTest session profile.now test failure
 IsFailureIn session (questions.List profile mode list asked) failure =
     IsFailureOn session profile.now failure
 IsFailureIn session (questions.ShowConfig profile keys with_hidden) failure =
@@ -62,6 +64,7 @@ pub record AreRefusedFor (request : Request) (gathered : Gathered) : Type 0 wher
 abbrev pub LacksProfileOf : Session → Question → Type 0
 LacksProfileOf session (questions.Explain profile test asked) = LacksProfile session profile.now
 LacksProfileOf session (questions.Why profile test setting) = LacksProfile session profile.now
+LacksProfileOf session (questions.WhyRuns profile test) = LacksProfile session profile.now
 LacksProfileOf session (questions.List profile mode list asked) = LacksProfile session profile.now
 LacksProfileOf session (questions.ShowConfig profile keys with_hidden) =
     LacksProfile session profile.now
@@ -77,6 +80,7 @@ pub record LackProfileFor (request : Request) (gathered : Gathered) : Type 0 whe
 abbrev pub LacksTestOf : Session → Question → Type 0
 LacksTestOf session (questions.Explain profile test asked) = LacksTest session test
 LacksTestOf session (questions.Why profile test setting) = LacksTest session test
+LacksTestOf session (questions.WhyRuns profile test) = LacksTest session test
 LacksTestOf session (questions.List profile mode list asked) = ⊥
 LacksTestOf session (questions.ShowConfig profile keys with_hidden) = ⊥
 LacksTestOf session (questions.Check deny_warnings) = ⊥

@@ -1,26 +1,39 @@
 -- What is told of the leaves of a configuration.
-use Rattle.std.specs.Prelude.{◌≡◌, ℕ, List, [], ◌∷◌, Bool, filter}
+use Rattle.std.specs.Prelude.{◌≡◌, ℕ, List, [], ◌∷◌, ◌++◌, Bool, filter, Option}
 use Rattle.std.specs.List.{AllZip}
 use Rattle.nextest_elements.specs.declared.run_mode.NextestRunMode.TheVariants as modes
 use Rattle.nextest_grounds.specs.Entries.{AreEntries, Leaf}
-use Rattle.nextest_inheritance.specs.Parents.{Parents, parents_in}
-use Rattle.nextest_load.specs.Config.{config_parents}
+use Rattle.filter_engine.specs.Engine.{Filter}
+use Rattle.nextest_inheritance.specs.Parents.{parents_in}
+use Rattle.nextest_load.specs.Config.{ScriptTables, config_parents}
+use Rattle.nextest_load.specs.Scripts.{AreScriptsOf}
 use Rattle.nextest_profiles.specs.Profiles.{IsChainAndDefault}
+use Rattle.nextest_settings.specs.Profile.{Configured, EvaluatableModel}
+use Rattle.nextest_sources.specs.Inputs.{sources_in}
 use Rattle.nextest_tables.specs.FileTexts.{names_in, IsIn}
 use Rattle.nextest_tables.specs.Written.{Name}
 use Rattle.nextest_tree.specs.Node.{Node}
 use Rattle.rinqebo_rules.specs.LeafValue.{is_tellable}
 use Rattle.rinqebo_rules.specs.ReportedEntries.{IsEntryOf}
+use Rattle.rinqebo_rules.specs.RulePlaces.{Place}
+use Rattle.rinqebo_rules.specs.Runs.{filtering_place}
+use Rattle.rinqebo_rules.specs.SpelledLeaves.{AreSpelledOut}
 use Rattle.rinqebo_rules.specs.Trees.{trees_of}
+use Rattle.rinqebo_files.specs.declared.layers.Layer.{Layer}
 use Rattle.rinqebo_report.specs.declared.origin.FilePlace.{FilePlace}
 use Rattle.rinqebo_report.specs.declared.report.Content.{Content}
 use Rattle.rinqebo_report.specs.declared.report.Content.TheVariants as contents
 use Rattle.rinqebo_report.specs.declared.report.Entry.{Entry}
 use Rattle.rinqebo_report.specs.declared.report.Report.{Report}
 use Rattle.rinqebo_load.specs.Accepted.{AreAccepted}
+use Rattle.platform_language.specs.Expressions.{Spec}
 use Rattle.rinqebo_load.specs.Meant.{config_meant}
+use Rattle.rinqebo_load.specs.Sessions.{files_view, readings}
 use Rattle.rinqebo_load.specs.declared.session.Session.{Session}
+use Rattle.rinqebo_run.specs.InForce.{IsInForce}
+use Rattle.rinqebo_run.specs.Listed.{IsProfileOn}
 use Rattle.rinqebo_run.specs.Requested.{IfRequested, IsRequestedOf}
+use Rattle.rinqebo_run.specs.TellsReasons.{configured_by}
 
 -- An entry tells a leaf, at a place in the file of the leaf's layer.
 pub record TellsLeaf (leaf : Leaf) (entry : Entry) : Type 0 where
@@ -40,6 +53,19 @@ pub record AreShown (layers : List Node) (chain keys : List (List ℕ)) (with_hi
   pub are_leaves : AreEntries layers chain keys with_hidden leaves
   pub told : TellLeaves leaves entries
 
+-- Entries tell what is asked for of a chain of profiles in the layers of files: the leaves that count,
+-- with the default filter of the override at a place, if there is one, in the place of theirs, and then
+-- what the files write at keys that are shown as they are written.
+pub record AreShownOf (layers : List Layer) (place : Option Place) (chain keys : List (List ℕ))
+    (with_hidden : Bool) (entries : List Entry) : Type 0 where
+  pub counted : List Entry
+  pub in_force : List Entry
+  pub spelled : List Entry
+  pub are : entries ≡ in_force ++ spelled
+  pub counted_shown : AreShown (trees_of layers) chain keys with_hidden counted
+  pub is_in_force : IsInForce layers place keys with_hidden counted in_force
+  pub spelled_out : AreSpelledOut layers chain keys spelled
+
 -- a fact of the entries that a report shows
 abbrev pub IfShown : Content → (List Entry → Type 0) → Type 0
 IfShown (contents.ShowConfig asked entries) P = P entries.items
@@ -55,24 +81,32 @@ abbrev pub shown_status : Content → ℕ
 shown_status (contents.ShowConfig asked entries) = entries_status entries.items
 shown_status _ = 0
 
--- What a report tells of a session is the leaves of a profile below keys, where these are the parents
--- of all profiles: the profiles that count are those of its chain, and then `default`.
-pub record IsShownIn (session : Session) (parents : Parents) (profile : Name)
+-- What a report tells of a session is what is asked for of a profile below keys: the profiles that count
+-- are those of its chain, and then `default`, and the default filter is that of the profile on the
+-- platforms of the session.
+pub record IsShownBy (session : Session) (configured : Configured Filter Spec) (profile : Name)
     (keys : List (List ℕ)) (with_hidden : Bool) (content : Content) : Type 0 where
+  pub on : EvaluatableModel Filter
+  pub is_profile : IsProfileOn (readings session.engines.filters).meets session.engines.platforms
+      configured profile on
   pub chain : List Name
-  pub is_chain : IsChainAndDefault parents profile chain
-  pub shown : IfShown content (AreShown (trees_of session.layers.items) chain keys with_hidden)
+  pub is_chain : IsChainAndDefault (parents_in (config_parents configured.config)) profile chain
+  pub shown : IfShown content (AreShownOf session.layers.items (filtering_place on) chain keys
+      with_hidden)
   -- It says what was asked for.
   pub requested : IfRequested content (IsRequestedOf session profile modes.Test chain)
 
--- A report shows the leaves of a profile below keys, by what the files write.
+-- A report shows what is asked for of a profile below keys, by what the files write.
 pub record ShowsConfig (session : Session) (profile : Name) (keys : List (List ℕ))
     (with_hidden : Bool) (report : Report) (status : ℕ) : Type 0 where
   -- Every written rule holds of the files.
   pub acceptance : AreAccepted session
+  -- Their scripts are those that they define.
+  pub scripts : ScriptTables
+  pub are_scripts : AreScriptsOf (sources_in (files_view session.gathered.now)) scripts
   -- They have the profile.
   pub known : IsIn (names_in (config_meant session).profiles) profile
   -- The report tells the leaves that are asked for, and the status whether there are any.
-  pub shown : IsShownIn session (parents_in (config_parents (config_meant session))) profile keys
-      with_hidden report.content
+  pub shown : IsShownBy session (configured_by session scripts) profile keys with_hidden
+      report.content
   pub status_is : status ≡ shown_status report.content

@@ -24,6 +24,7 @@ failure_status failures.Memory = 5
 abbrev pub IsAnswerStatus : Question → ℕ → Type 0
 IsAnswerStatus (questions.Explain profile test asked) n = n ≡ 0
 IsAnswerStatus (questions.Why profile test setting) n = n ≡ 0
+IsAnswerStatus (questions.WhyRuns profile test) n = n ≡ 0
 IsAnswerStatus (questions.List profile mode list asked) n = n ≡ 0
 IsAnswerStatus (questions.ShowConfig profile keys with_hidden) n = (n ≡ 0) ⊎ (n ≡ 1)
 IsAnswerStatus (questions.Check deny_warnings) n = (n ≡ 0) ⊎ (n ≡ 1) ⊎ (n ≡ 3)

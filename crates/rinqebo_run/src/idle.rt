@@ -1,5 +1,6 @@
 //! Warnings of settings of the JUnit report that files write and that have no effect.
 use nextest_config::{DefaultConfigWarnings, NextestRunMode, Setting};
+use rinqebo_codes::Code;
 use rinqebo_files::Layer;
 use rinqebo_findings::warning_findings;
 use rinqebo_load::Session;
@@ -58,17 +59,11 @@ fn idle_finding(alloc: Global, written: &Written, key: &str) -> Result<Finding, 
     let profile = written.profile.as_str();
     let path = format!(in alloc; "profile.{profile}.{key}")?;
     let message = format!(in alloc; "{path} has no effect: no `junit.path` is set")?;
-    Ok(Finding {
-        level: Level::Warning,
-        code: String::from_str(alloc, "NoJunitPath")?,
-        place: Some(written.place),
-        column: None,
-        path: Some(path),
-        message,
-        expression: None,
-        expected: None,
-        help: None,
-    })
+    let code = String::from_str(alloc, Code::JunitWithoutPath.word())?;
+    let mut found = Finding::new(alloc, Level::Warning, code, message);
+    found.place = Some(written.place);
+    found.path = Some(path);
+    Ok(found)
 }
 
 /// Adds a warning for each file whose value at a key of the JUnit report has no effect.

@@ -8,9 +8,11 @@
 mod answer;
 mod asked;
 mod check;
+mod codes;
 mod explain;
 mod id_note;
 mod idle;
+mod in_force;
 mod list;
 mod list_fault;
 mod list_origins;
@@ -29,9 +31,11 @@ mod status;
 mod telling;
 mod unset;
 mod why;
+mod why_runs;
 
 pub use answer::Answer;
 pub use asked::requested_of;
+pub use codes::{print_code, print_codes};
 pub use list::{Profile, profile_on};
 pub use list_scripts::scripts_of_list;
 pub use looked_up::config_looked_up;

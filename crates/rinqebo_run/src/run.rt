@@ -12,6 +12,7 @@ ghost use Rattle.rinqebo_run.specs.Begun.{IsBegun};
 ghost use Rattle.rinqebo_run.specs.Explained.{Explains};
 ghost use Rattle.rinqebo_run.specs.LookedUp.{AreLookedUp, IsLookedUp};
 ghost use Rattle.rinqebo_run.specs.Refused.{Fails, IsFailureAboutTest, IsFailureIn, IsReportedBy, TellsRefusal};
+ghost use Rattle.rinqebo_run.specs.RunsReasons.{TellsRunsReasons};
 ghost use Rattle.rinqebo_run.specs.TellsReasons.{TellsReasons};
 ghost use Rattle.rinqebo_run.specs.Statuses.{IsStatus, IsAnswerStatus, IsGatherStatus, IsWordsStatus, TellsWords};
 ghost use Rattle.rinqebo_run.specs.Written.{AsksList, IsStopStatus};
@@ -32,6 +33,7 @@ use crate::status::Status;
 use crate::telling::{refuse_for_memory, refuse_message, tell};
 use crate::unset::add_unset;
 use crate::why::why;
+use crate::why_runs::why_runs;
 use nextest_config::Setting;
 use nextest_shape::schema_page;
 use rinqebo_files::{GatherFault, Gathered};
@@ -113,6 +115,24 @@ fn why_of_test(
     why(alloc, session, profile, &found, setting)
 }
 
+/// Why the test that a request names runs or not. Its metadata were read at a path.
+fn why_runs_of(
+    alloc: Global,
+    session: &Session<'_>,
+    profile: &str,
+    test: &RequestedTest<'_>,
+    path: Option<&str>,
+) -> Result<Answer, Failure>
+    ensures ok { IfOk result (λ answer. (answer.status ≡ 0) × IsAboutTest session.now test.now
+        (λ found. TellsRunsReasons session.now profile.now found answer.report)) }
+    ensures about { IfOk result (λ answer. IsReportOf session.now answer.report) }
+    ensures looked_up { IfOk result (λ _. IsLookedUp session.now profile.now) }
+    ensures err { IfErr result (IsFailureAboutTest session.now profile.now test.now) }
+{
+    let found = find_test(alloc, session, test, path)?;
+    why_runs(alloc, session, profile, &found)
+}
+
 /// What a request is answered in a session.
 fn answer_in<P: Progress>(
     alloc: Global,
@@ -138,6 +158,7 @@ fn answer_in<P: Progress>(
             test,
             setting,
         } => why_of_test(alloc, session, *profile, test, path, *setting),
+        Question::WhyRuns { profile, test } => why_runs_of(alloc, session, *profile, test, path),
         Question::List {
             profile,
             mode,

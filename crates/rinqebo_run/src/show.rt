@@ -1,19 +1,25 @@
 //! The leaves of a configuration, and what writes each.
-ghost use Rattle.std.specs.Prelude.{◌≡◌, false, IfErr, IfOk, MatchOption, map};
+ghost use Rattle.std.specs.Prelude.{◌≡◌, false, IfErr, IfOk, MatchOption, map, option_map};
+ghost use Rattle.filter_engine.specs.Compiling.{names_of};
+ghost use Rattle.filter_language.specs.Filtersets.{marks_view};
 ghost use Rattle.nextest_grounds.specs.Entries.{leaf_view};
 ghost use Rattle.nextest_grounds.specs.Layers.{keys_view};
-ghost use Rattle.nextest_inheritance.specs.Parents.{parents_in};
-ghost use Rattle.nextest_load.specs.Config.{config_parents};
+ghost use Rattle.nextest_profiles.specs.Meaning.{configured_meaning};
 ghost use Rattle.nextest_tables.specs.FileTexts.{names_in, IsIn};
 ghost use Rattle.rinqebo_rules.specs.LeafValue.{is_tellable};
 ghost use Rattle.rinqebo_findings.specs.Failures.{IsFailureAbout};
 ghost use Rattle.rinqebo_findings.specs.Reports.{IsReportOf};
+ghost use Rattle.platform_language.specs.Expressions.{spec_view};
+ghost use Rattle.rinqebo_rules.specs.RulePlaces.{place_view};
 ghost use Rattle.rinqebo_rules.specs.Trees.{trees_of};
-ghost use Rattle.rinqebo_run.specs.ShownConfig.{TellsLeaf, TellLeaves, AreShown, IsShownIn, shown_status, ShowsConfig};
+ghost use Rattle.rinqebo_run.specs.ListedBy.{read_by};
+ghost use Rattle.rinqebo_run.specs.ShownConfig.{TellsLeaf, TellLeaves, AreShown, AreShownOf, IsShownBy, shown_status, ShowsConfig};
 
 use crate::answer::Answer;
 use crate::asked::requested_of;
 use crate::idle::findings_on;
+use crate::in_force::with_default_in_force;
+use crate::list::profile_on;
 use crate::status::Status;
 use nextest_config::{DefaultConfigWarnings, NextestRunMode};
 use nextest_grounds::{LayerLeaf, entries_of};
@@ -21,7 +27,9 @@ use rinqebo_files::{Layer, path_place};
 use rinqebo_findings::{config_with, report_of};
 use rinqebo_load::{Config, Failure, Session, chain_of_profile};
 use rinqebo_report::{Content, Entry};
-use rinqebo_rules::{reported_entry, steps_of, trees_of};
+use rinqebo_rules::{
+    RulePlace, filtering_place, reported_entry, spelled_entries, steps_of, trees_of,
+};
 use std::alloc::{AllocError, Global};
 
 /// A leaf as it is reported, with its place in the file of its layer. There is none where its value
@@ -73,22 +81,45 @@ pub fn entries_in(
     reported_leaves(alloc, layers, &leaves)
 }
 
-/// The leaves of a profile below keys, by a configuration.
-fn shown(
+/// What is asked for of a chain of profiles below keys: the leaves that count, with the default filter of
+/// the override at a place, if there is one, and what the files write there as it is written.
+fn shown_entries(
     alloc: Global,
-    session: &Session<'_>,
-    config: &Config,
-    profile: &str,
+    layers: &[Layer],
+    place: Option<RulePlace<'_>>,
+    chain: &[&str],
+    keys: &[&str],
+    with_hidden: bool,
+) -> Result<Vec<Entry>, AllocError>
+    ensures { IfOk result (λ entries. AreShownOf layers.now (option_map place_view place.entry)
+        (keys_view chain.now) (keys_view keys.now) with_hidden entries.items) }
+{
+    let counted = entries_in(alloc, layers, chain, keys, with_hidden)?;
+    let mut entries = with_default_in_force(alloc, layers, place, keys, with_hidden, counted)?;
+    let mut spelled = spelled_entries(alloc, layers, chain, keys)?;
+    entries.append(&mut spelled)?;
+    Ok(entries)
+}
+
+/// What is asked for of a profile below keys, by a configuration.
+fn shown<'c>(
+    alloc: Global,
+    session: &'c Session<'_>,
+    config: &'c Config,
+    profile: &'c str,
     keys: &[&str],
     with_hidden: bool,
 ) -> Result<Content, AllocError>
-    ensures { IsIn (names_in config.now.config.profiles) profile.now
-        → IfOk result (IsShownIn session.now (parents_in (config_parents config.now.config))
+    requires { IsIn (names_in config.now.config.profiles) profile.now }
+    ensures { IfOk result (IsShownBy session.now
+        (configured_meaning (marks_view names_of) spec_view (read_by session.now config.now))
         profile.now (keys_view keys.now) with_hidden) }
 {
     let chain = chain_of_profile(alloc, config, profile)?;
     let asked = requested_of(alloc, session, profile, &chain, NextestRunMode::Test)?;
-    let entries = entries_in(alloc, &session.layers, &chain, keys, with_hidden)?;
+    let on = profile_on(alloc, session, config, profile)?;
+    let place = filtering_place(&on);
+    let entries = shown_entries(alloc, &session.layers, place, &chain, keys, with_hidden)?;
     Ok(Content::ShowConfig { asked, entries })
 }
 

@@ -7,7 +7,13 @@ use rinqebo_request::{Question, Request, all_keys, text_hint};
 use std::alloc::{AllocError, Global};
 
 /// The keys beside those of a profile.
-const OTHER_KEYS: [&str; 3] = ["scripts", "store", "test-groups"];
+const OTHER_KEYS: [&str; 5] = [
+    "experimental",
+    "nextest-version",
+    "scripts",
+    "store",
+    "test-groups",
+];
 
 /// Adds the keys of the table at a path, each behind a prefix.
 fn add_keys(

@@ -1,12 +1,11 @@
 //! Puts a report together, line by line.
+use crate::found::{complete, finding_of};
 use crate::line::{Line, RowError};
-use crate::parts::{
-    answer_of, expression_of, origin_of, place_of, scalar_of, verdict_of, written_of,
-};
+use crate::parts::{answer_of, origin_of, scalar_of, verdict_of, written_of};
 use rinqebo_report::{
-    Asked, BuiltFor, Condition, ConditionAnswer, Content, Entry, Finding, Level, ListScripts,
-    ListWrapper, Origin, Report, Rule, RunMode, Scalar, SettingRow, Source, SourceKind,
-    TableMember, TestId, TestRows, Unreached, Value,
+    Asked, BuiltFor, Condition, ConditionAnswer, Content, Entry, Finding, ListScripts, ListWrapper,
+    Origin, Report, Rule, RunMode, Scalar, SettingRow, Source, SourceKind, TableMember, TestId,
+    TestRows, Unreached, Value,
 };
 use std::alloc::{AllocError, Global};
 use std::mem;
@@ -169,7 +168,17 @@ impl Builder {
                 self.add_origin(line)
             }
             "finding" => self.add_finding(line),
-            "at" | "path" | "expression" | "expected" | "help" => self.complete_finding(line),
+            "findings" => self.add_findings(line),
+            "at"
+            | "path"
+            | "line"
+            | "part"
+            | "expression"
+            | "expected"
+            | "upstream"
+            | "note"
+            | "help"
+            | "help-beside" => self.complete_finding(line),
             "unreached" => self.add_unreached(line),
             _ => Err(RowError::NoRow),
         }
@@ -411,42 +420,24 @@ impl Builder {
     }
 
     fn add_finding(&mut self, line: &Line) -> Result<(), RowError> {
-        let level = match line.word(1)? {
-            "error" => Level::Error,
-            "warning" => Level::Warning,
-            _ => return Err(RowError::NoRow),
-        };
-        let finding = Finding {
-            level,
-            code: line.text(self.alloc, 2)?,
-            place: None,
-            column: None,
-            path: None,
-            message: line.text(self.alloc, 3)?,
-            expression: None,
-            expected: None,
-            help: None,
-        };
+        let finding = finding_of(self.alloc, line)?;
         self.findings.push(finding).map_err(AllocError::from)?;
         Ok(())
     }
 
-    fn complete_finding(&mut self, line: &Line) -> Result<(), RowError> {
-        let alloc = self.alloc;
-        let Some(finding) = self.findings.last_mut() else {
-            return Err(RowError::NoRow);
-        };
-        match line.word(0)? {
-            "at" => {
-                finding.place = Some(place_of(line, 1, 5)?);
-                finding.column = line.optional_number(4)?;
-            }
-            "path" => finding.path = Some(line.text(alloc, 1)?),
-            "expression" => finding.expression = Some(expression_of(alloc, line)?),
-            "expected" => finding.expected = Some(line.text(alloc, 1)?),
-            _ => finding.help = Some(line.text(alloc, 1)?),
+    /// Adds as many findings as the number behind the message says.
+    fn add_findings(&mut self, line: &Line) -> Result<(), RowError> {
+        for _index in 0..line.number(4)? {
+            self.add_finding(line)?;
         }
         Ok(())
+    }
+
+    fn complete_finding(&mut self, line: &Line) -> Result<(), RowError> {
+        match self.findings.last_mut() {
+            Some(finding) => complete(self.alloc, finding, line),
+            None => Err(RowError::NoRow),
+        }
     }
 
     fn add_unreached(&mut self, line: &Line) -> Result<(), RowError> {

@@ -21,6 +21,7 @@
 //! | `value KIND TEXT` | the value of the setting, rule or leaf: `boolean`, `integer`, `text` or `duration` |
 //! | `texts TEXT ..`, `table` | the value is a list of texts, or a table |
 //! | `field KEY KIND TEXT` | a member of the table |
+//! | `value duration TEXT WRITTEN`, `field KEY duration TEXT WRITTEN` | the same, and how a file writes the duration |
 //! | `built-in`, `default-table` | where the setting, rule or leaf comes from, or what says that the test runs |
 //! | `profile`, `override` or `script`, then `PROFILE INDEX SOURCE FIRST LAST` and perhaps a range | the same, with the place of the source from 0, and lines |
 //! | `file SOURCE FIRST LAST` and perhaps a range | the same, of what is beside all profiles |
@@ -31,7 +32,12 @@
 //! | `at SOURCE FIRST LAST COLUMN` and perhaps a range | where it is |
 //! | `path KEYS` | the keys that lead to it |
 //! | `expression TEXT FROM TO` | the expression, and the span of it that is wrong |
-//! | `expected TEXT`, `help TEXT` | remarks on it |
+//! | `line NUMBER TEXT` | a line of the file that shows it |
+//! | `part SIGN FROM TO` | a part of that line, with `blank`, `fault` or `related` below it |
+//! | `expected TEXT`, `note TEXT`, `help TEXT` | remarks on it |
+//! | `help-beside TEXT` | help that pages show beside the carets |
+//! | `upstream NAME` | the name that nextest-runner has for it |
+//! | `findings LEVEL CODE MESSAGE COUNT` | so many findings that are alike |
 //! | `unreached SOURCE NAME ..` | checks that were not reached |
 //! | `print FORM ..` | what is printed: `text`, `colour`, `grouped`, `json`, `findings`, `concise`, `coloured-concise` or `github:FOLDER` |
 //! | `nearest NAME KNOWN ..` | the known name that is nearest to a name is printed |
@@ -42,6 +48,7 @@
 #![tactic(auto)]
 
 mod builder;
+mod found;
 mod line;
 mod parts;
 mod print;

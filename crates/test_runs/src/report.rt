@@ -4,7 +4,7 @@ use nextest_config::ReadOutcome;
 use nextest_files::FileReader;
 use rinqebo_files::gather;
 use rinqebo_request::{Command, parse};
-use rinqebo_run::{perform, print_schema, refuse_gathering, refuse_words};
+use rinqebo_run::{perform, print_code, print_codes, print_schema, refuse_gathering, refuse_words};
 use std::alloc::{AllocError, Global};
 use std::io::{self, ErrorKind, Write};
 use test_cases::{Case, text_of};
@@ -43,6 +43,8 @@ fn run(
     let request = match parse(alloc, words, &setup.environment) {
         Ok(Command::Answer(request)) => request,
         Ok(Command::Schema) => return Ok(print_schema(alloc, out, err)),
+        Ok(Command::Codes) => return Ok(print_codes(alloc, out, err)),
+        Ok(Command::CodePage(code)) => return Ok(print_code(alloc, code, out, err)),
         Err(stop) => return Ok(refuse_words(&stop, out, err)),
     };
     let input = if request.reads_input() {

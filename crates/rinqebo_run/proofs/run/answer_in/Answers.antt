@@ -5,3 +5,6 @@ returns-in-Explain-clause-ok g c = rw c.in-Explain.is c.explain_test.ensures.ok
 
 pub returns-in-Why-clause-ok : goal.returns-in-Why-clause-ok
 returns-in-Why-clause-ok g c = rw c.in-Why.is c.why_of_test.ensures.ok
+
+pub returns-in-WhyRuns-clause-ok : goal.returns-in-WhyRuns-clause-ok
+returns-in-WhyRuns-clause-ok g c = rw c.in-WhyRuns.is c.why_runs_of.ensures.ok

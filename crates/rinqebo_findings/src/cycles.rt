@@ -1,0 +1,120 @@
+//! The findings of profiles that inherit in a circle.
+use crate::excerpts::{Mark, lines_of};
+use crate::refused::Refused;
+use nextest_places::Step;
+use rinqebo_codes::Code;
+use rinqebo_report::{FileLines, FilePlace, Sign};
+use std::alloc::{AllocError, Global};
+
+/// The path of the parent that a profile names.
+pub fn parent_path<'p>(profile: &'p str) -> [Step<'p>; 3] {
+    [
+        Step::Key("profile"),
+        Step::Key(profile),
+        Step::Key("inherits"),
+    ]
+}
+
+/// The place at which a profile names its parent.
+fn parent_place(refused: &Refused<'_, '_>, profile: &str) -> Result<Option<FilePlace>, AllocError> {
+    let found = refused.at(Code::InheritanceCycle, &parent_path(profile), "")?;
+    Ok(found.place)
+}
+
+/// The path of the file of a source, if it has one.
+fn file_at<'r>(refused: &Refused<'r, '_>, source: usize) -> Option<&'r str> {
+    match &refused.source.layers.get(source)?.source.path {
+        Some(path) => Some(path.as_str()),
+        None => None,
+    }
+}
+
+/// Where a profile names its parent, in words: the line, and the file if it is another one.
+fn place_words(
+    alloc: Global,
+    refused: &Refused<'_, '_>,
+    place: Option<FilePlace>,
+) -> Result<String, AllocError> {
+    let Some(
+        FilePlace {
+            source,
+            lines: Some(FileLines { first, .. }),
+            ..
+        },
+    ) = place
+    else {
+        return Ok(String::new(alloc));
+    };
+    match file_at(refused, source) {
+        Some(file) if refused.source.position != Some(source) => {
+            format!(in alloc; " (line {first} of {file})")
+        }
+        _ => format!(in alloc; " (line {first})"),
+    }
+}
+
+/// The circle in words: each profile with the place at which it names its parent, and the first one
+/// again.
+fn cycle_words(
+    alloc: Global,
+    refused: &Refused<'_, '_>,
+    cycle: &[String],
+) -> Result<String, AllocError> {
+    let mut text = String::from_str(alloc, "profiles inherit in a circle: ")?;
+    for name in cycle {
+        let place = parent_place(refused, name.as_str())?;
+        let words = place_words(alloc, refused, place)?;
+        let step = format!(in alloc; "`{name}`{words} -> ")?;
+        text.push_str(step.as_str())?;
+    }
+    if let Some(first) = cycle.first() {
+        let step = format!(in alloc; "`{first}`")?;
+        text.push_str(step.as_str())?;
+    }
+    Ok(text)
+}
+
+/// The parts of the refused file at which the profiles of a circle name their parents: the first one
+/// is at fault.
+fn marks_of(refused: &Refused<'_, '_>, cycle: &[String]) -> Result<Vec<Mark>, AllocError> {
+    let mut marks = Vec::new(refused.alloc);
+    let mut sign = Sign::Fault;
+    for name in cycle {
+        if let Some(
+            FilePlace {
+                source,
+                range: Some(range),
+                ..
+            },
+        ) = parent_place(refused, name.as_str())?
+        {
+            if refused.source.position == Some(source) {
+                marks.push(Mark { sign, range })?;
+            }
+        }
+        sign = Sign::Related;
+    }
+    marks.sort_by_key(|mark| (mark.range.start.line, mark.range.start.column))?;
+    Ok(marks)
+}
+
+/// Adds that profiles inherit in a circle: at the parent of the first one.
+pub fn add_cycle(refused: &mut Refused<'_, '_>, cycle: &[String]) -> Result<(), AllocError> {
+    let alloc = refused.alloc;
+    let words = cycle_words(alloc, refused, cycle)?;
+    let Some(first) = cycle.first() else {
+        return refused.add_whole(Code::InheritanceCycle, words.as_str());
+    };
+    let path = parent_path(first.as_str());
+    let mut found = refused.at(Code::InheritanceCycle, &path, words.as_str())?;
+    let is_here = match found.place {
+        Some(place) => refused.source.position == Some(place.source),
+        None => false,
+    };
+    if let Some(text) = refused.text {
+        if is_here {
+            found.lines = lines_of(alloc, text, &marks_of(refused, cycle)?)?;
+        }
+    }
+    refused.add_finding(found)
+}

@@ -1,0 +1,193 @@
+//! The lines of files that show findings.
+use nextest_config::{FileInput, ReadOutcome};
+use rinqebo_files::Gathered;
+use rinqebo_report::{CharSpan, FilePlace, Finding, LinePart, Range, Sign, SourceLine};
+use std::alloc::{AllocError, Global};
+
+/// How many findings have lines: a page shows no more.
+const WITH_LINES: usize = 100;
+
+/// How many lines a finding has at most.
+const MOST_LINES: usize = 3;
+
+/// A part of a file, and the sign below it.
+#[derive(Clone, Copy)]
+pub struct Mark {
+    /// The sign.
+    pub sign: Sign,
+    /// Where the part is.
+    pub range: Range,
+}
+
+/// Returns the file of a run that is the layer at a position: first come the defaults, which are no
+/// file, then the tools' files, the first tool last, then the organisation's, if there is one, and
+/// the repository's.
+fn file_of(gathered: &Gathered, position: usize) -> Option<&FileInput> {
+    let tools = gathered.tools.len();
+    if position == 0 {
+        return None;
+    }
+    if position <= tools {
+        return match gathered.tools.get(tools.saturating_sub(position)) {
+            Some(tool) => Some(&tool.config_file),
+            None => None,
+        };
+    }
+    match (&gathered.organisation_file, position.saturating_sub(tools)) {
+        (Some(file), 1) => Some(file),
+        _ => match &gathered.config_file {
+            Some(file) => Some(file),
+            None => Some(&gathered.paths.shared),
+        },
+    }
+}
+
+/// Returns the text of the layer at a position, if it is a file that has one.
+pub fn text_of(gathered: &Gathered, position: usize) -> Option<&str> {
+    match &file_of(gathered, position)?.outcome {
+        ReadOutcome::Text(text) => Some(text.as_str()),
+        ReadOutcome::NotFound | ReadOutcome::NotADirectory | ReadOutcome::Failed(_) => None,
+    }
+}
+
+/// Returns the last line that is shown of a range: its first one, if it has too many.
+fn last_shown(range: Range) -> u64 {
+    let lines = range.end.line.saturating_sub(range.start.line);
+    if lines < MOST_LINES as u64 {
+        range.end.line
+    } else {
+        range.start.line
+    }
+}
+
+/// Returns the place of a column, which counts from 1, among the characters of a line.
+fn character_at(column: u64) -> usize {
+    column.saturating_sub(1) as usize
+}
+
+/// Returns how many characters of a line stand before the first that is no white space.
+fn indent_of(line: &str) -> usize {
+    line.chars().take_while(|c| c.is_whitespace()).count()
+}
+
+/// Returns the characters of a line that lie in a range, if it reaches the line and is shown there.
+fn span_on(range: Range, number: u64, line: &str) -> Option<CharSpan> {
+    if number < range.start.line || number > last_shown(range) {
+        return None;
+    }
+    let from = if number == range.start.line {
+        character_at(range.start.column)
+    } else {
+        indent_of(line)
+    };
+    let to = if number == range.end.line {
+        character_at(range.end.column)
+    } else {
+        line.chars().count()
+    };
+    Some(CharSpan { from, to })
+}
+
+/// Adds a part of a line, and the blank part before it, unless the parts so far reach behind its
+/// start.
+fn add_part(parts: &mut Vec<LinePart>, end: usize, part: LinePart) -> Result<usize, AllocError> {
+    let span = part.span;
+    if span.from < end {
+        return Ok(end);
+    }
+    if span.from > end {
+        parts.push(LinePart {
+            sign: Sign::Blank,
+            span: CharSpan {
+                from: end,
+                to: span.from,
+            },
+        })?;
+    }
+    parts.push(part)?;
+    Ok(span.to.max(span.from.saturating_add(1)))
+}
+
+/// Returns the parts of a line, up to the last one with a sign. Marks come in the order of their
+/// starts.
+fn parts_of(
+    alloc: Global,
+    marks: &[Mark],
+    number: u64,
+    line: &str,
+) -> Result<Vec<LinePart>, AllocError> {
+    let mut parts = Vec::new(alloc);
+    let mut end = 0usize;
+    for mark in marks {
+        if let Some(span) = span_on(mark.range, number, line) {
+            let sign = mark.sign;
+            end = add_part(&mut parts, end, LinePart { sign, span })?;
+        }
+    }
+    Ok(parts)
+}
+
+/// Returns the lines of a text that show marks, three at most. Marks come in the order of their
+/// starts.
+pub fn lines_of(alloc: Global, text: &str, marks: &[Mark]) -> Result<Vec<SourceLine>, AllocError> {
+    let mut shown = Vec::new(alloc);
+    let mut number = 0u64;
+    for line in text.lines() {
+        number = number.saturating_add(1);
+        let parts = parts_of(alloc, marks, number, line)?;
+        if !parts.is_empty() {
+            let text = String::from_str(alloc, line)?;
+            shown.push(SourceLine {
+                number,
+                text,
+                parts,
+            })?;
+        }
+        if shown.len() == MOST_LINES {
+            break;
+        }
+    }
+    Ok(shown)
+}
+
+/// Returns the lines of files that show a finding.
+fn lines_at(
+    alloc: Global,
+    gathered: &Gathered,
+    place: Option<FilePlace>,
+) -> Result<Vec<SourceLine>, AllocError> {
+    let Some(
+        FilePlace {
+            source,
+            range: Some(range),
+            ..
+        },
+    ) = place
+    else {
+        return Ok(Vec::new(alloc));
+    };
+    match text_of(gathered, source) {
+        Some(text) => {
+            let sign = Sign::Fault;
+            lines_of(alloc, text, &[Mark { sign, range }])
+        }
+        None => Ok(Vec::new(alloc)),
+    }
+}
+
+/// Returns findings with the lines of files that show them: the first ones, as many as a page shows.
+pub fn with_lines(
+    alloc: Global,
+    gathered: &Gathered,
+    findings: Vec<Finding>,
+) -> Result<Vec<Finding>, AllocError> {
+    let mut shown = Vec::new(alloc);
+    for finding in findings {
+        let mut finding = finding;
+        if shown.len() < WITH_LINES && finding.lines.is_empty() {
+            finding.lines = lines_at(alloc, gathered, finding.place)?;
+        }
+        shown.push(finding)?;
+    }
+    Ok(shown)
+}

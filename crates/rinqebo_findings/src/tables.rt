@@ -1,0 +1,253 @@
+//! What tables and values are called, and the keys that tables have.
+use crate::paths::path_text;
+use nextest_config::Tree;
+use nextest_places::Step;
+use nextest_shape::{file_shape, keys_of};
+use rinqebo_report::{HelpPlace, nearest_name};
+use rinqebo_request::name_hint;
+use std::alloc::{AllocError, Global};
+
+/// The key of the step at a place of a path, if it is one to a key.
+fn key_at<'p>(path: &[Step<'p>], place: usize) -> Option<&'p str> {
+    match path.get(place) {
+        Some(Step::Key(key)) => Some(*key),
+        Some(Step::Position(_)) | None => None,
+    }
+}
+
+/// What the table at a path is called, if files have tables of a name there.
+fn table_name(path: &[Step<'_>]) -> Option<&'static str> {
+    let keys = (key_at(path, 0), key_at(path, 1), key_at(path, 2));
+    match (path.len(), keys) {
+        (0, _) => Some("a configuration file"),
+        (2, (Some("profile"), _, _)) => Some("a profile"),
+        (2, (Some("test-groups"), _, _)) => Some("a test group"),
+        (2, (Some("script"), _, _)) => Some("a setup script"),
+        (3, (Some("scripts"), Some("setup"), _)) => Some("a setup script"),
+        (3, (Some("scripts"), Some("wrapper"), _)) => Some("a wrapper script"),
+        (4, (Some("profile"), _, Some("overrides"))) => Some("an override"),
+        (4, (Some("profile"), _, Some("scripts"))) => Some("a script rule"),
+        _ => None,
+    }
+}
+
+/// What the value at a path is called: by the name of such tables, or else by its key.
+pub fn called(alloc: Global, path: &[Step<'_>]) -> Result<String, AllocError> {
+    if let Some(name) = table_name(path) {
+        return String::from_str(alloc, name);
+    }
+    match path.split_last() {
+        Some((Step::Key(key), _)) => format!(in alloc; "`{key}`"),
+        Some((Step::Position(_), list)) => match list.split_last() {
+            Some((Step::Key(key), _)) => format!(in alloc; "an item of `{key}`"),
+            _ => String::from_str(alloc, "an item"),
+        },
+        None => String::from_str(alloc, "the file"),
+    }
+}
+
+/// A step as the shape of a file has it: any position stands for all items of a list.
+fn part_of<'s>(step: Step<'s>) -> &'s str {
+    match step {
+        Step::Key(key) => key,
+        Step::Position(_) => "0",
+    }
+}
+
+/// The keys that the table at a path knows.
+pub fn known_keys(alloc: Global, path: &[Step<'_>]) -> Result<Vec<&'static str>, AllocError> {
+    let mut parts = Vec::new(alloc);
+    for step in path {
+        parts.push(part_of(*step))?;
+    }
+    keys_of(alloc, &file_shape(alloc)?, &parts)
+}
+
+/// Keys between backquotes.
+fn quoted_keys(alloc: Global, keys: &[&str]) -> Result<String, AllocError> {
+    let mut text = String::new(alloc);
+    for key in keys {
+        if !text.is_empty() {
+            text.push_str(", ")?;
+        }
+        text.push_str("`")?;
+        text.push_str(*key)?;
+        text.push_str("`")?;
+    }
+    Ok(text)
+}
+
+/// The note that lists the keys which the table at a path knows, if it knows some.
+pub fn keys_note(alloc: Global, path: &[Step<'_>]) -> Result<Option<String>, AllocError> {
+    let keys = known_keys(alloc, path)?;
+    if keys.is_empty() {
+        return Ok(None);
+    }
+    let table = called(alloc, path)?;
+    let keys = quoted_keys(alloc, &keys)?;
+    Ok(Some(format!(in alloc; "keys of {table}: {keys}")?))
+}
+
+/// The key of a table that it does not know, and that is nearest to a key which it lacks, if one is
+/// near.
+pub fn stray_key(
+    alloc: Global,
+    path: &[Step<'_>],
+    table: &Tree,
+    missing: &str,
+) -> Result<Option<String>, AllocError> {
+    let Some(members) = table.as_table() else {
+        return Ok(None);
+    };
+    let known = known_keys(alloc, path)?;
+    let mut strays = Vec::new(alloc);
+    for key in members.keys() {
+        if !known.iter().any(|other| *other == key.as_str()) {
+            strays.push(key.as_str())?;
+        }
+    }
+    match nearest_name(alloc, missing, &strays)? {
+        Some(key) => Ok(Some(String::from_str(alloc, key)?)),
+        None => Ok(None),
+    }
+}
+
+/// The header of the script that is meant by the first key of a table at `script.setup` or
+/// `script.wrapper`.
+pub fn script_header(
+    alloc: Global,
+    path: &[Step<'_>],
+    table: Option<&Tree>,
+) -> Result<Option<String>, AllocError> {
+    let (2, Some("script"), Some(kind)) = (path.len(), key_at(path, 0), key_at(path, 1)) else {
+        return Ok(None);
+    };
+    if kind != "setup" && kind != "wrapper" {
+        return Ok(None);
+    }
+    let Some(Tree::Table(members)) = table else {
+        return Ok(None);
+    };
+    for key in members.keys() {
+        return Ok(Some(format!(in alloc; "write `[scripts.{kind}.{key}]`")?));
+    }
+    Ok(None)
+}
+
+/// The path of the table of a kind that stands beside or around a table.
+fn beside<'p>(
+    alloc: Global,
+    profile: &[Step<'p>],
+    rest: &[Step<'p>],
+) -> Result<Vec<Step<'p>>, AllocError> {
+    let mut path = Vec::from_slice(alloc, profile)?;
+    for step in rest {
+        path.push(*step)?;
+    }
+    Ok(path)
+}
+
+/// Whether the table at a path knows a key.
+fn knows(alloc: Global, path: &[Step<'_>], key: &str) -> Result<bool, AllocError> {
+    let known = known_keys(alloc, path)?;
+    Ok(known.iter().any(|other| *other == key))
+}
+
+/// Where a key of a profile belongs that is one of overrides.
+fn in_overrides(
+    alloc: Global,
+    profile: &[Step<'_>],
+    key: &str,
+) -> Result<Option<String>, AllocError> {
+    let rule = beside(alloc, profile, &[Step::Key("overrides"), Step::Position(0)])?;
+    if !knows(alloc, &rule, key)? {
+        return Ok(None);
+    }
+    let header = path_text(alloc, profile)?;
+    let help = format!(in alloc;
+        "`{key}` is a setting of overrides: write it in `[[{header}.overrides]]`"
+    )?;
+    Ok(Some(help))
+}
+
+/// Where a key of another table belongs that is one of a profile.
+fn in_profile(
+    alloc: Global,
+    profile: &[Step<'_>],
+    key: &str,
+) -> Result<Option<String>, AllocError> {
+    if !knows(alloc, profile, key)? {
+        return Ok(None);
+    }
+    let header = path_text(alloc, profile)?;
+    let help = format!(in alloc; "`{key}` is a setting of profiles: write it in `[{header}]`")?;
+    Ok(Some(help))
+}
+
+/// Where a key belongs that its table does not know, and another one does.
+fn place_elsewhere(
+    alloc: Global,
+    table: &[Step<'_>],
+    key: &str,
+) -> Result<Option<String>, AllocError> {
+    match (table.len(), key_at(table, 0)) {
+        (0, _) => in_profile(alloc, &[Step::Key("profile"), Step::Key("default")], key),
+        (1, Some("scripts")) => Ok(Some(format!(in alloc;
+            "write `[scripts.setup.{key}]` or `[scripts.wrapper.{key}]`"
+        )?)),
+        (2, Some("profile")) => in_overrides(alloc, table, key),
+        (4, Some("profile")) => match table.split_last() {
+            Some((_, rules)) => match rules.split_last() {
+                Some((_, profile)) => in_profile(alloc, profile, key),
+                None => Ok(None),
+            },
+            None => Ok(None),
+        },
+        _ => Ok(None),
+    }
+}
+
+/// Whether one of two texts, which has three bytes at least, begins the other.
+fn begins(one: &str, other: &str) -> bool {
+    let shorter = one.len().min(other.len());
+    shorter >= 3 && (one.starts_with(other) || other.starts_with(one))
+}
+
+/// The known key that a key begins, or that begins it.
+fn prefix_hint(alloc: Global, known: &[&str], key: &str) -> Result<Option<String>, AllocError> {
+    for other in known {
+        if begins(*other, key) {
+            return Ok(Some(format!(in alloc; "did you mean `{other}`?")?));
+        }
+    }
+    Ok(None)
+}
+
+/// What to do about a key that its table does not know, and whether it is that a near one is meant.
+pub fn unknown_key_help(
+    alloc: Global,
+    path: &[Step<'_>],
+) -> Result<(Option<String>, HelpPlace), AllocError> {
+    let Some((Step::Key(key), table)) = path.split_last() else {
+        return Ok((None, HelpPlace::Below));
+    };
+    let known = known_keys(alloc, table)?;
+    if let Some(hint) = name_hint(alloc, *key, &known)? {
+        return Ok((Some(hint), HelpPlace::Beside));
+    }
+    if let Some(help) = place_elsewhere(alloc, table, *key)? {
+        return Ok((Some(help), HelpPlace::Below));
+    }
+    Ok((prefix_hint(alloc, &known, *key)?, HelpPlace::Beside))
+}
+
+/// What is wrong with a key that its table does not know.
+pub fn unknown_key_text(alloc: Global, path: &[Step<'_>]) -> Result<String, AllocError> {
+    match path.split_last() {
+        Some((Step::Key(key), table)) => {
+            let table = called(alloc, table)?;
+            format!(in alloc; "`{key}` is not a key of {table}")
+        }
+        _ => String::from_str(alloc, "this key is not known"),
+    }
+}

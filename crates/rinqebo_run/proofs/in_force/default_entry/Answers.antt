@@ -1,0 +1,13 @@
+use Rattle.std.proofs.Common.{refl, subst}
+use Rattle.rinqebo_rules.specs.Origins.{IsOriginOf, key_steps}
+use Rattle.rinqebo_rules.specs.RulePlaces.{place_view}
+use Rattle.rinqebo_run.proofs.in_force.default_entry.Goals as goal
+
+pub returns : goal.returns
+returns c = record {
+  key = c.in_ok-key.ensures.ok;
+  origin = subst (λ steps. IsOriginOf c.args.layers.now (place_view c.args.place) steps c.in_ok-origin.origin)
+      (λ i. key_steps (c.default_filter_key.ensures.table i) (c.default_filter_key.ensures.key i))
+      c.in_ok-origin.ensures;
+  shown = refl;
+}

@@ -1,0 +1,16 @@
+use Rattle.std.proofs.Common.{inr}
+use Rattle.std.proofs.lemmas.Result.{IfErr-weaker}
+use Rattle.rinqebo_run.specs.LookedUp.{IsFailureOn}
+use Rattle.rinqebo_run.proofs.Refused.{is_about}
+use Rattle.rinqebo_run.specs.Refused.{IsFailureAboutTest}
+use Rattle.rinqebo_run.proofs.run.why_runs_of.Goals as goal
+
+pub returns-clause-ok : goal.returns-clause-ok
+returns-clause-ok c =
+    is_about c.args.session.now c.args.test.now _ _ c.why_runs.result c.in_ok-found.ensures.found c.why_runs.ensures.status
+    c.why_runs.ensures.ok
+
+pub returns-clause-err : goal.returns-clause-err
+returns-clause-err c =
+    IfErr-weaker c.why_runs.result (IsFailureOn c.args.session.now c.args.profile.now)
+    (IsFailureAboutTest c.args.session.now c.args.profile.now c.args.test.now) (λ failure is. inr is) c.why_runs.ensures.err

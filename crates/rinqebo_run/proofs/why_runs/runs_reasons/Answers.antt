@@ -1,0 +1,27 @@
+use Rattle.std.proofs.Common.{ap, refl}
+use Rattle.nextest_inheritance.specs.View.{borrowed_view}
+use Rattle.rinqebo_run.proofs.Requests.{requested_on}
+use Rattle.rinqebo_run.proofs.why_runs.runs_reasons.Goals as goal
+
+pub early_profile-requires : goal.early_profile-requires
+early_profile-requires c = c.requires
+
+pub returns-clause-requested : goal.returns-clause-requested
+returns-clause-requested c = record {
+  chain = borrowed_view c.in_ok-chain.chain.items;
+  is_chain = c.in_ok-chain.ensures c.requires;
+  requested = requested_on c.args.session.now c.args.profile.now c.args.test.now.mode _ _ _
+      (ap borrowed_view c.deref.ensures.value) c.in_ok-asked.ensures;
+}
+
+pub returns-clause-told : goal.returns-clause-told
+returns-clause-told c = (
+  c.in_ok-named.ensures,
+  c.in_ok-key.ensures.ok,
+  refl,
+  record {
+    profile = c.in_ok-early.early;
+    is_profile = c.in_ok-early.ensures;
+    reasons = c.in_ok-rules.ensures;
+  },
+)
