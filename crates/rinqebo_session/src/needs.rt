@@ -105,6 +105,28 @@ fn rules_ask(
         || script_rules_ask(&rules.script_rules, platform, field)
 }
 
+/// Whether the default filter of a profile asks for a field.
+fn default_filter_asks(
+    profile: &EvaluatableProfile<'_, NextestFilters, TargetSpecs>,
+    field: Field,
+) -> bool
+    ensures { result ≡ filter_asks field profile.now.default_filter.filter }
+{
+    filter_asks(Some(profile.default_filter().expr), field)
+}
+
+/// Whether some rule of a profile asks for a field, for binaries of a platform.
+fn rules_of_profile_ask(
+    profile: &EvaluatableProfile<'_, NextestFilters, TargetSpecs>,
+    platform: BuildPlatform,
+    field: Field,
+) -> bool
+    ensures { result ≡ (list_any (rule_asks platform field) profile.now.overrides
+        || list_any (rule_asks platform field) profile.now.script_rules) }
+{
+    rules_ask(profile.rules(), platform, field)
+}
+
 /// Whether a filter of a profile asks for a field, for binaries of a platform.
 fn asks_on(
     profile: &EvaluatableProfile<'_, NextestFilters, TargetSpecs>,
@@ -113,8 +135,7 @@ fn asks_on(
 ) -> bool
     ensures { result ≡ asked_on profile.now platform field }
 {
-    filter_asks(Some(profile.default_filter().expr), field)
-        || rules_ask(profile.rules(), platform, field)
+    default_filter_asks(profile, field) || rules_of_profile_ask(profile, platform, field)
 }
 
 /// Whether something is missing: it is asked for, and not given.

@@ -1,8 +1,8 @@
 //! Profiles of a session, and what they answer.
-ghost use Rattle.std.specs.Prelude.{◌≡◌, ◌↔◌, IfOk, IfErr, IsTrue, map, option_map, slice_get, string_bytes};
+ghost use Rattle.std.specs.Prelude.{◌≡◌, ◌≢◌, ◌↔◌, IfOk, IfErr, IsTrue, map, option_map, slice_get, string_bytes};
 ghost use Rattle.nextest_load.specs.ConfigView.{groups_view};
 ghost use Rattle.nextest_scripts.specs.ScriptId.{script_text};
-ghost use Rattle.rinqebo_session.specs.Answering.{Answers, AreSized, IsAnswerOf};
+ghost use Rattle.rinqebo_session.specs.Answering.{Answers, AnswersBy, AnswersTest, AreSized, IsAnswerOf};
 ghost use Rattle.rinqebo_objects.specs.Scripts.{directories_view};
 ghost use Rattle.rinqebo_session.specs.Arguments.{AnswersArgument, AnswersArgumentBy, IsArgumentCopied, IsArgumentOf, IsCopiedOrNone};
 ghost use Rattle.rinqebo_session.specs.Asking.{needs_on, IsFaultIn, IsKnownTest};
@@ -204,12 +204,12 @@ fn are_sized(test: &RequestedTest<'_>, settings: &SettingNumbers) -> bool
     test.size == size_of::<RequestedTest<'static>>() && settings.size == size_of::<SettingNumbers>()
 }
 
-/// The text of an index, if there is one.
-fn text_at(texts: &[String], index: usize) -> Option<&str>
+/// The argument of an index, if there is one.
+fn argument_at(arguments: &[String], index: usize) -> Option<&str>
     ensures { option_map (λ text. text.now) result
-        ≡ slice_get (map string_bytes texts.now) index }
+        ≡ slice_get (map string_bytes arguments.now) index }
 {
-    match texts.get(index) {
+    match arguments.get(index) {
         Some(text) => Some(text.as_str()),
         None => None,
     }
@@ -276,6 +276,20 @@ impl Opened<'_> {
         Ok(numbers_of(&self.groups, &self.wrappers, &settings, in_default_filter))
     }
 
+    /// Writes the settings of a test, as numbers, or returns why there are none.
+    fn write_answer(&self, test: &RequestedTest<'_>, settings: &mut SettingNumbers) -> u32
+        ensures answers { AnswersTest self.now test.now settings.new result }
+        ensures kept { result ≢ DONE → settings.new ≡ settings.old }
+    {
+        match self.answer(test) {
+            Ok(numbers) => {
+                *settings = numbers;
+                DONE
+            }
+            Err(fault) => fault.status(),
+        }
+    }
+
     /// The argument of an index that a test is given, if it is given so many.
     fn argument(&self, test: &RequestedTest<'_>, index: usize) -> Result<Option<&str>, TestFault>
         ensures ok { IfOk result (λ text.
@@ -288,7 +302,7 @@ impl Opened<'_> {
             .profile
             .settings_for(asked.mode, &asked.query, &mut tally);
         let arguments = settings.run_extra_args();
-        Ok(text_at(arguments, index))
+        Ok(argument_at(arguments, index))
     }
 
     /// Copies out the argument of an index that a test is given, or returns why there is none.
@@ -346,6 +360,17 @@ impl<'a> Profile<'a> {
         }
     }
 
+    /// Writes the settings of a test, as numbers, where the profile is open.
+    fn ask_if_open(&self, test: &RequestedTest<'_>, settings: &mut SettingNumbers) -> u32
+        ensures answers { AnswersBy self.now.outcome test.now settings.new result }
+        ensures kept { result ≢ DONE → settings.new ≡ settings.old }
+    {
+        match &self.outcome {
+            Ok(opened) => opened.write_answer(test, settings),
+            Err(failure) => failure.status(),
+        }
+    }
+
     /// Writes the settings of a test, as numbers, and returns how it went. Where the size in one of
     /// the two is not this version's, or there are no settings, nothing is written. It takes no
     /// memory.
@@ -355,17 +380,7 @@ impl<'a> Profile<'a> {
         if !are_sized(test, settings) {
             return BAD_SIZE;
         }
-        let opened = match &self.outcome {
-            Ok(opened) => opened,
-            Err(failure) => return failure.status(),
-        };
-        match opened.answer(test) {
-            Ok(numbers) => {
-                *settings = numbers;
-                DONE
-            }
-            Err(fault) => fault.status(),
-        }
+        self.ask_if_open(test, settings)
     }
 
     /// Copies out the argument of an index that a test is given, where the profile is open.

@@ -11,7 +11,7 @@ returns-clause-ok c =
       test = test_view asked.query;
       mode = asked.mode;
       is_known = c.in_ok-asked.ensures.ok;
-      value = c.text_at.ensures
+      value = c.argument_at.ensures
           ∙ ap (option_and_then (λ arguments. slice_get arguments c.args.index))
           (c.run_extra_args-arguments.ensures ∙ c.settings_for-settings.ensures.settings.values RunExtraArgs);
     }
